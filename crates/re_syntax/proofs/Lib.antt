@@ -1,0 +1,5 @@
+pub mod LinesLaws
+pub mod PartsLaws
+pub mod SetsLaws
+pub mod SplittingLaws
+pub mod SpelledUnique

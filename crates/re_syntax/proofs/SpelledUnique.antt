@@ -1,0 +1,30 @@
+-- The laws of the definitions: one expression, one split, one list of parts.
+use Rattle.std.proofs.Common.{◌≡◌, map, refl}
+use Rattle.re_syntax.specs.Bytes.{Text}
+use Rattle.re_syntax.specs.Expression.{Expression, byte, sequence}
+use Rattle.re_syntax.specs.declared.syntax.Syntax.{Syntax}
+use Rattle.re_syntax.specs.declared.syntax.Syntax.TheVariants.{Fixed}
+use Rattle.re_syntax.specs.Spelled.{IsSpelled, as_fixed}
+use Rattle.re_syntax.specs.Laws.{SpellsOne, HasOneSplit, HasOnePartList}
+use Rattle.re_syntax.proofs.LinesLaws.{AreLines-lines_of, lines_of-unique, AreListed-list_of, list_of-unique}
+use Rattle.re_syntax.proofs.PartsLaws.{ArePartsFrom-unique}
+
+pub fixed_spelled : (t : Text) (e : Expression) → e ≡ sequence (map byte t) → IsSpelled Fixed t e
+fixed_spelled t e h = let P : Expression → Type 0 = λ x. IsSpelled Fixed t x in let it : P (sequence (map byte t)) = as_fixed in rw h it
+
+IsSpelled-unique : {syntax : Syntax} {t : Text} {d e : Expression} → IsSpelled syntax t d → IsSpelled syntax t e → d ≡ e
+IsSpelled-unique as_fixed as_fixed = refl
+
+pub spells_one : (text : Text) → SpellsOne text
+spells_one text syntax d e p q = IsSpelled-unique p q
+
+pub has_one_split : (text : Text) → HasOneSplit text
+has_one_split text = record {
+  lines = AreLines-lines_of text;
+  no_other_lines = lines_of-unique text;
+  listed = AreListed-list_of text;
+  not_listed_otherwise = list_of-unique text;
+}
+
+pub has_one_part_list : (line : Text) → HasOnePartList line
+has_one_part_list line es whole ps qs p q = ArePartsFrom-unique es line whole ps qs 0 p q

@@ -1,0 +1,6 @@
+use Rattle.std.proofs.Common.{◌≡◌, map, take}
+use Rattle.re_syntax.specs.Expression.{byte, expression_of}
+use Rattle.re_syntax.proofs.fixed.read_fixed.Given as goal
+
+abbrev pub invariant-loop-b : goal.invariant-loop-b
+invariant-loop-b l = map expression_of l.parts.items ≡ map byte (take l.b-index l.text)

@@ -1,0 +1,57 @@
+-- Regular expressions, apart from how they are written (XBD 9.3, 9.4), and the one that a `Tree` stands for.
+use Rattle.std.specs.Prelude.{ℕ, List, [], ◌∷◌, Option}
+use Rattle.re_syntax.specs.Sets.{members}
+use Rattle.re_syntax.specs.Bytes.{Bytes, only}
+use Rattle.re_syntax.specs.declared.tree.Tree.{Tree}
+use Rattle.re_syntax.specs.declared.tree.Tree.TheOpen.{Tree-F}
+use Rattle.re_syntax.specs.declared.tree.Tree.TheFolds.{fold-Tree}
+
+pub data Expression : Type 0 where
+  empty : Expression
+  -- one byte of the set; one byte outside it
+  one_of : Bytes → Expression
+  none_of : Bytes → Expression
+  -- the line's first place; its last place
+  begin : Expression
+  end : Expression
+  -- a sequence of no member; a first member and the rest of the sequence
+  cat_none : Expression
+  cat_more : Expression → Expression → Expression
+  -- a choice among none; a first branch and the rest of the choice
+  alt_none : Expression
+  alt_more : Expression → Expression → Expression
+  -- at least so many times, and at most so many where a number stands
+  repeat : Expression → ℕ → Option ℕ → Expression
+
+-- one after another
+abbrev pub cat : List Expression → Expression
+cat [] = cat_none
+cat (e ∷ es) = cat_more e (cat es)
+
+-- any one of them
+abbrev pub alt : List Expression → Expression
+alt [] = alt_none
+alt (e ∷ es) = alt_more e (alt es)
+
+abbrev pub byte : ℕ → Expression
+byte b = one_of (only b)
+
+-- one node, with the expression of each child in its place
+abbrev pub node_expression : Tree-F Expression → Expression
+node_expression Tree-F.Empty = empty
+node_expression (Tree-F.Set s) = one_of (members s)
+node_expression (Tree-F.Not s) = none_of (members s)
+node_expression Tree-F.Begin = begin
+node_expression Tree-F.End = end
+node_expression (Tree-F.Cat parts) = cat parts.items
+node_expression (Tree-F.Alt parts) = alt parts.items
+node_expression (Tree-F.Repeat part least most) = repeat part.value least most
+
+abbrev pub expression_of : Tree → Expression
+expression_of = fold-Tree Expression node_expression
+
+-- of no item the empty expression, of one item that item, of several one after another
+abbrev pub sequence : List Expression → Expression
+sequence [] = empty
+sequence (e ∷ []) = e
+sequence (e ∷ f ∷ es) = cat (e ∷ f ∷ es)

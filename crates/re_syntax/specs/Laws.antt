@@ -1,0 +1,23 @@
+-- What the definitions promise of themselves.
+use Rattle.std.specs.Prelude.{◌≡◌, ℕ, Bool, List}
+use Rattle.re_syntax.specs.declared.syntax.Syntax.{Syntax}
+use Rattle.re_syntax.specs.Bytes.{Text}
+use Rattle.re_syntax.specs.Expression.{Expression}
+use Rattle.re_syntax.specs.Lines.{lines_of, list_of, AreLines, AreListed}
+use Rattle.re_syntax.specs.Parts.{AreParts}
+use Rattle.re_syntax.specs.Spelled.{IsSpelled}
+
+-- a text spells at most one expression
+abbrev pub SpellsOne : Text → Type 0
+SpellsOne text = (syntax : Syntax) (d e : Expression) → IsSpelled syntax text d → IsSpelled syntax text e → d ≡ e
+
+-- an input has these lines and no others, and a pattern list these texts and no others
+pub record HasOneSplit (text : Text) : Type 0 where
+  pub lines : AreLines text (lines_of text)
+  pub no_other_lines : (ts : List Text) → AreLines text ts → ts ≡ lines_of text
+  pub listed : AreListed text (list_of text)
+  pub not_listed_otherwise : (ts : List Text) → AreListed text ts → ts ≡ list_of text
+
+-- two lists of the parts of a line are one
+abbrev pub HasOnePartList : Text → Type 0
+HasOnePartList line = (es : List Expression) (whole : Bool) (ps qs : List (ℕ × ℕ)) → AreParts es line whole ps → AreParts es line whole qs → ps ≡ qs

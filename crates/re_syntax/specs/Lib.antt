@@ -1,0 +1,9 @@
+pub mod Bytes
+pub mod Sets
+pub mod Expression
+pub mod Holds
+pub mod Parts
+pub mod Lines
+pub mod Spelled
+pub mod Splitting
+pub mod Laws

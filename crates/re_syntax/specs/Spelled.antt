@@ -1,0 +1,22 @@
+-- Which expression the text of a pattern spells, and which one it means (XCU grep, OPTIONS -E, -F, -i).
+use Rattle.std.specs.Prelude.{◌≡◌, Bool, true, map, if◌then◌else◌}
+use Rattle.re_syntax.specs.declared.syntax.Syntax.{Syntax}
+use Rattle.re_syntax.specs.declared.syntax.Syntax.TheVariants.{Basic, Extended, Fixed}
+use Rattle.re_syntax.specs.Bytes.{Text}
+use Rattle.re_syntax.specs.Expression.{Expression, byte, sequence}
+use Rattle.re_syntax.specs.Holds.{folded}
+
+-- the rules by which a text is read; a syntax without a rule spells nothing
+pub data IsSpelled : Syntax → Text → Expression → Type 0 where
+  -- a fixed string is the sequence of its bytes
+  as_fixed : {t : Text} → IsSpelled Fixed t (sequence (map byte t))
+
+-- the expression that a text means, with both cases of each letter where `fold` is set
+abbrev pub IsMeant : Syntax → Bool → Text → Expression → Type 0
+IsMeant syntax fold text e = (s : Expression) × IsSpelled syntax text s × (e ≡ (if fold then folded s else s))
+
+-- whether an expression has to be small enough: a fixed string need not, unless it is folded
+abbrev pub has_limit : Syntax → Bool → Bool
+has_limit Fixed fold = fold
+has_limit Basic fold = true
+has_limit Extended fold = true

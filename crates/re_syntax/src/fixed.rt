@@ -1,0 +1,47 @@
+ghost use Rattle.std.specs.Prelude.{◌≡◌, IfOk, IfErr, map};
+ghost use Rattle.re_syntax.specs.Expression.{expression_of, sequence};
+ghost use Rattle.re_syntax.specs.Spelled.{IsSpelled};
+ghost use Rattle.re_syntax.specs.declared.syntax.Syntax.TheVariants.{Fixed};
+
+use crate::bytes::ByteSet;
+use crate::fault::{FaultKind, PatternFault};
+use crate::tree::Tree;
+use std::alloc::Global;
+
+fn out_of_memory() -> PatternFault
+    ensures { result ≡ record { kind = FaultKind.Memory; at = 0 } }
+{
+    PatternFault {
+        kind: FaultKind::Memory,
+        at: 0,
+    }
+}
+
+/// The tree of a text in which no byte is special (XCU grep, `-F`). The only refusal is
+/// `FaultKind::Memory`.
+pub fn read_fixed(alloc: Global, text: &[u8]) -> Result<Tree, PatternFault>
+    ensures read { IfOk result (λ tree. IsSpelled Fixed text.now (expression_of tree)) }
+    ensures refused { IfErr result (λ fault. fault ≡ record { kind = FaultKind.Memory; at = 0 }) }
+{
+    let mut parts = Vec::new(alloc);
+    for b in text {
+        if parts.push(Tree::Set(ByteSet::only(*b))).is_err() {
+            return Err(out_of_memory());
+        }
+    }
+    Ok(sequence_of(parts))
+}
+
+/// One tree for the trees in order.
+fn sequence_of(mut parts: Vec<Tree>) -> Tree
+    ensures { expression_of result ≡ sequence (map expression_of parts.items) }
+{
+    if parts.len() < 2 {
+        match parts.pop() {
+            Some(only) => only,
+            None => Tree::Empty,
+        }
+    } else {
+        Tree::Cat(parts)
+    }
+}

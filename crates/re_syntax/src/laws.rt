@@ -1,0 +1,20 @@
+//! Laws of the definitions, each the contract of a function that does nothing.
+ghost use Rattle.re_syntax.specs.Laws.{SpellsOne, HasOneSplit, HasOnePartList};
+
+/// A text spells at most one expression in each syntax.
+#[tactic(auto, using(crate::proofs::SpelledUnique::spells_one))]
+pub fn spells_one(_text: &[u8])
+    ensures { SpellsOne _text.now }
+{}
+
+/// An input has one list of lines, and a pattern list one list of texts.
+#[tactic(auto, using(crate::proofs::SpelledUnique::has_one_split))]
+pub fn has_one_split(_text: &[u8])
+    ensures { HasOneSplit _text.now }
+{}
+
+/// A line has one list of parts, for all expressions.
+#[tactic(auto, using(crate::proofs::SpelledUnique::has_one_part_list))]
+pub fn parts_are_unique(_line: &[u8])
+    ensures { HasOnePartList _line.now }
+{}

@@ -1,0 +1,18 @@
+//! Regular expressions as trees: what the readers of pattern texts make, and what their texts mean.
+#![tactic(auto)]
+
+mod bytes;
+mod fault;
+mod fixed;
+mod laws;
+mod split;
+mod syntax;
+mod tree;
+
+pub use bytes::ByteSet;
+pub use fault::{FaultKind, PatternFault};
+pub use fixed::read_fixed;
+pub use laws::{has_one_split, parts_are_unique, spells_one};
+pub use split::{Patterns, split_list};
+pub use syntax::Syntax;
+pub use tree::Tree;
