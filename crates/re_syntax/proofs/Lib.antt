@@ -1,5 +1,10 @@
+pub mod FixedStrings
 pub mod LinesLaws
+pub mod EndedLinesLaws
 pub mod PartsLaws
 pub mod SetsLaws
 pub mod SplittingLaws
 pub mod SpelledUnique
+pub mod Decisions
+pub mod HoldsDecided
+pub mod PartsExist

@@ -5,29 +5,29 @@ use Rattle.std.proofs.lemmas.List.Elements.{All-head, All-tail, All-nil, All-con
 use Rattle.re_syntax.specs.Bytes.{Text}
 use Rattle.re_syntax.specs.Lines.{newline, put_before, lines_of, list_of, HasNoNewline, terminated, joined, AreLines, AreListed}
 
-first_differs : (b : ℕ) (t : Text) → HasNoNewline (b ∷ t) → nat_eq b newline ≡ false
+pub first_differs : (b : ℕ) (t : Text) → HasNoNewline (b ∷ t) → nat_eq b newline ≡ false
 first_differs b t h = ne_eqb b newline (All-head (λ x. x ≢ newline) b t h)
 
-rest_has_none : (b : ℕ) (t : Text) → HasNoNewline (b ∷ t) → HasNoNewline t
+pub rest_has_none : (b : ℕ) (t : Text) → HasNoNewline (b ∷ t) → HasNoNewline t
 rest_has_none b t h = All-tail (λ x. x ≢ newline) b t h
 
-none_before : (b : ℕ) (t : Text) → b ≢ newline → HasNoNewline t → HasNoNewline (b ∷ t)
+pub none_before : (b : ℕ) (t : Text) → b ≢ newline → HasNoNewline t → HasNoNewline (b ∷ t)
 none_before b t n h = All-cons (λ x. x ≢ newline) b t n h
 
-none_in_empty : HasNoNewline []
+pub none_in_empty : HasNoNewline []
 none_in_empty = All-nil (λ x. x ≢ newline)
 
-all_cons : (t : Text) (ts : List Text) → HasNoNewline t → All HasNoNewline ts → All HasNoNewline (t ∷ ts)
+pub all_cons : (t : Text) (ts : List Text) → HasNoNewline t → All HasNoNewline ts → All HasNoNewline (t ∷ ts)
 all_cons t ts h k zero d below = h
 all_cons t ts h k (suc i) d below = k i d (omega arith)
 
-all_head : (t : Text) (ts : List Text) → All HasNoNewline (t ∷ ts) → HasNoNewline t
+pub all_head : (t : Text) (ts : List Text) → All HasNoNewline (t ∷ ts) → HasNoNewline t
 all_head t ts h = h zero t (omega arith)
 
-all_tail : (t : Text) (ts : List Text) → All HasNoNewline (t ∷ ts) → All HasNoNewline ts
+pub all_tail : (t : Text) (ts : List Text) → All HasNoNewline (t ∷ ts) → All HasNoNewline ts
 all_tail t ts h i d below = h (suc i) d (omega arith)
 
-all_none : All HasNoNewline []
+pub all_none : All HasNoNewline []
 all_none i d below = absurd (omega arith)
 
 -- what the first line is, and what follows it
@@ -41,12 +41,12 @@ unfolding lines_of
 lines_of-last b [] h = cond-false _ _ _ (first_differs b [] h)
 lines_of-last b (c ∷ t) h = cond-false _ _ _ (first_differs b (c ∷ t) h) ∙ ap (put_before b) (lines_of-last c t (rest_has_none b (c ∷ t) h))
 
-lines_of-terminated : (ts : List Text) → All HasNoNewline ts → lines_of (terminated ts) ≡ ts
+pub lines_of-terminated : (ts : List Text) → All HasNoNewline ts → lines_of (terminated ts) ≡ ts
 unfolding lines_of
 lines_of-terminated [] h = refl
 lines_of-terminated (t ∷ ts) h = lines_of-line t (terminated ts) (all_head t ts h) ∙ ap (λ us. t ∷ us) (lines_of-terminated ts (all_tail t ts h))
 
-lines_of-unfinished : (ts : List Text) (b : ℕ) (u : Text) → All HasNoNewline (ts ++ (b ∷ u) ∷ []) → lines_of (terminated ts ++ b ∷ u) ≡ ts ++ (b ∷ u) ∷ []
+pub lines_of-unfinished : (ts : List Text) (b : ℕ) (u : Text) → All HasNoNewline (ts ++ (b ∷ u) ∷ []) → lines_of (terminated ts ++ b ∷ u) ≡ ts ++ (b ∷ u) ∷ []
 lines_of-unfinished [] b u h = lines_of-last b u (all_head (b ∷ u) [] h)
 lines_of-unfinished (t ∷ ts) b u h =
     ap lines_of (append_assoc t (newline ∷ terminated ts) (b ∷ u)) ∙ lines_of-line t (terminated ts ++ b ∷ u) (all_head t (ts ++ (b ∷ u) ∷ []) h)
@@ -93,17 +93,17 @@ AreLines-lines_of (b ∷ rest) = go (cases_eq b newline) (AreLines-lines_of rest
     go (inr n) h = rw (ne_eqb b newline n) (after_byte b n rest (lines_of rest) h)
 
 -- the same for pattern lists
-list_of-text : (t rest : Text) → HasNoNewline t → list_of (t ++ newline ∷ rest) ≡ t ∷ list_of rest
+pub list_of-text : (t rest : Text) → HasNoNewline t → list_of (t ++ newline ∷ rest) ≡ t ∷ list_of rest
 unfolding list_of
 list_of-text [] rest h = refl
 list_of-text (b ∷ t) rest h = cond-false _ _ _ (first_differs b t h) ∙ ap (put_before b) (list_of-text t rest (rest_has_none b t h))
 
-list_of-last : (t : Text) → HasNoNewline t → list_of t ≡ t ∷ []
+pub list_of-last : (t : Text) → HasNoNewline t → list_of t ≡ t ∷ []
 unfolding list_of
 list_of-last [] h = refl
 list_of-last (b ∷ t) h = cond-false _ _ _ (first_differs b t h) ∙ ap (put_before b) (list_of-last t (rest_has_none b t h))
 
-list_of-joined : (t : Text) (ts : List Text) → All HasNoNewline (t ∷ ts) → list_of (joined (t ∷ ts)) ≡ t ∷ ts
+pub list_of-joined : (t : Text) (ts : List Text) → All HasNoNewline (t ∷ ts) → list_of (joined (t ∷ ts)) ≡ t ∷ ts
 list_of-joined t [] h = list_of-last t (all_head t [] h)
 list_of-joined t (u ∷ ts) h =
     list_of-text t (joined (u ∷ ts)) (all_head t (u ∷ ts) h) ∙ ap (λ us. t ∷ us) (list_of-joined u ts (all_tail t (u ∷ ts) h))

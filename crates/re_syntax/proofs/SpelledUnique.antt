@@ -4,9 +4,10 @@ use Rattle.re_syntax.specs.Bytes.{Text}
 use Rattle.re_syntax.specs.Expression.{Expression, byte, sequence}
 use Rattle.re_syntax.specs.declared.syntax.Syntax.{Syntax}
 use Rattle.re_syntax.specs.declared.syntax.Syntax.TheVariants.{Fixed}
-use Rattle.re_syntax.specs.Spelled.{IsSpelled, as_fixed}
+use Rattle.re_syntax.specs.Spelled.{IsSpelled, SpellsNoOther, as_fixed}
 use Rattle.re_syntax.specs.Laws.{SpellsOne, HasOneSplit, HasOnePartList}
 use Rattle.re_syntax.proofs.LinesLaws.{AreLines-lines_of, lines_of-unique, AreListed-list_of, list_of-unique}
+use Rattle.re_syntax.proofs.EndedLinesLaws.{AreEndedLines-ended_lines_of, ended_lines_of-unique}
 use Rattle.re_syntax.proofs.PartsLaws.{ArePartsFrom-unique}
 
 pub fixed_spelled : (t : Text) (e : Expression) → e ≡ sequence (map byte t) → IsSpelled Fixed t e
@@ -15,6 +16,10 @@ fixed_spelled t e h = let P : Expression → Type 0 = λ x. IsSpelled Fixed t x 
 IsSpelled-unique : {syntax : Syntax} {t : Text} {d e : Expression} → IsSpelled syntax t d → IsSpelled syntax t e → d ≡ e
 IsSpelled-unique as_fixed as_fixed = refl
 
+-- a fixed string spells nothing but the sequence of its bytes
+pub fixed_only : (t : Text) (e : Expression) → e ≡ sequence (map byte t) → SpellsNoOther Fixed t e
+fixed_only t e h other spelled = IsSpelled-unique spelled (fixed_spelled t e h)
+
 pub spells_one : (text : Text) → SpellsOne text
 spells_one text syntax d e p q = IsSpelled-unique p q
 
@@ -22,6 +27,8 @@ pub has_one_split : (text : Text) → HasOneSplit text
 has_one_split text = record {
   lines = AreLines-lines_of text;
   no_other_lines = lines_of-unique text;
+  ended_lines = AreEndedLines-ended_lines_of text;
+  no_other_ended_lines = ended_lines_of-unique text;
   listed = AreListed-list_of text;
   not_listed_otherwise = list_of-unique text;
 }

@@ -3,7 +3,7 @@ use Rattle.std.specs.Prelude.{◌≡◌, ℕ, Bool, List}
 use Rattle.re_syntax.specs.declared.syntax.Syntax.{Syntax}
 use Rattle.re_syntax.specs.Bytes.{Text}
 use Rattle.re_syntax.specs.Expression.{Expression}
-use Rattle.re_syntax.specs.Lines.{lines_of, list_of, AreLines, AreListed}
+use Rattle.re_syntax.specs.Lines.{lines_of, ended_lines_of, list_of, AreLines, AreEndedLines, AreListed}
 use Rattle.re_syntax.specs.Parts.{AreParts}
 use Rattle.re_syntax.specs.Spelled.{IsSpelled}
 
@@ -11,10 +11,12 @@ use Rattle.re_syntax.specs.Spelled.{IsSpelled}
 abbrev pub SpellsOne : Text → Type 0
 SpellsOne text = (syntax : Syntax) (d e : Expression) → IsSpelled syntax text d → IsSpelled syntax text e → d ≡ e
 
--- an input has these lines and no others, and a pattern list these texts and no others
+-- an input has these lines and no others, also where only ended lines count, and a pattern list these texts and no others
 pub record HasOneSplit (text : Text) : Type 0 where
   pub lines : AreLines text (lines_of text)
   pub no_other_lines : (ts : List Text) → AreLines text ts → ts ≡ lines_of text
+  pub ended_lines : AreEndedLines text (ended_lines_of text)
+  pub no_other_ended_lines : (ts : List Text) → AreEndedLines text ts → ts ≡ ended_lines_of text
   pub listed : AreListed text (list_of text)
   pub not_listed_otherwise : (ts : List Text) → AreListed text ts → ts ≡ list_of text
 

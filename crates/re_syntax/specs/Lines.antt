@@ -49,6 +49,10 @@ abbrev pub AreLines : Text → List Text → Type 0
 AreLines bytes texts = All HasNoNewline texts × ((bytes ≡ terminated texts) ⊎
     ((front : List Text) × (last : Text) × (texts ≡ front ++ last ∷ []) × (last ≢ []) × (bytes ≡ terminated front ++ last)))
 
+-- no text has a newline, and the bytes are each text followed by one and then a rest without newline
+abbrev pub AreEndedLines : Text → List Text → Type 0
+AreEndedLines bytes texts = All HasNoNewline texts × ((rest : Text) × HasNoNewline rest × (bytes ≡ terminated texts ++ rest))
+
 -- one text or more without newline, which joined by newlines are the bytes
 abbrev pub AreListed : Text → List Text → Type 0
 AreListed bytes texts = All HasNoNewline texts × (texts ≢ []) × (bytes ≡ joined texts)

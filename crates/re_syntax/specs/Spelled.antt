@@ -11,6 +11,10 @@ pub data IsSpelled : Syntax → Text → Expression → Type 0 where
   -- a fixed string is the sequence of its bytes
   as_fixed : {t : Text} → IsSpelled Fixed t (sequence (map byte t))
 
+-- whatever the text spells is this expression
+abbrev pub SpellsNoOther : Syntax → Text → Expression → Type 0
+SpellsNoOther syntax text e = (other : Expression) → IsSpelled syntax text other → other ≡ e
+
 -- the expression that a text means, with both cases of each letter where `fold` is set
 abbrev pub IsMeant : Syntax → Bool → Text → Expression → Type 0
 IsMeant syntax fold text e = (s : Expression) × IsSpelled syntax text s × (e ≡ (if fold then folded s else s))

@@ -1,6 +1,6 @@
 ghost use Rattle.std.specs.Prelude.{◌≡◌, IfOk, IfErr, map};
 ghost use Rattle.re_syntax.specs.Expression.{expression_of, sequence};
-ghost use Rattle.re_syntax.specs.Spelled.{IsSpelled};
+ghost use Rattle.re_syntax.specs.Spelled.{IsSpelled, SpellsNoOther};
 ghost use Rattle.re_syntax.specs.declared.syntax.Syntax.TheVariants.{Fixed};
 
 use crate::bytes::ByteSet;
@@ -8,6 +8,7 @@ use crate::fault::{FaultKind, PatternFault};
 use crate::tree::Tree;
 use std::alloc::Global;
 
+/// The fault of a reader that memory ran out for.
 fn out_of_memory() -> PatternFault
     ensures { result ≡ record { kind = FaultKind.Memory; at = 0 } }
 {
@@ -17,10 +18,12 @@ fn out_of_memory() -> PatternFault
     }
 }
 
-/// The tree of a text in which no byte is special (XCU grep, `-F`). The only refusal is
-/// `FaultKind::Memory`.
+/// The tree of a text in which no byte is special (XCU grep, `-F`): of no byte `Empty`, of one byte
+/// that byte's `Set`, of several a `Cat` of theirs in order. The only refusal is
+/// `FaultKind::Memory`, at place 0.
 pub fn read_fixed(alloc: Global, text: &[u8]) -> Result<Tree, PatternFault>
     ensures read { IfOk result (λ tree. IsSpelled Fixed text.now (expression_of tree)) }
+    ensures only { IfOk result (λ tree. SpellsNoOther Fixed text.now (expression_of tree)) }
     ensures refused { IfErr result (λ fault. fault ≡ record { kind = FaultKind.Memory; at = 0 }) }
 {
     let mut parts = Vec::new(alloc);

@@ -7,6 +7,8 @@ mod fixed;
 mod laws;
 mod split;
 mod syntax;
+#[cfg(test)]
+mod tests;
 mod tree;
 
 pub use bytes::ByteSet;

@@ -1,0 +1,57 @@
+use super::*;
+use std::test::Fail;
+
+fn is_byte(tree: &Tree, byte: u8) -> bool {
+    match tree {
+        Tree::Set(set) => (0..=255u8).all(|other| set.has(other) == (other == byte)),
+        _ => false,
+    }
+}
+
+/// Whether the tree is the one of a fixed string's bytes.
+fn is_sequence(tree: &Tree, bytes: &[u8]) -> bool {
+    match (tree, bytes) {
+        (Tree::Empty, []) => true,
+        (Tree::Set(_), [byte]) => is_byte(tree, *byte),
+        (Tree::Cat(parts), [_, _, ..]) => {
+            parts.len() == bytes.len()
+                && parts
+                    .iter()
+                    .zip(bytes)
+                    .all(|(part, byte)| is_byte(part, *byte))
+        }
+        _ => false,
+    }
+}
+
+#[test]
+fn a_list_has_one_more_pattern_than_newlines(rt: HostRuntime) {
+    let rows: [(&[u8], &[&[u8]]); 6] = [
+        (b"", &[b""]),
+        (b"a", &[b"a"]),
+        (b"a\n", &[b"a", b""]),
+        (b"\n", &[b"", b""]),
+        (b"a\n\nb", &[b"a", b"", b"b"]),
+        (b"ab\ncd", &[b"ab", b"cd"]),
+    ];
+    for (text, expected) in rows {
+        assert!(rt; split_list(text).eq(expected.iter().copied()), "{text:?}");
+    }
+}
+
+#[test]
+fn a_fixed_string_is_the_sequence_of_its_bytes(rt: HostRuntime) -> Result<(), Fail> {
+    let rows: [&[u8]; 5] = [b"", b"a", b"ab", b".*", b"\\\x00\xff"];
+    for text in rows {
+        let tree = read_fixed(rt.alloc(), text)?;
+        assert!(rt; is_sequence(&tree, text), "{text:?}");
+    }
+    Ok(())
+}
+
+#[test]
+fn a_set_of_one_byte_has_that_byte_alone(rt: HostRuntime) {
+    for byte in 0..=255u8 {
+        assert!(rt; is_byte(&Tree::Set(ByteSet::only(byte)), byte), "{byte}");
+    }
+}
