@@ -1,0 +1,79 @@
+-- The files of more sources, and how often the devices failed in them.
+use Rattle.std.proofs.Common.{◌≡◌, ℕ, zero, suc, ◌+◌, List, [], ◌∷◌, ◌++◌, inl, inr, refl, ap, subst, ◌∙◌, length, Any, arith}
+use Rattle.re_syntax.specs.Expression.{Expression}
+use Rattle.re_syntax.proofs.Decisions.{Any-first, Any-later}
+use Rattle.grep_core.specs.declared.options.Options.{Options}
+use Rattle.grep_core.specs.Counted.{one_more}
+use Rattle.grep_core.specs.Choose.{IfHolds}
+use Rattle.grep_core.specs.Messages.{FaultMet}
+use Rattle.grep_core.specs.Reading.{Source, Reading, file_of, failures_of}
+use Rattle.grep_core.specs.Run.{files_of, AreReadings, FailuresMet, count_more}
+use Rattle.grep_core.proofs.Decided.{dec_stops, dec_fault_met}
+use Rattle.grep_core.proofs.MessageLaws.{Stops}
+
+-- readings of some sources, and of others behind them
+pub AreReadings-append : (xs ys : List Source) (rs ss : List Reading) → AreReadings xs rs → AreReadings ys ss → AreReadings (xs ++ ys) (rs ++ ss)
+AreReadings-append [] ys [] ss h k = k
+AreReadings-append [] ys (r ∷ rs) ss h k = absurd h
+AreReadings-append (x ∷ xs) ys [] ss h k = absurd h
+AreReadings-append (x ∷ xs) ys (r ∷ rs) ss h k = (h.0, AreReadings-append xs ys rs ss h.1 k)
+
+-- the files of some sources, and of others behind them
+pub files_of-append : (xs ys : List Source) (rs ss : List Reading) → AreReadings xs rs → files_of (xs ++ ys) (rs ++ ss) ≡ files_of xs rs ++ files_of ys ss
+files_of-append [] ys [] ss h = refl
+files_of-append [] ys (r ∷ rs) ss h = absurd h
+files_of-append (x ∷ xs) ys [] ss h = absurd h
+files_of-append (x ∷ xs) ys (r ∷ rs) ss h = ap (λ fs. file_of x.name r ∷ fs) (files_of-append xs ys rs ss h.1)
+
+-- there are as many files as sources
+pub length-files_of : (xs : List Source) (rs : List Reading) → AreReadings xs rs → length (files_of xs rs) ≡ length xs
+length-files_of [] [] h = refl
+length-files_of [] (r ∷ rs) h = absurd h
+length-files_of (x ∷ xs) [] h = absurd h
+length-files_of (x ∷ xs) (r ∷ rs) h = ap suc (length-files_of xs rs h.1)
+
+-- a count takes more failures in two steps or in one
+pub count_more-add : (n a b : ℕ) → count_more n (a + b) ≡ count_more (count_more n a) b
+count_more-add n a zero = let e : a + 0 ≡ a = omega arith in ap (count_more n) e
+count_more-add n a (suc b) = let e : a + suc b ≡ suc (a + b) = omega arith in ap (count_more n) e ∙ ap one_more (count_more-add n a b)
+
+module _ (es : List Expression) (options : Options) where
+  -- how often the devices failed in sources at which a run does not stop, and in others behind them
+  pub FailuresMet-append : (xs ys : List Source) (rs ss : List Reading) (n m : ℕ) → AreReadings xs rs → (Any (Stops es options) (files_of xs rs) → ⊥) →
+      FailuresMet es options xs rs n → FailuresMet es options ys ss m → FailuresMet es options (xs ++ ys) (rs ++ ss) (n + m)
+  FailuresMet-append [] ys [] ss n m h none f g = let none_failed : n ≡ 0 = f in let e : m ≡ n + m = omega arith in subst (FailuresMet es options ys ss) e g
+  FailuresMet-append [] ys (r ∷ rs) ss n m h none f g = absurd h
+  FailuresMet-append (x ∷ xs) ys [] ss n m h none f g = absurd h
+  FailuresMet-append (x ∷ xs) ys (r ∷ rs) ss n m h none f g =
+      let file = file_of x.name r in
+      elim f.3 [
+        | inl stops ↦ absurd (none (Any-first (Stops es options) file (files_of xs rs) stops.0))
+        | inr goes_on ↦ (
+          f.0,
+          f.1 + m,
+          f.2,
+          inr (goes_on.0, FailuresMet-append xs ys rs ss f.1 m h.1 (λ a. none (Any-later (Stops es options) file (files_of xs rs) a)) goes_on.1 g),
+          (let e : n ≡ f.0 + f.1 = f.4 in omega arith),
+        )
+      ]
+
+  -- how often they failed in a first source at which a run stops, whatever follows
+  pub FailuresMet-stopped : (x : Source) (xs : List Source) (r : Reading) (rs : List Reading) (own : ℕ) → Stops es options (file_of x.name r) →
+      IfHolds (FaultMet es options (file_of x.name r)) (own ≡ failures_of r) (own ≡ 0) → FailuresMet es options (x ∷ xs) (r ∷ rs) own
+  FailuresMet-stopped x xs r rs own stops h = (own, 0, h, inl (stops, refl), omega arith)
+
+  -- how often they failed in one source
+  pub FailuresMet-one : (x : Source) (r : Reading) (own : ℕ) → IfHolds (FaultMet es options (file_of x.name r)) (own ≡ failures_of r) (own ≡ 0) → FailuresMet es options (x ∷ []) (r ∷ []) own
+  FailuresMet-one x r own h = elim (dec_stops es options (file_of x.name r)) [ yes stops ↦ FailuresMet-stopped x [] r [] own stops h | no goes_on ↦ (own, 0, h, inr (goes_on, refl), omega arith) ]
+
+  -- the number of failures there is
+  pub FailuresMet-exist : (xs : List Source) (rs : List Reading) → (n : ℕ) × FailuresMet es options xs rs n
+  FailuresMet-exist [] rs = (0, refl)
+  FailuresMet-exist (x ∷ xs) [] = (0, refl)
+  FailuresMet-exist (x ∷ xs) (r ∷ rs) = join (dec_fault_met es options (file_of x.name r)) (dec_stops es options (file_of x.name r)) (FailuresMet-exist xs rs)
+    where
+      join : Dec (FaultMet es options (file_of x.name r)) → Dec (Stops es options (file_of x.name r)) → (n : ℕ) × FailuresMet es options xs rs n → (n : ℕ) × FailuresMet es options (x ∷ xs) (r ∷ rs) n
+      join (yes f) (yes s) rest = (failures_of r + 0, (failures_of r, 0, inl (f, refl), inl (s, refl), refl))
+      join (yes f) (no s) rest = (failures_of r + rest.0, (failures_of r, rest.0, inl (f, refl), inr (s, rest.1), refl))
+      join (no f) (yes s) rest = (0, (0, 0, inr (f, refl), inl (s, refl), refl))
+      join (no f) (no s) rest = (0 + rest.0, (0, rest.0, inr (f, refl), inr (s, rest.1), refl))

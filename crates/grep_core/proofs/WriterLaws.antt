@@ -1,0 +1,44 @@
+-- What a writer was given, piece by piece.
+use Rattle.std.proofs.Common.{◌≡◌, List, [], ◌++◌, refl, sym, ap, ◌∙◌, append_assoc}
+use Rattle.std.proofs.lemmas.Grind.{flat_map-append}
+use Rattle.std.proofs.KnownBytes.{Appends-nil, Appends-trans}
+use Rattle.re_syntax.specs.Bytes.{Text}
+use Rattle.grep_core.specs.Output.{written}
+use Rattle.grep_core.specs.Run.{Writer, TakesAll, TakesFront}
+
+-- the bytes of some lines and of others behind them
+pub written-append : (margin : Text) (xs ys : List Text) → written margin (xs ++ ys) ≡ written margin xs ++ written margin ys
+written-append margin xs ys = flat_map-append _ xs ys
+
+-- no line was written
+pub TakesAll-nothing : (w : Writer) → TakesAll w w []
+TakesAll-nothing w = record { written_all = Appends-nil w.contents; none_failed = refl }
+
+-- some lines were written, and then others
+pub TakesAll-more : (a b c : Writer) (xs ys : List Text) → TakesAll a b xs → TakesAll b c ys → TakesAll a c (xs ++ ys)
+TakesAll-more a b c xs ys h k = record {
+  written_all = rw (written-append [] xs ys) (Appends-trans a.contents b.contents c.contents (written [] xs) (written [] ys) h.written_all k.written_all);
+  none_failed = k.none_failed ∙ h.none_failed;
+}
+
+-- all lines are a beginning of them and others
+pub TakesFront-all : (a b : Writer) (xs ys : List Text) → TakesAll a b xs → TakesFront a b (xs ++ ys)
+TakesFront-all a b xs ys h = record { front = written [] xs; rest = written [] ys; cut = written-append [] xs ys; written_front = h.written_all }
+
+-- some lines were written, and then a beginning of others
+pub TakesFront-more : (a b c : Writer) (xs ys : List Text) → TakesAll a b xs → TakesFront b c ys → TakesFront a c (xs ++ ys)
+TakesFront-more a b c xs ys h k = record {
+  front = written [] xs ++ k.front;
+  rest = k.rest;
+  cut = written-append [] xs ys ∙ ap (λ t. written [] xs ++ t) k.cut ∙ sym (append_assoc (written [] xs) k.front k.rest);
+  written_front = Appends-trans a.contents b.contents c.contents (written [] xs) k.front h.written_all k.written_front;
+}
+
+-- a beginning of some lines is one of them and others
+pub TakesFront-longer : (a b : Writer) (xs ys : List Text) → TakesFront a b xs → TakesFront a b (xs ++ ys)
+TakesFront-longer a b xs ys h = record {
+  front = h.front;
+  rest = h.rest ++ written [] ys;
+  cut = written-append [] xs ys ∙ ap (λ t. t ++ written [] ys) h.cut ∙ append_assoc h.front h.rest (written [] ys);
+  written_front = h.written_front;
+}

@@ -1,0 +1,43 @@
+-- Files as grep sees them, and which of their lines it selects (XCU grep, DESCRIPTION and INPUT FILES).
+use Rattle.std.specs.Prelude.{List, MatchBool, Any}
+use Rattle.std.specs.List.{AllZip}
+use Rattle.re_syntax.specs.declared.syntax.Syntax.{Syntax}
+use Rattle.re_syntax.specs.Bytes.{Text}
+use Rattle.re_syntax.specs.Expression.{Expression}
+use Rattle.re_syntax.specs.Holds.{Matches}
+use Rattle.re_syntax.specs.Spelled.{IsMeant}
+use Rattle.grep_core.specs.declared.options.Options.{Options}
+
+-- how a file came to its end: read to it, not opened, or left where a read failed
+pub data Ending : Type 0 where
+  whole : Ending
+  missing : Ending
+  broken : Ending
+
+pub record File : Type 0 where
+  pub name : Text
+  pub lines : List Text
+  pub ending : Ending
+
+-- all that grep's output is of
+pub record Inputs : Type 0 where
+  pub syntax : Syntax
+  pub options : Options
+  pub patterns : List Text
+  pub files : List File
+
+-- the expressions that the patterns mean, one for each
+abbrev pub AreMeant : Syntax → Options → List Text → List Expression → Type 0
+AreMeant syntax options patterns es = AllZip (λ text e. IsMeant syntax options.ignore_case text e) patterns es
+
+module _ (es : List Expression) (options : Options) where
+  -- some expression matches some part of the line; under `-x` the whole line
+  abbrev pub Matched : Text → Type 0
+  Matched line = Any (λ e. Matches e line options.line_regexp) es
+
+  -- grep selects the lines that are matched, and under `-v` the others
+  abbrev pub Selected : Text → Type 0
+  Selected line = MatchBool options.invert_match (Matched line → ⊥) (Matched line)
+
+  abbrev pub HasSelected : File → Type 0
+  HasSelected file = Any Selected file.lines

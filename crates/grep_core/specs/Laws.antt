@@ -1,0 +1,23 @@
+-- What the definitions promise of themselves.
+use Rattle.std.specs.Prelude.{◌≡◌, List}
+use Rattle.re_syntax.specs.declared.syntax.Syntax.{Syntax}
+use Rattle.re_syntax.specs.Bytes.{Text}
+use Rattle.re_syntax.specs.Expression.{Expression}
+use Rattle.grep_core.specs.declared.options.Options.{Options}
+use Rattle.grep_core.specs.Files.{File, AreMeant}
+use Rattle.grep_core.specs.Output.{Out}
+use Rattle.grep_core.specs.Messages.{Messages, StatusOf}
+
+-- P holds of one value and of no other
+abbrev pub IsOne : {A : Type 0} → (A → Type 0) → Type 0
+IsOne {A} P = (x : A) × P x × ((y : A) → P y → y ≡ x)
+
+-- all expressions and files have one output, one list of messages and one status
+pub record HasOneAnswer (options : Options) : Type 0 where
+  pub one_output : (es : List Expression) (files : List File) → IsOne (Out es options files)
+  pub one_list_of_messages : (es : List Expression) (files : List File) → IsOne (Messages es options files)
+  pub one_status : (es : List Expression) (files : List File) → IsOne (StatusOf es options files)
+
+-- patterns mean at most one list of expressions
+abbrev pub MeansOne : Syntax → Options → Type 0
+MeansOne syntax options = (patterns : List Text) (ds es : List Expression) → AreMeant syntax options patterns ds → AreMeant syntax options patterns es → ds ≡ es

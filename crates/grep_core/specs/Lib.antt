@@ -1,0 +1,23 @@
+-- what the public clauses cite of the crate below
+pub use Rattle.re_syntax.specs.Bytes
+pub use Rattle.re_syntax.specs.Expression
+pub use Rattle.re_syntax.specs.Holds
+pub use Rattle.re_syntax.specs.Parts
+pub use Rattle.re_syntax.specs.Lines
+pub use Rattle.re_syntax.specs.Spelled
+pub mod Counted
+pub mod Limited
+pub mod LineReader
+pub mod Held
+pub mod Refilled
+pub mod Row
+pub mod Written
+pub mod Choose
+pub mod Files
+pub mod Output
+pub mod Messages
+pub mod Reading
+pub mod Run
+pub mod Pass
+pub mod Buffer
+pub mod Laws

@@ -1,0 +1,50 @@
+-- How a source that is read once, from front to back, stands for a file.
+use Rattle.std.specs.Prelude.{◌≡◌, ℕ, ◌-◌, ◌^◌, nat_le, Bool, true, false, if◌then◌else◌, List, [], ◌++◌, length, take, Option, Some, IfSome}
+use Rattle.re_syntax.specs.Bytes.{Text}
+use Rattle.re_syntax.specs.Lines.{lines_of, ended_lines_of}
+use Rattle.grep_core.specs.Files.{File, Ending, whole, missing, broken}
+
+-- a source by its name; whether it can be opened and which bytes it has, where that is known
+pub record Source : Type 0 where
+  pub name : Text
+  pub opens : Option Bool
+  pub bytes : Option Text
+
+-- a source that is open already, as standard input is
+abbrev pub open_source : Text → Option Text → Source
+open_source name bytes = record { name = name; opens = Some true; bytes = bytes }
+
+-- what a source does: it cannot be opened, its reads fail after some bytes, or it ends after some bytes
+pub data Reading : Type 0 where
+  not_opened : Reading
+  fails_after : Text → Reading
+  ends_after : Text → Reading
+
+-- a source may do so
+abbrev pub IsReadingOf : Source → Reading → Type 0
+IsReadingOf source not_opened = IfSome source.opens (λ b. b ≡ false)
+IsReadingOf source (fails_after bytes) =
+    IfSome source.opens (λ b. b ≡ true) × IfSome source.bytes (λ all. (rest : Text) × (all ≡ bytes ++ rest))
+IsReadingOf source (ends_after bytes) =
+    IfSome source.opens (λ b. b ≡ true) × IfSome source.bytes (λ all. all ≡ bytes)
+
+-- the greatest number of lines; where one more begins, that is a read error
+abbrev pub most_lines : ℕ
+most_lines = 2 ^ 64 - 1
+
+abbrev pub up_to_limit : Text → List Text → Ending → File
+up_to_limit name lines ending =
+    if nat_le (length lines) most_lines then record { name = name; lines = lines; ending = ending }
+    else record { name = name; lines = take most_lines lines; ending = broken }
+
+-- the file for which the source stands: where a read failed, the unfinished line is no line
+abbrev pub file_of : Text → Reading → File
+file_of name not_opened = record { name = name; lines = []; ending = missing }
+file_of name (fails_after bytes) = up_to_limit name (ended_lines_of bytes) broken
+file_of name (ends_after bytes) = up_to_limit name (lines_of bytes) whole
+
+-- how often the devices fail in such a reading
+abbrev pub failures_of : Reading → ℕ
+failures_of not_opened = 1
+failures_of (fails_after bytes) = 1
+failures_of (ends_after bytes) = 0

@@ -1,0 +1,146 @@
+-- What a run over sources writes, each source read once from front to back.
+use Rattle.std.specs.Prelude.{◌≡◌, ℕ, zero, suc, ◌+◌, ◌<◌, ◌≤◌, Bool, IsTrue, List, [], ◌∷◌, ◌++◌, length, take, get_or, Option, Result, Ok, Err}
+use Rattle.std.specs.List.{AllZip}
+use Rattle.std.specs.Io.KnownBytes.{Appends}
+use Rattle.re_syntax.specs.declared.syntax.Syntax.{Syntax}
+use Rattle.re_syntax.specs.Bytes.{Text}
+use Rattle.re_syntax.specs.Expression.{Expression}
+use Rattle.grep_core.specs.declared.options.Options.{Options}
+use Rattle.grep_core.specs.declared.status.Status.{Status}
+use Rattle.grep_core.specs.declared.status.RunFault.{RunFault}
+use Rattle.grep_core.specs.declared.status.RunFault.TheVariants.{Write, MessageWrite, Memory}
+use Rattle.grep_core.specs.Counted.{one_more}
+use Rattle.grep_core.specs.Choose.{IfHolds}
+use Rattle.grep_core.specs.Files.{File, whole, missing, HasSelected, AreMeant}
+use Rattle.grep_core.specs.Output.{Form, parts, lines, form, OutAs, Out, are_many, written}
+use Rattle.grep_core.specs.Messages.{FaultMet, Messages, StatusOf}
+use Rattle.grep_core.specs.Reading.{Source, Reading, IsReadingOf, file_of, failures_of}
+
+-- ---- devices
+
+-- a writer: the bytes that it holds, where they are known, and how many writes failed
+pub record Writer : Type 0 where
+  pub contents : Option Text
+  pub failures : ℕ
+
+abbrev pub writer : {W : Type 0} → (W → Option Text) → (W → ℕ) → W → Writer
+writer contents failures w = record { contents = contents w; failures = failures w }
+
+-- standard output, standard error, and how often a source could not be opened or read
+pub record Devices : Type 0 where
+  pub out : Writer
+  pub messages : Writer
+  pub source_failures : ℕ
+
+-- so many more failures, by a count that stays at the greatest u64
+abbrev pub count_more : ℕ → ℕ → ℕ
+count_more n zero = n
+count_more n (suc more) = one_more (count_more n more)
+
+-- the lines were written and no write failed
+pub record TakesAll (old new : Writer) (text : List Text) : Type 0 where
+  pub written_all : Appends old.contents new.contents (written [] text)
+  pub none_failed : new.failures ≡ old.failures
+
+-- a beginning of the lines was written
+pub record TakesFront (old new : Writer) (text : List Text) : Type 0 where
+  pub front : Text
+  pub rest : Text
+  pub cut : written [] text ≡ front ++ rest
+  pub written_front : Appends old.contents new.contents front
+
+-- ---- sources
+
+-- the files for which the sources stand, by what each of them did
+abbrev pub files_of : List Source → List Reading → List File
+files_of [] readings = []
+files_of (source ∷ sources) [] = []
+files_of (source ∷ sources) (r ∷ readings) = file_of source.name r ∷ files_of sources readings
+
+-- each source may have done so
+abbrev pub AreReadings : List Source → List Reading → Type 0
+AreReadings sources readings = AllZip IsReadingOf sources readings
+
+module _ (es : List Expression) (options : Options) where
+  -- n is how often the devices failed in a run that stops, under `-q`, at a selected line
+  abbrev pub FailuresMet : List Source → List Reading → ℕ → Type 0
+  FailuresMet [] readings n = n ≡ 0
+  FailuresMet (source ∷ sources) [] n = n ≡ 0
+  FailuresMet (source ∷ sources) (r ∷ readings) n =
+      let file = file_of source.name r in
+      (own : ℕ) × (rest : ℕ) × IfHolds (FaultMet es options file) (own ≡ failures_of r) (own ≡ 0)
+      × IfHolds (IsTrue options.quiet × HasSelected es options file) (rest ≡ 0) (FailuresMet sources readings rest)
+      × (n ≡ own + rest)
+
+  -- the rows of a file's first lines; there are none yet under `-c`, `-l` and `-q`
+  abbrev pub RowsAs : Form → Bool → File → List Text → Type 0
+  RowsAs lines many file rows = OutAs es options many lines (file ∷ []) rows
+  RowsAs parts many file rows = OutAs es options many parts (file ∷ []) rows
+  RowsAs _ many file rows = rows ≡ []
+
+-- the file's first lines and nothing more
+abbrev pub first_lines : ℕ → File → File
+first_lines n file = record { name = file.name; lines = take n file.lines; ending = whole }
+
+-- file k, which is there
+abbrev pub file_at : List File → ℕ → File
+file_at files k = get_or files k (record { name = []; lines = []; ending = missing })
+
+-- ---- runs
+
+module _ (es : List Expression) (options : Options) (sources : List Source) (old new : Devices) where
+  -- a whole run: output, messages and status are those of the files for which the sources stand
+  pub record Finishes (status : Status) : Type 0 where
+    pub readings : List Reading
+    pub are_readings : AreReadings sources readings
+    pub output : List Text
+    pub is_output : Out es options (files_of sources readings) output
+    pub messages : List Text
+    pub are_messages : Messages es options (files_of sources readings) messages
+    pub is_status : StatusOf es options (files_of sources readings) status
+    pub wrote : TakesAll old.out new.out output
+    pub told : TakesAll old.messages new.messages messages
+    pub failures : ℕ
+    pub are_failures : FailuresMet es options sources readings failures
+    pub counted : new.source_failures ≡ count_more old.source_failures failures
+
+  -- a run that a failed write ended: what went out are beginnings of the output and of the messages
+  pub record BreaksOff : Type 0 where
+    pub readings : List Reading
+    pub are_readings : AreReadings sources readings
+    pub output : List Text
+    pub is_output : Out es options (files_of sources readings) output
+    pub messages : List Text
+    pub are_messages : Messages es options (files_of sources readings) messages
+    pub wrote : TakesFront old.out new.out output
+    pub told : TakesFront old.messages new.messages messages
+
+  -- a run that want of memory ended behind the first n lines of source k: output and messages are those of the
+  -- sources before it, and the rows of these lines follow
+  pub record StopsBehind (k n : ℕ) : Type 0 where
+    pub readings : List Reading
+    pub are_readings : AreReadings sources readings
+    pub in_sources : k < length sources
+    pub in_file : n ≤ length (file_at (files_of sources readings) k).lines
+    pub before : List Text
+    pub is_before : OutAs es options (are_many (files_of sources readings)) (form options) (take k (files_of sources readings)) before
+    pub rows : List Text
+    pub are_rows : RowsAs es options (form options) (are_many (files_of sources readings)) (first_lines n (file_at (files_of sources readings) k)) rows
+    pub messages : List Text
+    pub are_messages : Messages es options (take k (files_of sources readings)) messages
+    pub wrote : TakesAll old.out new.out (before ++ rows)
+    pub told : TakesAll old.messages new.messages messages
+
+  -- what a run answers: a fault of a write exactly where a write failed
+  abbrev pub RunGives : Result Status RunFault → Type 0
+  RunGives (Ok status) = Finishes status
+  RunGives (Err Write) =
+      BreaksOff × (new.out.failures ≡ one_more old.out.failures) × (new.messages.failures ≡ old.messages.failures)
+  RunGives (Err MessageWrite) =
+      BreaksOff × (new.out.failures ≡ old.out.failures) × (new.messages.failures ≡ one_more old.messages.failures)
+  RunGives (Err (Memory k n)) = StopsBehind k n
+
+-- a run for patterns: it is one for the expressions that they mean
+abbrev pub Runs : Syntax → Options → List Text → List Source → Devices → Devices → Result Status RunFault → Type 0
+Runs syntax options patterns sources old new result =
+    (es : List Expression) × AreMeant syntax options patterns es × RunGives es options sources old new result

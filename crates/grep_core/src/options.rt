@@ -1,0 +1,46 @@
+/// The options of grep that are set or not (XCU grep, OPTIONS; `only_matching` after the GNU
+/// manual).
+#[derive(Clone, Copy, PartialEq, Eq, Debug, Default, Drop)]
+pub struct Options {
+    /// `-c`: only the number of selected lines is written.
+    pub count: bool,
+    /// `-i`: each letter is matched in both cases.
+    pub ignore_case: bool,
+    /// `-l`: only the names of files with a selected line are written.
+    pub files_with_matches: bool,
+    /// `-n`: each line is written behind its number.
+    pub line_number: bool,
+    /// `-o`: only the matched parts of a line are written.
+    pub only_matching: bool,
+    /// `-q`: nothing is written to standard output.
+    pub quiet: bool,
+    /// `-s`: no message tells of a file that cannot be opened or read.
+    pub no_messages: bool,
+    /// `-v`: the lines that are not matched are selected.
+    pub invert_match: bool,
+    /// `-x`: a line is matched only as a whole.
+    pub line_regexp: bool,
+}
+
+/// One of the options of `Options`.
+#[derive(Clone, Copy, PartialEq, Eq, Debug, Drop)]
+pub enum Flag {
+    /// `-c`
+    Count,
+    /// `-i`
+    IgnoreCase,
+    /// `-l`
+    FilesWithMatches,
+    /// `-n`
+    LineNumber,
+    /// `-o`
+    OnlyMatching,
+    /// `-q`
+    Quiet,
+    /// `-s`
+    NoMessages,
+    /// `-v`
+    InvertMatch,
+    /// `-x`
+    LineRegexp,
+}

@@ -1,0 +1,53 @@
+use super::*;
+use std::test::Fail;
+
+// The length of the next line. A growth that is refused is asked for once more.
+fn next_length<R: CountedRead>(lines: &mut Lines<R>) -> Option<usize> {
+    let answer = match lines.next_line() {
+        Err(ReadFault::Memory) => lines.next_line(),
+        answer => answer,
+    };
+    match answer {
+        Ok(true) => Some(lines.line().len()),
+        _ => None,
+    }
+}
+
+// To be run with each allocation failing in turn.
+#[test]
+fn a_refused_growth_loses_nothing(rt: HostRuntime) -> Result<(), Fail> {
+    let text = vec![in rt.alloc(); b'a'; 200_000]?;
+    let Ok(mut lines) = Lines::new(rt.alloc(), Tally::new(text.as_slice())) else {
+        return Ok(());
+    };
+    assert_eq!(rt; next_length(&mut lines), Some(200_000));
+    assert_eq!(rt; lines.held(), 0);
+    assert_eq!(rt; next_length(&mut lines), None);
+    assert_eq!(rt; lines.into_reader().into_inner().len(), 0);
+    Ok(())
+}
+
+#[test]
+fn rows_go_through_the_buffer(rt: HostRuntime) -> Result<(), Fail> {
+    let mut out = Buffered::new(rt.alloc(), Tally::new(Vec::new(rt.alloc())))?;
+    let row = write_row(&mut out, b"  ", Some(b"a.txt"), Some(u64::MAX), b"text");
+    assert_eq!(rt; row, Ok(()));
+    assert_eq!(rt; write_line(&mut out, b"--"), Ok(()));
+    assert_eq!(rt; out.flush(), Ok(()));
+    let bytes = out.into_inner().into_inner();
+    let want = b"  a.txt:18446744073709551615:text\n--\n";
+    assert_eq!(rt; bytes.as_slice(), want.as_slice());
+    Ok(())
+}
+
+#[test]
+fn a_failed_flush_keeps_a_beginning(rt: HostRuntime) -> Result<(), Fail> {
+    let device = Tally::new(Limited::new(Vec::new(rt.alloc()), 3, 7));
+    let mut out = Buffered::new(rt.alloc(), device)?;
+    assert_eq!(rt; write_line(&mut out, b"0123456789"), Ok(()));
+    assert_eq!(rt; out.flush(), Err(WriteFault));
+    assert_eq!(rt; out.failures(), 1);
+    let bytes = out.into_inner().into_inner().into_inner();
+    assert_eq!(rt; bytes.as_slice(), b"0123456".as_slice());
+    Ok(())
+}
