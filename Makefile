@@ -1,0 +1,38 @@
+# make            proves every crate, builds the programs into build/ and tries one of them
+# make test       the whole gate: proofs from nothing, edits that must fail, tests, programs
+# make install    copies the programs and their manual pages below $(DESTDIR)$(PREFIX)
+# make clean      removes what make built; what rt keeps of its proofs stays
+
+PREFIX = /usr/local
+DESTDIR =
+
+.PHONY: all prove programs first-row test install clean
+
+all: first-row
+
+prove:
+	rt all check
+
+# rt builds a program in order to run it, so it is run on its stored input.
+programs: prove
+	mkdir -p build
+	cd crates/grep && rt run -- -F -n b < stdin > /dev/null
+	cp crates/grep/out/grep build/grep
+
+first-row: programs
+	printf 'b\nab\nB\n' | build/grep -F -n b > build/first-row.out
+	printf '1:b\n2:ab\n' | cmp - build/first-row.out
+
+build/grep:
+	$(MAKE) programs
+
+test:
+	rt ci
+
+install: build/grep
+	install -d "$(DESTDIR)$(PREFIX)/bin" "$(DESTDIR)$(PREFIX)/share/man/man1"
+	install -m 755 build/grep "$(DESTDIR)$(PREFIX)/bin/grep"
+	install -m 644 man/grep.1 "$(DESTDIR)$(PREFIX)/share/man/man1/grep.1"
+
+clean:
+	rm -rf build

@@ -1,0 +1,2 @@
+mod WordLemmas
+mod GroupLemmas

@@ -1,0 +1,2 @@
+pub mod Exit
+pub mod Words

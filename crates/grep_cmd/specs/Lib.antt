@@ -1,0 +1,11 @@
+-- what the public clauses cite of the crates below
+pub use Rattle.re_syntax.specs.Bytes
+pub use Rattle.re_syntax.specs.Expression
+pub use Rattle.re_syntax.specs.Holds
+pub use Rattle.re_syntax.specs.Lines
+pub use Rattle.re_syntax.specs.Spelled
+pub use Rattle.grep_core.specs.Files
+pub use Rattle.grep_core.specs.Run
+pub mod FixedStrings
+pub mod FixedSearch
+pub mod FixedRun
