@@ -25,6 +25,7 @@ ended_lines_of-unfinished (t ∷ ts) rest h k =
     ap ended_lines_of (append_assoc t (newline ∷ terminated ts) rest) ∙ ended_lines_of-line t (terminated ts ++ rest) (all_head t ts h)
     ∙ ap (λ us. t ∷ us) (ended_lines_of-unfinished ts rest (all_tail t ts h) k)
 
+-- the same where no unfinished line follows
 pub ended_lines_of-terminated : (ts : List Text) → All HasNoNewline ts → ended_lines_of (terminated ts) ≡ ts
 unfolding ended_lines_of
 ended_lines_of-terminated [] h = refl
@@ -39,11 +40,13 @@ ended_lines_of-unique bytes ts (none, (rest, k, whole)) = sym (ap ended_lines_of
 after_newline : (t : Text) (ts : List Text) → AreEndedLines t ts → AreEndedLines (newline ∷ t) ([] ∷ ts)
 after_newline t ts (none, (rest, k, whole)) = (all_cons [] ts none_in_empty none, (rest, k, ap (λ u. newline ∷ u) whole))
 
+-- a byte in front belongs to the first line, or to the unfinished one
 after_byte : (b : ℕ) → b ≢ newline → (t : Text) (ts : List Text) → AreEndedLines t ts → AreEndedLines (b ∷ t) (put_before_first b ts)
 after_byte b n t [] (none, (rest, k, whole)) = (all_none, (b ∷ rest, none_before b rest n k, ap (λ u. b ∷ u) whole))
 after_byte b n t (line ∷ ts) (none, (rest, k, whole)) =
     (all_cons (b ∷ line) ts (none_before b line n (all_head line ts none)) (all_tail line ts none), (rest, k, ap (λ u. b ∷ u) whole))
 
+-- the lines that newlines end are those of the definition
 pub AreEndedLines-ended_lines_of : (bytes : Text) → AreEndedLines bytes (ended_lines_of bytes)
 unfolding ended_lines_of
 AreEndedLines-ended_lines_of [] = (all_none, ([], none_in_empty, refl))

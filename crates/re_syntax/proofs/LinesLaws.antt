@@ -5,28 +5,36 @@ use Rattle.std.proofs.lemmas.List.Elements.{All-head, All-tail, All-nil, All-con
 use Rattle.re_syntax.specs.Bytes.{Text}
 use Rattle.re_syntax.specs.Lines.{newline, put_before, lines_of, list_of, HasNoNewline, terminated, joined, AreLines, AreListed}
 
+-- the first byte of a text without newline is none
 pub first_differs : (b : ℕ) (t : Text) → HasNoNewline (b ∷ t) → nat_eq b newline ≡ false
 first_differs b t h = ne_eqb b newline (All-head (λ x. x ≢ newline) b t h)
 
+-- nor is any later one
 pub rest_has_none : (b : ℕ) (t : Text) → HasNoNewline (b ∷ t) → HasNoNewline t
 rest_has_none b t h = All-tail (λ x. x ≢ newline) b t h
 
+-- another byte in front of a text without newline leaves it without
 pub none_before : (b : ℕ) (t : Text) → b ≢ newline → HasNoNewline t → HasNoNewline (b ∷ t)
 none_before b t n h = All-cons (λ x. x ≢ newline) b t n h
 
+-- the empty text has no newline
 pub none_in_empty : HasNoNewline []
 none_in_empty = All-nil (λ x. x ≢ newline)
 
+-- what holds of the first text and of the rest holds of all
 pub all_cons : (t : Text) (ts : List Text) → HasNoNewline t → All HasNoNewline ts → All HasNoNewline (t ∷ ts)
 all_cons t ts h k zero d below = h
 all_cons t ts h k (suc i) d below = k i d (omega arith)
 
+-- what holds of all texts holds of the first
 pub all_head : (t : Text) (ts : List Text) → All HasNoNewline (t ∷ ts) → HasNoNewline t
 all_head t ts h = h zero t (omega arith)
 
+-- and of the rest
 pub all_tail : (t : Text) (ts : List Text) → All HasNoNewline (t ∷ ts) → All HasNoNewline ts
 all_tail t ts h i d below = h (suc i) d (omega arith)
 
+-- of no text everything holds
 pub all_none : All HasNoNewline []
 all_none i d below = absurd (omega arith)
 
@@ -36,16 +44,19 @@ unfolding lines_of
 lines_of-line [] rest h = refl
 lines_of-line (b ∷ t) rest h = cond-false _ _ _ (first_differs b t h) ∙ ap (put_before b) (lines_of-line t rest (rest_has_none b t h))
 
+-- a text without newline that is not empty is one line
 pub lines_of-last : (b : ℕ) (t : Text) → HasNoNewline (b ∷ t) → lines_of (b ∷ t) ≡ (b ∷ t) ∷ []
 unfolding lines_of
 lines_of-last b [] h = cond-false _ _ _ (first_differs b [] h)
 lines_of-last b (c ∷ t) h = cond-false _ _ _ (first_differs b (c ∷ t) h) ∙ ap (put_before b) (lines_of-last c t (rest_has_none b (c ∷ t) h))
 
+-- the lines of texts that are each followed by a newline are those texts
 pub lines_of-terminated : (ts : List Text) → All HasNoNewline ts → lines_of (terminated ts) ≡ ts
 unfolding lines_of
 lines_of-terminated [] h = refl
 lines_of-terminated (t ∷ ts) h = lines_of-line t (terminated ts) (all_head t ts h) ∙ ap (λ us. t ∷ us) (lines_of-terminated ts (all_tail t ts h))
 
+-- and a last text that is not empty needs no newline to be a line
 pub lines_of-unfinished : (ts : List Text) (b : ℕ) (u : Text) → All HasNoNewline (ts ++ (b ∷ u) ∷ []) → lines_of (terminated ts ++ b ∷ u) ≡ ts ++ (b ∷ u) ∷ []
 lines_of-unfinished [] b u h = lines_of-last b u (all_head (b ∷ u) [] h)
 lines_of-unfinished (t ∷ ts) b u h =
@@ -65,10 +76,12 @@ after_newline rest (none, inl whole) = (all_cons [] _ none_in_empty none, inl (a
 after_newline rest (none, inr (front, last, parts, full, whole)) =
     (all_cons [] _ none_in_empty none, inr ([] ∷ front, last, ap (λ ts. [] ∷ ts) parts, full, ap (λ t. newline ∷ t) whole))
 
+-- a list with a last member is not empty
 nothing_ends : {A : Type 0} (front : List A) (x : A) → ◌≡◌ {A = List A} [] (front ++ x ∷ []) → ⊥
 nothing_ends [] x e = cc
 nothing_ends (y ∷ ys) x e = cc
 
+-- a byte in front belongs to the first line
 after_byte : (b : ℕ) → b ≢ newline → (rest : Text) (ts : List Text) → AreLines rest ts → AreLines (b ∷ rest) (put_before b ts)
 after_byte b n rest [] (none, inl whole) = (all_cons (b ∷ []) [] (none_before b [] n none_in_empty) all_none, inr ([], b ∷ [], refl, λ e. cc, ap (λ t. b ∷ t) whole))
 after_byte b n rest [] (none, inr (front, last, parts, full, whole)) = absurd (nothing_ends front last parts)
@@ -83,6 +96,7 @@ after_byte b n rest (t ∷ ts) (none, inr (f ∷ front, last, parts, full, whole
     let more : ts ≡ front ++ last ∷ [] = cc in
     (all_cons (b ∷ t) ts (none_before b t n (all_head t ts none)) (all_tail t ts none), inr ((b ∷ f) ∷ front, last, (cc), full, ap (λ u. b ∷ u) whole))
 
+-- the lines of an input are those of the definition
 pub AreLines-lines_of : (bytes : Text) → AreLines bytes (lines_of bytes)
 unfolding lines_of
 AreLines-lines_of [] = (all_none, inl refl)
@@ -98,24 +112,29 @@ unfolding list_of
 list_of-text [] rest h = refl
 list_of-text (b ∷ t) rest h = cond-false _ _ _ (first_differs b t h) ∙ ap (put_before b) (list_of-text t rest (rest_has_none b t h))
 
+-- a text without newline is one pattern
 pub list_of-last : (t : Text) → HasNoNewline t → list_of t ≡ t ∷ []
 unfolding list_of
 list_of-last [] h = refl
 list_of-last (b ∷ t) h = cond-false _ _ _ (first_differs b t h) ∙ ap (put_before b) (list_of-last t (rest_has_none b t h))
 
+-- the patterns of texts that are joined by newlines are those texts
 pub list_of-joined : (t : Text) (ts : List Text) → All HasNoNewline (t ∷ ts) → list_of (joined (t ∷ ts)) ≡ t ∷ ts
 list_of-joined t [] h = list_of-last t (all_head t [] h)
 list_of-joined t (u ∷ ts) h =
     list_of-text t (joined (u ∷ ts)) (all_head t (u ∷ ts) h) ∙ ap (λ us. t ∷ us) (list_of-joined u ts (all_tail t (u ∷ ts) h))
 
+-- a list has no other patterns
 pub list_of-unique : (bytes : Text) (ts : List Text) → AreListed bytes ts → ts ≡ list_of bytes
 list_of-unique bytes [] (none, full, whole) = absurd (full refl)
 list_of-unique bytes (t ∷ ts) (none, full, whole) = sym (ap list_of whole ∙ list_of-joined t ts none)
 
+-- a newline in front is an empty first pattern
 listed_after_newline : (rest : Text) (ts : List Text) → AreListed rest ts → AreListed (newline ∷ rest) ([] ∷ ts)
 listed_after_newline rest [] (none, full, whole) = absurd (full refl)
 listed_after_newline rest (t ∷ ts) (none, full, whole) = (all_cons [] (t ∷ ts) none_in_empty none, λ e. cc, ap (λ u. newline ∷ u) whole)
 
+-- a byte in front belongs to the first pattern
 listed_after_byte : (b : ℕ) → b ≢ newline → (rest : Text) (ts : List Text) → AreListed rest ts → AreListed (b ∷ rest) (put_before b ts)
 listed_after_byte b n rest [] (none, full, whole) = absurd (full refl)
 listed_after_byte b n rest (t ∷ []) (none, full, whole) =
@@ -123,6 +142,7 @@ listed_after_byte b n rest (t ∷ []) (none, full, whole) =
 listed_after_byte b n rest (t ∷ u ∷ ts) (none, full, whole) =
     (all_cons (b ∷ t) (u ∷ ts) (none_before b t n (all_head t (u ∷ ts) none)) (all_tail t (u ∷ ts) none), λ e. cc, ap (λ v. b ∷ v) whole)
 
+-- the patterns of a list are those of the definition
 pub AreListed-list_of : (bytes : Text) → AreListed bytes (list_of bytes)
 unfolding list_of
 AreListed-list_of [] = (all_cons [] [] none_in_empty all_none, λ e. cc, refl)

@@ -7,6 +7,7 @@ use Rattle.std.specs.Int.{bit_at}
 use Rattle.re_syntax.specs.Bytes.{only}
 use Rattle.re_syntax.specs.Sets.{members}
 
+-- of a power of two one bit is set
 one_bit : (b c : ℕ) → nat_eq (bit_at (2 ^ b) c) 1 ≡ nat_eq c b
 one_bit b c = go (cases_eq c b)
   where
@@ -14,6 +15,7 @@ one_bit b c = go (cases_eq c b)
     go (inl e) = rw (e, bit_at-pow_same b) (sym (eq-eqb b b refl))
     go (inr n) = rw (bit_at-pow_other b c n) (sym (ne_eqb c b n))
 
+-- of 0 no bit is set
 no_bit : (c : ℕ) → nat_eq (bit_at 0 c) 1 ≡ false
 no_bit c = rw (bit_at-zero c)
 
@@ -26,9 +28,11 @@ words low high b c below above = go (cases_lt c 128)
     go (inl h) = cond-true _ _ _ (lt-ltb c 128 h) ∙ below h
     go (inr h) = cond-false _ _ _ (le-ltb c 128 h) ∙ above h
 
+-- the set of a byte below 128
 pub members-low : (low b : ℕ) → low ≡ 2 ^ b → b < 128 → members (record { low = low; high = 0 }) ≡ only b
 members-low low b e h = fun_ext (λ c. words low 0 b c (λ k. rw e (one_bit b c)) (λ k. no_bit (c - 128) ∙ sym (ne_eqb c b (λ f. absurd (omega arith)))))
 
+-- the set of a byte from 128 on
 pub members-high : (high b : ℕ) → high ≡ 2 ^ (b - 128) → 128 ≤ b → members (record { low = 0; high = high }) ≡ only b
 members-high high b e h = fun_ext (λ c. words 0 high b c (λ k. no_bit c ∙ sym (ne_eqb c b (λ f. absurd (omega arith)))) (λ k. rw e (one_bit (b - 128) (c - 128)) ∙ shifted c k))
   where

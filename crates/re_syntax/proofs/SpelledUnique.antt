@@ -10,9 +10,11 @@ use Rattle.re_syntax.proofs.LinesLaws.{AreLines-lines_of, lines_of-unique, AreLi
 use Rattle.re_syntax.proofs.EndedLinesLaws.{AreEndedLines-ended_lines_of, ended_lines_of-unique}
 use Rattle.re_syntax.proofs.PartsLaws.{ArePartsFrom-unique}
 
+-- a fixed string spells the sequence of its bytes
 pub fixed_spelled : (t : Text) (e : Expression) → e ≡ sequence (map byte t) → IsSpelled Fixed t e
 fixed_spelled t e h = let P : Expression → Type 0 = λ x. IsSpelled Fixed t x in let it : P (sequence (map byte t)) = as_fixed in rw h it
 
+-- a text spells one expression
 IsSpelled-unique : {syntax : Syntax} {t : Text} {d e : Expression} → IsSpelled syntax t d → IsSpelled syntax t e → d ≡ e
 IsSpelled-unique as_fixed as_fixed = refl
 
@@ -20,9 +22,11 @@ IsSpelled-unique as_fixed as_fixed = refl
 pub fixed_only : (t : Text) (e : Expression) → e ≡ sequence (map byte t) → SpellsNoOther Fixed t e
 fixed_only t e h other spelled = IsSpelled-unique spelled (fixed_spelled t e h)
 
+-- the law on what a text spells
 pub spells_one : (text : Text) → SpellsOne text
 spells_one text syntax d e p q = IsSpelled-unique p q
 
+-- the law on lines and patterns
 pub has_one_split : (text : Text) → HasOneSplit text
 has_one_split text = record {
   lines = AreLines-lines_of text;
@@ -33,5 +37,6 @@ has_one_split text = record {
   not_listed_otherwise = list_of-unique text;
 }
 
+-- the law on parts
 pub has_one_part_list : (line : Text) → HasOnePartList line
 has_one_part_list line es whole ps qs p q = ArePartsFrom-unique es line whole ps qs 0 p q

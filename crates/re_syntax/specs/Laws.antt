@@ -3,6 +3,7 @@ use Rattle.std.specs.Prelude.{◌≡◌, ℕ, Bool, List}
 use Rattle.re_syntax.specs.declared.syntax.Syntax.{Syntax}
 use Rattle.re_syntax.specs.Bytes.{Text}
 use Rattle.re_syntax.specs.Expression.{Expression}
+use Rattle.re_syntax.specs.Brackets.{IsBracket}
 use Rattle.re_syntax.specs.Lines.{lines_of, ended_lines_of, list_of, AreLines, AreEndedLines, AreListed}
 use Rattle.re_syntax.specs.Parts.{AreParts}
 use Rattle.re_syntax.specs.Spelled.{IsSpelled}
@@ -10,6 +11,10 @@ use Rattle.re_syntax.specs.Spelled.{IsSpelled}
 -- a text spells at most one expression
 abbrev pub SpellsOne : Text → Type 0
 SpellsOne text = (syntax : Syntax) (d e : Expression) → IsSpelled syntax text d → IsSpelled syntax text e → d ≡ e
+
+-- a text begins with at most one bracket expression, and that means one expression, whatever follows it
+abbrev pub BeginsWithOneBracket : Text → Type 0
+BeginsWithOneBracket text = (u v : Text) (d e : Expression) → IsBracket text u d → IsBracket text v e → (u ≡ v) × (d ≡ e)
 
 -- an input has these lines and no others, also where only ended lines count, and a pattern list these texts and no others
 pub record HasOneSplit (text : Text) : Type 0 where

@@ -3,7 +3,11 @@ pub mod Sets
 pub mod Expression
 pub mod Holds
 pub mod Parts
+pub mod Brackets
+pub mod Faults
 pub mod Lines
 pub mod Spelled
 pub mod Splitting
+pub mod Cursors
+pub mod BracketSteps
 pub mod Laws

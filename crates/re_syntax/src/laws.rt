@@ -1,10 +1,16 @@
 //! Laws of the definitions, each the contract of a function that does nothing.
-ghost use Rattle.re_syntax.specs.Laws.{SpellsOne, HasOneSplit, HasOnePartList};
+ghost use Rattle.re_syntax.specs.Laws.{SpellsOne, BeginsWithOneBracket, HasOneSplit, HasOnePartList};
 
 /// A text spells at most one expression in each syntax.
 #[tactic(auto, using(crate::proofs::SpelledUnique::spells_one))]
 pub fn spells_one(_text: &[u8])
     ensures { SpellsOne _text.now }
+{}
+
+/// A bracket expression is read in one way, whatever follows it.
+#[tactic(auto, using(crate::proofs::BracketsUnique::begins_with_one_bracket))]
+pub fn brackets_are_unique(_text: &[u8])
+    ensures { BeginsWithOneBracket _text.now }
 {}
 
 /// An input has one list of lines, and a pattern list one list of texts.

@@ -1,7 +1,10 @@
 //! Regular expressions as trees: what the readers of pattern texts make, and what their texts mean.
 #![tactic(auto)]
 
+mod bracket;
 mod bytes;
+mod class;
+mod cursor;
 mod fault;
 mod fixed;
 mod laws;
@@ -11,10 +14,12 @@ mod syntax;
 mod tests;
 mod tree;
 
+pub use bracket::read_bracket;
 pub use bytes::ByteSet;
+pub use class::Class;
 pub use fault::{FaultKind, PatternFault};
 pub use fixed::read_fixed;
-pub use laws::{has_one_split, parts_are_unique, spells_one};
+pub use laws::{brackets_are_unique, has_one_split, parts_are_unique, spells_one};
 pub use split::{Patterns, split_list};
 pub use syntax::Syntax;
 pub use tree::Tree;

@@ -1,0 +1,30 @@
+use Rattle.std.proofs.Common.{ap, ◌∙◌}
+use Rattle.std.proofs.lemmas.Result.{err_from_is_err_and}
+use Rattle.re_syntax.proofs.BracketElements.{shown_along}
+use Rattle.re_syntax.proofs.BracketLists.{goes_on-first, goes_on-next, goes_on-last, goes_on-none, element-shortens}
+use Rattle.re_syntax.proofs.bracket.read_list.Goals as goal
+
+pub loop-place-init : goal.loop-place-init
+loop-place-init c = record { same_text = c.in_ok-set.ensures.same_text; goes_on = goes_on-first c.in_ok-set.ensures.read }
+
+pub returns-in_err-bytes-clause-refused : goal.returns-in_err-bytes-clause-refused
+returns-in_err-bytes-clause-refused c =
+    let p = err_from_is_err_and c.from_residual-in_err-bytes.result c.from_residual-in_err-bytes.ensures.1 in
+    let refused = rw c.loop-place-test.ensures.else_same at c.in_err-bytes.ensures.refused in
+    rw (p.1, p.2) (record {
+      none = λ u s. goes_on-none c.loop-place.invariant.goes_on c.loop-place-test.ensures.skipped refused.none;
+      shown = shown_along c.args.opening c.loop-place.cursor c.args.cursor.now _ c.loop-place.invariant.same_text refused.shown;
+    })
+
+pub loop-place-smaller : goal.loop-place-smaller
+loop-place-smaller c = element-shortens (rw c.loop-place-test.ensures.else_same at c.in_ok-bytes.ensures.read)
+
+pub loop-place-preserved : goal.loop-place-preserved
+loop-place-preserved c = record {
+  same_text = c.in_ok-bytes.ensures.same_text ∙ ap (λ k. k.text) c.loop-place-test.ensures.else_same ∙ c.loop-place.invariant.same_text;
+  goes_on = rw c.union-set.ensures
+      (goes_on-next c.loop-place.invariant.goes_on c.loop-place-test.ensures.skipped (rw c.loop-place-test.ensures.else_same at c.in_ok-bytes.ensures.read));
+}
+
+pub returns-clause-read : goal.returns-clause-read
+returns-clause-read c = goes_on-last c.loop-place.invariant.goes_on c.loop-place-test.ensures.skipped.passed

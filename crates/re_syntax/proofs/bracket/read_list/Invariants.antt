@@ -1,0 +1,12 @@
+use Rattle.std.proofs.Common.{◌≡◌, length}
+use Rattle.re_syntax.specs.Cursors.{left}
+use Rattle.re_syntax.specs.Sets.{members}
+use Rattle.re_syntax.proofs.BracketLists.{GoesOn}
+use Rattle.re_syntax.proofs.bracket.read_list.Given as goal
+
+-- the elements up to the cursor were read, and the set has what they add
+abbrev pub invariant-loop-place : goal.invariant-loop-place
+invariant-loop-place l = record { same_text : l.cursor.text ≡ l.fn.cursor.text; goes_on : GoesOn (left l.fn.cursor) (left l.cursor) l.place (members l.set) }
+
+abbrev pub decreases-loop-place : goal.decreases-loop-place
+decreases-loop-place l = length (left l.cursor)

@@ -1,0 +1,10 @@
+use Rattle.std.proofs.Common.{◌≡◌, ℕ, ◌++◌, ◌<◌, codes, get_or}
+use Rattle.re_syntax.specs.declared.class.Class.TheVariants.{Upper}
+use Rattle.re_syntax.specs.Bytes.{Begins, class_name}
+use Rattle.re_syntax.specs.Cursors.{left}
+use Rattle.re_syntax.proofs.bracket.take_class.Given as goal
+
+-- the cursor stays, and no name of a class that was tried comes next
+abbrev pub invariant-loop-class : goal.invariant-loop-class
+invariant-loop-class l =
+    (l.cursor ≡ l.fn.cursor) × ((k : ℕ) → k < l.class-index → ¬ Begins (class_name (get_or l.class-items k Upper) ++ codes ":]") (left l.fn.cursor))

@@ -1,0 +1,25 @@
+-- Why a pattern's text is refused: what stands at the place that is told, judged by its bytes alone.
+use Rattle.std.specs.Prelude.{◌≡◌, ℕ, ◌⊎◌, ◌∷◌, ◌++◌, drop, codes}
+use Rattle.re_syntax.specs.declared.class.Class.{Class}
+use Rattle.re_syntax.specs.declared.fault.FaultKind.{FaultKind}
+use Rattle.re_syntax.specs.declared.fault.FaultKind.TheVariants.{UnclosedBracket, BadClass, BadCollatingSymbol, BadRange}
+use Rattle.re_syntax.specs.declared.fault.PatternFault.{PatternFault}
+use Rattle.re_syntax.specs.Bytes.{Text, Begins, class_name}
+use Rattle.re_syntax.specs.Expression.{Expression}
+use Rattle.re_syntax.specs.Brackets.{IsBracket}
+
+-- the bytes where a bracket expression's fault shows (XBD 9.3.5): its opening; a `[:` without a class's name and `:]`; a `[.` or `[=` without one byte and the
+-- closing pair; a hyphen
+abbrev pub ShowsBracketFault : FaultKind → Text → Type 0
+ShowsBracketFault UnclosedBracket t = Begins (codes "[") t
+ShowsBracketFault BadClass t = Begins (codes "[:") t × ((c : Class) → ¬ Begins (codes "[:" ++ class_name c ++ codes ":]") t)
+ShowsBracketFault BadCollatingSymbol t =
+    (Begins (codes "[.") t × ((b : ℕ) → ¬ Begins (codes "[." ++ b ∷ codes ".]") t)) ⊎ (Begins (codes "[=") t × ((b : ℕ) → ¬ Begins (codes "[=" ++ b ∷ codes "=]") t))
+ShowsBracketFault BadRange t = Begins (codes "-") t
+ShowsBracketFault _ t = ⊥
+
+-- no bracket expression stands at the place, and the fault shows at its own, both counted from the text's start; an unclosed one shows at its opening
+pub record IsNoBracket (text : Text) (from : ℕ) (fault : PatternFault) : Type 0 where
+  pub none : (rest : Text) (e : Expression) → ¬ IsBracket (drop from text) rest e
+  pub shown : ShowsBracketFault fault.kind (drop fault.at text)
+  pub unclosed : fault.kind ≡ UnclosedBracket → fault.at ≡ from

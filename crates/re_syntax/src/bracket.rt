@@ -1,0 +1,272 @@
+//! Bracket expressions (XBD 9.3.5), read in one pass from left to right.
+ghost use Rattle.std.specs.Prelude.{◌≡◌, ◌≢◌, ℕ, ◌≤◌, ◌++◌, ◌∷◌, Some, IfSome, IfNone, IfOk, IfErr, OnOk, MatchOption, MatchBool, codes, slice_get};
+ghost use Rattle.re_syntax.specs.Bytes.{Begins, class_name};
+ghost use Rattle.re_syntax.specs.Expression.{expression_of};
+ghost use Rattle.re_syntax.specs.Sets.{members};
+ghost use Rattle.re_syntax.specs.Brackets.{Point, Element, Rest, IsBracket, IsBracketUpTo, IsOnlyBracket};
+ghost use Rattle.re_syntax.specs.BracketSteps.{Stands, OpensNoClass, MayGoOn, HasNoPoint, HasNoRangeEnd, HasNoElement, HasNoList, HasNoBracket, IsShown, PassesHyphen};
+ghost use Rattle.re_syntax.specs.Cursors.{left, Passes};
+ghost use Rattle.re_syntax.specs.Faults.{IsNoBracket};
+
+use crate::bytes::ByteSet;
+use crate::class::Class;
+use crate::cursor::Cursor;
+use crate::fault::{FaultKind, PatternFault};
+use crate::tree::Tree;
+
+#[cfg(test)]
+mod tests;
+
+/// Where in the list of a bracket expression an element stands.
+#[derive(Clone, Copy, PartialEq, Eq, Debug, Drop)]
+pub enum Place {
+    /// It is the first.
+    First,
+    /// It follows a single point.
+    AfterPoint,
+    /// It follows a range, a class or an equivalence class.
+    AfterRange,
+}
+
+/// One byte and the pair that closes a collating symbol or an equivalence class.
+fn take_closed_byte(cursor: &mut Cursor, closing: &[u8]) -> Option<u8>
+    ensures { MatchOption result ((b : ℕ) → ¬ Begins (b ∷ closing.now) (left cursor.old)) (λ b. Passes (b ∷ closing.now) cursor.old cursor.new) }
+{
+    let byte = cursor.take()?;
+    if cursor.skip(closing) {
+        Some(byte)
+    } else {
+        None
+    }
+}
+
+/// The name of a class and its `:]`.
+fn take_class(cursor: &mut Cursor) -> Option<Class>
+    ensures { MatchOption result ((c : Class) → ¬ Begins (class_name c ++ codes ":]") (left cursor.old)) (λ c. Passes (class_name c ++ codes ":]") cursor.old cursor.new) }
+{
+    for class in Class::ALL {
+        if cursor.skip(class.closed_name()) {
+            return Some(class);
+        }
+    }
+    None
+}
+
+/// A byte as it stands, or a collating symbol of one byte. At the text's end the bracket expression
+/// whose `[` stands at `opening` is unclosed.
+fn read_point(cursor: &mut Cursor, opening: usize) -> Result<u8, PatternFault>
+    requires opened { Stands (codes "[") opening cursor.old }
+    requires no_class { OpensNoClass (left cursor.old) }
+    ensures read { IfOk result (Point (left cursor.old) (left cursor.new)) }
+    ensures refused { IfErr result (HasNoPoint opening cursor.old) }
+    ensures same_text { OnOk result (cursor.new.text ≡ cursor.old.text) }
+{
+    let from = cursor.place();
+    if cursor.skip(b"[.") {
+        return match take_closed_byte(cursor, b".]") {
+            Some(byte) => Ok(byte),
+            None => Err(PatternFault {
+                kind: FaultKind::BadCollatingSymbol,
+                at: from,
+            }),
+        };
+    }
+    match cursor.take() {
+        Some(byte) => Ok(byte),
+        None => Err(PatternFault {
+            kind: FaultKind::UnclosedBracket,
+            at: opening,
+        }),
+    }
+}
+
+/// The point that ends a range from the byte `first`, behind the hyphen that stands at `hyphen`.
+fn read_range_end(
+    cursor: &mut Cursor,
+    first: u8,
+    hyphen: usize,
+    opening: usize,
+) -> Result<u8, PatternFault>
+    requires opened { Stands (codes "[") opening cursor.old }
+    requires hyphen_stands { Stands (codes "-") hyphen cursor.old }
+    ensures read { IfOk result (Point (left cursor.old) (left cursor.new)) }
+    ensures ascends { IfOk result (λ last. first ≤ last) }
+    ensures refused { IfErr result (HasNoRangeEnd opening first cursor.old) }
+    ensures same_text { OnOk result (cursor.new.text ≡ cursor.old.text) }
+{
+    let bad_range = PatternFault {
+        kind: FaultKind::BadRange,
+        at: hyphen,
+    };
+    if cursor.skip(b"[:") {
+        return Err(bad_range);
+    }
+    if cursor.skip(b"[=") {
+        return Err(bad_range);
+    }
+    let last = read_point(cursor, opening)?;
+    if last < first {
+        return Err(bad_range);
+    }
+    Ok(last)
+}
+
+/// Whether the point that comes next may begin a range: a hyphen only as the first of its list.
+fn may_begin_range(cursor: &Cursor, place: Place) -> bool
+    ensures { MatchBool result (Begins (codes "-") (left cursor.now) → place ≡ Place.First)
+        (Begins (codes "-") (left cursor.now) × (place ≢ Place.First)) }
+{
+    match place {
+        Place::First => true,
+        Place::AfterPoint | Place::AfterRange => cursor.peek() != Some(b'-'),
+    }
+}
+
+/// Goes past a hyphen that is not the last of its list, and tells its place.
+fn skip_hyphen(cursor: &mut Cursor) -> Option<usize>
+    ensures found { IfSome result (PassesHyphen cursor.old cursor.new) }
+    ensures none { IfNone result ((cursor.new ≡ cursor.old) × (Begins (codes "-") (left cursor.old) → Begins (codes "-]") (left cursor.old))) }
+{
+    let hyphen = cursor.place();
+    let mut behind = *cursor;
+    if !behind.skip(b"-") || behind.peek() == Some(b']') {
+        return None;
+    }
+    *cursor = behind;
+    Some(hyphen)
+}
+
+/// What is wrong where a hyphen that may not begin a range stands before another that is not the
+/// last: the text ends there, or the second, at `hyphen`, may not stand.
+fn stray_hyphen(cursor: &Cursor, hyphen: usize, opening: usize) -> PatternFault
+    requires opened { Stands (codes "[") opening cursor.now }
+    requires hyphen_stands { Stands (codes "-") hyphen cursor.now }
+    ensures { IsShown opening cursor.now result }
+{
+    if cursor.peek().is_some() {
+        PatternFault {
+            kind: FaultKind::BadRange,
+            at: hyphen,
+        }
+    } else {
+        PatternFault {
+            kind: FaultKind::UnclosedBracket,
+            at: opening,
+        }
+    }
+}
+
+/// A point alone, or a range of two points.
+fn read_point_or_range(
+    cursor: &mut Cursor,
+    place: Place,
+    opening: usize,
+) -> Result<(ByteSet, Place), PatternFault>
+    requires opened { Stands (codes "[") opening cursor.old }
+    requires no_class { OpensNoClass (left cursor.old) }
+    requires goes_on { MayGoOn place (left cursor.old) }
+    ensures read { IfOk result (λ found. Element place (left cursor.old) (left cursor.new) (members found.0) found.1) }
+    ensures refused { IfErr result (HasNoElement opening place cursor.old) }
+    ensures same_text { OnOk result (cursor.new.text ≡ cursor.old.text) }
+{
+    let may_begin = may_begin_range(cursor, place);
+    let first = read_point(cursor, opening)?;
+    match skip_hyphen(cursor) {
+        None => Ok((ByteSet::only(first), Place::AfterPoint)),
+        Some(hyphen) => {
+            if !may_begin {
+                return Err(stray_hyphen(cursor, hyphen, opening));
+            }
+            let last = read_range_end(cursor, first, hyphen, opening)?;
+            Ok((ByteSet::range(first, last), Place::AfterRange))
+        }
+    }
+}
+
+/// An element at a place of its list: the bytes that it adds, and the place behind it.
+fn read_element(
+    cursor: &mut Cursor,
+    place: Place,
+    opening: usize,
+) -> Result<(ByteSet, Place), PatternFault>
+    requires opened { Stands (codes "[") opening cursor.old }
+    requires goes_on { MayGoOn place (left cursor.old) }
+    ensures read { IfOk result (λ found. Element place (left cursor.old) (left cursor.new) (members found.0) found.1) }
+    ensures refused { IfErr result (HasNoElement opening place cursor.old) }
+    ensures same_text { OnOk result (cursor.new.text ≡ cursor.old.text) }
+{
+    let from = cursor.place();
+    if cursor.skip(b"[:") {
+        return match take_class(cursor) {
+            Some(class) => Ok((ByteSet::class(class), Place::AfterRange)),
+            None => Err(PatternFault {
+                kind: FaultKind::BadClass,
+                at: from,
+            }),
+        };
+    }
+    if cursor.skip(b"[=") {
+        return match take_closed_byte(cursor, b"=]") {
+            Some(byte) => Ok((ByteSet::only(byte), Place::AfterRange)),
+            None => Err(PatternFault {
+                kind: FaultKind::BadCollatingSymbol,
+                at: from,
+            }),
+        };
+    }
+    read_point_or_range(cursor, place, opening)
+}
+
+/// The elements of a list and the `]` that closes it: the bytes that they add.
+fn read_list(cursor: &mut Cursor, opening: usize) -> Result<ByteSet, PatternFault>
+    requires opened { Stands (codes "[") opening cursor.old }
+    ensures read { IfOk result (λ set. Rest Place.First (left cursor.old) (left cursor.new) (members set)) }
+    ensures refused { IfErr result (HasNoList opening cursor.old) }
+    ensures same_text { OnOk result (cursor.new.text ≡ cursor.old.text) }
+{
+    let (mut set, mut place) = read_element(cursor, Place::First, opening)?;
+    while !cursor.skip(b"]") {
+        let (bytes, next) = read_element(cursor, place, opening)?;
+        set = set.union(bytes);
+        place = next;
+    }
+    Ok(set)
+}
+
+/// The bracket expression that comes next: a `Set` of the bytes that its list adds, or under a caret
+/// a `Not` of them. Its faults are those of `read_bracket`.
+pub fn read_next_bracket(cursor: &mut Cursor) -> Result<Tree, PatternFault>
+    requires { Begins (codes "[") (left cursor.old) }
+    ensures read { IfOk result (λ tree. IsBracket (left cursor.old) (left cursor.new) (expression_of tree)) }
+    ensures refused { IfErr result (HasNoBracket cursor.old) }
+    ensures same_text { OnOk result (cursor.new.text ≡ cursor.old.text) }
+{
+    let opening = cursor.place();
+    if cursor.skip(b"[^") {
+        let set = read_list(cursor, opening)?;
+        return Ok(Tree::Not(set));
+    }
+    cursor.skip(b"[");
+    let set = read_list(cursor, opening)?;
+    Ok(Tree::Set(set))
+}
+
+/// The bracket expression whose `[` stands at `from`: its tree, a `Set` or under a caret a `Not`,
+/// and the place behind its `]`, both places by offsets from the text's start.
+///
+/// # Errors
+///
+/// Where no bracket expression stands there, the first fault that a reading from the left meets:
+/// `BadClass`, `BadCollatingSymbol` or `BadRange`, or `UnclosedBracket` where the text ends first. A
+/// `[:`, `[=` or `[.` that the text's end cuts off is no unclosed bracket but a bad class or
+/// collating symbol, and as the end of a range a `[:` or `[=` is a bad range.
+pub fn read_bracket(text: &[u8], from: usize) -> Result<(Tree, usize), PatternFault>
+    requires { slice_get text.now from ≡ Some 91 }
+    ensures read { IfOk result (λ found. IsBracketUpTo text.now from found.1 (expression_of found.0)) }
+    ensures only { IfOk result (λ found. IsOnlyBracket text.now from found.1 (expression_of found.0)) }
+    ensures refused { IfErr result (IsNoBracket text.now from) }
+{
+    let mut cursor = Cursor::new(text, from);
+    let tree = read_next_bracket(&mut cursor)?;
+    Ok((tree, cursor.place()))
+}

@@ -1,0 +1,187 @@
+use super::*;
+
+/// Whether the set has the bytes of these ranges and no other.
+fn has_exactly(set: &ByteSet, ranges: &[(u8, u8)]) -> bool {
+    (0..=255u8).all(|byte| {
+        set.has(byte)
+            == ranges
+                .iter()
+                .any(|(low, high)| *low <= byte && byte <= *high)
+    })
+}
+
+/// What is read at a `[`; at any other byte a fault that no bracket expression has.
+fn answer(text: &[u8], from: usize) -> Result<(Tree, usize), PatternFault> {
+    if text.get(from) == Some(&b'[') {
+        read_bracket(text, from)
+    } else {
+        Err(PatternFault {
+            kind: FaultKind::Memory,
+            at: from,
+        })
+    }
+}
+
+fn is_set(text: &[u8], ranges: &[(u8, u8)], end: usize) -> bool {
+    match answer(text, 0) {
+        Ok((Tree::Set(set), behind)) => behind == end && has_exactly(&set, ranges),
+        _ => false,
+    }
+}
+
+fn is_complement(text: &[u8], ranges: &[(u8, u8)], end: usize) -> bool {
+    match answer(text, 0) {
+        Ok((Tree::Not(set), behind)) => behind == end && has_exactly(&set, ranges),
+        _ => false,
+    }
+}
+
+fn is_refused(text: &[u8], from: usize, kind: FaultKind, at: usize) -> bool {
+    match answer(text, from) {
+        Err(fault) => fault == PatternFault { kind, at },
+        Ok(_) => false,
+    }
+}
+
+#[test]
+fn points_ranges_and_hyphens_are_read(rt: HostRuntime) {
+    let rows: [(&[u8], &[(u8, u8)], usize); 28] = [
+        (b"[%--]", &[(37, 45)], 5),
+        (b"[--@]", &[(45, 64)], 5),
+        (b"[][.-.]-0]", &[(93, 93), (45, 48)], 10),
+        (b"[]-a]", &[(93, 97)], 5),
+        (b"[--]", &[(45, 45)], 4),
+        (b"[a-]]", &[(97, 97), (45, 45)], 4),
+        (b"[[:digit:]-]", &[(48, 57), (45, 45)], 12),
+        (b"[0-9-_]", &[(48, 57), (45, 45), (95, 95)], 7),
+        (b"[a-m-o]", &[(97, 109), (45, 45), (111, 111)], 7),
+        (
+            b"[:space:]",
+            &[
+                (58, 58),
+                (97, 97),
+                (99, 99),
+                (101, 101),
+                (112, 112),
+                (115, 115),
+            ],
+            9,
+        ),
+        (b"[---]", &[(45, 45)], 5),
+        (b"[\\]", &[(92, 92)], 3),
+        (b"[a^]", &[(97, 97), (94, 94)], 4),
+        (b"[a-[.c.]]x", &[(97, 99)], 9),
+        (b"[[.].]]", &[(93, 93)], 7),
+        (b"[[=a=]-z]", &[(97, 97), (45, 45), (122, 122)], 9),
+        (b"[[:digit:]--]", &[(48, 57), (45, 45)], 13),
+        (b"[0-9--]", &[(48, 57), (45, 45)], 7),
+        (b"[a-a]", &[(97, 97)], 5),
+        (b"[a[.-.]]", &[(97, 97), (45, 45)], 8),
+        (b"[[.-.]-]", &[(45, 45)], 8),
+        (b"[[===]]", &[(61, 61)], 7),
+        (b"[[...]]", &[(46, 46)], 7),
+        (b"[[]", &[(91, 91)], 3),
+        (b"[[a]b]", &[(91, 91), (97, 97)], 4),
+        (b"[+-[]", &[(43, 91)], 5),
+        (b"[.*]", &[(46, 46), (42, 42)], 4),
+        (b"[\x00-\xff]", &[(0, 255)], 5),
+    ];
+    for (text, ranges, end) in rows {
+        assert!(rt; is_set(text, ranges, end), "{text:?}");
+    }
+}
+
+#[test]
+fn a_caret_takes_the_bytes_outside(rt: HostRuntime) {
+    let rows: [(&[u8], &[(u8, u8)], usize); 4] = [
+        (b"[^]a]", &[(93, 93), (97, 97)], 5),
+        (b"[^a]", &[(97, 97)], 4),
+        (b"[^^]", &[(94, 94)], 4),
+        (b"[^-]", &[(45, 45)], 4),
+    ];
+    for (text, ranges, end) in rows {
+        assert!(rt; is_complement(text, ranges, end), "{text:?}");
+    }
+}
+
+#[test]
+fn each_class_has_its_bytes(rt: HostRuntime) {
+    let rows: [(&[u8], &[(u8, u8)]); 12] = [
+        (b"[[:upper:]]", &[(65, 90)]),
+        (b"[[:lower:]]", &[(97, 122)]),
+        (b"[[:digit:]]", &[(48, 57)]),
+        (b"[[:alpha:]]", &[(65, 90), (97, 122)]),
+        (b"[[:alnum:]]", &[(65, 90), (97, 122), (48, 57)]),
+        (b"[[:blank:]]", &[(32, 32), (9, 9)]),
+        (b"[[:space:]]", &[(32, 32), (9, 13)]),
+        (b"[[:cntrl:]]", &[(0, 31), (127, 127)]),
+        (b"[[:punct:]]", &[(33, 47), (58, 64), (91, 96), (123, 126)]),
+        (b"[[:graph:]]", &[(33, 126)]),
+        (b"[[:print:]]", &[(32, 126)]),
+        (b"[[:xdigit:]]", &[(48, 57), (65, 70), (97, 102)]),
+    ];
+    for (text, ranges) in rows {
+        assert!(rt; is_set(text, ranges, text.len()), "{text:?}");
+    }
+}
+
+#[test]
+fn a_byte_stands_for_itself(rt: HostRuntime) {
+    for byte in 0..=255u8 {
+        // A `]` is first in its list and so does not close it, and a `^` in front takes the bytes outside.
+        if byte != b']' && byte != b'^' {
+            assert!(rt; is_set(&[b'[', byte, b']'], &[(byte, byte)], 3), "{byte}");
+        }
+    }
+}
+
+#[test]
+fn faults_show_at_their_places(rt: HostRuntime) {
+    let rows: [(&[u8], usize, FaultKind, usize); 36] = [
+        (b"[b-a]", 0, FaultKind::BadRange, 2),
+        (b"[a-m--o]", 0, FaultKind::BadRange, 5),
+        (b"[a--@]", 0, FaultKind::BadRange, 2),
+        (b"[a-[:digit:]]", 0, FaultKind::BadRange, 2),
+        (b"[a-[=b=]]", 0, FaultKind::BadRange, 2),
+        (b"[a-[:", 0, FaultKind::BadRange, 2),
+        (b"[a-[", 0, FaultKind::BadRange, 2),
+        (b"[[:digit:]--z]", 0, FaultKind::BadRange, 11),
+        (b"[[=a=]--z]", 0, FaultKind::BadRange, 7),
+        (b"[z-[.a.]]", 0, FaultKind::BadRange, 2),
+        (b"[b-a", 0, FaultKind::BadRange, 2),
+        (b"[b-a][:", 0, FaultKind::BadRange, 2),
+        (b"[[:foo:]]", 0, FaultKind::BadClass, 1),
+        (b"[[:alpha", 0, FaultKind::BadClass, 1),
+        (b"[[:alpha]]", 0, FaultKind::BadClass, 1),
+        (b"[[::]]", 0, FaultKind::BadClass, 1),
+        (b"[[:Alpha:]]", 0, FaultKind::BadClass, 1),
+        (b"[[:", 0, FaultKind::BadClass, 1),
+        (b"[[.ab.]]", 0, FaultKind::BadCollatingSymbol, 1),
+        (b"[[.a", 0, FaultKind::BadCollatingSymbol, 1),
+        (b"[[..]]", 0, FaultKind::BadCollatingSymbol, 1),
+        (b"[[=ab=]]", 0, FaultKind::BadCollatingSymbol, 1),
+        (b"[[=a", 0, FaultKind::BadCollatingSymbol, 1),
+        (b"[a-[.", 0, FaultKind::BadCollatingSymbol, 3),
+        (b"[", 0, FaultKind::UnclosedBracket, 0),
+        (b"[a", 0, FaultKind::UnclosedBracket, 0),
+        (b"[]", 0, FaultKind::UnclosedBracket, 0),
+        (b"[^", 0, FaultKind::UnclosedBracket, 0),
+        (b"[^]", 0, FaultKind::UnclosedBracket, 0),
+        (b"[a-", 0, FaultKind::UnclosedBracket, 0),
+        (b"[[:digit:]-", 0, FaultKind::UnclosedBracket, 0),
+        (b"[[:digit:]--", 0, FaultKind::UnclosedBracket, 0),
+        (b"[+-[", 0, FaultKind::UnclosedBracket, 0),
+        (b"x[a", 1, FaultKind::UnclosedBracket, 1),
+        (b"x[b-a]", 1, FaultKind::BadRange, 3),
+        (b"[[[:foo:]]", 1, FaultKind::BadClass, 2),
+    ];
+    for (text, from, kind, at) in rows {
+        assert!(rt; is_refused(text, from, kind, at), "{text:?}");
+    }
+}
+
+#[test]
+fn places_count_from_the_start_of_the_text(rt: HostRuntime) {
+    let behind = answer(b"ab[cd]e", 2).map(|(_, behind)| behind);
+    assert_eq!(rt; behind, Ok(6));
+}
