@@ -1,11 +1,13 @@
 -- The laws of the definitions: one expression, one split, one list of parts.
-use Rattle.std.proofs.Common.{◌≡◌, map, refl}
+use Rattle.std.proofs.Common.{◌≡◌, map, refl, ap}
 use Rattle.re_syntax.specs.Bytes.{Text}
-use Rattle.re_syntax.specs.Expression.{Expression, byte, sequence}
+use Rattle.re_syntax.specs.Expression.{Expression, byte, sequence, choice}
 use Rattle.re_syntax.specs.declared.syntax.Syntax.{Syntax}
 use Rattle.re_syntax.specs.declared.syntax.Syntax.TheVariants.{Fixed}
-use Rattle.re_syntax.specs.Spelled.{IsSpelled, SpellsNoOther, as_fixed}
+use Rattle.re_syntax.specs.Spelled.{IsSpelled, SpellsNoOther, as_basic, as_extended, as_fixed}
 use Rattle.re_syntax.specs.Laws.{SpellsOne, HasOneSplit, HasOnePartList}
+use Rattle.re_syntax.proofs.BasicUnique.{whole-unique}
+use Rattle.re_syntax.proofs.ExtendedUnique.{whole-branches}
 use Rattle.re_syntax.proofs.LinesLaws.{AreLines-lines_of, lines_of-unique, AreListed-list_of, list_of-unique}
 use Rattle.re_syntax.proofs.EndedLinesLaws.{AreEndedLines-ended_lines_of, ended_lines_of-unique}
 use Rattle.re_syntax.proofs.PartsLaws.{ArePartsFrom-unique}
@@ -15,7 +17,9 @@ pub fixed_spelled : (t : Text) (e : Expression) → e ≡ sequence (map byte t) 
 fixed_spelled t e h = let P : Expression → Type 0 = λ x. IsSpelled Fixed t x in let it : P (sequence (map byte t)) = as_fixed in rw h it
 
 -- a text spells one expression
-IsSpelled-unique : {syntax : Syntax} {t : Text} {d e : Expression} → IsSpelled syntax t d → IsSpelled syntax t e → d ≡ e
+pub IsSpelled-unique : {syntax : Syntax} {t : Text} {d e : Expression} → IsSpelled syntax t d → IsSpelled syntax t e → d ≡ e
+IsSpelled-unique (as_basic is h) (as_basic js k) = ap sequence (whole-unique is js)
+IsSpelled-unique (as_extended bs h) (as_extended cs k) = ap choice (whole-branches bs cs).expressions
 IsSpelled-unique as_fixed as_fixed = refl
 
 -- a fixed string spells nothing but the sequence of its bytes

@@ -55,3 +55,9 @@ abbrev pub sequence : List Expression → Expression
 sequence [] = empty
 sequence (e ∷ []) = e
 sequence (e ∷ f ∷ es) = cat (e ∷ f ∷ es)
+
+-- of one branch that branch, of several any one of them
+abbrev pub choice : List Expression → Expression
+choice [] = empty
+choice (e ∷ []) = e
+choice (e ∷ f ∷ es) = alt (e ∷ f ∷ es)

@@ -5,9 +5,17 @@ pub mod Holds
 pub mod Parts
 pub mod Brackets
 pub mod Faults
+pub mod Intervals
+pub mod Escapes
+pub mod Basic
+pub mod Extended
 pub mod Lines
 pub mod Spelled
 pub mod Splitting
 pub mod Cursors
+pub mod Ahead
+pub mod IntervalSteps
 pub mod BracketSteps
+pub mod BasicFaults
+pub mod BasicSteps
 pub mod Laws

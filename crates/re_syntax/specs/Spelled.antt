@@ -1,13 +1,23 @@
 -- Which expression the text of a pattern spells, and which one it means (XCU grep, OPTIONS -E, -F, -i).
-use Rattle.std.specs.Prelude.{◌≡◌, Bool, true, map, if◌then◌else◌}
+use Rattle.std.specs.Prelude.{◌≡◌, ℕ, ◌≤◌, Bool, true, false, List, [], map, if◌then◌else◌}
 use Rattle.re_syntax.specs.declared.syntax.Syntax.{Syntax}
 use Rattle.re_syntax.specs.declared.syntax.Syntax.TheVariants.{Basic, Extended, Fixed}
 use Rattle.re_syntax.specs.Bytes.{Text}
-use Rattle.re_syntax.specs.Expression.{Expression, byte, sequence}
+use Rattle.re_syntax.specs.Expression.{Expression, byte, sequence, choice}
 use Rattle.re_syntax.specs.Holds.{folded}
+use Rattle.re_syntax.specs.Basic.{First, Items}
+use Rattle.re_syntax.specs.Extended.{Branches}
+
+-- how deep groups and duplications may stand in one another
+abbrev pub most_levels : ℕ
+most_levels = 256
 
 -- the rules by which a text is read; a syntax without a rule spells nothing
 pub data IsSpelled : Syntax → Text → Expression → Type 0 where
+  -- a basic expression goes up to the text's end, and is not too deep
+  as_basic : {h : ℕ} {t : Text} {es : List Expression} → Items First h t [] es → h ≤ most_levels → IsSpelled Basic t (sequence es)
+  -- so does an extended expression, which stands inside no group
+  as_extended : {h : ℕ} {t : Text} {es : List Expression} → Branches false h t [] es → h ≤ most_levels → IsSpelled Extended t (choice es)
   -- a fixed string is the sequence of its bytes
   as_fixed : {t : Text} → IsSpelled Fixed t (sequence (map byte t))
 

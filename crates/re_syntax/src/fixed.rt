@@ -9,7 +9,7 @@ use crate::tree::Tree;
 use std::alloc::Global;
 
 /// The fault of a reader that memory ran out for.
-fn out_of_memory() -> PatternFault
+pub fn out_of_memory() -> PatternFault
     ensures { result ≡ record { kind = FaultKind.Memory; at = 0 } }
 {
     PatternFault {
@@ -36,7 +36,7 @@ pub fn read_fixed(alloc: Global, text: &[u8]) -> Result<Tree, PatternFault>
 }
 
 /// One tree for the trees in order.
-fn sequence_of(mut parts: Vec<Tree>) -> Tree
+pub fn sequence_of(mut parts: Vec<Tree>) -> Tree
     ensures { expression_of result ≡ sequence (map expression_of parts.items) }
 {
     if parts.len() < 2 {

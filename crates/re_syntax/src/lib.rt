@@ -1,12 +1,16 @@
 //! Regular expressions as trees: what the readers of pattern texts make, and what their texts mean.
 #![tactic(auto)]
 
+mod ahead;
+mod basic;
 mod bracket;
 mod bytes;
 mod class;
 mod cursor;
 mod fault;
 mod fixed;
+mod folding;
+mod interval;
 mod laws;
 mod split;
 mod syntax;
@@ -14,12 +18,14 @@ mod syntax;
 mod tests;
 mod tree;
 
+pub use basic::read_basic;
 pub use bracket::read_bracket;
 pub use bytes::ByteSet;
 pub use class::Class;
 pub use fault::{FaultKind, PatternFault};
 pub use fixed::read_fixed;
+pub use folding::fold;
 pub use laws::{brackets_are_unique, has_one_split, parts_are_unique, spells_one};
-pub use split::{Patterns, split_list};
+pub use split::{FilePatterns, Patterns, split_file, split_list};
 pub use syntax::Syntax;
 pub use tree::Tree;

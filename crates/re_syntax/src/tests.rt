@@ -40,6 +40,22 @@ fn a_list_has_one_more_pattern_than_newlines(rt: HostRuntime) {
 }
 
 #[test]
+fn a_file_has_a_pattern_for_each_line(rt: HostRuntime) {
+    let rows: [(&[u8], &[&[u8]]); 7] = [
+        (b"", &[]),
+        (b"a", &[b"a"]),
+        (b"a\n", &[b"a"]),
+        (b"\n", &[b""]),
+        (b"\n\n", &[b"", b""]),
+        (b"a\n\nb", &[b"a", b"", b"b"]),
+        (b"ab\ncd\n", &[b"ab", b"cd"]),
+    ];
+    for (text, expected) in rows {
+        assert!(rt; split_file(text).eq(expected.iter().copied()), "{text:?}");
+    }
+}
+
+#[test]
 fn a_fixed_string_is_the_sequence_of_its_bytes(rt: HostRuntime) -> Result<(), Fail> {
     let rows: [&[u8]; 5] = [b"", b"a", b"ab", b".*", b"\\\x00\xff"];
     for text in rows {

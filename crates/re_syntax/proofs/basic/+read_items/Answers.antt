@@ -1,0 +1,122 @@
+use Rattle.std.proofs.Common.{◌+◌, ◌≢◌, get_or, drop, refl, ap, ◌∙◌, arith, rules, codes}
+use Rattle.std.proofs.lemmas.Result.{err_from_is_err_and}
+use Rattle.re_syntax.specs.Expression.{one_of}
+use Rattle.re_syntax.specs.Bytes.{Begins}
+use Rattle.re_syntax.specs.BasicSteps.{told, DuplicationStands}
+use Rattle.re_syntax.proofs.ExpressionLaws.{expression-Set}
+use Rattle.re_syntax.proofs.BasicEnds.{ok_as, some_found, nothing_found, item_within, byte_here, front_here, not_closing}
+use Rattle.re_syntax.proofs.BasicAtoms.{no_escape_atom, no_interval_atom, single_stands, escaped_stands, atom_higher}
+use Rattle.re_syntax.proofs.BasicGroups.{opening_within, opening_starts, group_stands, no_group_inside, no_group_end}
+use Rattle.re_syntax.proofs.BasicItems.{no_items_without_atom, item_of_atom, item_repeated, too_deep, shown_deep, no_items_bad, one_more, all_read, refused_as, duplication_takes}
+use Rattle.re_syntax.proofs.basic.+read_items.Goals as goal
+
+pub read_atom-bounds-text-at : goal.read_atom-bounds-text-at
+read_atom-bounds-text-at t c = item_within c.args.text.now c.args.at c.requires.within c.requires.item
+
+pub read_atom-read_bracket_atom-requires : goal.read_atom-read_bracket_atom-requires
+read_atom-read_bracket_atom-requires t c =
+    byte_here c.args.text.now c.args.at 91 (item_within c.args.text.now c.args.at c.requires.within c.requires.item) c.in-91.is
+
+pub read_atom-read_escaped-requires : goal.read_atom-read_escaped-requires
+read_atom-read_escaped-requires t c =
+    let front = front_here c.args.text.now c.args.at 92 (item_within c.args.text.now c.args.at c.requires.within c.requires.item) c.in-92.is in
+    (search rules, ((drop (c.args.at + 1) c.args.text.now, front), (not_closing c.requires.item, (c.requires.opens, c.requires.few))))
+
+pub read_atom-returns-in-91-clause-read : goal.read_atom-returns-in-91-clause-read
+read_atom-returns-in-91-clause-read t c =
+    ok_as _ _ c.read_bracket_atom.result c.read_bracket_atom.ensures.read (λ piece h p b. atom_higher c.args.levels c.args.text.now c.args.at piece p (h p))
+
+pub read_atom-returns-in-92-clause-read : goal.read_atom-returns-in-92-clause-read
+read_atom-returns-in-92-clause-read t c = ok_as _ _ c.read_escaped.result c.read_escaped.ensures.read (λ piece h p b. h p)
+
+pub read_atom-returns-in_default-clause-read : goal.read_atom-returns-in_default-clause-read
+read_atom-returns-in_default-clause-read t c =
+    let here = item_within c.args.text.now c.args.at c.requires.within c.requires.item in
+    let not_bracket : get_or c.args.text.now c.args.at 0 ≢ 91 = search rules in
+    let not_backslash : get_or c.args.text.now c.args.at 0 ≢ 92 = search rules in
+    single_stands c.args.levels c.args.text.now c.args.at (get_or c.args.text.now c.args.at 0) _ here
+    (front_here c.args.text.now c.args.at (get_or c.args.text.now c.args.at 0) here refl) c.requires.item not_bracket not_backslash
+    (expression-Set c.meant_by.result ∙ ap one_of c.meant_by.ensures) refl refl
+
+pub read_escaped-returns-then-is_some-2-clause-refused : goal.read_escaped-returns-then-is_some-2-clause-refused
+read_escaped-returns-then-is_some-2-clause-refused t c p =
+    let (b, s) = some_found _ _ c.after-2.result c.is_some-2.result c.is_some-2.ensures c.if-is_some-2.true c.after-2.ensures in
+    let begins : Begins (codes "\\{") (drop c.args.at c.args.text.now) = (drop b c.args.text.now, s.front) in
+    told (no_interval_atom begins p c.args.levels) (begins, c.requires.opens begins)
+
+pub read_escaped-returns-in_err-byte-clause-refused : goal.read_escaped-returns-in_err-byte-clause-refused
+read_escaped-returns-in_err-byte-clause-refused t c =
+    let q = err_from_is_err_and c.from_residual.result c.from_residual.ensures.1 in
+    let no_group = nothing_found _ _ c.after.result c.is_some.result c.is_some.ensures c.if-is_some.false c.after.ensures in
+    rw (q.1, q.2) (λ p. told (no_escape_atom c.requires.escapes no_group c.in_err-byte.ensures.refused p c.args.levels) c.in_err-byte.ensures.refused.shown)
+
+pub read_escaped-returns-clause-read : goal.read_escaped-returns-clause-read
+read_escaped-returns-clause-read t c p =
+    let no_group = nothing_found _ _ c.after.result c.is_some.result c.is_some.ensures c.if-is_some.false c.after.ensures in
+    let no_interval = nothing_found _ _ c.after-2.result c.is_some-2.result c.is_some-2.ensures c.if-is_some-2.false c.after-2.ensures in
+    escaped_stands c.args.levels c.args.text.now c.args.at c.in_ok-byte.byte _ c.in_ok-byte.ensures.read no_group c.requires.not_closing no_interval
+    (expression-Set c.only.result ∙ ap one_of c.only.ensures) refl refl p
+
+pub read_group-read_items-requires : goal.read_group-read_items-requires
+read_group-read_items-requires t c =
+    (search rules, (opening_within c.args.text.now c.args.at c.requires.opens, (opening_starts c.args.text.now c.args.at c.requires.opens, omega arith)))
+
+pub read_group-returns-in_err-items-clause-refused : goal.read_group-returns-in_err-items-clause-refused
+read_group-returns-in_err-items-clause-refused t c =
+    let q = err_from_is_err_and c.from_residual.result c.from_residual.ensures.1 in
+    rw (q.1, q.2) (λ p. refused_as c.in_err-items.ensures.refused (λ k. no_group_inside c.args.levels c.args.text.now c.args.at c.requires.opens k p))
+
+pub read_group-returns-in-None-clause-refused : goal.read_group-returns-in-None-clause-refused
+read_group-returns-in-None-clause-refused t c p =
+    told (no_group_end c.args.levels c.args.text.now c.args.at c.in_ok-items.items c.requires.opens c.in_ok-items.ensures.read c.in-None.ensures p) c.requires.opens
+
+pub read_group-returns-in-Some-clause-read : goal.read_group-returns-in-Some-clause-read
+read_group-returns-in-Some-clause-read t c p =
+    group_stands c.args.levels c.args.text.now c.args.at c.in_ok-items.items _ c.requires.opens c.if-levels-eq0.false c.in_ok-items.ensures.read c.in-Some.ensures refl
+    c.sequence_of.ensures p
+
+pub read_item-returns-in_err-piece-clause-refused : goal.read_item-returns-in_err-piece-clause-refused
+read_item-returns-in_err-piece-clause-refused t c =
+    let q = err_from_is_err_and c.from_residual.result c.from_residual.ensures.1 in
+    rw (q.1, q.2) (λ p b. refused_as (c.in_err-piece.ensures.refused p) (no_items_without_atom c.requires.item b))
+
+pub read_item-duplications-init : goal.read_item-duplications-init
+read_item-duplications-init t c = item_of_atom c.args.levels c.args.text.now c.args.at c.in_ok-piece.piece c.in_ok-piece.ensures.read
+
+pub read_item-returns-in_err-counts-clause-refused : goal.read_item-returns-in_err-counts-clause-refused
+read_item-returns-in_err-counts-clause-refused t c =
+    let q = err_from_is_err_and c.from_residual-in_err-counts.result c.from_residual-in_err-counts.ensures.1 in
+    let bad = c.in_err-counts.ensures.refused in
+    rw (q.1, q.2) (λ p b. told (no_items_bad c.args.levels c.args.text.now c.args.at c.duplications.piece _ c.duplications.invariant bad p b) bad.shown)
+
+pub read_item-returns-then-piece-levels-clause-refused : goal.read_item-returns-then-piece-levels-clause-refused
+read_item-returns-then-piece-levels-clause-refused t c p b =
+    let d = rw c.in-Some.is at c.in_ok-counts.ensures.read in
+    told (too_deep c.args.levels c.args.text.now c.args.at c.duplications.piece c.in-Some.counts c.in-Some.behind c.duplications.invariant c.if-piece-levels.true d p b)
+    (shown_deep c.args.text.now c.duplications.piece.behind c.in-Some.counts c.in-Some.behind d)
+
+pub read_item-duplications-smaller : goal.read_item-duplications-smaller
+read_item-duplications-smaller t c =
+    let d : DuplicationStands c.args.text.now c.duplications.piece.behind c.in-Some.counts c.in-Some.behind = rw c.in-Some.is at c.in_ok-counts.ensures.read in
+    let takes = duplication_takes d in
+    let within = d.within in
+    let place = c.in_ok-piece-2.ensures.made.place in
+    omega arith
+
+pub read_item-duplications-preserved : goal.read_item-duplications-preserved
+read_item-duplications-preserved t c =
+    let d : DuplicationStands c.args.text.now c.duplications.piece.behind c.in-Some.counts c.in-Some.behind = rw c.in-Some.is at c.in_ok-counts.ensures.read in
+    item_repeated c.args.levels c.args.text.now c.args.at c.duplications.piece c.in_ok-piece-2.piece c.in-Some.counts c.in-Some.behind c.duplications.invariant
+    c.if-piece-levels.false d c.in_ok-piece-2.ensures.made
+
+pub read_items-items-init : goal.read_items-items-init
+read_items-items-init t c = c.in_ok-items.ensures.read c.args.levels
+
+pub read_items-items-preserved : goal.read_items-items-preserved
+read_items-items-preserved t c =
+    one_more c.args.levels c.args.text.now c.args.from c.items.items c.in_ok-items-2.items c.in_ok-piece.piece c.items.invariant c.in_ok-piece.ensures.read
+    c.in_ok-items-2.ensures.made
+
+pub read_items-returns-clause-read : goal.read_items-returns-clause-read
+read_items-returns-clause-read t c =
+    ok_as _ _ c.read_tail.result c.read_tail.ensures.read (λ all e. all_read c.args.levels c.args.text.now c.args.from c.items.items all c.items.invariant e)

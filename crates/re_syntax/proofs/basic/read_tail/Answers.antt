@@ -1,0 +1,10 @@
+use Rattle.std.proofs.Common.{refl}
+use Rattle.re_syntax.proofs.ExpressionLaws.{expression-End}
+use Rattle.re_syntax.proofs.BasicEnds.{ended_without_tail, ended_with_tail, ok_as}
+use Rattle.re_syntax.proofs.basic.read_tail.Goals as goal
+
+pub returns-in-None-clause-read : goal.returns-in-None-clause-read
+returns-in-None-clause-read c = ended_without_tail c.args.text.now c.args.items c.requires.within c.requires.ends c.in-None.ensures
+
+pub returns-in-Some-clause-read : goal.returns-in-Some-clause-read
+returns-in-Some-clause-read c = ok_as _ _ c.joined.result c.joined.ensures.made (λ new j. ended_with_tail c.args.text.now c.args.items new _ c.in-Some.ensures expression-End refl j)

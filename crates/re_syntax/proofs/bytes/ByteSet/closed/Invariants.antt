@@ -1,0 +1,8 @@
+use Rattle.std.proofs.Common.{◌≡◌}
+use Rattle.re_syntax.specs.Bytes.{Bytes}
+use Rattle.re_syntax.specs.Sets.{members}
+use Rattle.re_syntax.proofs.ClosedLaws.{closed_below}
+use Rattle.re_syntax.proofs.bytes.ByteSet.closed.Given as goal
+
+abbrev pub invariant-loop-byte : goal.invariant-loop-byte
+invariant-loop-byte l = ◌≡◌ {A = Bytes} (members l.set) (closed_below (members l.self) l.byte)

@@ -1,0 +1,10 @@
+use Rattle.std.proofs.Common.{◌≡◌, map, take}
+use Rattle.re_syntax.specs.Expression.{expression_of}
+use Rattle.re_syntax.specs.Holds.{folded}
+use Rattle.re_syntax.proofs.folding.+fold.Given as goal
+
+abbrev pub invariant-fold_all-loop-i : goal.invariant-fold_all-loop-i
+invariant-fold_all-loop-i l = record {
+  unvisited : goal.unvisited-fold_all-loop-i l;
+  visited : map expression_of (take l.i l.parts.items) ≡ map folded (map expression_of (take l.i l.initial.parts.items));
+}

@@ -1,0 +1,6 @@
+use Rattle.std.proofs.Common.{◌≡◌, take}
+use Rattle.re_syntax.specs.Intervals.{value, capped}
+use Rattle.re_syntax.proofs.interval.capped_value.Given as goal
+
+abbrev pub invariant-loop-digit : goal.invariant-loop-digit
+invariant-loop-digit l = l.value ≡ capped (value (take l.digit-index l.digits))

@@ -1,0 +1,49 @@
+-- Interval expressions (XBD 9.3.6 item 5, 9.4.6 item 5): what stands between the braces, and its two numbers.
+use Rattle.std.specs.Prelude.{◌≡◌, ◌≢◌, ℕ, ◌+◌, ◌-◌, ◌*◌, ◌≤◌, min, [], ◌∷◌, ◌++◌, Option, Some, None, IsTrue, IfSome, codes}
+use Rattle.std.specs.List.{list_all}
+use Rattle.re_syntax.specs.declared.class.Class.TheVariants.{Digit}
+use Rattle.re_syntax.specs.Bytes.{Text, Begins, in_class}
+
+abbrev pub value_after : ℕ → Text → ℕ
+value_after n [] = n
+value_after n (b ∷ t) = value_after (10 * n + (b - 48)) t
+
+-- one or more decimal digits
+pub record IsNumber (t : Text) : Type 0 where
+  pub not_empty : t ≢ []
+  pub digits : IsTrue (list_all (in_class Digit) t)
+
+abbrev pub value : Text → ℕ
+value = value_after 0
+
+-- `m`, `m,` or `m,n`
+pub data Interval : Text → ℕ → Option ℕ → Type 0 where
+  exactly : (m : Text) → IsNumber m → Interval m (value m) (Some (value m))
+  at_least : (m : Text) → IsNumber m → Interval (m ++ codes ",") (value m) None
+  between : (m n : Text) → IsNumber m → IsNumber n → Interval (m ++ codes "," ++ n) (value m) (Some (value n))
+
+-- RE_DUP_MAX
+abbrev pub most_repeats : ℕ
+most_repeats = 255
+
+-- both numbers are within the limit, and the first is not above the second
+pub record IsAllowed (least : ℕ) (most : Option ℕ) : Type 0 where
+  pub least_fits : least ≤ most_repeats
+  pub most_fits : IfSome most (λ n. n ≤ most_repeats)
+  pub ordered : IfSome most (λ n. least ≤ n)
+
+-- at the front of the first text stands something of an interval's form with these numbers, and what closes it; the second text follows
+pub record ClosedInterval (close t u : Text) (least : ℕ) (most : Option ℕ) : Type 0 where
+  pub inside : Text
+  pub form : Interval inside least most
+  pub whole : t ≡ inside ++ (close ++ u)
+
+-- a byte comes first, and none that an interval's form can have
+pub record IsNoPart (t : Text) : Type 0 where
+  pub not_empty : t ≢ []
+  pub no_digit : (b : ℕ) (u : Text) → t ≡ b ∷ u → ¬ IsTrue (in_class Digit b)
+  pub no_comma : ¬ Begins (codes ",") t
+
+-- what a reader keeps of a number: one above the limit is as good as any other
+abbrev pub capped : ℕ → ℕ
+capped n = min n (most_repeats + 1)

@@ -1,0 +1,429 @@
+//! Basic regular expressions (XBD 9.3), read in one pass from left to right.
+ghost use Rattle.std.specs.Prelude.{◌≡◌, ◌≢◌, ℕ, ◌≤◌, ◌<◌, ◌⊎◌, ◌∷◌, ◌++◌, IsTrue, IfOk, IfErr, MatchOption, MatchBool, codes, length, take, drop, slice_get, Some, map};
+ghost use Rattle.re_syntax.specs.Bytes.{Text, Begins, in_class};
+ghost use Rattle.re_syntax.specs.Expression.{expression_of};
+ghost use Rattle.re_syntax.specs.Sets.{members};
+ghost use Rattle.re_syntax.specs.Escapes.{is_undefined};
+ghost use Rattle.re_syntax.specs.Basic.{ItemPlace, First, IsAtEnd};
+ghost use Rattle.re_syntax.specs.Intervals.{IsAllowed};
+ghost use Rattle.re_syntax.specs.declared.syntax.Syntax.TheVariants.{Basic};
+ghost use Rattle.re_syntax.specs.Spelled.{IsSpelled, SpellsNoOther};
+ghost use Rattle.re_syntax.specs.BasicFaults.{IsDisallowed, IsRefusedEscape, refused_escapes, HasNothingToRepeat, IsShownIn, IsNoBasic};
+ghost use Rattle.re_syntax.specs.BasicSteps.{OpensNoDuplication, DuplicationStands, HasBadInterval, EscapeStands, HasNoEscape, meant_bytes, AtomStands, HasNoBracketAtom, HasNoAtom, IsRepeated, HasItem, HasNoItem, HasNoTail, IsBehindTail, IsJoined, IsStart, SoFar, IsEnded, MayBegin, ItemStands, ItemsStand, HasNoItems, IsRefused};
+
+use crate::ahead::{after, byte_at};
+use crate::bracket::read_bracket;
+use crate::bytes::ByteSet;
+use crate::class::Class;
+use crate::fault::{FaultKind, PatternFault};
+use crate::fixed::{out_of_memory, sequence_of};
+use crate::interval::{Counts, MOST_REPEATS, read_interval};
+use crate::tree::Tree;
+use std::alloc::Global;
+
+/// How deep groups and duplications may stand in one another.
+const MOST_LEVELS: usize = 256;
+
+/// An atom or an item that was read.
+#[derive(Drop)]
+pub struct Piece {
+    /// What it means.
+    pub tree: Tree,
+    /// How deep groups and duplications stand in one another in it.
+    pub height: usize,
+    /// The place behind it.
+    pub behind: usize,
+}
+
+/// The items of an expression that was read.
+#[derive(Drop)]
+pub struct Pieces {
+    /// What they mean, in order.
+    pub trees: Vec<Tree>,
+    /// The greatest height of an item.
+    pub height: usize,
+    /// The place behind the last of them.
+    pub behind: usize,
+}
+
+/// Why counts are refused, if they are: too large, which goes first, or descending.
+fn counts_fault(counts: Counts) -> Option<FaultKind>
+    ensures { MatchOption result (IsAllowed counts.least counts.most) (λ kind. IsDisallowed kind counts.least counts.most) }
+{
+    if counts.least > MOST_REPEATS {
+        return Some(FaultKind::IntervalTooLarge);
+    }
+    let most = counts.most?;
+    if most > MOST_REPEATS {
+        Some(FaultKind::IntervalTooLarge)
+    } else if most < counts.least {
+        Some(FaultKind::BadInterval)
+    } else {
+        None
+    }
+}
+
+/// The duplication that stands at a place of the text, if one does, and the place behind it.
+fn read_duplication(text: &[u8], at: usize) -> Result<Option<(Counts, usize)>, PatternFault>
+    requires { at ≤ length text.now }
+    ensures read { IfOk result (λ found. MatchOption found (OpensNoDuplication (drop at text.now)) (λ d. DuplicationStands text.now at d.0 d.1)) }
+    ensures refused { IfErr result (HasBadInterval text.now at) }
+{
+    if let Some(behind) = after(text, at, b"*") {
+        let counts = Counts {
+            least: 0,
+            most: None,
+        };
+        return Ok(Some((counts, behind)));
+    }
+    match after(text, at, b"\\{") {
+        None => Ok(None),
+        Some(inside) => match read_interval(text, inside, b"\\}") {
+            None => Err(PatternFault {
+                kind: FaultKind::BadInterval,
+                at,
+            }),
+            Some((counts, behind)) => match counts_fault(counts) {
+                Some(kind) => Err(PatternFault { kind, at }),
+                None => Ok(Some((counts, behind))),
+            },
+        },
+    }
+}
+
+/// Whether a byte is a letter or a digit.
+fn is_alphanumeric(byte: u8) -> bool
+    ensures { result ≡ in_class Class.Alnum byte }
+{
+    let is_upper = (b'A' <= byte) & (byte <= b'Z');
+    let is_lower = (b'a' <= byte) & (byte <= b'z');
+    let is_digit = (b'0' <= byte) & (byte <= b'9');
+    is_upper | is_lower | is_digit
+}
+
+/// Whether the standard gives a backslash before the byte no meaning.
+fn is_undefined_escape(byte: u8) -> bool
+    ensures { result ≡ is_undefined refused_escapes byte }
+{
+    let is_angle = (b'<' == byte) | (b'>' == byte);
+    let is_quote = (b'`' == byte) | (b'\'' == byte);
+    let is_operator = (b'+' == byte) | (b'?' == byte) | (b'|' == byte);
+    is_alphanumeric(byte) | is_angle | is_quote | is_operator
+}
+
+/// Why a byte may not follow a backslash, if it may not.
+fn escape_fault(byte: u8) -> Option<FaultKind>
+    ensures { MatchOption result (¬ IsTrue (is_undefined refused_escapes byte)) (λ kind. IsRefusedEscape kind byte) }
+{
+    if (b'1' <= byte) & (byte <= b'9') {
+        return Some(FaultKind::BackReference);
+    }
+    if is_undefined_escape(byte) {
+        return Some(FaultKind::UndefinedEscape);
+    }
+    None
+}
+
+/// The byte behind the backslash at a place, where it stands for itself there.
+fn read_escape(text: &[u8], at: usize) -> Result<u8, PatternFault>
+    requires { Begins (codes "\\") (drop at text.now) }
+    ensures read { IfOk result (EscapeStands text.now at) }
+    ensures refused { IfErr result (HasNoEscape text.now at) }
+{
+    match byte_at(text, at + 1) {
+        None => Err(PatternFault {
+            kind: FaultKind::TrailingBackslash,
+            at,
+        }),
+        Some(byte) => match escape_fault(byte) {
+            None => Ok(byte),
+            Some(kind) => Err(PatternFault { kind, at }),
+        },
+    }
+}
+
+/// The bytes that a byte means outside brackets and escapes: a period any but NUL, any other byte
+/// itself.
+fn meant_by(byte: u8) -> ByteSet
+    ensures { members result ≡ meant_bytes byte }
+{
+    if byte == b'.' {
+        ByteSet::range(1, 255)
+    } else {
+        ByteSet::only(byte)
+    }
+}
+
+/// The bracket expression that stands at a place.
+fn read_bracket_atom(text: &[u8], at: usize) -> Result<Piece, PatternFault>
+    requires { slice_get text.now at ≡ Some 91 }
+    ensures read { IfOk result (λ piece. (p : ItemPlace) → AtomStands p 0 text.now at piece) }
+    ensures refused { IfErr result (HasNoBracketAtom text.now at) }
+{
+    let (tree, behind) = read_bracket(text, at)?;
+    Ok(Piece {
+        tree,
+        height: 0,
+        behind,
+    })
+}
+
+/// A piece that a duplication repeats, and the place behind that.
+fn repeated(
+    alloc: Global,
+    piece: Piece,
+    counts: Counts,
+    behind: usize,
+) -> Result<Piece, PatternFault>
+    requires { piece.height < 256 }
+    ensures made { IfOk result (IsRepeated piece counts behind) }
+    ensures refused { IfErr result (λ fault. fault ≡ record { kind = FaultKind.Memory; at = 0 }) }
+{
+    match Box::new(alloc, piece.tree) {
+        Ok(part) => Ok(Piece {
+            tree: Tree::Repeat(part, counts.least, counts.most),
+            height: piece.height + 1,
+            behind,
+        }),
+        Err(_) => Err(out_of_memory()),
+    }
+}
+
+/// Whether an expression ends at a place: the text does, or a group is closed there.
+fn is_at_end(text: &[u8], at: usize) -> bool
+    requires { at ≤ length text.now }
+    ensures { MatchBool result (IsAtEnd (drop at text.now)) (¬ IsAtEnd (drop at text.now)) }
+{
+    if at == text.len() {
+        return true;
+    }
+    after(text, at, b"\\)").is_some()
+}
+
+/// The place behind a `$` that is the last of its expression.
+fn after_tail(text: &[u8], at: usize) -> Option<usize>
+    requires { at ≤ length text.now }
+    ensures { MatchOption result (HasNoTail (drop at text.now)) (IsBehindTail text.now at) }
+{
+    let behind = after(text, at, b"$")?;
+    if is_at_end(text, behind) {
+        Some(behind)
+    } else {
+        None
+    }
+}
+
+/// The items with one more behind them.
+fn joined(mut items: Pieces, piece: Piece) -> Result<Pieces, PatternFault>
+    ensures made { IfOk result (IsJoined items piece) }
+    ensures refused { IfErr result (λ fault. fault ≡ record { kind = FaultKind.Memory; at = 0 }) }
+{
+    if items.trees.push(piece.tree).is_err() {
+        return Err(out_of_memory());
+    }
+    items.height = items.height.max(piece.height);
+    items.behind = piece.behind;
+    Ok(items)
+}
+
+/// The anchor that an expression begins with, where one does.
+fn read_lead(alloc: Global, text: &[u8], from: usize) -> Result<Pieces, PatternFault>
+    requires within { from ≤ length text.now }
+    requires starts { IsStart (take from text.now) }
+    ensures read { IfOk result (λ items. (levels : ℕ) → SoFar levels text.now from items) }
+    ensures refused { IfErr result (λ fault. fault ≡ record { kind = FaultKind.Memory; at = 0 }) }
+{
+    let items = Pieces {
+        trees: Vec::new(alloc),
+        height: 0,
+        behind: from,
+    };
+    match after(text, from, b"^") {
+        None => Ok(items),
+        Some(behind) => joined(
+            items,
+            Piece {
+                tree: Tree::Begin,
+                height: 0,
+                behind,
+            },
+        ),
+    }
+}
+
+/// The items with the anchor that their expression ends with, where it does.
+fn read_tail(text: &[u8], items: Pieces) -> Result<Pieces, PatternFault>
+    requires within { items.behind ≤ length text.now }
+    requires ends { HasNoItem (drop items.behind text.now) }
+    ensures read { IfOk result (IsEnded text.now items) }
+    ensures refused { IfErr result (λ fault. fault ≡ record { kind = FaultKind.Memory; at = 0 }) }
+{
+    match after_tail(text, items.behind) {
+        None => Ok(items),
+        Some(behind) => joined(
+            items,
+            Piece {
+                tree: Tree::End,
+                height: 0,
+                behind,
+            },
+        ),
+    }
+}
+
+/// Whether another item stands at a place: neither an end nor the anchor before one.
+fn has_item(text: &[u8], at: usize) -> bool
+    requires { at ≤ length text.now }
+    ensures { MatchBool result (HasItem (drop at text.now)) (HasNoItem (drop at text.now)) }
+{
+    if is_at_end(text, at) {
+        return false;
+    }
+    after_tail(text, at).is_none()
+}
+
+/// The group whose `\(` stands at a place, at most so many levels high.
+#[cycle(read_items)]
+fn read_group(alloc: Global, text: &[u8], at: usize, levels: usize) -> Result<Piece, PatternFault>
+    requires opens { Begins (codes "\\(") (drop at text.now) }
+    requires few { levels ≤ 256 }
+    ensures read { IfOk result (λ piece. (p : ItemPlace) → AtomStands p levels text.now at piece) }
+    ensures refused { IfErr result (λ fault. (p : ItemPlace) → IsRefused (HasNoAtom p levels (drop at text.now)) text.now fault) }
+{
+    if levels == 0 {
+        return Err(PatternFault {
+            kind: FaultKind::TooDeep,
+            at,
+        });
+    }
+    let items = read_items(alloc, text, at + 2, levels - 1)?;
+    match after(text, items.behind, b"\\)") {
+        None => Err(PatternFault {
+            kind: FaultKind::UnclosedGroup,
+            at,
+        }),
+        Some(behind) => Ok(Piece {
+            tree: sequence_of(items.trees),
+            height: items.height + 1,
+            behind,
+        }),
+    }
+}
+
+/// The group or the escaped byte whose backslash stands at a place.
+#[cycle(read_items)]
+fn read_escaped(alloc: Global, text: &[u8], at: usize, levels: usize) -> Result<Piece, PatternFault>
+    requires escapes { Begins (codes "\\") (drop at text.now) }
+    requires not_closing { ¬ Begins (codes "\\)") (drop at text.now) }
+    requires opens { Begins (codes "\\{") (drop at text.now) → HasNothingToRepeat (take at text.now) }
+    requires few { levels ≤ 256 }
+    ensures read { IfOk result (λ piece. (p : ItemPlace) → AtomStands p levels text.now at piece) }
+    ensures refused { IfErr result (λ fault. (p : ItemPlace) → IsRefused (HasNoAtom p levels (drop at text.now)) text.now fault) }
+{
+    if after(text, at, b"\\(").is_some() {
+        return read_group(alloc, text, at, levels);
+    }
+    if after(text, at, b"\\{").is_some() {
+        return Err(PatternFault {
+            kind: FaultKind::NothingToRepeat,
+            at,
+        });
+    }
+    let byte = read_escape(text, at)?;
+    Ok(Piece {
+        tree: Tree::Set(ByteSet::only(byte)),
+        height: 0,
+        behind: at + 2,
+    })
+}
+
+/// The atom that stands at a place, where neither an anchor nor a duplication does.
+#[cycle(read_items)]
+fn read_atom(alloc: Global, text: &[u8], at: usize, levels: usize) -> Result<Piece, PatternFault>
+    requires within { at ≤ length text.now }
+    requires item { HasItem (drop at text.now) }
+    requires opens { Begins (codes "\\{") (drop at text.now) → HasNothingToRepeat (take at text.now) }
+    requires few { levels ≤ 256 }
+    ensures read { IfOk result (λ piece. (p : ItemPlace) → MayBegin p (drop at text.now) → AtomStands p levels text.now at piece) }
+    ensures refused { IfErr result (λ fault. (p : ItemPlace) → IsRefused (HasNoAtom p levels (drop at text.now)) text.now fault) }
+{
+    match text[at] {
+        b'[' => read_bracket_atom(text, at),
+        b'\\' => read_escaped(alloc, text, at, levels),
+        byte => Ok(Piece {
+            tree: Tree::Set(meant_by(byte)),
+            height: 0,
+            behind: at + 1,
+        }),
+    }
+}
+
+/// The atom that stands at a place, and the duplications after it.
+#[cycle(read_items)]
+fn read_item(alloc: Global, text: &[u8], at: usize, levels: usize) -> Result<Piece, PatternFault>
+    requires within { at ≤ length text.now }
+    requires item { HasItem (drop at text.now) }
+    requires opens { Begins (codes "\\{") (drop at text.now) → HasNothingToRepeat (take at text.now) }
+    requires few { levels ≤ 256 }
+    ensures read { IfOk result (λ piece. (p : ItemPlace) → MayBegin p (drop at text.now) → ItemStands p levels text.now at piece) }
+    ensures refused { IfErr result (λ fault. (p : ItemPlace) → MayBegin p (drop at text.now) → IsRefused (HasNoItems p levels (drop at text.now)) text.now fault) }
+{
+    let mut piece = read_atom(alloc, text, at, levels)?;
+    'duplications: while let Some((counts, behind)) = read_duplication(text, piece.behind)? {
+        if piece.height == levels {
+            return Err(PatternFault {
+                kind: FaultKind::TooDeep,
+                at: piece.behind,
+            });
+        }
+        piece = repeated(alloc, piece, counts, behind)?;
+    }
+    Ok(piece)
+}
+
+/// The items of the expression that begins at a place, up to where it ends.
+#[cycle(read_items)]
+fn read_items(
+    alloc: Global,
+    text: &[u8],
+    from: usize,
+    levels: usize,
+) -> Result<Pieces, PatternFault>
+    requires within { from ≤ length text.now }
+    requires starts { IsStart (take from text.now) }
+    requires few { levels ≤ 256 }
+    ensures read { IfOk result (ItemsStand levels text.now from) }
+    ensures refused { IfErr result (IsRefused (HasNoItems First levels (drop from text.now)) text.now) }
+{
+    let mut items = read_lead(alloc, text, from)?;
+    'items: while has_item(text, items.behind) {
+        let piece = read_item(alloc, text, items.behind, levels)?;
+        items = joined(items, piece)?;
+    }
+    read_tail(text, items)
+}
+
+/// The tree of a basic regular expression (XBD 9.3): `Set`, `Not`, `Begin`, `End` and `Repeat` for
+/// its items, of no item `Empty`, of several a `Cat` in order.
+///
+/// # Errors
+///
+/// Where the text is no basic expression, the first fault that a reading from the left meets, by
+/// the bytes at its place; `FaultKind::Memory` where memory runs out.
+pub fn read_basic(alloc: Global, text: &[u8]) -> Result<Tree, PatternFault>
+    ensures read { IfOk result (λ tree. IsSpelled Basic text.now (expression_of tree)) }
+    ensures only { IfOk result (λ tree. SpellsNoOther Basic text.now (expression_of tree)) }
+    ensures refused { IfErr result (λ fault. (fault ≡ record { kind = FaultKind.Memory; at = 0 }) ⊎ IsNoBasic text.now fault) }
+{
+    let items = read_items(alloc, text, 0, MOST_LEVELS)?;
+    if items.behind < text.len() {
+        return Err(PatternFault {
+            kind: FaultKind::UnopenedGroup,
+            at: items.behind,
+        });
+    }
+    Ok(sequence_of(items.trees))
+}
+
+#[cfg(test)]
+mod tests;

@@ -1,0 +1,79 @@
+//! Interval expressions (XBD 9.3.6 item 5, 9.4.6 item 5), apart from how a syntax opens them.
+ghost use Rattle.std.specs.Prelude.{◌≡◌, ◌≤◌, length, drop, MatchOption};
+ghost use Rattle.re_syntax.specs.Intervals.{IsNoPart, value, capped};
+ghost use Rattle.re_syntax.specs.IntervalSteps.{AreDigits, HasNoDigit, IsDigitCount, NumberStands, IntervalStands, HasNoInterval};
+
+use crate::ahead::after;
+
+/// The greatest count that an interval may have, `RE_DUP_MAX`.
+pub const MOST_REPEATS: u16 = 255;
+
+/// How often an expression is repeated: at least so many times, and at most so many where a number
+/// stands. Each count above `MOST_REPEATS` is given as the next number.
+#[derive(Clone, Copy, Drop)]
+pub struct Counts {
+    /// The least count, from 0 to 256.
+    pub least: u16,
+    /// The greatest count, from 0 to 256.
+    pub most: Option<u16>,
+}
+
+/// How many digits the text begins with.
+fn digit_count(text: &[u8]) -> usize
+    ensures { IsDigitCount text.now result }
+{
+    match text.iter().position(|byte| *byte < b'0' || *byte > b'9') {
+        Some(count) => count,
+        None => text.len(),
+    }
+}
+
+/// The value of decimal digits, or one above `MOST_REPEATS` where it is greater than that.
+fn capped_value(digits: &[u8]) -> u16
+    requires { AreDigits digits.now }
+    ensures { result ≡ capped (value digits.now) }
+{
+    let mut value: u16 = 0;
+    for digit in digits {
+        value = (10 * value + u16::from(*digit - b'0')).min(MOST_REPEATS + 1);
+    }
+    value
+}
+
+/// A number of one or more digits, capped, and the place behind it.
+fn read_number(text: &[u8], at: usize) -> Option<(u16, usize)>
+    requires { at ≤ length text.now }
+    ensures { MatchOption result (HasNoDigit (drop at text.now)) (λ found. NumberStands text.now at found.0 found.1) }
+{
+    let count = digit_count(&text[at..]);
+    if count == 0 {
+        return None;
+    }
+    Some((capped_value(&text[at..at + count]), at + count))
+}
+
+/// The counts that stand at a place of the text (`m`, `m,` or `m,n`) and what closes them, and the
+/// place behind that.
+pub fn read_interval(text: &[u8], at: usize, closing: &[u8]) -> Option<(Counts, usize)>
+    requires within { at ≤ length text.now }
+    requires closes { IsNoPart closing.now }
+    ensures { MatchOption result (HasNoInterval closing.now (drop at text.now)) (λ found. IntervalStands closing.now text.now at found.0 found.1) }
+{
+    let (least, behind) = read_number(text, at)?;
+    if let Some(end) = after(text, behind, closing) {
+        let most = Some(least);
+        return Some((Counts { least, most }, end));
+    }
+    let comma = after(text, behind, b",")?;
+    match read_number(text, comma) {
+        None => {
+            let end = after(text, comma, closing)?;
+            Some((Counts { least, most: None }, end))
+        }
+        Some((greatest, behind)) => {
+            let most = Some(greatest);
+            let end = after(text, behind, closing)?;
+            Some((Counts { least, most }, end))
+        }
+    }
+}
