@@ -1,75 +1,40 @@
 -- Single atoms of basic expressions, from what stands at their place.
-use Rattle.std.proofs.Common.{◌≡◌, ◌≢◌, ℕ, ◌+◌, ◌<◌, ◌≤◌, ◌⊎◌, inl, inr, true, ◌||◌, nat_eq, nat_le, [], ◌∷◌, ◌++◌, length, take, drop, Some, IsTrue, slice_get, codes, refl, sym, ap, ◌∙◌, subst, arith, length-drop}
-use Rattle.std.proofs.lemmas.Bool.{and_parts, and_from, leb-true, le-leb, or_cases, or_left, or_right, eqb-true, ne_eqb, cases_eq}
-use Rattle.std.proofs.lemmas.List.{nil_from_length}
-use Rattle.std.proofs.lemmas.Option.{slice_get_within}
-use Rattle.re_syntax.specs.declared.basic.Piece.{Piece}
-use Rattle.re_syntax.specs.declared.bracket.Place.{Place}
+use Rattle.std.proofs.Common.{◌≡◌, ◌≢◌, ℕ, ◌+◌, ◌<◌, ◌⊎◌, inl, inr, true, ◌||◌, nat_eq, ◌∷◌, ◌++◌, length, take, drop, Some, IsTrue, slice_get, codes, refl, sym, ap, ◌∙◌, subst, arith, length-drop}
+use Rattle.std.proofs.lemmas.Bool.{or_cases, or_left, or_right, eqb-true, ne_eqb, cases_eq}
+use Rattle.re_syntax.specs.declared.pieces.Piece.{Piece}
 use Rattle.re_syntax.specs.declared.class.Class.TheVariants.{Alnum}
 use Rattle.re_syntax.specs.declared.fault.FaultKind.{FaultKind}
-use Rattle.re_syntax.specs.declared.fault.FaultKind.TheVariants.{UnclosedBracket, BadClass, BadCollatingSymbol, BadRange, UnclosedGroup, UnopenedGroup, BadInterval, IntervalTooLarge, NothingToRepeat, TrailingBackslash, UndefinedEscape, BackReference, TooDeep, TooLarge, Memory}
+use Rattle.re_syntax.specs.declared.fault.FaultKind.TheVariants.{UnclosedBracket}
 use Rattle.re_syntax.specs.declared.fault.PatternFault.{PatternFault}
-use Rattle.re_syntax.specs.Bytes.{Text, Bytes, Begins, in_class, range, union}
+use Rattle.re_syntax.specs.Bytes.{Text, Begins, in_class}
 use Rattle.re_syntax.specs.Escapes.{is_in, is_undefined}
 use Rattle.re_syntax.specs.Expression.{Expression, one_of, byte, expression_of}
-use Rattle.re_syntax.specs.Brackets.{Rest, closing, more, IsBracket, matching, non_matching, IsBracketUpTo}
+use Rattle.re_syntax.specs.Brackets.{IsBracket}
 use Rattle.re_syntax.specs.Faults.{ShowsBracketFault, IsNoBracket}
 use Rattle.re_syntax.specs.Basic.{ItemPlace, First, AfterAnchor, Later, is_ordinary, Atom, bracket, period, escaped, ordinary, group}
-use Rattle.re_syntax.specs.BasicFaults.{IsRefusedEscape, undefined, reference, refused_escapes, one_to_nine, ShowsBasicFault}
-use Rattle.re_syntax.specs.BasicSteps.{EscapeStands, HasNoEscape, meant_bytes, HasItem, MayBegin, AtomStands, HasNoAtom, HasNoBracketAtom}
+use Rattle.re_syntax.specs.BasicFaults.{refused_escapes, ShowsBasicFault, IsShownIn}
+use Rattle.re_syntax.specs.EscapeFaults.{IsRefusedEscape, undefined, reference, BeginsRefusedEscape}
+use Rattle.re_syntax.specs.BasicSteps.{HasItem, MayBegin, AtomStands, HasNoAtom}
+use Rattle.re_syntax.specs.PieceSteps.{meant_bytes, IsBracketPiece}
+use Rattle.re_syntax.specs.EscapeSteps.{EscapeStands, HasNoEscape, trailing, refused}
 use Rattle.re_syntax.proofs.BracketsUnique.{heads, tails, apart, bracket_front}
-use Rattle.re_syntax.proofs.BracketLists.{element-shortens}
+use Rattle.re_syntax.proofs.BracketLists.{bracket-shortens}
 use Rattle.re_syntax.proofs.AtomFronts.{atom_front, not_ordinary, never_backslash, never_bracket}
-use Rattle.re_syntax.proofs.BasicEnds.{byte_at, behind_first}
+use Rattle.re_syntax.proofs.Places.{byte_at}
+use Rattle.re_syntax.proofs.EscapeLaws.{no_escape}
+use Rattle.re_syntax.proofs.BracketKinds.{IsBracketKind, is_unclosed, is_class, is_symbol, is_range, bracket_kind}
 
 -- Escapes.
 
--- a backslash and a byte
-pub escape_stands : (text : Text) (at b : ℕ) → Begins (codes "\\") (drop at text) → slice_get text (at + 1) ≡ Some b → ¬ IsTrue (is_undefined refused_escapes b) →
-    EscapeStands text at b
-escape_stands text at b (rest, e) f h =
-    let next : rest ≡ b ∷ drop (at + 1 + 1) text = behind_first text at 92 rest e ∙ byte_at text (at + 1) b f in
-    let there : at + 1 + 1 ≡ at + 2 = omega arith in
-    record {
-      within = let k = slice_get_within text (at + 1) b f in omega arith;
-      front = e ∙ ap (λ x. 92 ∷ x) next ∙ ap (λ n. 92 ∷ b ∷ drop n text) there;
-      allowed = h;
-    }
+-- where no escape stands, the fault shows
+shown_refused : (before t : Text) {kind : FaultKind} {b : ℕ} → IsRefusedEscape refused_escapes kind b → BeginsRefusedEscape refused_escapes kind t → ShowsBasicFault kind before t
+shown_refused before t (undefined h k) r = r
+shown_refused before t (reference h) r = r
 
--- a digit that would refer back has no meaning of its own
-reference_undefined : (b : ℕ) → IsTrue (one_to_nine b) → IsTrue (is_undefined refused_escapes b)
-reference_undefined b h =
-    let both = and_parts (nat_le 49 b) (nat_le b 57) h in
-    let low = leb-true 49 b both.0 in
-    or_left _ _ (or_right (union (range 65 90) (range 97 122) b) _ (and_from (nat_le 48 b) _ (le-leb 48 b (omega arith)) both.1))
-
--- a byte that is refused has no meaning
-refused_undefined : {kind : FaultKind} {b : ℕ} → IsRefusedEscape kind b → IsTrue (is_undefined refused_escapes b)
-refused_undefined (undefined h k) = h
-refused_undefined (reference {b = b} h) = reference_undefined b h
-
--- and shows so
-shown_escape : (before : Text) {kind : FaultKind} {t u : Text} {b : ℕ} → t ≡ 92 ∷ b ∷ u → IsRefusedEscape kind b → ShowsBasicFault kind before t
-shown_escape before {u = u} {b = b} e (undefined h k) = record { byte = b; begins = (u, e); refused = undefined h k }
-shown_escape before {u = u} {b = b} e (reference h) = record { byte = b; begins = (u, e); refused = reference h }
-
--- a backslash and a byte that is refused
-pub refused_escape : (text : Text) (at b : ℕ) (kind : FaultKind) → Begins (codes "\\") (drop at text) → slice_get text (at + 1) ≡ Some b → IsRefusedEscape kind b →
-    HasNoEscape text at (record { kind = kind; at = at })
-refused_escape text at b kind (rest, e) f h =
-    let next : rest ≡ b ∷ drop (at + 1 + 1) text = behind_first text at 92 rest e ∙ byte_at text (at + 1) b f in
-    let front : drop at text ≡ 92 ∷ b ∷ drop (at + 1 + 1) text = e ∙ ap (λ x. 92 ∷ x) next in
-    record {
-      none = λ c u k. subst (λ x. IsTrue (is_undefined refused_escapes x)) (heads (tails (sym front ∙ k))) (refused_undefined h);
-      shown = shown_escape (take at text) front h;
-    }
-
--- a backslash that is last
-pub trailing_backslash : (text : Text) (at : ℕ) → Begins (codes "\\") (drop at text) → length text ≤ at + 1 → HasNoEscape text at (record { kind = TrailingBackslash; at = at })
-trailing_backslash text at (rest, e) h =
-    let nothing : rest ≡ [] = nil_from_length rest (omega (arith, simp length-drop at (ap length e))) in
-    let front : drop at text ≡ 92 ∷ [] = e ∙ ap (λ x. 92 ∷ x) nothing in
-    record { none = λ b u k. let same : 92 ∷ [] ≡ 92 ∷ b ∷ u = sym front ∙ k in cc; shown = front }
+-- at its backslash
+pub shown_escape : (text : Text) (at : ℕ) (fault : PatternFault) → HasNoEscape refused_escapes text at fault → IsShownIn text fault
+shown_escape text at fault (trailing e front) = subst (IsShownIn text) (sym e) front
+shown_escape text at fault (refused e r) = subst (IsShownIn text) (sym e) (shown_refused (take at text) (drop at text) r.refused r)
 
 -- the bytes that an escape may not have are more in the grammar, where `\(`, `\)` and `\{` are no escapes
 wider_cases : (b : ℕ) → IsTrue (is_undefined (codes "(){<>`'+?|") b) → (b ≡ 40) ⊎ ((b ≡ 41) ⊎ ((b ≡ 123) ⊎ IsTrue (is_undefined refused_escapes b)))
@@ -100,7 +65,7 @@ wider b h = go (or_cases (in_class Alnum b) _ h)
     go (inr e) = or_right (in_class Alnum b) _ (or_right (nat_eq 40 b) _ (or_right (nat_eq 41 b) _ (or_right (nat_eq 123 b) _ e)))
 
 -- an escape is an atom
-pub escaped_atom : {p : ItemPlace} {text : Text} {at b : ℕ} → EscapeStands text at b → ¬ Begins (codes "\\(") (drop at text) → ¬ Begins (codes "\\)") (drop at text) →
+pub escaped_atom : {p : ItemPlace} {text : Text} {at b : ℕ} → EscapeStands refused_escapes text at b → ¬ Begins (codes "\\(") (drop at text) → ¬ Begins (codes "\\)") (drop at text) →
     ¬ Begins (codes "\\{") (drop at text) → Atom p 0 (drop at text) (drop (at + 2) text) (byte b)
 escaped_atom {p} {text} {at} {b} s no_group no_end no_interval =
     subst (λ t. Atom p 0 t (drop (at + 2) text) (byte b)) (sym s.front) (escaped b (λ h. go (wider_cases b h)))
@@ -124,9 +89,9 @@ no_escaped {p} (ordinary b h l) e k none = not_ordinary p b 92 h (never_backslas
 no_escaped (group {t = t} is) e k none = k (t, refl)
 
 -- so where an escape is refused no atom stands
-pub no_escape_atom : {text : Text} {at : ℕ} {fault : PatternFault} → Begins (codes "\\") (drop at text) → ¬ Begins (codes "\\(") (drop at text) → HasNoEscape text at fault →
+pub no_escape_atom : {text : Text} {at : ℕ} {fault : PatternFault} → Begins (codes "\\") (drop at text) → ¬ Begins (codes "\\(") (drop at text) → HasNoEscape refused_escapes text at fault →
     (p : ItemPlace) (levels : ℕ) → HasNoAtom p levels (drop at text)
-no_escape_atom (w, e) k h p levels = record { none = λ n u x a le. no_escaped a e k h.none }
+no_escape_atom (w, e) k h p levels = record { none = λ n u x a le. no_escaped a e k (no_escape h) }
 
 -- nor where an interval would begin
 pub no_interval_atom : {t : Text} → Begins (codes "\\{") t → (p : ItemPlace) (levels : ℕ) → HasNoAtom p levels t
@@ -136,24 +101,16 @@ no_interval_atom (w, e) p levels = record {
 
 -- Bracket expressions.
 
--- a list of a bracket expression takes some byte
-rest-shortens : {q : Place} {t u : Text} {s : Bytes} → Rest q t u s → length u < length t
-rest-shortens (closing n) = omega arith
-rest-shortens (more x r) = omega (arith, element-shortens x, rest-shortens r)
-
--- and so does the whole
-bracket-shortens : {t u : Text} {e : Expression} → IsBracket t u e → length u < length t
-bracket-shortens (matching n r) = omega (arith, rest-shortens r)
-bracket-shortens (non_matching r) = omega (arith, rest-shortens r)
-
 -- a bracket expression is an atom
-pub bracket_atom : (text : Text) (at : ℕ) (piece : Piece) → IsBracketUpTo text at piece.behind (expression_of piece.tree) → piece.height ≡ 0 → (p : ItemPlace) → AtomStands p 0 text at piece
-bracket_atom text at piece b e p = record {
-  forward = omega (arith, simp length-drop at (bracket-shortens b.stands), b.within);
-  within = b.within;
-  height = omega arith;
-  stands = rw e (bracket b.stands);
-}
+pub bracket_atom : (levels : ℕ) (text : Text) (at : ℕ) (piece : Piece) → IsBracketPiece text at piece → (p : ItemPlace) → AtomStands p levels text at piece
+bracket_atom levels text at piece b p =
+    let within = b.stands.within in
+    record {
+      forward = omega (arith, simp length-drop at (bracket-shortens b.stands.stands), within);
+      within = within;
+      height = omega (arith, b.height);
+      stands = rw b.height (bracket b.stands.stands);
+    }
 
 -- and at a bracket nothing else is
 atom-bracket : {p : ItemPlace} {h : ℕ} {t u : Text} {e : Expression} → Atom p h t u e → (w : Text) → t ≡ 91 ∷ w → IsBracket t u e
@@ -163,30 +120,24 @@ atom-bracket (escaped b h) w e = absurd (apart 92 91 (heads e) refl)
 atom-bracket (group is) w e = absurd (apart 92 91 (heads e) refl)
 atom-bracket {p} (ordinary b h k) w e = absurd (not_ordinary p b 91 h (never_bracket p) (heads e))
 
--- its faults show as in a bracket expression alone
-shown_bracket : (kind : FaultKind) (before t : Text) → ShowsBracketFault kind t → ShowsBasicFault kind before t
-shown_bracket UnclosedBracket before t h = h
-shown_bracket BadClass before t h = h
-shown_bracket BadCollatingSymbol before t h = h
-shown_bracket BadRange before t h = h
-shown_bracket UnclosedGroup before t h = absurd h
-shown_bracket UnopenedGroup before t h = absurd h
-shown_bracket BadInterval before t h = absurd h
-shown_bracket IntervalTooLarge before t h = absurd h
-shown_bracket NothingToRepeat before t h = absurd h
-shown_bracket TrailingBackslash before t h = absurd h
-shown_bracket UndefinedEscape before t h = absurd h
-shown_bracket BackReference before t h = absurd h
-shown_bracket TooDeep before t h = absurd h
-shown_bracket TooLarge before t h = absurd h
-shown_bracket Memory before t h = absurd h
+-- its faults show as in a bracket expression alone, where none stands at an opening that is told
+shown_bracket : {kind : FaultKind} (before t : Text) → IsBracketKind kind → ShowsBracketFault kind t → (kind ≡ UnclosedBracket → (rest : Text) (e : Expression) → ¬ IsBracket t rest e) →
+    ShowsBasicFault kind before t
+shown_bracket before t is_unclosed h n = record { opens = h; none = n refl }
+shown_bracket before t is_class h n = h
+shown_bracket before t is_symbol h n = h
+shown_bracket before t is_range h n = h
 
 -- so where none stands no atom does
-pub no_bracket_atom : (text : Text) (at : ℕ) (fault : PatternFault) → slice_get text at ≡ Some 91 → IsNoBracket text at fault → HasNoBracketAtom text at fault
-no_bracket_atom text at fault e h = record {
-  none = λ p levels. record { none = λ n u x a le. h.none u x (atom-bracket a (drop (at + 1) text) (byte_at text at 91 e)) };
-  shown = shown_bracket fault.kind (take fault.at text) (drop fault.at text) h.shown;
-}
+pub no_bracket_atom : (text : Text) (at : ℕ) (fault : PatternFault) → slice_get text at ≡ Some 91 → IsNoBracket text at fault → (p : ItemPlace) (levels : ℕ) →
+    HasNoAtom p levels (drop at text)
+no_bracket_atom text at fault e h p levels = record { none = λ n u x a le. h.none u x (atom-bracket a (drop (at + 1) text) (byte_at text at 91 e)) }
+
+-- and the fault shows
+pub shown_no_bracket : (text : Text) (at : ℕ) (fault : PatternFault) → IsNoBracket text at fault → IsShownIn text fault
+shown_no_bracket text at fault h =
+    shown_bracket (take fault.at text) (drop fault.at text) (bracket_kind fault.kind (drop fault.at text) h.shown) h.shown
+    (λ k. subst (λ n. (rest : Text) (e : Expression) → ¬ IsBracket (drop n text) rest e) (sym (h.unclosed k)) h.none)
 
 -- Other bytes.
 
@@ -218,13 +169,9 @@ single_stands levels text at b piece h e i k l f g n p m =
     record { forward = omega arith; within = omega arith; height = omega arith; stands = rw (e, f, g, n) one }
 
 -- an escape stands up to the next place but one
-pub escaped_stands : (levels : ℕ) (text : Text) (at b : ℕ) (piece : Piece) → EscapeStands text at b → ¬ Begins (codes "\\(") (drop at text) →
+pub escaped_stands : (levels : ℕ) (text : Text) (at b : ℕ) (piece : Piece) → EscapeStands refused_escapes text at b → ¬ Begins (codes "\\(") (drop at text) →
     ¬ Begins (codes "\\)") (drop at text) → ¬ Begins (codes "\\{") (drop at text) → expression_of piece.tree ≡ byte b → piece.height ≡ 0 → piece.behind ≡ at + 2 →
     (p : ItemPlace) → AtomStands p levels text at piece
 escaped_stands levels text at b piece s k l m f g n p =
     let within = s.within in
     record { forward = omega arith; within = omega arith; height = omega arith; stands = rw (f, g, n) (escaped_atom s k l m) }
-
--- an atom of no height is within any
-pub atom_higher : (levels : ℕ) (text : Text) (at : ℕ) (piece : Piece) (p : ItemPlace) → AtomStands p 0 text at piece → AtomStands p levels text at piece
-atom_higher levels text at piece p a = record { forward = a.forward; within = a.within; height = omega (arith, a.height); stands = a.stands }

@@ -1,8 +1,8 @@
 -- Groups of basic expressions, and a whole expression, from the items that stand there.
 use Rattle.std.proofs.Common.{◌≡◌, ◌≢◌, ℕ, suc, ◌+◌, ◌-◌, ◌<◌, ◌≤◌, ◌⊎◌, inl, inr, List, [], ◌∷◌, ◌++◌, length, take, drop, map, codes, refl, sym, ap, ◌∙◌, subst, arith, length-drop}
-use Rattle.std.proofs.lemmas.List.{nil_from_length}
-use Rattle.re_syntax.specs.declared.basic.Piece.{Piece}
-use Rattle.re_syntax.specs.declared.basic.Pieces.{Pieces}
+use Rattle.std.proofs.lemmas.List.{nil_from_length, take-append-drop}
+use Rattle.re_syntax.specs.declared.pieces.Piece.{Piece}
+use Rattle.re_syntax.specs.declared.pieces.Pieces.{Pieces}
 use Rattle.re_syntax.specs.declared.fault.FaultKind.TheVariants.{UnopenedGroup, Memory}
 use Rattle.re_syntax.specs.declared.fault.PatternFault.{PatternFault}
 use Rattle.re_syntax.specs.declared.syntax.Syntax.TheVariants.{Basic}
@@ -10,14 +10,15 @@ use Rattle.re_syntax.specs.Bytes.{Text, Begins}
 use Rattle.re_syntax.specs.Ahead.{IsAfter}
 use Rattle.re_syntax.specs.Expression.{Expression, sequence, expression_of}
 use Rattle.re_syntax.specs.Basic.{ItemPlace, First, of_text, of_group, Items, Atom, bracket, period, escaped, ordinary, group}
-use Rattle.re_syntax.specs.BasicFaults.{IsShownIn, IsNoBasic}
-use Rattle.re_syntax.specs.BasicSteps.{IsRefused, memory, told, IsStart, AtomStands, HasNoAtom, HasNoItems, ItemsStand}
+use Rattle.re_syntax.specs.BasicFaults.{OpensUnclosed, IsShownIn, IsNoBasic}
+use Rattle.re_syntax.specs.BasicSteps.{IsStart, AtomStands, HasNoAtom, HasNoItems, ItemsStand}
+use Rattle.re_syntax.specs.PieceSteps.{IsRefused, memory, told}
 use Rattle.re_syntax.specs.Spelled.{IsSpelled, as_basic}
 use Rattle.re_syntax.proofs.BracketsUnique.{heads, tails, apart, bracket_front}
 use Rattle.re_syntax.proofs.AtomFronts.{not_ordinary, never_backslash, undefined_apart}
 use Rattle.re_syntax.proofs.BasicUnique.{items-unique}
-use Rattle.re_syntax.proofs.BasicEnds.{behind_first, ends}
-use Rattle.re_syntax.proofs.BasicLeads.{take-after}
+use Rattle.re_syntax.proofs.BasicEnds.{ends}
+use Rattle.re_syntax.proofs.Places.{behind_first, take-after}
 
 -- what is behind a group's opening
 pub behind_opening : (text : Text) (at : ℕ) → Begins (codes "\\(") (drop at text) → drop at text ≡ codes "\\(" ++ drop (at + 2) text
@@ -95,6 +96,21 @@ no_group_end levels text at items b s k p = record {
       k (u, sym same.rests);
 }
 
+-- behind the opening of such a group items go on up to the text's end
+pub opens_unclosed : (levels : ℕ) (text : Text) (at : ℕ) (items : Pieces) → Begins (codes "\\(") (drop at text) → ItemsStand levels text (at + 2) items →
+    ¬ Begins (codes "\\)") (drop items.behind text) → OpensUnclosed (drop at text)
+opens_unclosed levels text at items b s k = record {
+  inside = drop (at + 2) text;
+  height = items.height;
+  members = map expression_of items.trees.items;
+  opens = behind_opening text at b;
+  goes_on = go (ends s.at_end);
+}
+  where
+    go : (drop items.behind text ≡ []) ⊎ Begins (codes "\\)") (drop items.behind text) → Items First items.height (drop (at + 2) text) [] (map expression_of items.trees.items)
+    go (inl e) = subst (λ u. Items First items.height (drop (at + 2) text) u (map expression_of items.trees.items)) e s.stands
+    go (inr c) = absurd (k c)
+
 -- A whole expression.
 
 -- items up to the text's end
@@ -116,7 +132,12 @@ not_whole text items s h = record {
   none = λ e spelled. let (k, es, is, le) = spelled_items spelled in
       let same = items-unique is s.stands refl of_text s.at_end in
       absurd (omega (arith, simp length-drop at (ap length same.rests)));
-  shown = closing (ends s.at_end);
+  shown = record {
+    height = items.height;
+    members = map expression_of items.trees.items;
+    closes = closing (ends s.at_end);
+    stands = subst (λ t. Items First items.height t (drop items.behind text) (map expression_of items.trees.items)) (sym (take-append-drop items.behind text)) s.stands;
+  };
 }
   where
     closing : (drop items.behind text ≡ []) ⊎ Begins (codes "\\)") (drop items.behind text) → Begins (codes "\\)") (drop items.behind text)
@@ -128,7 +149,7 @@ nothing_spelled : (text : Text) (fault : PatternFault) → HasNoItems First 256 
 nothing_spelled text fault k shown = record { none = λ e spelled. let (h, es, is, le) = spelled_items spelled in k.none h [] es is of_text le; shown = shown }
 
 -- memory ran out, or nothing is spelled
-pub memory_or_none : (text : Text) (fault : PatternFault) → IsRefused (HasNoItems First 256 text) text fault →
+pub memory_or_none : (text : Text) (fault : PatternFault) → IsRefused (HasNoItems First 256 text) (IsShownIn text fault) fault →
     ◌≡◌ {A = PatternFault} fault (record { kind = Memory; at = 0 }) ⊎ IsNoBasic text fault
 memory_or_none text fault (memory e) = inl e
 memory_or_none text fault (told k shown) = inr (nothing_spelled text fault k shown)

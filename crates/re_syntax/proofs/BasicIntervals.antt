@@ -1,6 +1,5 @@
 -- Duplications at a place of the text: what a reader has found when it stops.
-use Rattle.std.proofs.Common.{◌≡◌, ℕ, inl, inr, ◌∷◌, ◌++◌, take, drop, Option, Some, None, IsTrue, codes, refl, sym, ap, ◌∙◌, arith, append_assoc}
-use Rattle.std.specs.Option.{option_map}
+use Rattle.std.proofs.Common.{◌≡◌, ℕ, inl, inr, ◌∷◌, ◌++◌, take, drop, Option, None, IsTrue, codes, refl, sym, ap, ◌∙◌, append_assoc}
 use Rattle.re_syntax.specs.declared.class.Class.TheVariants.{Digit}
 use Rattle.re_syntax.specs.declared.fault.FaultKind.{FaultKind}
 use Rattle.re_syntax.specs.declared.fault.FaultKind.TheVariants.{BadInterval}
@@ -8,9 +7,11 @@ use Rattle.re_syntax.specs.declared.interval.Counts.{Counts}
 use Rattle.re_syntax.specs.Bytes.{Text, in_class}
 use Rattle.re_syntax.specs.Ahead.{IsAfter}
 use Rattle.re_syntax.specs.Basic.{Duplication, star, interval}
-use Rattle.re_syntax.specs.Intervals.{IsAllowed, IsNoPart, capped}
+use Rattle.re_syntax.specs.Intervals.{IsAllowed, IsNoPart}
 use Rattle.re_syntax.specs.IntervalSteps.{IntervalStands, HasNoInterval}
-use Rattle.re_syntax.specs.BasicFaults.{IsDisallowed, least_too_large, most_too_large, descending, OpensDisallowed, ShowsBasicFault}
+use Rattle.re_syntax.specs.BasicFaults.{ShowsBasicFault}
+use Rattle.re_syntax.specs.IntervalFaults.{IsDisallowed, least_too_large, most_too_large, descending, OpensDisallowed}
+use Rattle.re_syntax.proofs.CountsLaws.{are_counts, disallowed_too, not_allowed}
 use Rattle.re_syntax.specs.BasicSteps.{NoDuplication, OpensNoDuplication, DuplicationStands, HasBadInterval}
 use Rattle.re_syntax.proofs.BracketsUnique.{heads, tails, apart}
 use Rattle.re_syntax.proofs.IntervalLaws.{cut-unique, Interval-unique, interval_lacks}
@@ -22,28 +23,6 @@ closing_no_part = record {
   no_digit = λ b u e h. let k : IsTrue (in_class Digit 92) = rw (sym (heads e)) at h in cc;
   no_comma = λ h. apart 92 44 (heads h.1) refl;
 }
-
--- counts that are allowed though capped are the counts themselves
-pub record AreCounts (a l : ℕ) (x m : Option ℕ) : Type 0 where
-  pub least : a ≡ l
-  pub most : x ≡ m
-
--- which is so since a capped count that is allowed is below the cap
-pub are_counts : (a l : ℕ) (x m : Option ℕ) → a ≡ capped l → x ≡ option_map capped m → IsAllowed a x → AreCounts a l x m
-are_counts a l None None e f h = record { least = omega (arith, h.least_fits); most = refl }
-are_counts a l None (Some n) e f h = cc
-are_counts a l (Some k) None e f h = cc
-are_counts a l (Some k) (Some n) e f h =
-    let same : k ≡ capped n = cc in
-    record { least = omega (arith, h.least_fits); most = ap Some (omega (arith, h.most_fits)) }
-
--- counts that are refused though capped are refused
-pub disallowed_too : {kind : FaultKind} {a : ℕ} {x : Option ℕ} → IsDisallowed kind a x → (l : ℕ) (m : Option ℕ) → a ≡ capped l → x ≡ option_map capped m → IsDisallowed kind l m
-disallowed_too (least_too_large h) l m e f = least_too_large (omega arith)
-disallowed_too (most_too_large h) l None e f = cc
-disallowed_too (most_too_large {top = k} h) l (Some n) e f = let same : k ≡ capped n = cc in most_too_large (omega arith)
-disallowed_too (descending h) l None e f = cc
-disallowed_too (descending {top = k} h) l (Some n) e f = let same : k ≡ capped n = cc in descending (omega arith)
 
 -- a star
 pub star_stands : {text : Text} {at behind : ℕ} → IsAfter (codes "*") text at behind → DuplicationStands text at (record { least = 0; most = None }) behind
@@ -85,16 +64,10 @@ no_interval {text} {at} {inside} s no_form = record {
         no_form.none u least most (record { inside = inner; form = form; whole = tails (tails e) ∙ append_assoc inner (codes "\\}") u })
 
 -- how counts that are refused show
-shown_disallowed : (before : Text) {kind : FaultKind} {t : Text} {least : ℕ} {most : Option ℕ} → OpensDisallowed kind t → IsDisallowed kind least most → ShowsBasicFault kind before t
+shown_disallowed : (before : Text) {kind : FaultKind} {t : Text} {least : ℕ} {most : Option ℕ} → OpensDisallowed (codes "\\{") (codes "\\}") kind t → IsDisallowed kind least most → ShowsBasicFault kind before t
 shown_disallowed before o (least_too_large h) = o
 shown_disallowed before o (most_too_large h) = o
 shown_disallowed before o (descending h) = inr o
-
--- counts that are refused are not allowed
-not_allowed : {kind : FaultKind} {least : ℕ} {most : Option ℕ} → IsDisallowed kind least most → IsAllowed least most → ⊥
-not_allowed (least_too_large h) a = absurd (omega (arith, a.least_fits))
-not_allowed (most_too_large h) a = absurd (omega (arith, a.most_fits))
-not_allowed (descending h) a = absurd (omega (arith, a.ordered))
 
 -- one where the interval's counts are refused
 pub bad_interval : {text : Text} {at inside behind : ℕ} {counts : Counts} {kind : FaultKind} → IsAfter (codes "\\{") text at inside →

@@ -1,7 +1,7 @@
 -- Items of basic expressions, from their atoms and what follows them.
 use Rattle.std.proofs.Common.{◌≡◌, ◌≢◌, ℕ, suc, ◌<◌, ◌≤◌, inl, inr, max, List, ◌∷◌, ◌++◌, length, drop, Option, codes, refl, sym, ap, ◌∙◌, subst, arith, append_assoc, length-append, length-drop}
-use Rattle.re_syntax.specs.declared.basic.Piece.{Piece}
-use Rattle.re_syntax.specs.declared.basic.Pieces.{Pieces}
+use Rattle.re_syntax.specs.declared.pieces.Piece.{Piece}
+use Rattle.re_syntax.specs.declared.pieces.Pieces.{Pieces}
 use Rattle.re_syntax.specs.declared.interval.Counts.{Counts}
 use Rattle.re_syntax.specs.declared.fault.FaultKind.TheVariants.{TooDeep}
 use Rattle.re_syntax.specs.declared.fault.PatternFault.{PatternFault}
@@ -9,10 +9,13 @@ use Rattle.re_syntax.specs.Bytes.{Text}
 use Rattle.re_syntax.specs.Expression.{Expression, expression_of, repeat}
 use Rattle.re_syntax.specs.Basic.{Duplication, star, interval, ItemPlace, AfterAnchor, Later, IsAtEnd, Items, none, leading, trailing, item, Item, atom, repeated, Atom}
 use Rattle.re_syntax.specs.BasicFaults.{IsShownIn}
-use Rattle.re_syntax.specs.BasicSteps.{IsRefused, memory, told, NoDuplication, OpensNoDuplication, DuplicationStands, HasBadInterval, HasItem, MayBegin, AtomStands, HasNoAtom, ItemStands, HasNoItems, IsRepeated, IsJoined, SoFar, IsEnded, ItemsStand}
+use Rattle.re_syntax.specs.BasicSteps.{OpensNoDuplication, DuplicationStands, HasBadInterval, HasItem, MayBegin, AtomStands, HasNoAtom, ItemStands, HasNoItems, SoFar, IsEnded, ItemsStand}
+use Rattle.re_syntax.specs.PieceSteps.{IsRepeated, IsJoined}
 use Rattle.re_syntax.proofs.BracketsUnique.{heads, tails, apart}
+use Rattle.re_syntax.proofs.Chains.{stands_some}
 use Rattle.re_syntax.proofs.BasicUnique.{item_parts, item_front, end_front, items-after, items-higher}
 use Rattle.re_syntax.proofs.BasicIntervals.{opens_none}
+use Rattle.re_syntax.proofs.Places.{regrouped}
 use Rattle.re_syntax.proofs.BasicLeads.{at_height}
 
 -- behind the anchor anything else may begin
@@ -77,10 +80,6 @@ item_repeated levels text at old new counts behind h n d r =
           rw (r.means, r.place) again;
     }
 
--- a duplication that stands at the front is one
-stands_some : {text : Text} {at : ℕ} {counts : Counts} {behind : ℕ} → DuplicationStands text at counts behind → ¬ NoDuplication (drop at text)
-stands_some {text} {at} {counts} {behind} d h = h.none d.bytes counts.least counts.most (drop behind text) d.duplication d.front
-
 -- one more level than there are
 pub too_deep : (levels : ℕ) (text : Text) (at : ℕ) (piece : Piece) (counts : Counts) (behind : ℕ) → ItemSoFar levels text at piece → piece.height ≡ levels →
     DuplicationStands text piece.behind counts behind → (p : ItemPlace) → MayBegin p (drop at text) → HasNoItems p levels (drop at text)
@@ -113,10 +112,6 @@ no_items_bad levels text at piece fault h bad p b = record {
 }
 
 -- The items so far, and one more.
-
--- the greatest of three heights
-regrouped : (h k n : ℕ) → max h (max k n) ≡ max (max h k) n
-regrouped h k n = omega arith
 
 -- one more item
 pub one_more : (levels : ℕ) (text : Text) (from : ℕ) (old new : Pieces) (piece : Piece) → SoFar levels text from old →
@@ -152,8 +147,3 @@ all_read levels text from old new s e = record {
       let all = s.ahead 0 (drop new.behind text) e.last (e.stands s.place) in
       rw e.means (at_height (omega (arith, e.height)) all);
 }
-
--- what is said where memory did not run out may be said in other words
-pub refused_as : {P Q : Type 0} {text : Text} {fault : PatternFault} → IsRefused P text fault → (P → Q) → IsRefused Q text fault
-refused_as (memory e) f = memory e
-refused_as (told h s) f = told (f h) s

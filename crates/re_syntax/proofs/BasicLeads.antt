@@ -1,21 +1,17 @@
 -- The anchor that a basic expression begins with, and what is said of the items behind it.
 use Rattle.std.proofs.Common.{◌≡◌, ℕ, ◌+◌, ◌≤◌, inl, inr, List, [], ◌∷◌, ◌++◌, length, take, drop, map, codes, refl, sym, ap, ◌∙◌, subst, arith}
-use Rattle.std.proofs.Common.{take-add}
-use Rattle.std.proofs.Math.Seq.{take-append_seam}
-use Rattle.re_syntax.specs.declared.basic.Pieces.{Pieces}
-use Rattle.re_syntax.specs.declared.basic.Piece.{Piece}
+use Rattle.re_syntax.specs.declared.pieces.Pieces.{Pieces}
+use Rattle.re_syntax.specs.declared.pieces.Piece.{Piece}
 use Rattle.re_syntax.specs.Bytes.{Text, Begins}
 use Rattle.re_syntax.specs.Ahead.{IsAfter}
 use Rattle.re_syntax.specs.Expression.{Expression, begin, expression_of}
 use Rattle.re_syntax.specs.Basic.{ItemPlace, First, AfterAnchor, IsAtEnd, Items, none, leading, trailing, item}
 use Rattle.re_syntax.specs.BasicFaults.{HasNothingToRepeat}
-use Rattle.re_syntax.specs.BasicSteps.{IsStart, SoFar, IsJoined}
+use Rattle.re_syntax.specs.BasicSteps.{IsStart, SoFar}
+use Rattle.re_syntax.specs.PieceSteps.{IsJoined}
 use Rattle.re_syntax.proofs.BracketsUnique.{heads, tails, apart}
 use Rattle.re_syntax.proofs.BasicUnique.{item_front, end_byte}
-
--- what stands before the place behind some bytes ends with them
-pub take-after : (t : Text) (at : ℕ) (bytes r : Text) → drop at t ≡ bytes ++ r → take (at + length bytes) t ≡ take at t ++ bytes
-take-after t at bytes r e = take-add at (length bytes) t ∙ ap (λ x. take at t ++ x) (ap (take (length bytes)) e ∙ take-append_seam bytes r)
+use Rattle.re_syntax.proofs.Places.{take-after}
 
 -- items at the same height
 pub at_height : {p : ItemPlace} {h k : ℕ} {t u : Text} {es : List Expression} → h ≡ k → Items p h t u es → Items p k t u es

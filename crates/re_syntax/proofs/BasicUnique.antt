@@ -1,18 +1,15 @@
 -- A basic expression is read in one way.
-use Rattle.std.proofs.Common.{◌≡◌, ◌≢◌, ℕ, suc, ◌+◌, ◌<◌, ◌≤◌, max, ◌⊎◌, inl, inr, false, nat_eq, List, [], ◌∷◌, ◌++◌, Option, refl, sym, ap, ◌∙◌, subst, arith}
+use Rattle.std.proofs.Common.{◌≡◌, ◌≢◌, ℕ, suc, ◌+◌, ◌<◌, ◌≤◌, max, ◌⊎◌, inl, inr, false, nat_eq, List, [], ◌∷◌, ◌++◌, refl, sym, ap, ◌∙◌, subst, arith}
 use Rattle.re_syntax.specs.Bytes.{Text}
-use Rattle.re_syntax.specs.Expression.{Expression, begin, repeat, byte, sequence}
+use Rattle.re_syntax.specs.Expression.{Expression, begin, byte, sequence}
 use Rattle.re_syntax.specs.Basic.{ItemPlace, First, Later, Duplication, IsAtEnd, of_text, of_group, Items, none, leading, trailing, item, Item, atom, repeated, Atom, bracket, period, escaped, ordinary, group}
 use Rattle.re_syntax.specs.BasicSteps.{NoDuplication}
 use Rattle.re_syntax.proofs.BracketsUnique.{heads, tails, apart, IsBracket-unique}
-use Rattle.re_syntax.proofs.Duplications.{dup_front, Chain, done, step, chain_snoc, chain-rest}
+use Rattle.re_syntax.proofs.Chains.{SameItem, Chain, done, chain_snoc, chain_done, ItemChain, chain_same, chain_more, GoesOn, goes_on, longer, two_items, same_heights}
+use Rattle.re_syntax.proofs.Duplications.{dup_front, unique}
 use Rattle.re_syntax.proofs.AtomFronts.{kind_of, IsFront, atom_code, atom_front}
 
-pub record SameItem (h k : ℕ) (d e : Expression) (u v : Text) : Type 0 where
-  pub heights : h ≡ k
-  pub expressions : d ≡ e
-  pub rests : u ≡ v
-
+-- the same of the items of an expression
 pub record SameItems (h k : ℕ) (ds es : List Expression) (u v : Text) : Type 0 where
   pub heights : h ≡ k
   pub expressions : ds ≡ es
@@ -26,7 +23,7 @@ pub record Parts (p : ItemPlace) (h : ℕ) (t u : Text) (e : Expression) : Type 
   pub rest : Text
   pub start : Expression
   pub atom_first : Atom p level t rest start
-  pub others : Chain count rest u start e
+  pub others : Chain Duplication count rest u start e
 
 -- each item is such
 pub item_parts : {p : ItemPlace} {h : ℕ} {t u : Text} {e : Expression} → Item p h t u e → Parts p h t u e
@@ -83,10 +80,6 @@ later_no_duplication {t = t} none s = end_no_duplication t s
 later_no_duplication (trailing {t = w} h) s = no_duplication_at (36 ∷ w) 36 w refl (λ k. absurd (omega arith)) (λ k. absurd (omega arith))
 later_no_duplication {t = t} (item i is) s = let (b, w, e, clear) = item_front i in no_duplication_at t b w e (clear.not_star refl) clear.no_interval
 
--- lists whose first and rest are the same are the same
-two_items : {d e : Expression} {ds es : List Expression} → d ≡ e → ds ≡ es → ◌≡◌ {A = List Expression} (d ∷ ds) (e ∷ es)
-two_items p q = cc
-
 -- an end is no item's front, no anchor's and no last `$`'s
 pub end_item : (p : ItemPlace) (t : Text) (b : ℕ) (w : Text) → IsAtEnd t → t ≡ b ∷ w → IsFront p b w → ⊥
 end_item p t b w h e clear = let (k, v, l) = end_front t b w h e in clear.no_closing k v l
@@ -94,44 +87,6 @@ end_item p t b w h e clear = let (k, v, l) = end_front t b w h e in clear.no_clo
 -- an end does not begin with another byte than a backslash
 pub end_byte : (t : Text) (b : ℕ) (w : Text) → IsAtEnd t → t ≡ b ∷ w → nat_eq b 92 ≡ false → ⊥
 end_byte t b w h e n = let (k, v, l) = end_front t b w h e in apart b 92 k n
-
--- the duplications after the atom that an item begins with
-record ItemChain (h k : ℕ) (v u : Text) (e d : Expression) : Type 0 where
-  count : ℕ
-  height : h ≡ k + count
-  others : Chain count v u e d
-
--- a chain from where no duplication stands is empty
-chain_done : {n : ℕ} {u w : Text} {f g : Expression} → Chain n u w f g → NoDuplication u → SameItem n 0 g f w u
-chain_done done q = record { heights = refl; expressions = refl; rests = refl }
-chain_done (step {d = d} {u = u} {least = least} {most = most} r c) q = absurd (q.none d least most u r refl)
-
--- an atom that is the item has no duplication after it
-chain_same : {h k : ℕ} {d e : Expression} {u v : Text} → SameItem h k d e u v → ItemChain h k v u e d
-chain_same {h} {k} {d} {e} {u} {v} same =
-    record { count = 0; height = omega (arith, same.heights); others = subst (λ w. Chain 0 w u e d) same.rests (subst (λ f. Chain 0 u u f d) same.expressions done) }
-
--- and one duplication more
-chain_more : {h k : ℕ} {t w : Text} {e f : Expression} → ItemChain h k t w e f → (d u : Text) (least : ℕ) (most : Option ℕ) → w ≡ d ++ u →
-    Duplication d least most → ItemChain (suc h) k t u e (repeat f least most)
-chain_more c d u least most e q = record { count = suc c.count; height = omega (arith, c.height); others = chain_snoc c.others d u least most e q }
-
--- how the item of a derivation goes on behind another item at the front of its text
-pub record GoesOn (h k : ℕ) (u w : Text) (f g : Expression) : Type 0 where
-  pub more : ℕ
-  pub height : k ≡ h + more
-  pub others : Chain more u w f g
-
--- an item that no duplication follows goes on where any other ends
-goes_on : {p : ItemPlace} {h k : ℕ} {t u w : Text} {d g : Expression} (parts : Parts p k t w g) → ItemChain h parts.level parts.rest u parts.start d →
-    NoDuplication w → GoesOn h k u w d g
-goes_on parts chain q =
-    let rest = chain-rest parts.others chain.others refl refl q in
-    record { more = rest.more; height = omega (arith, parts.height, chain.height, rest.count); others = rest.others }
-
--- the greater of the same heights is the same
-same_heights : {h k m n : ℕ} → h ≡ k → m ≡ n → max h m ≡ max k n
-same_heights p q = cc
 
 mutual
   pub items-unique : {p : ItemPlace} {h k : ℕ} {t s u v : Text} {ds es : List Expression} → Items p h t u ds → Items p k s v es → t ≡ s →
@@ -157,7 +112,7 @@ mutual
       let (b, w, f, clear) = item_front i in absurd (clear.not_tail (sym (heads (sym e ∙ f))) (subst IsAtEnd (tails (sym e ∙ f)) l))
   items-unique (item i is) (item j js) e h k =
       let parts = item_parts j in
-      let on = goes_on parts (item_chain i parts.atom_first e) (later_no_duplication js k) in
+      let on = goes_on unique parts.height parts.others (item_chain i parts.atom_first e) (later_no_duplication js k) in
       let same = chain_done on.others (later_no_duplication is h) in
       let others = items-unique is js (sym same.rests) h k in
       record {
@@ -166,7 +121,7 @@ mutual
         rests = others.rests;
       }
 
-  item_chain : {p : ItemPlace} {h k : ℕ} {t s u v : Text} {d e : Expression} → Item p h t u d → Atom p k s v e → t ≡ s → ItemChain h k v u e d
+  item_chain : {p : ItemPlace} {h k : ℕ} {t s u v : Text} {d e : Expression} → Item p h t u d → Atom p k s v e → t ≡ s → ItemChain Duplication h k v u e d
   item_chain (atom a) b e = chain_same (atom-unique a b e)
   item_chain (repeated {d = d} {u = u} {least = least} {most = most} i q) b e = chain_more (item_chain i b e) d u least most refl q
 
@@ -193,7 +148,7 @@ pub record BeginsWith (h m : ℕ) (u v : Text) (e : Expression) (es : List Expre
   pub behind : Text
   pub start : Expression
   pub others : List Expression
-  pub goes_on : GoesOn h height_first u behind e start
+  pub goes_on : GoesOn Duplication h height_first u behind e start
   pub items : Items Later height_others behind v others
   pub whole : es ≡ start ∷ others
 
@@ -213,7 +168,7 @@ items-begin (item {h = h} {k = k} {u = w} {e = g} {es = fs} j js) i e end' =
       behind = w;
       start = g;
       others = fs;
-      goes_on = goes_on parts (item_chain i parts.atom_first e) (later_no_duplication js end');
+      goes_on = goes_on unique parts.height parts.others (item_chain i parts.atom_first e) (later_no_duplication js end');
       items = js;
       whole = refl;
     }
@@ -237,11 +192,6 @@ items-after {v = v} is i e end' q =
       others = first.others;
       items = subst (λ w. Items Later first.height_others w v first.others) same.rests first.items;
     }
-
--- a chain between a text that has a duplication and one that has none is not empty
-longer : {n : ℕ} {u w : Text} {f g : Expression} → Chain n u w f g → NoDuplication w → ¬ NoDuplication u → 0 < n
-longer done there q = absurd (q there)
-longer (step r c) there q = omega arith
 
 -- where one follows, they are higher than it
 pub items-higher : {p : ItemPlace} {h m : ℕ} {t s u v : Text} {e : Expression} {es : List Expression} → Items p m t v es → Item p h s u e → s ≡ t →

@@ -3,7 +3,8 @@ use Rattle.std.proofs.Common.{◌≡◌, ◌≢◌, ℕ, ◌<◌, ◌⊎◌, inl
 use Rattle.re_syntax.specs.declared.bracket.Place.{Place}
 use Rattle.re_syntax.specs.declared.bracket.Place.TheVariants.{First, AfterPoint}
 use Rattle.re_syntax.specs.Bytes.{Text, Begins, Bytes, nothing, union, class_name}
-use Rattle.re_syntax.specs.Brackets.{Point, bare, symbol, Element, class, equivalence, alone, span, Rest, closing, more}
+use Rattle.re_syntax.specs.Expression.{Expression}
+use Rattle.re_syntax.specs.Brackets.{Point, bare, symbol, Element, class, equivalence, alone, span, Rest, closing, more, IsBracket, matching, non_matching}
 use Rattle.re_syntax.specs.BracketSteps.{MayGoOn}
 use Rattle.re_syntax.proofs.BracketsUnique.{element-unique}
 use Rattle.re_syntax.proofs.UnionsLaws.{union-assoc, union-nothing}
@@ -86,3 +87,13 @@ element-shortens (class {t = t} c) = omega (arith, length-append (class_name c +
 element-shortens (equivalence b) = omega arith
 element-shortens (alone x may) = point-shortens x
 element-shortens (span x start y open' le) = omega (arith, point-shortens x, point-shortens y)
+
+-- a list of a bracket expression takes some byte
+rest-shortens : {q : Place} {t u : Text} {s : Bytes} → Rest q t u s → length u < length t
+rest-shortens (closing n) = omega arith
+rest-shortens (more x r) = omega (arith, element-shortens x, rest-shortens r)
+
+-- and so does the whole
+pub bracket-shortens : {t u : Text} {e : Expression} → IsBracket t u e → length u < length t
+bracket-shortens (matching n r) = omega (arith, rest-shortens r)
+bracket-shortens (non_matching r) = omega (arith, rest-shortens r)

@@ -1,5 +1,5 @@
 -- How deep groups and duplications of an extended expression may stand in one another: worked examples up to the limit and beyond it.
-use Rattle.std.proofs.Common.{◌≡◌, ◌≢◌, ℕ, zero, suc, ◌<◌, ◌≤◌, max, Bool, true, false, List, [], ◌∷◌, ◌++◌, None, codes, refl, sym, ◌∙◌, subst, arith}
+use Rattle.std.proofs.Common.{◌≡◌, ◌≢◌, ℕ, zero, suc, ◌<◌, ◌≤◌, max, Bool, true, false, List, [], ◌∷◌, ◌++◌, None, codes, refl, sym, ◌∙◌, arith}
 use Rattle.re_syntax.specs.declared.syntax.Syntax.TheVariants.{Extended}
 use Rattle.re_syntax.specs.Bytes.{Text}
 use Rattle.re_syntax.specs.Expression.{Expression, empty, repeat, byte}
@@ -8,15 +8,15 @@ use Rattle.re_syntax.specs.Spelled.{IsSpelled, as_extended}
 use Rattle.re_syntax.proofs.BracketsUnique.{heads}
 use Rattle.re_syntax.proofs.ExtendedDuplications.{opens_none}
 use Rattle.re_syntax.proofs.ExtendedFronts.{not_opening}
-use Rattle.re_syntax.proofs.ExtendedUnique.{stops, ends, ends-stops, item_front, stop_no_duplication, whole-branches}
+use Rattle.re_syntax.proofs.ExtendedUnique.{ends-stops, item_front, stop_no_duplication, whole-branches}
+use Rattle.re_syntax.specs.ExtendedSteps.{stops, ends}
 use Rattle.re_syntax.proofs.ExtendedReading.{items-after}
+use Rattle.re_syntax.proofs.ExtendedBranches.{at_height}
 use Rattle.re_syntax.proofs.ExtendedRefusals.{Inside, items_inside, branches_inside}
 
+-- nothing is higher than no height
 max_zero : (n : ℕ) → max n 0 ≡ n
 max_zero n = omega arith
-
-at_height : {g : Bool} {h k : ℕ} {t u : Text} {es : List Expression} → h ≡ k → Branches g h t u es → Branches g k t u es
-at_height {g} {t = t} {u = u} {es = es} e bs = subst (λ n. Branches g n t u es) e bs
 
 -- the height of a text's branches is one, so a text of higher ones spells nothing
 pub too_high : {h : ℕ} {t : Text} {e : Expression} {es : List Expression} → Branches false h t [] es → ¬ (h ≤ 256) → IsSpelled Extended t e → ⊥
@@ -24,14 +24,17 @@ too_high bs n (as_extended cs k) = n (omega (arith, (whole-branches bs cs).heigh
 
 -- so many groups in one another
 
+-- so many openings before a text
 abbrev opened : ℕ → Text → Text
 opened zero t = t
 opened (suc n) t = codes "(" ++ opened n t
 
+-- and so many closings
 abbrev closed_after : ℕ → Text → Text
 closed_after zero t = t
 closed_after (suc n) t = closed_after n (codes ")" ++ t)
 
+-- empty groups in one another are as high as there are groups
 nested : (g : Bool) (n : ℕ) (t : Text) → Branches g n (opened n (closed_after n t)) t (empty ∷ [])
 nested g zero t = last none
 nested g (suc n) t = at_height (max_zero (suc n)) (last (item (atom (group (nested true n (codes ")" ++ t)))) none))
@@ -40,24 +43,29 @@ nested g (suc n) t = at_height (max_zero (suc n)) (last (item (atom (group (nest
 pub nested_groups : (n : ℕ) → n ≤ 256 → IsSpelled Extended (opened n (closed_after n [])) empty
 nested_groups n h = as_extended (nested false n []) h
 
+-- one more than the most, and any number beyond
 pub too_many_groups : (n : ℕ) (e : Expression) → 256 < n → ¬ IsSpelled Extended (opened n (closed_after n [])) e
 too_many_groups n e h spelled = too_high (nested false n []) (λ k. absurd (omega arith)) spelled
 
 -- groups that nothing closes, however many
 
+-- where no text is left no items take any
 empty_items : {g : Bool} {h : ℕ} {t u : Text} {es : List Expression} → Items g h t u es → t ≡ [] → u ≡ []
 empty_items none e = e
 empty_items (anchor is) e = cc
 empty_items (item i is) e = let (b, w, f, clear) = item_front i in let same : b ∷ w ≡ [] = sym f ∙ e in cc
 
+-- nor do branches
 empty_branches : {g : Bool} {h : ℕ} {t u : Text} {es : List Expression} → Branches g h t u es → t ≡ [] → (b : ℕ) (w : Text) → u ≡ b ∷ w → ⊥
 empty_branches (last is) e b w f = let same : b ∷ w ≡ [] = sym f ∙ empty_items is e in cc
 empty_branches (more {u = v} is bs) e b w f = let same : 124 ∷ v ≡ [] = empty_items is e in cc
 
+-- so nothing closes the innermost group
 unclosed : (n : ℕ) → ¬ Inside (opened n [])
 unclosed zero inside = empty_branches inside.branches refl 41 inside.behind refl
 unclosed (suc n) inside = unclosed n (branches_inside inside.branches (opened n []) refl refl)
 
+-- and such a text spells nothing
 pub only_opened : (n : ℕ) (e : Expression) → ¬ IsSpelled Extended (opened (suc n) []) e
 only_opened n e (as_extended bs h) = unclosed n (branches_inside bs (opened n []) refl refl)
 
@@ -70,6 +78,7 @@ record FirstBranch (g : Bool) (t : Text) : Type 0 where
   at_end : stops g behind ≡ true
   not_last : behind ≢ []
 
+-- there is such a one where what follows the branches is no end of the text
 first_branch : {g : Bool} {h : ℕ} {t u : Text} {es : List Expression} → Branches g h t u es → ends g u ≡ true → u ≢ [] → FirstBranch g t
 first_branch {g} {h} {u = u} (last {es = es} is) p n =
     record { height = h; behind = u; expressions = es; items = is; at_end = ends-stops g u p; not_last = n }
@@ -88,19 +97,23 @@ unclosed_within e (as_extended bs h) =
 
 -- so many stars after one another
 
+-- so many stars before a text
 abbrev starred : ℕ → Text → Text
 starred zero t = t
 starred (suc n) t = starred n (codes "*" ++ t)
 
+-- an expression so repeated
 abbrev often : ℕ → Expression → Expression
 often zero e = e
 often (suc n) e = repeat (often n e) 0 None
 
+-- a letter and its stars are as high as there are stars
 star_item : (g : Bool) (n : ℕ) (t : Text) → Item g n (97 ∷ starred n t) t (often n (byte 97))
 star_item false zero t = atom (ordinary 97 refl (λ e. absurd (omega arith)))
 star_item true zero t = atom (ordinary 97 refl (λ e. absurd (omega arith)))
 star_item g (suc n) t = repeated (star_item g n (codes "*" ++ t)) star
 
+-- and so is the whole
 star_branches : (n : ℕ) → Branches false n (97 ∷ starred n []) [] (often n (byte 97) ∷ [])
 star_branches n = at_height (max_zero n) (last (item (star_item false n []) none))
 
@@ -108,5 +121,6 @@ star_branches n = at_height (max_zero n) (last (item (star_item false n []) none
 pub starred_often : (n : ℕ) → n ≤ 256 → IsSpelled Extended (97 ∷ starred n []) (often n (byte 97))
 starred_often n h = as_extended (star_branches n) h
 
+-- one more than the most, and any number beyond
 pub too_many_stars : (n : ℕ) (e : Expression) → 256 < n → ¬ IsSpelled Extended (97 ∷ starred n []) e
 too_many_stars n e h spelled = too_high (star_branches n) (λ k. absurd (omega arith)) spelled

@@ -1,17 +1,13 @@
--- Duplications of extended expressions: at most one stands at the front of a text, and the ones after an atom are a chain.
-use Rattle.std.proofs.Common.{◌≡◌, ℕ, suc, ◌+◌, ◌∷◌, ◌++◌, Option, codes, refl, sym, ap, ◌∙◌, subst, arith, append_assoc}
+-- Duplications of extended expressions: at most one stands at the front of a text.
+use Rattle.std.proofs.Common.{◌≡◌, ℕ, ◌∷◌, ◌++◌, Option, codes, refl, sym, ◌∙◌, append_assoc}
 use Rattle.re_syntax.specs.Bytes.{Text}
-use Rattle.re_syntax.specs.Expression.{Expression, repeat}
 use Rattle.re_syntax.specs.Intervals.{ClosedInterval}
 use Rattle.re_syntax.specs.IntervalSteps.{HasNoInterval}
+use Rattle.re_syntax.specs.ExtendedSteps.{NoDuplication}
 use Rattle.re_syntax.specs.Extended.{Duplication, star, plus, question, interval}
 use Rattle.re_syntax.proofs.BracketsUnique.{heads, tails, apart}
-use Rattle.re_syntax.proofs.Duplications.{SameDuplication}
+use Rattle.re_syntax.proofs.Chains.{SameDuplication, AreUnique}
 use Rattle.re_syntax.proofs.IntervalLaws.{cut-unique, Interval-unique, interval_lacks}
-
--- no duplication stands at the front
-pub record NoDuplication (t : Text) : Type 0 where
-  pub none : (d : Text) (least : ℕ) (most : Option ℕ) (u : Text) → Duplication d least most → t ≡ d ++ u → ⊥
 
 -- the bytes that a duplication begins with, before this text
 pub data IsOpening : ℕ → Text → Type 0 where
@@ -20,6 +16,7 @@ pub data IsOpening : ℕ → Text → Type 0 where
   by_question : {w : Text} → IsOpening 63 w
   by_brace : {w : Text} → ¬ HasNoInterval (codes "}") w → IsOpening 123 w
 
+-- each duplication begins with one of them
 pub dup_front : {d : Text} {least : ℕ} {most : Option ℕ} → Duplication d least most → (u : Text) → (b : ℕ) × (w : Text) × (d ++ u ≡ b ∷ w) × IsOpening b w
 dup_front star u = (42, u, refl, by_star)
 dup_front plus u = (43, u, refl, by_plus)
@@ -33,12 +30,14 @@ dup_front (interval {t} {least} {most} form allowed) u =
 pub opens_none : (t : Text) → ((b : ℕ) (w : Text) → t ≡ b ∷ w → ¬ IsOpening b w) → NoDuplication t
 opens_none t h = record { none = λ d least most u p e. let (b, w, f, opening) = dup_front p u in h b w (e ∙ f) opening }
 
+-- the byte that tells the kind of duplication
 dup_code : {d : Text} {least : ℕ} {most : Option ℕ} → Duplication d least most → ℕ
 dup_code star = 42
 dup_code plus = 43
 dup_code question = 63
 dup_code (interval form allowed) = 123
 
+-- it comes first
 dup_first : {d : Text} {least : ℕ} {most : Option ℕ} → (p : Duplication d least most) → (u : Text) → (w : Text) × (d ++ u ≡ dup_code p ∷ w)
 unfolding dup_code
 dup_first star u = (_, refl)
@@ -46,6 +45,7 @@ dup_first plus u = (_, refl)
 dup_first question u = (_, refl)
 dup_first (interval form allowed) u = (_, refl)
 
+-- so two duplications at the front of one text are of one kind
 same_code : {c d : Text} {a b : ℕ} {x y : Option ℕ} (p : Duplication c a x) (q : Duplication d b y) (u v : Text) → c ++ u ≡ d ++ v → dup_code p ≡ dup_code q
 same_code p q u v e = heads (sym (dup_first p u).1 ∙ e ∙ (dup_first q v).1)
 
@@ -62,33 +62,6 @@ Duplication-unique (interval {t} {least = a} {most = x} form allowed) (interval 
     record { least = numbers.0; most = numbers.1; rests = same.1 }
 Duplication-unique p q u v e = absurd (apart (dup_code p) (dup_code q) (same_code p q u v e) refl)
 
--- so many duplications after one another: from the text before them to the text behind, and from the expression without them to the one with them
-pub data Chain : ℕ → Text → Text → Expression → Expression → Type 0 where
-  done : {t : Text} {e : Expression} → Chain 0 t t e e
-  step : {n : ℕ} {d u v : Text} {e f : Expression} {least : ℕ} {most : Option ℕ} → Duplication d least most → Chain n u v (repeat e least most) f →
-      Chain (suc n) (d ++ u) v e f
-
--- one duplication more at the end of a chain
-pub chain_snoc : {n : ℕ} {t w : Text} {e f : Expression} → Chain n t w e f → (d u : Text) (least : ℕ) (most : Option ℕ) → w ≡ d ++ u →
-    Duplication d least most → Chain (suc n) t u e (repeat f least most)
-chain_snoc {e = x} done d u least most e p = subst (λ v. Chain 1 v u x (repeat x least most)) (sym e) (step p done)
-chain_snoc (step q c) d u least most e p = step q (chain_snoc c d u least most e p)
-
--- what a chain has beyond a shorter one
-pub record ChainRest (n m : ℕ) (u w : Text) (f g : Expression) : Type 0 where
-  pub more : ℕ
-  pub count : n ≡ m + more
-  pub others : Chain more u w f g
-
--- a chain that no duplication follows goes on where any other ends
-pub chain-rest : {n m : ℕ} {t s u w : Text} {e f x y : Expression} → Chain n t w e x → Chain m s u f y → t ≡ s → e ≡ f → NoDuplication w → ChainRest n m u w y x
-chain-rest {n = n} {t = t} {w = w} {x = x} c (done {t = s} {e = e}) same h q =
-    record { more = n; count = omega arith; others = subst (λ v. Chain n v w e x) same (subst (λ k. Chain n t w k x) h c) }
-chain-rest done (step {d = d} {u = u} {least = least} {most = most} r c) same h q = absurd (q.none d least most u r same)
-chain-rest (step {d = d} {u = u} {e = k} {least = a} {most = x} r c) (step {d = d'} {u = u'} {e = k'} {least = b} {most = y} r' c') same h q =
-    let one = Duplication-unique r r' u u' same in
-    let el : a ≡ b = one.least in
-    let em : x ≡ y = one.most in
-    let both : repeat k a x ≡ repeat k' b y = cc in
-    let rest = chain-rest c c' one.rests both q in
-    record { more = rest.more; count = ap suc rest.count ∙ omega arith; others = rest.others }
+-- which is what a chain of them needs
+pub unique : AreUnique Duplication
+unique = record { same = λ c d a b x y u v p q e. Duplication-unique p q u v e }

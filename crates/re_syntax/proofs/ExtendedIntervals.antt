@@ -8,11 +8,13 @@ use Rattle.re_syntax.specs.Extended.{Duplication, star, plus, question, interval
 use Rattle.re_syntax.specs.Spelled.{IsSpelled, as_extended}
 use Rattle.re_syntax.proofs.BracketsUnique.{heads, tails, apart}
 use Rattle.re_syntax.proofs.IntervalLaws.{cut-unique, Interval-unique, interval_lacks}
-use Rattle.re_syntax.proofs.ExtendedDuplications.{NoDuplication, IsOpening, by_brace}
-use Rattle.re_syntax.proofs.ExtendedUnique.{stops, ends, ends-stops, item_front, stop_byte, stop_caret, stop_no_duplication}
+use Rattle.re_syntax.proofs.ExtendedDuplications.{IsOpening, by_brace}
+use Rattle.re_syntax.specs.ExtendedSteps.{NoDuplication, stops, ends}
+use Rattle.re_syntax.proofs.ExtendedUnique.{ends-stops, item_front, stop_byte, stop_caret, stop_no_duplication}
 use Rattle.re_syntax.proofs.ExtendedReading.{items-after}
 use Rattle.re_syntax.proofs.ExtendedRefusals.{items_opening, branches_opening, branches_inside}
 
+-- numbers that are the same are allowed alike
 same_allowed : {a b : ℕ} {x y : Option ℕ} → a ≡ b → x ≡ y → IsAllowed a x → IsAllowed b y
 same_allowed {b = b} {x = x} h k allowed = subst (λ n. IsAllowed b n) k (subst (λ n. IsAllowed n x) h allowed)
 
@@ -30,6 +32,7 @@ refused_interval t r a x form refused = record { none = λ d least most u p e. g
         let numbers = Interval-unique t s a b x y form other same.0 in
         refused (same_allowed (sym numbers.0) (sym numbers.1) allowed)
 
+-- though it opens one
 pub interval_opening : (t r : Text) (a : ℕ) (x : Option ℕ) → Interval t a x → IsOpening 123 (t ++ 125 ∷ r)
 interval_opening t r a x form = by_brace (λ h. h.none r a x (record { inside = t; form = form; whole = refl }))
 
@@ -40,6 +43,7 @@ items_refused t r a x is i e p form refused =
     let after = items-after is i e p (refused_interval t r a x form refused) in
     items_opening after.items 123 (t ++ 125 ∷ r) refl (interval_opening t r a x form) p
 
+-- nor have branches
 pub branches_refused : {g : Bool} {h k : ℕ} {s u v : Text} {e : Expression} {es : List Expression} (t r : Text) (a : ℕ) (x : Option ℕ) → Branches g h s u es →
     Item g k v (123 ∷ t ++ 125 ∷ r) e → v ≡ s → ends g u ≡ true → Interval t a x → ¬ IsAllowed a x → ⊥
 branches_refused {g} {u = u} t r a x (last is) i e p form refused = items_refused t r a x is i e (ends-stops g u p) form refused

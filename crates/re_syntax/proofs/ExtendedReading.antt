@@ -2,10 +2,12 @@
 use Rattle.std.proofs.Common.{◌≡◌, ℕ, ◌<◌, ◌≤◌, max, Bool, true, List, ◌∷◌, refl, sym, ◌∙◌, subst, arith}
 use Rattle.re_syntax.specs.Bytes.{Text}
 use Rattle.re_syntax.specs.Expression.{Expression, begin}
-use Rattle.re_syntax.specs.Extended.{Items, none, anchor, item, Item}
+use Rattle.re_syntax.specs.Extended.{Duplication, Items, none, anchor, item, Item}
 use Rattle.re_syntax.proofs.BracketsUnique.{heads, tails}
-use Rattle.re_syntax.proofs.ExtendedDuplications.{NoDuplication, Chain, done, step}
-use Rattle.re_syntax.proofs.ExtendedUnique.{stops, stop_byte, stop_caret, item_parts, item_front, item_chain, items_no_duplication, chain_done, GoesOn, goes_on}
+use Rattle.re_syntax.proofs.Chains.{chain_done, GoesOn, goes_on, longer}
+use Rattle.re_syntax.proofs.ExtendedDuplications.{unique}
+use Rattle.re_syntax.specs.ExtendedSteps.{NoDuplication, stops}
+use Rattle.re_syntax.proofs.ExtendedUnique.{stop_byte, stop_caret, item_parts, item_front, item_chain, items_no_duplication}
 
 -- the items of the branch begin with the item, or with it and more duplications
 pub record BeginsWith (g : Bool) (h m : ℕ) (u v : Text) (e : Expression) (es : List Expression) : Type 0 where
@@ -15,10 +17,11 @@ pub record BeginsWith (g : Bool) (h m : ℕ) (u v : Text) (e : Expression) (es :
   pub behind : Text
   pub start : Expression
   pub others : List Expression
-  pub goes_on : GoesOn h height_first u behind e start
+  pub goes_on : GoesOn Duplication h height_first u behind e start
   pub items : Items g height_others behind v others
   pub whole : es ≡ start ∷ others
 
+-- which is so of all items that an item stands before
 pub items-begin : {g : Bool} {h m : ℕ} {t s u v : Text} {e : Expression} {es : List Expression} → Items g m t v es → Item g h s u e → s ≡ t →
     stops g v ≡ true → BeginsWith g h m u v e es
 items-begin {g} (none {t = t}) i e p = let (b, w, f, clear) = item_front i in absurd (stop_byte g t b w p (sym e ∙ f) clear.not_stop)
@@ -32,7 +35,7 @@ items-begin (item {h = h} {k = k} {u = w} {e = d} {es = fs} j js) i e p =
       behind = w;
       start = d;
       others = fs;
-      goes_on = goes_on parts (item_chain i parts.atom_first e) (items_no_duplication js p);
+      goes_on = goes_on unique parts.height parts.others (item_chain i parts.atom_first e) (items_no_duplication js p);
       items = js;
       whole = refl;
     }
@@ -45,6 +48,7 @@ pub record After (g : Bool) (m : ℕ) (u v : Text) (e : Expression) (es : List E
   pub items : Items g height u v others
   pub whole : es ≡ e ∷ others
 
+-- what is behind the item
 pub items-after : {g : Bool} {h m : ℕ} {t s u v : Text} {e : Expression} {es : List Expression} → Items g m t v es → Item g h s u e → s ≡ t →
     stops g v ≡ true → NoDuplication u → After g m u v e es
 items-after {g} {v = v} {es = fs} is i e p q =
@@ -64,11 +68,6 @@ items-after-anchor {g} {u = u} (none {t = t}) e p = absurd (stop_caret g t u p e
 items-after-anchor {g} {v = v} (anchor {h = h} {es = fs} is) e p =
     record { height = h; below = omega arith; others = fs; items = subst (λ w. Items g h w v fs) (tails e) is; whole = refl }
 items-after-anchor (item i is) e p = let (b, w, f, clear) = item_front i in absurd (clear.not_caret (heads (sym f ∙ e)))
-
--- a chain between a text that has a duplication and one that has none is not empty
-longer : {n : ℕ} {u w : Text} {f g : Expression} → Chain n u w f g → NoDuplication w → ¬ NoDuplication u → 0 < n
-longer done there q = absurd (q there)
-longer (step r c) there q = omega arith
 
 -- where a duplication follows the item, they are higher than it
 pub items-higher : {g : Bool} {h m : ℕ} {t s u v : Text} {e : Expression} {es : List Expression} → Items g m t v es → Item g h s u e → s ≡ t →

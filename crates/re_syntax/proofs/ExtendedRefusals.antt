@@ -1,15 +1,16 @@
 -- Texts that spell no extended expression, since a duplication has nothing to repeat.
-use Rattle.std.proofs.Common.{◌≡◌, ℕ, Bool, true, List, [], ◌∷◌, ◌++◌, Some, codes, refl, sym, ◌∙◌, subst}
+use Rattle.std.proofs.Common.{◌≡◌, ℕ, Bool, true, List, [], ◌∷◌, ◌++◌, Some, codes, refl, sym, ◌∙◌}
 use Rattle.re_syntax.specs.declared.syntax.Syntax.TheVariants.{Extended}
 use Rattle.re_syntax.specs.Bytes.{Text}
 use Rattle.re_syntax.specs.Expression.{Expression}
 use Rattle.re_syntax.specs.Intervals.{IsNumber, exactly}
-use Rattle.re_syntax.specs.Extended.{Branches, last, more, Items, none, anchor, item, Atom, bracket, period, dollar, escaped, ordinary, group}
+use Rattle.re_syntax.specs.Extended.{Branches, last, more, Items, none, anchor, item, Atom}
 use Rattle.re_syntax.specs.Spelled.{IsSpelled, as_extended}
-use Rattle.re_syntax.proofs.BracketsUnique.{heads, tails, apart, bracket_front}
+use Rattle.re_syntax.proofs.BracketsUnique.{heads, tails, apart}
 use Rattle.re_syntax.proofs.ExtendedDuplications.{IsOpening, by_star, by_plus, by_brace}
-use Rattle.re_syntax.proofs.ExtendedFronts.{never_stop, not_ordinary, not_opening, opening_stop}
-use Rattle.re_syntax.proofs.ExtendedUnique.{stops, ends, ends-stops, item_parts, item_front, same_opening, stop_byte, stop_caret}
+use Rattle.re_syntax.proofs.ExtendedFronts.{never_stop, not_opening, opening_stop, is_group}
+use Rattle.re_syntax.proofs.ExtendedUnique.{ends-stops, item_parts, item_front, same_opening, stop_byte, stop_caret}
+use Rattle.re_syntax.specs.ExtendedSteps.{stops, ends}
 
 -- no branch begins with a duplication's first byte
 pub items_opening : {g : Bool} {h : ℕ} {t u : Text} {es : List Expression} → Items g h t u es → (b : ℕ) (w : Text) → t ≡ b ∷ w → IsOpening b w → stops g u ≡ true → ⊥
@@ -24,11 +25,13 @@ items_caret_opening {g} {t = t} none b w e opening s = stop_caret g t (b ∷ w) 
 items_caret_opening (anchor is) b w e opening s = items_opening is b w (tails e) opening s
 items_caret_opening (item i is) b w e opening s = let (c, v, f, clear) = item_front i in clear.not_caret (heads (sym f ∙ e))
 
+-- nor do branches begin so
 pub branches_opening : {g : Bool} {h : ℕ} {t u : Text} {es : List Expression} → Branches g h t u es → (b : ℕ) (w : Text) → t ≡ b ∷ w → IsOpening b w →
     ends g u ≡ true → ⊥
 branches_opening {g} {u = u} (last is) b w e opening s = items_opening is b w e opening (ends-stops g u s)
 branches_opening (more is bs) b w e opening s = items_opening is b w e opening refl
 
+-- or have one behind an anchor
 pub branches_caret_opening : {g : Bool} {h : ℕ} {t u : Text} {es : List Expression} → Branches g h t u es → (b : ℕ) (w : Text) → t ≡ 94 ∷ b ∷ w → IsOpening b w →
     ends g u ≡ true → ⊥
 branches_caret_opening {g} {u = u} (last is) b w e opening s = items_caret_opening is b w e opening (ends-stops g u s)
@@ -41,21 +44,18 @@ pub record Inside (t : Text) : Type 0 where
   pub expressions : List Expression
   pub branches : Branches true height t (codes ")" ++ behind) expressions
 
+-- which stands behind its opening
 atom_inside : {g : Bool} {h : ℕ} {t u : Text} {e : Expression} → Atom g h t u e → (w : Text) → t ≡ 40 ∷ w → Inside w
-atom_inside (bracket b) w e = let (v, f) = bracket_front b in absurd (apart 91 40 (heads (sym f ∙ e)) refl)
-atom_inside period w e = absurd (apart 46 40 (heads e) refl)
-atom_inside dollar w e = absurd (apart 36 40 (heads e) refl)
-atom_inside (escaped b h) w e = absurd (apart 92 40 (heads e) refl)
-atom_inside {g} (ordinary b h k) w e = absurd (not_ordinary g b 40 h refl (heads e))
-atom_inside (group {h = h} {t = t} {u = u} {es = es} bs) w e =
-    let P : Text → Type 0 = λ x. Branches true h x (codes ")" ++ u) es in
-    record { height = h; behind = u; expressions = es; branches = subst P (tails e) bs }
+atom_inside {u = u} a w e =
+    let it = is_group a e in record { height = it.inner_height; behind = u; expressions = it.members; branches = it.branches }
 
+-- so of the items of a branch that begins with a group
 pub items_inside : {g : Bool} {h : ℕ} {t u : Text} {es : List Expression} → Items g h t u es → (w : Text) → t ≡ 40 ∷ w → stops g u ≡ true → Inside w
 items_inside {g} {t = t} none w e s = absurd (stop_byte g t 40 w s e (never_stop g 40 refl refl))
 items_inside (anchor is) w e s = absurd (apart 94 40 (heads e) refl)
 items_inside (item i is) w e s = atom_inside (item_parts i).atom_first w e
 
+-- and of branches that begin with one
 pub branches_inside : {g : Bool} {h : ℕ} {t u : Text} {es : List Expression} → Branches g h t u es → (w : Text) → t ≡ 40 ∷ w → ends g u ≡ true → Inside w
 branches_inside {g} {u = u} (last is) w e s = items_inside is w e (ends-stops g u s)
 branches_inside (more is bs) w e s = items_inside is w e refl

@@ -1,24 +1,17 @@
 -- An extended expression is read in one way.
-use Rattle.std.proofs.Common.{◌≡◌, ℕ, suc, ◌+◌, max, Bool, true, false, ◌&&◌, nat_eq, List, [], ◌∷◌, ◌++◌, Option, refl, sym, ap, ◌∙◌, subst, arith}
+use Rattle.std.proofs.Common.{◌≡◌, ℕ, suc, ◌+◌, Bool, true, false, ◌&&◌, nat_eq, List, [], ◌∷◌, refl, sym, ap, ◌∙◌, subst, arith}
 use Rattle.std.proofs.lemmas.Bool.{and_right, or_right}
 use Rattle.re_syntax.specs.Bytes.{Text}
-use Rattle.re_syntax.specs.Expression.{Expression, begin, repeat, byte, sequence, choice}
+use Rattle.re_syntax.specs.Expression.{Expression, begin, byte, sequence, choice}
 use Rattle.re_syntax.specs.Extended.{Duplication, Branches, last, more, Items, none, anchor, item, Item, atom, repeated, Atom, bracket, period, dollar, escaped, ordinary, group}
 use Rattle.re_syntax.proofs.BracketsUnique.{heads, tails, apart, IsBracket-unique}
-use Rattle.re_syntax.proofs.BasicUnique.{SameItem, SameItems}
-use Rattle.re_syntax.proofs.ExtendedDuplications.{NoDuplication, IsOpening, opens_none, Chain, done, step, chain_snoc, chain-rest}
-use Rattle.re_syntax.proofs.ExtendedFronts.{is_stop, never_stop, not_opening, opening_stop, kind_of, IsFront, atom_code, atom_front}
+use Rattle.re_syntax.proofs.BasicUnique.{SameItems}
+use Rattle.re_syntax.proofs.Chains.{SameItem, Chain, done, chain_snoc, chain_done, ItemChain, chain_same, chain_more, goes_on, two_items, same_heights}
+use Rattle.re_syntax.proofs.ExtendedDuplications.{IsOpening, opens_none, unique}
+use Rattle.re_syntax.specs.ExtendedSteps.{stops, ends, NoDuplication, is_stop}
+use Rattle.re_syntax.proofs.ExtendedFronts.{never_stop, not_opening, opening_stop, kind_of, IsFront, atom_code, atom_front}
 
--- where a branch ends: at the text's end, at a bar, at the closing of the group around it
-abbrev pub stops : Bool → Text → Bool
-stops g [] = true
-stops g (b ∷ t) = is_stop g b
-
--- where the last branch does
-abbrev pub ends : Bool → Text → Bool
-ends g [] = true
-ends g (b ∷ t) = g && nat_eq b 41
-
+-- where the last branch ends, a branch does
 pub ends-stops : (g : Bool) (t : Text) → ends g t ≡ true → stops g t ≡ true
 ends-stops g [] h = refl
 ends-stops g (b ∷ t) h = or_right (nat_eq b 124) (g && nat_eq b 41) h
@@ -31,8 +24,9 @@ pub record Parts (g : Bool) (h : ℕ) (t u : Text) (e : Expression) : Type 0 whe
   pub rest : Text
   pub start : Expression
   pub atom_first : Atom g level t rest start
-  pub others : Chain count rest u start e
+  pub others : Chain Duplication count rest u start e
 
+-- each item is such
 pub item_parts : {g : Bool} {h : ℕ} {t u : Text} {e : Expression} → Item g h t u e → Parts g h t u e
 item_parts {h = h} {u = u} {e = e} (atom a) = record { level = h; count = 0; height = omega arith; rest = u; start = e; atom_first = a; others = done }
 item_parts (repeated {d = d} {u = u} {least = least} {most = most} i q) =
@@ -61,22 +55,28 @@ item_front i = let a = item_parts i in let f = atom_front a.atom_first in (f.fro
 
 -- No duplication stands where an item, an anchor or a branch's end does.
 
+-- a text has one first byte and one rest, so it opens a duplication however it is taken apart
 pub same_opening : (t : Text) (b c : ℕ) (w v : Text) → t ≡ b ∷ w → t ≡ c ∷ v → IsOpening c v → IsOpening b w
 same_opening t b c w v e f opening =
     subst (λ x. IsOpening b x) (tails (sym f ∙ e)) (subst (λ x. IsOpening x v) (heads (sym f ∙ e)) opening)
 
+-- where an item begins
 pub item_no_duplication : (g : Bool) (t : Text) (b : ℕ) (w : Text) → t ≡ b ∷ w → IsFront g b w → NoDuplication t
 item_no_duplication g t b w e clear = opens_none t (λ c v f opening. clear.not_opening (same_opening t b c w v e f opening))
 
+-- where a branch ends comes no byte that ends none
 pub stop_byte : (g : Bool) (t : Text) (b : ℕ) (w : Text) → stops g t ≡ true → t ≡ b ∷ w → is_stop g b ≡ false → ⊥
 stop_byte g t b w s e f = let k : stops g (b ∷ w) ≡ true = rw e at s in cc
 
+-- where a branch ends
 pub stop_no_duplication : (g : Bool) (t : Text) → stops g t ≡ true → NoDuplication t
 stop_no_duplication g t s = opens_none t (λ b w e opening. stop_byte g t b w s e (opening_stop g opening))
 
+-- where an anchor stands
 pub caret_no_duplication : (t : Text) → NoDuplication (94 ∷ t)
 caret_no_duplication t = opens_none (94 ∷ t) (λ b w e opening. not_opening b 94 w (sym (heads e)) refl opening)
 
+-- and so where the items of a branch begin
 pub items_no_duplication : {g : Bool} {h : ℕ} {t u : Text} {es : List Expression} → Items g h t u es → stops g u ≡ true → NoDuplication t
 items_no_duplication {g} {t = t} none s = stop_no_duplication g t s
 items_no_duplication (anchor {t = t} is) s = caret_no_duplication t
@@ -87,48 +87,12 @@ pub stop_caret : (g : Bool) (t w : Text) → stops g t ≡ true → t ≡ 94 ∷
 stop_caret g t w s e = stop_byte g t 94 w s e (never_stop g 94 refl refl)
 
 -- and where the last one does, no bar
-ends_bar : (g : Bool) (t w : Text) → ends g t ≡ true → t ≡ 124 ∷ w → ⊥
+pub ends_bar : (g : Bool) (t w : Text) → ends g t ≡ true → t ≡ 124 ∷ w → ⊥
 ends_bar g t w h e = let k : ends g (124 ∷ w) ≡ true = rw e at h in let f : (g && false) ≡ false = and_right g false refl in cc
 
-two_items : {d e : Expression} {ds es : List Expression} → d ≡ e → ds ≡ es → ◌≡◌ {A = List Expression} (d ∷ ds) (e ∷ es)
-two_items p q = cc
-
+-- lists of branches whose first and rest are the same are the same
 two_branches : {ds es fs gs : List Expression} → ds ≡ es → fs ≡ gs → ◌≡◌ {A = List Expression} (sequence ds ∷ fs) (sequence es ∷ gs)
 two_branches p q = cc
-
-same_heights : {h k m n : ℕ} → h ≡ k → m ≡ n → max h m ≡ max k n
-same_heights p q = cc
-
--- the duplications after the atom that an item begins with
-pub record ItemChain (h k : ℕ) (v u : Text) (e d : Expression) : Type 0 where
-  pub count : ℕ
-  pub height : h ≡ k + count
-  pub others : Chain count v u e d
-
--- a chain from where no duplication stands is empty
-pub chain_done : {n : ℕ} {u w : Text} {f g : Expression} → Chain n u w f g → NoDuplication u → SameItem n 0 g f w u
-chain_done done q = record { heights = refl; expressions = refl; rests = refl }
-chain_done (step {d = d} {u = u} {least = least} {most = most} r c) q = absurd (q.none d least most u r refl)
-
-chain_same : {h k : ℕ} {d e : Expression} {u v : Text} → SameItem h k d e u v → ItemChain h k v u e d
-chain_same {h} {k} {d} {e} {u} {v} same =
-    record { count = 0; height = omega (arith, same.heights); others = subst (λ w. Chain 0 w u e d) same.rests (subst (λ f. Chain 0 u u f d) same.expressions done) }
-
-chain_more : {h k : ℕ} {t w : Text} {e f : Expression} → ItemChain h k t w e f → (d u : Text) (least : ℕ) (most : Option ℕ) → w ≡ d ++ u →
-    Duplication d least most → ItemChain (suc h) k t u e (repeat f least most)
-chain_more c d u least most e q = record { count = suc c.count; height = omega (arith, c.height); others = chain_snoc c.others d u least most e q }
-
--- how the item of a derivation goes on behind another item at the front of its text
-pub record GoesOn (h k : ℕ) (u w : Text) (f g : Expression) : Type 0 where
-  pub more : ℕ
-  pub height : k ≡ h + more
-  pub others : Chain more u w f g
-
-pub goes_on : {g : Bool} {h k : ℕ} {t u w : Text} {d f : Expression} (parts : Parts g k t w f) → ItemChain h parts.level parts.rest u parts.start d →
-    NoDuplication w → GoesOn h k u w d f
-goes_on parts chain q =
-    let rest = chain-rest parts.others chain.others refl refl q in
-    record { more = rest.more; height = omega (arith, parts.height, chain.height, rest.count); others = rest.others }
 
 mutual
   pub branches-unique : {g : Bool} {h k : ℕ} {t s u v : Text} {ds es : List Expression} → Branches g h t u ds → Branches g k s v es → t ≡ s →
@@ -165,7 +129,7 @@ mutual
       let (b, w, f, clear) = item_front i in absurd (clear.not_caret (sym (heads (sym e ∙ f))))
   items-unique (item i is) (item j js) e p q =
       let parts = item_parts j in
-      let on = goes_on parts (item_chain i parts.atom_first e) (items_no_duplication js q) in
+      let on = goes_on unique parts.height parts.others (item_chain i parts.atom_first e) (items_no_duplication js q) in
       let same = chain_done on.others (items_no_duplication is p) in
       let others = items-unique is js (sym same.rests) p q in
       record {
@@ -174,7 +138,7 @@ mutual
         rests = others.rests;
       }
 
-  pub item_chain : {g : Bool} {h k : ℕ} {t s u v : Text} {d e : Expression} → Item g h t u d → Atom g k s v e → t ≡ s → ItemChain h k v u e d
+  pub item_chain : {g : Bool} {h k : ℕ} {t s u v : Text} {d e : Expression} → Item g h t u d → Atom g k s v e → t ≡ s → ItemChain Duplication h k v u e d
   item_chain (atom a) b e = chain_same (atom-unique a b e)
   item_chain (repeated {d = d} {u = u} {least = least} {most = most} i q) b e = chain_more (item_chain i b e) d u least most refl q
 

@@ -4,6 +4,7 @@ pub mod EndedLinesLaws
 pub mod PartsLaws
 pub mod SetsLaws
 pub mod UnionsLaws
+pub mod RangeWords
 pub mod SplittingLaws
 pub mod SpelledUnique
 pub mod Decisions
@@ -13,6 +14,7 @@ pub mod ClassNames
 pub mod BracketsUnique
 pub mod BracketRows
 pub mod IntervalLaws
+pub mod Chains
 pub mod Duplications
 pub mod AtomFronts
 pub mod BasicUnique
@@ -21,6 +23,10 @@ pub mod ExtendedDuplications
 pub mod ExtendedFronts
 pub mod ExtendedUnique
 pub mod BasicIntervals
+pub mod Places
+pub mod BracketKinds
+pub mod EscapeLaws
+pub mod CountsLaws
 pub mod BasicEnds
 pub mod BasicLeads
 pub mod BasicAtoms
@@ -32,6 +38,10 @@ pub mod ExtendedRows
 pub mod ExtendedRefusals
 pub mod ExtendedIntervals
 pub mod ExtendedDepth
+pub mod ExtendedOpenings
+pub mod ExtendedAtoms
+pub mod ExtendedItems
+pub mod ExtendedBranches
 pub mod CursorsLaws
 pub mod AheadLaws
 pub mod DigitsLaws

@@ -10,7 +10,7 @@ use Rattle.re_syntax.specs.Bytes.{Bytes, nothing, only, range, union}
 use Rattle.re_syntax.specs.Sets.{members}
 
 -- two tests that pass together are one
-same_test : (x y : Bool) → (x ≡ true → y ≡ true) → (y ≡ true → x ≡ true) → x ≡ y
+pub same_test : (x y : Bool) → (x ≡ true → y ≡ true) → (y ≡ true → x ≡ true) → x ≡ y
 same_test true y f g = sym (f refl)
 same_test false true f g = g refl
 same_test false false f g = refl
@@ -93,18 +93,6 @@ from_below-more first last h = fun_ext (λ b. same_test (union (from_below first
         let both = and_parts (nat_le first b) (nat_lt b (last + 1)) e in
         let high = ltb-true b (last + 1) both.1 in
         or_left _ _ (and_from _ _ both.0 (lt-ltb b last (omega arith)))
-
--- the same for the set of a loop
-pub from_below-step : {s t u : Bytes} (first last : ℕ) → first ≤ last → u ≡ union s t → s ≡ from_below first last → t ≡ only last →
-    ◌≡◌ {A = Bytes} u (from_below first (last + 1))
-from_below-step first last h e f g = e ∙ both_unions f g ∙ from_below-more first last h
-
--- a range that descends has no byte
-pub range-none : (first last : ℕ) → last < first → ◌≡◌ {A = Bytes} nothing (range first last)
-range-none first last h = fun_ext (λ b. same_test false (range first last b) (λ e. absurd (false≢true e)) (λ e. out b e))
-  where
-    out : (b : ℕ) → range first last b ≡ true → false ≡ true
-    out b e = let both = and_parts (nat_le first b) (nat_le b last) e in let low = leb-true first b both.0 in let high = leb-true b last both.1 in absurd (omega arith)
 
 -- the whole range, once its last byte is in
 pub range-from_below : (first last : ℕ) → ◌≡◌ {A = Bytes} (from_below first (last + 1)) (range first last)

@@ -1,20 +1,20 @@
 -- What each step of reading a basic expression says: which part of the grammar stands at a place of the text, or that none does and where that shows.
-use Rattle.std.specs.Prelude.{◌≡◌, ℕ, ◌+◌, ◌<◌, ◌≤◌, max, ◌⊎◌, [], ◌∷◌, ◌++◌, List, length, take, drop, map, Option, IsTrue, codes, nat_eq, if◌then◌else◌}
-use Rattle.re_syntax.specs.declared.basic.Piece.{Piece}
-use Rattle.re_syntax.specs.declared.basic.Pieces.{Pieces}
+use Rattle.std.specs.Prelude.{◌≡◌, ℕ, ◌<◌, ◌≤◌, max, ◌⊎◌, [], ◌++◌, List, length, take, drop, map, codes}
+use Rattle.re_syntax.specs.declared.pieces.Piece.{Piece}
+use Rattle.re_syntax.specs.declared.pieces.Pieces.{Pieces}
 use Rattle.re_syntax.specs.declared.interval.Counts.{Counts}
-use Rattle.re_syntax.specs.declared.fault.FaultKind.TheVariants.{Memory}
 use Rattle.re_syntax.specs.declared.fault.PatternFault.{PatternFault}
-use Rattle.re_syntax.specs.Bytes.{Text, Begins, Bytes, any_but_nul, only}
+use Rattle.re_syntax.specs.Bytes.{Text, Begins}
 use Rattle.re_syntax.specs.Ahead.{IsAfter}
-use Rattle.re_syntax.specs.Escapes.{is_undefined}
-use Rattle.re_syntax.specs.Expression.{Expression, repeat, expression_of}
+use Rattle.re_syntax.specs.DuplicationSteps.{HasNone, HasOne}
+use Rattle.re_syntax.specs.Expression.{Expression, expression_of}
 use Rattle.re_syntax.specs.Basic.{ItemPlace, First, Later, Duplication, IsAtEnd, Items, Item, Atom}
-use Rattle.re_syntax.specs.BasicFaults.{Ends, HasNothingToRepeat, refused_escapes, IsShownIn}
+use Rattle.re_syntax.specs.BasicFaults.{HasNothingToRepeat, IsShownIn}
+use Rattle.re_syntax.specs.Faults.{Ends}
 
 -- no duplication stands at the front
-pub record NoDuplication (t : Text) : Type 0 where
-  pub none : (d : Text) (least : ℕ) (most : Option ℕ) (u : Text) → Duplication d least most → t ≡ d ++ u → ⊥
+abbrev pub NoDuplication : Text → Type 0
+NoDuplication = HasNone Duplication
 
 -- nothing at the front opens a duplication
 pub record OpensNoDuplication (t : Text) : Type 0 where
@@ -22,22 +22,14 @@ pub record OpensNoDuplication (t : Text) : Type 0 where
   pub interval : ¬ Begins (codes "\\{") t
 
 -- a duplication stands from one place up to another
-pub record DuplicationStands (text : Text) (at : ℕ) (counts : Counts) (behind : ℕ) : Type 0 where
-  pub within : behind ≤ length text
-  pub bytes : Text
-  pub duplication : Duplication bytes counts.least counts.most
-  pub front : drop at text ≡ bytes ++ drop behind text
+abbrev pub DuplicationStands : Text → ℕ → Counts → ℕ → Type 0
+DuplicationStands = HasOne Duplication
 
 -- a `\{` that begins no duplication
 pub record HasBadInterval (text : Text) (at : ℕ) (fault : PatternFault) : Type 0 where
   pub opens : Begins (codes "\\{") (drop at text)
   pub none : NoDuplication (drop at text)
   pub shown : IsShownIn text fault
-
--- memory ran out, or what is said of the text holds and the fault shows there
-pub data IsRefused (P : Type 0) (text : Text) (fault : PatternFault) : Type 0 where
-  memory : fault ≡ record { kind = Memory; at = 0 } → IsRefused P text fault
-  told : P → IsShownIn text fault → IsRefused P text fault
 
 -- nothing stands before the place, or a group's opening
 abbrev pub IsStart : Text → Type 0
@@ -58,21 +50,6 @@ pub record MayBegin (p : ItemPlace) (t : Text) : Type 0 where
   pub no_lead : p ≡ First → ¬ Begins (codes "^") t
   pub no_duplication : p ≡ Later → OpensNoDuplication t
 
--- an escape of a byte
-pub record EscapeStands (text : Text) (at byte : ℕ) : Type 0 where
-  pub within : at + 2 ≤ length text
-  pub front : drop at text ≡ codes "\\" ++ byte ∷ drop (at + 2) text
-  pub allowed : ¬ IsTrue (is_undefined refused_escapes byte)
-
--- a backslash and no byte that may follow it
-pub record HasNoEscape (text : Text) (at : ℕ) (fault : PatternFault) : Type 0 where
-  pub none : (b : ℕ) (u : Text) → drop at text ≡ codes "\\" ++ b ∷ u → IsTrue (is_undefined refused_escapes b)
-  pub shown : IsShownIn text fault
-
--- what a byte means outside brackets and escapes
-abbrev pub meant_bytes : ℕ → Bytes
-meant_bytes b = if nat_eq b 46 then any_but_nul else only b
-
 -- an atom stands from one place up to another, at most so high
 pub record AtomStands (p : ItemPlace) (levels : ℕ) (text : Text) (at : ℕ) (piece : Piece) : Type 0 where
   pub forward : at < piece.behind
@@ -83,11 +60,6 @@ pub record AtomStands (p : ItemPlace) (levels : ℕ) (text : Text) (at : ℕ) (p
 -- no atom stands there, or only a higher one
 pub record HasNoAtom (p : ItemPlace) (levels : ℕ) (t : Text) : Type 0 where
   pub none : (h : ℕ) (u : Text) (e : Expression) → Atom p h t u e → h ≤ levels → ⊥
-
--- no atom stands at a `[`, however high
-pub record HasNoBracketAtom (text : Text) (at : ℕ) (fault : PatternFault) : Type 0 where
-  pub none : (p : ItemPlace) (levels : ℕ) → HasNoAtom p levels (drop at text)
-  pub shown : IsShownIn text fault
 
 -- the same of an item, behind which no duplication stands
 pub record ItemStands (p : ItemPlace) (levels : ℕ) (text : Text) (at : ℕ) (piece : Piece) : Type 0 where
@@ -100,18 +72,6 @@ pub record ItemStands (p : ItemPlace) (levels : ℕ) (text : Text) (at : ℕ) (p
 -- no items of an expression stand there, or only higher ones
 pub record HasNoItems (p : ItemPlace) (levels : ℕ) (t : Text) : Type 0 where
   pub none : (h : ℕ) (u : Text) (es : List Expression) → Items p h t u es → IsAtEnd u → h ≤ levels → ⊥
-
--- the piece is the other, repeated
-pub record IsRepeated (old : Piece) (counts : Counts) (behind : ℕ) (new : Piece) : Type 0 where
-  pub means : expression_of new.tree ≡ repeat (expression_of old.tree) counts.least counts.most
-  pub height : new.height ≡ old.height + 1
-  pub place : new.behind ≡ behind
-
--- the piece is the last of the items, and the others are as they were
-pub record IsJoined (old : Pieces) (piece : Piece) (new : Pieces) : Type 0 where
-  pub means : map expression_of new.trees.items ≡ map expression_of old.trees.items ++ expression_of piece.tree ∷ []
-  pub height : new.height ≡ max old.height piece.height
-  pub place : new.behind ≡ piece.behind
 
 -- a `$` that is last stands from one place up to another
 pub record IsBehindTail (text : Text) (at behind : ℕ) : Type 0 where

@@ -8,6 +8,10 @@ use Rattle.re_syntax.specs.Bytes.{Text, Begins, class_name}
 use Rattle.re_syntax.specs.Expression.{Expression}
 use Rattle.re_syntax.specs.Brackets.{IsBracket}
 
+-- the text ends with these bytes
+abbrev pub Ends : Text → Text → Type 0
+Ends back t = (front : Text) × (t ≡ front ++ back)
+
 -- the bytes where a bracket expression's fault shows (XBD 9.3.5): its opening; a `[:` without a class's name and `:]`; a `[.` or `[=` without one byte and the
 -- closing pair; a hyphen
 abbrev pub ShowsBracketFault : FaultKind → Text → Type 0
@@ -17,6 +21,11 @@ ShowsBracketFault BadCollatingSymbol t =
     (Begins (codes "[.") t × ((b : ℕ) → ¬ Begins (codes "[." ++ b ∷ codes ".]") t)) ⊎ (Begins (codes "[=") t × ((b : ℕ) → ¬ Begins (codes "[=" ++ b ∷ codes "=]") t))
 ShowsBracketFault BadRange t = Begins (codes "-") t
 ShowsBracketFault _ t = ⊥
+
+-- a `[` that begins no bracket expression
+pub record OpensNoBracket (t : Text) : Type 0 where
+  pub opens : ShowsBracketFault UnclosedBracket t
+  pub none : (rest : Text) (e : Expression) → ¬ IsBracket t rest e
 
 -- no bracket expression stands at the place, and the fault shows at its own, both counted from the text's start; an unclosed one shows at its opening
 pub record IsNoBracket (text : Text) (from : ℕ) (fault : PatternFault) : Type 0 where

@@ -16,6 +16,13 @@ pub mod Cursors
 pub mod Ahead
 pub mod IntervalSteps
 pub mod BracketSteps
+pub mod IntervalFaults
+pub mod EscapeFaults
+pub mod EscapeSteps
+pub mod PieceSteps
+pub mod DuplicationSteps
 pub mod BasicFaults
 pub mod BasicSteps
+pub mod ExtendedFaults
+pub mod ExtendedSteps
 pub mod Laws

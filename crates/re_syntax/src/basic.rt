@@ -1,67 +1,23 @@
 //! Basic regular expressions (XBD 9.3), read in one pass from left to right.
-ghost use Rattle.std.specs.Prelude.{◌≡◌, ◌≢◌, ℕ, ◌≤◌, ◌<◌, ◌⊎◌, ◌∷◌, ◌++◌, IsTrue, IfOk, IfErr, MatchOption, MatchBool, codes, length, take, drop, slice_get, Some, map};
-ghost use Rattle.re_syntax.specs.Bytes.{Text, Begins, in_class};
+ghost use Rattle.std.specs.Prelude.{◌≡◌, ℕ, ◌≤◌, ◌⊎◌, IfOk, IfErr, MatchOption, MatchBool, codes, length, take, drop};
+ghost use Rattle.re_syntax.specs.Bytes.{Begins};
 ghost use Rattle.re_syntax.specs.Expression.{expression_of};
-ghost use Rattle.re_syntax.specs.Sets.{members};
-ghost use Rattle.re_syntax.specs.Escapes.{is_undefined};
 ghost use Rattle.re_syntax.specs.Basic.{ItemPlace, First, IsAtEnd};
-ghost use Rattle.re_syntax.specs.Intervals.{IsAllowed};
 ghost use Rattle.re_syntax.specs.declared.syntax.Syntax.TheVariants.{Basic};
 ghost use Rattle.re_syntax.specs.Spelled.{IsSpelled, SpellsNoOther};
-ghost use Rattle.re_syntax.specs.BasicFaults.{IsDisallowed, IsRefusedEscape, refused_escapes, HasNothingToRepeat, IsShownIn, IsNoBasic};
-ghost use Rattle.re_syntax.specs.BasicSteps.{OpensNoDuplication, DuplicationStands, HasBadInterval, EscapeStands, HasNoEscape, meant_bytes, AtomStands, HasNoBracketAtom, HasNoAtom, IsRepeated, HasItem, HasNoItem, HasNoTail, IsBehindTail, IsJoined, IsStart, SoFar, IsEnded, MayBegin, ItemStands, ItemsStand, HasNoItems, IsRefused};
+ghost use Rattle.re_syntax.specs.BasicFaults.{HasNothingToRepeat, IsShownIn, IsNoBasic};
+ghost use Rattle.re_syntax.specs.PieceSteps.{IsRefused};
+ghost use Rattle.re_syntax.specs.BasicSteps.{OpensNoDuplication, DuplicationStands, HasBadInterval, AtomStands, HasNoAtom, HasItem, HasNoItem, HasNoTail, IsBehindTail, IsStart, SoFar, IsEnded, MayBegin, ItemStands, ItemsStand, HasNoItems};
 
-use crate::ahead::{after, byte_at};
-use crate::bracket::read_bracket;
+use crate::ahead::after;
 use crate::bytes::ByteSet;
-use crate::class::Class;
+use crate::escape::read_escape;
 use crate::fault::{FaultKind, PatternFault};
 use crate::fixed::{out_of_memory, sequence_of};
-use crate::interval::{Counts, MOST_REPEATS, read_interval};
+use crate::interval::{Counts, counts_fault, read_interval};
+use crate::pieces::{MOST_LEVELS, Piece, Pieces, joined, meant_by, read_bracket_atom, repeated};
 use crate::tree::Tree;
 use std::alloc::Global;
-
-/// How deep groups and duplications may stand in one another.
-const MOST_LEVELS: usize = 256;
-
-/// An atom or an item that was read.
-#[derive(Drop)]
-pub struct Piece {
-    /// What it means.
-    pub tree: Tree,
-    /// How deep groups and duplications stand in one another in it.
-    pub height: usize,
-    /// The place behind it.
-    pub behind: usize,
-}
-
-/// The items of an expression that was read.
-#[derive(Drop)]
-pub struct Pieces {
-    /// What they mean, in order.
-    pub trees: Vec<Tree>,
-    /// The greatest height of an item.
-    pub height: usize,
-    /// The place behind the last of them.
-    pub behind: usize,
-}
-
-/// Why counts are refused, if they are: too large, which goes first, or descending.
-fn counts_fault(counts: Counts) -> Option<FaultKind>
-    ensures { MatchOption result (IsAllowed counts.least counts.most) (λ kind. IsDisallowed kind counts.least counts.most) }
-{
-    if counts.least > MOST_REPEATS {
-        return Some(FaultKind::IntervalTooLarge);
-    }
-    let most = counts.most?;
-    if most > MOST_REPEATS {
-        Some(FaultKind::IntervalTooLarge)
-    } else if most < counts.least {
-        Some(FaultKind::BadInterval)
-    } else {
-        None
-    }
-}
 
 /// The duplication that stands at a place of the text, if one does, and the place behind it.
 fn read_duplication(text: &[u8], at: usize) -> Result<Option<(Counts, usize)>, PatternFault>
@@ -91,104 +47,6 @@ fn read_duplication(text: &[u8], at: usize) -> Result<Option<(Counts, usize)>, P
     }
 }
 
-/// Whether a byte is a letter or a digit.
-fn is_alphanumeric(byte: u8) -> bool
-    ensures { result ≡ in_class Class.Alnum byte }
-{
-    let is_upper = (b'A' <= byte) & (byte <= b'Z');
-    let is_lower = (b'a' <= byte) & (byte <= b'z');
-    let is_digit = (b'0' <= byte) & (byte <= b'9');
-    is_upper | is_lower | is_digit
-}
-
-/// Whether the standard gives a backslash before the byte no meaning.
-fn is_undefined_escape(byte: u8) -> bool
-    ensures { result ≡ is_undefined refused_escapes byte }
-{
-    let is_angle = (b'<' == byte) | (b'>' == byte);
-    let is_quote = (b'`' == byte) | (b'\'' == byte);
-    let is_operator = (b'+' == byte) | (b'?' == byte) | (b'|' == byte);
-    is_alphanumeric(byte) | is_angle | is_quote | is_operator
-}
-
-/// Why a byte may not follow a backslash, if it may not.
-fn escape_fault(byte: u8) -> Option<FaultKind>
-    ensures { MatchOption result (¬ IsTrue (is_undefined refused_escapes byte)) (λ kind. IsRefusedEscape kind byte) }
-{
-    if (b'1' <= byte) & (byte <= b'9') {
-        return Some(FaultKind::BackReference);
-    }
-    if is_undefined_escape(byte) {
-        return Some(FaultKind::UndefinedEscape);
-    }
-    None
-}
-
-/// The byte behind the backslash at a place, where it stands for itself there.
-fn read_escape(text: &[u8], at: usize) -> Result<u8, PatternFault>
-    requires { Begins (codes "\\") (drop at text.now) }
-    ensures read { IfOk result (EscapeStands text.now at) }
-    ensures refused { IfErr result (HasNoEscape text.now at) }
-{
-    match byte_at(text, at + 1) {
-        None => Err(PatternFault {
-            kind: FaultKind::TrailingBackslash,
-            at,
-        }),
-        Some(byte) => match escape_fault(byte) {
-            None => Ok(byte),
-            Some(kind) => Err(PatternFault { kind, at }),
-        },
-    }
-}
-
-/// The bytes that a byte means outside brackets and escapes: a period any but NUL, any other byte
-/// itself.
-fn meant_by(byte: u8) -> ByteSet
-    ensures { members result ≡ meant_bytes byte }
-{
-    if byte == b'.' {
-        ByteSet::range(1, 255)
-    } else {
-        ByteSet::only(byte)
-    }
-}
-
-/// The bracket expression that stands at a place.
-fn read_bracket_atom(text: &[u8], at: usize) -> Result<Piece, PatternFault>
-    requires { slice_get text.now at ≡ Some 91 }
-    ensures read { IfOk result (λ piece. (p : ItemPlace) → AtomStands p 0 text.now at piece) }
-    ensures refused { IfErr result (HasNoBracketAtom text.now at) }
-{
-    let (tree, behind) = read_bracket(text, at)?;
-    Ok(Piece {
-        tree,
-        height: 0,
-        behind,
-    })
-}
-
-/// A piece that a duplication repeats, and the place behind that.
-fn repeated(
-    alloc: Global,
-    piece: Piece,
-    counts: Counts,
-    behind: usize,
-) -> Result<Piece, PatternFault>
-    requires { piece.height < 256 }
-    ensures made { IfOk result (IsRepeated piece counts behind) }
-    ensures refused { IfErr result (λ fault. fault ≡ record { kind = FaultKind.Memory; at = 0 }) }
-{
-    match Box::new(alloc, piece.tree) {
-        Ok(part) => Ok(Piece {
-            tree: Tree::Repeat(part, counts.least, counts.most),
-            height: piece.height + 1,
-            behind,
-        }),
-        Err(_) => Err(out_of_memory()),
-    }
-}
-
 /// Whether an expression ends at a place: the text does, or a group is closed there.
 fn is_at_end(text: &[u8], at: usize) -> bool
     requires { at ≤ length text.now }
@@ -211,19 +69,6 @@ fn after_tail(text: &[u8], at: usize) -> Option<usize>
     } else {
         None
     }
-}
-
-/// The items with one more behind them.
-fn joined(mut items: Pieces, piece: Piece) -> Result<Pieces, PatternFault>
-    ensures made { IfOk result (IsJoined items piece) }
-    ensures refused { IfErr result (λ fault. fault ≡ record { kind = FaultKind.Memory; at = 0 }) }
-{
-    if items.trees.push(piece.tree).is_err() {
-        return Err(out_of_memory());
-    }
-    items.height = items.height.max(piece.height);
-    items.behind = piece.behind;
-    Ok(items)
 }
 
 /// The anchor that an expression begins with, where one does.
@@ -288,7 +133,7 @@ fn read_group(alloc: Global, text: &[u8], at: usize, levels: usize) -> Result<Pi
     requires opens { Begins (codes "\\(") (drop at text.now) }
     requires few { levels ≤ 256 }
     ensures read { IfOk result (λ piece. (p : ItemPlace) → AtomStands p levels text.now at piece) }
-    ensures refused { IfErr result (λ fault. (p : ItemPlace) → IsRefused (HasNoAtom p levels (drop at text.now)) text.now fault) }
+    ensures refused { IfErr result (λ fault. (p : ItemPlace) → IsRefused (HasNoAtom p levels (drop at text.now)) (IsShownIn text.now fault) fault) }
 {
     if levels == 0 {
         return Err(PatternFault {
@@ -318,7 +163,7 @@ fn read_escaped(alloc: Global, text: &[u8], at: usize, levels: usize) -> Result<
     requires opens { Begins (codes "\\{") (drop at text.now) → HasNothingToRepeat (take at text.now) }
     requires few { levels ≤ 256 }
     ensures read { IfOk result (λ piece. (p : ItemPlace) → AtomStands p levels text.now at piece) }
-    ensures refused { IfErr result (λ fault. (p : ItemPlace) → IsRefused (HasNoAtom p levels (drop at text.now)) text.now fault) }
+    ensures refused { IfErr result (λ fault. (p : ItemPlace) → IsRefused (HasNoAtom p levels (drop at text.now)) (IsShownIn text.now fault) fault) }
 {
     if after(text, at, b"\\(").is_some() {
         return read_group(alloc, text, at, levels);
@@ -329,7 +174,7 @@ fn read_escaped(alloc: Global, text: &[u8], at: usize, levels: usize) -> Result<
             at,
         });
     }
-    let byte = read_escape(text, at)?;
+    let byte = read_escape(text, at, b"<>`'+?|")?;
     Ok(Piece {
         tree: Tree::Set(ByteSet::only(byte)),
         height: 0,
@@ -345,7 +190,7 @@ fn read_atom(alloc: Global, text: &[u8], at: usize, levels: usize) -> Result<Pie
     requires opens { Begins (codes "\\{") (drop at text.now) → HasNothingToRepeat (take at text.now) }
     requires few { levels ≤ 256 }
     ensures read { IfOk result (λ piece. (p : ItemPlace) → MayBegin p (drop at text.now) → AtomStands p levels text.now at piece) }
-    ensures refused { IfErr result (λ fault. (p : ItemPlace) → IsRefused (HasNoAtom p levels (drop at text.now)) text.now fault) }
+    ensures refused { IfErr result (λ fault. (p : ItemPlace) → IsRefused (HasNoAtom p levels (drop at text.now)) (IsShownIn text.now fault) fault) }
 {
     match text[at] {
         b'[' => read_bracket_atom(text, at),
@@ -366,7 +211,7 @@ fn read_item(alloc: Global, text: &[u8], at: usize, levels: usize) -> Result<Pie
     requires opens { Begins (codes "\\{") (drop at text.now) → HasNothingToRepeat (take at text.now) }
     requires few { levels ≤ 256 }
     ensures read { IfOk result (λ piece. (p : ItemPlace) → MayBegin p (drop at text.now) → ItemStands p levels text.now at piece) }
-    ensures refused { IfErr result (λ fault. (p : ItemPlace) → MayBegin p (drop at text.now) → IsRefused (HasNoItems p levels (drop at text.now)) text.now fault) }
+    ensures refused { IfErr result (λ fault. (p : ItemPlace) → MayBegin p (drop at text.now) → IsRefused (HasNoItems p levels (drop at text.now)) (IsShownIn text.now fault) fault) }
 {
     let mut piece = read_atom(alloc, text, at, levels)?;
     'duplications: while let Some((counts, behind)) = read_duplication(text, piece.behind)? {
@@ -393,7 +238,7 @@ fn read_items(
     requires starts { IsStart (take from text.now) }
     requires few { levels ≤ 256 }
     ensures read { IfOk result (ItemsStand levels text.now from) }
-    ensures refused { IfErr result (IsRefused (HasNoItems First levels (drop from text.now)) text.now) }
+    ensures refused { IfErr result (λ fault. IsRefused (HasNoItems First levels (drop from text.now)) (IsShownIn text.now fault) fault) }
 {
     let mut items = read_lead(alloc, text, from)?;
     'items: while has_item(text, items.behind) {

@@ -1,9 +1,11 @@
 //! Interval expressions (XBD 9.3.6 item 5, 9.4.6 item 5), apart from how a syntax opens them.
 ghost use Rattle.std.specs.Prelude.{◌≡◌, ◌≤◌, length, drop, MatchOption};
-ghost use Rattle.re_syntax.specs.Intervals.{IsNoPart, value, capped};
+ghost use Rattle.re_syntax.specs.Intervals.{IsNoPart, IsAllowed, value, capped};
+ghost use Rattle.re_syntax.specs.IntervalFaults.{IsDisallowed};
 ghost use Rattle.re_syntax.specs.IntervalSteps.{AreDigits, HasNoDigit, IsDigitCount, NumberStands, IntervalStands, HasNoInterval};
 
 use crate::ahead::after;
+use crate::fault::FaultKind;
 
 /// The greatest count that an interval may have, `RE_DUP_MAX`.
 pub const MOST_REPEATS: u16 = 255;
@@ -75,5 +77,22 @@ pub fn read_interval(text: &[u8], at: usize, closing: &[u8]) -> Option<(Counts, 
             let end = after(text, behind, closing)?;
             Some((Counts { least, most }, end))
         }
+    }
+}
+
+/// Why counts are refused, if they are: too large, which goes first, or descending.
+pub fn counts_fault(counts: Counts) -> Option<FaultKind>
+    ensures { MatchOption result (IsAllowed counts.least counts.most) (λ kind. IsDisallowed kind counts.least counts.most) }
+{
+    if counts.least > MOST_REPEATS {
+        return Some(FaultKind::IntervalTooLarge);
+    }
+    let most = counts.most?;
+    if most > MOST_REPEATS {
+        Some(FaultKind::IntervalTooLarge)
+    } else if most < counts.least {
+        Some(FaultKind::BadInterval)
+    } else {
+        None
     }
 }

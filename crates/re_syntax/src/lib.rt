@@ -7,11 +7,16 @@ mod bracket;
 mod bytes;
 mod class;
 mod cursor;
+mod escape;
+mod extended;
 mod fault;
 mod fixed;
 mod folding;
 mod interval;
 mod laws;
+mod pieces;
+#[cfg(test)]
+mod shapes;
 mod split;
 mod syntax;
 #[cfg(test)]
@@ -22,6 +27,7 @@ pub use basic::read_basic;
 pub use bracket::read_bracket;
 pub use bytes::ByteSet;
 pub use class::Class;
+pub use extended::read_extended;
 pub use fault::{FaultKind, PatternFault};
 pub use fixed::read_fixed;
 pub use folding::fold;

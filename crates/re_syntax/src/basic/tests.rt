@@ -1,69 +1,10 @@
 use super::*;
+use crate::shapes::{Shape, copies, is_tree};
 use std::test::Fail;
-
-/// What a node of a tree should be: a byte alone, any byte but NUL, an anchor, so many in order, or
-/// one repeated. A whole tree is its nodes, each before those that are in it.
-#[derive(Clone, Copy, Drop)]
-enum Shape {
-    Empty,
-    Byte(u8),
-    Any,
-    Begin,
-    End,
-    Cat(usize),
-    Repeat(u16, Option<u16>),
-}
-
-fn has_exactly(set: &ByteSet, first: u8, last: u8) -> bool {
-    (0..=255u8).all(|byte| set.has(byte) == (first <= byte && byte <= last))
-}
-
-/// The place behind the nodes of the tree, which is at most so deep, where they stand at a place.
-#[cycle(nodes_behind)]
-fn nodes_behind(tree: &Tree, shapes: &[Shape], at: usize, depth: u16) -> Option<usize> {
-    if depth == 0 {
-        return None;
-    }
-    let shape = *shapes.get(at)?;
-    let right = match (tree, shape) {
-        (Tree::Empty, Shape::Empty) => true,
-        (Tree::Begin, Shape::Begin) => true,
-        (Tree::End, Shape::End) => true,
-        (Tree::Set(set), Shape::Byte(byte)) => has_exactly(set, byte, byte),
-        (Tree::Set(set), Shape::Any) => has_exactly(set, 1, 255),
-        (Tree::Repeat(part, least, most), Shape::Repeat(low, high)) => {
-            if *least != low || *most != high {
-                return None;
-            }
-            return nodes_behind(part, shapes, at + 1, depth - 1);
-        }
-        (Tree::Cat(parts), Shape::Cat(count)) => {
-            if parts.len() != count {
-                return None;
-            }
-            return all_nodes_behind(parts, shapes, at + 1, depth - 1);
-        }
-        _ => false,
-    };
-    if right { Some(at + 1) } else { None }
-}
-
-/// The same for trees in order.
-#[cycle(nodes_behind)]
-fn all_nodes_behind(trees: &[Tree], shapes: &[Shape], from: usize, depth: u16) -> Option<usize> {
-    let mut at = from;
-    for tree in trees {
-        if depth == 0 {
-            return None;
-        }
-        at = nodes_behind(tree, shapes, at, depth - 1)?;
-    }
-    Some(at)
-}
 
 fn is_read(rt: &HostRuntime, text: &[u8], shapes: &[Shape]) -> bool {
     match read_basic(rt.alloc(), text) {
-        Ok(tree) => nodes_behind(&tree, shapes, 0, 1000) == Some(shapes.len()),
+        Ok(tree) => is_tree(&tree, shapes),
         Err(_) => false,
     }
 }
@@ -374,26 +315,6 @@ fn a_refused_text_is_told_with_its_first_fault(rt: HostRuntime) {
     for (text, kind, at) in rows {
         assert!(rt; is_refused(&rt, text, kind, at), "{text:?}");
     }
-}
-
-/// So many copies of one text and so many of another, and a last text.
-fn copies(
-    rt: &HostRuntime,
-    first: &[u8],
-    count: usize,
-    second: &[u8],
-    others: usize,
-    last: &[u8],
-) -> Result<Vec<u8>, Fail> {
-    let mut text = Vec::new(rt.alloc());
-    for _ in 0..count {
-        text.extend_from_slice(first)?;
-    }
-    for _ in 0..others {
-        text.extend_from_slice(second)?;
-    }
-    text.extend_from_slice(last)?;
-    Ok(text)
 }
 
 #[test]

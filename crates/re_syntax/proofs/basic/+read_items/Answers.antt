@@ -1,13 +1,15 @@
-use Rattle.std.proofs.Common.{◌+◌, ◌≢◌, get_or, drop, refl, ap, ◌∙◌, arith, rules, codes}
+use Rattle.std.proofs.Common.{◌+◌, ◌-◌, ◌≢◌, get_or, drop, refl, ap, ◌∙◌, arith, rules, codes}
 use Rattle.std.proofs.lemmas.Result.{err_from_is_err_and}
 use Rattle.re_syntax.specs.Expression.{one_of}
 use Rattle.re_syntax.specs.Bytes.{Begins}
-use Rattle.re_syntax.specs.BasicSteps.{told, DuplicationStands}
+use Rattle.re_syntax.specs.BasicSteps.{DuplicationStands}
+use Rattle.re_syntax.specs.PieceSteps.{told}
 use Rattle.re_syntax.proofs.ExpressionLaws.{expression-Set}
-use Rattle.re_syntax.proofs.BasicEnds.{ok_as, some_found, nothing_found, item_within, byte_here, front_here, not_closing}
-use Rattle.re_syntax.proofs.BasicAtoms.{no_escape_atom, no_interval_atom, single_stands, escaped_stands, atom_higher}
-use Rattle.re_syntax.proofs.BasicGroups.{opening_within, opening_starts, group_stands, no_group_inside, no_group_end}
-use Rattle.re_syntax.proofs.BasicItems.{no_items_without_atom, item_of_atom, item_repeated, too_deep, shown_deep, no_items_bad, one_more, all_read, refused_as, duplication_takes}
+use Rattle.re_syntax.proofs.BasicEnds.{item_within, not_closing}
+use Rattle.re_syntax.proofs.Places.{ok_as, err_as, some_found, nothing_found, byte_here, front_here, refused_as}
+use Rattle.re_syntax.proofs.BasicAtoms.{no_escape_atom, no_interval_atom, single_stands, escaped_stands, shown_escape, bracket_atom, no_bracket_atom, shown_no_bracket}
+use Rattle.re_syntax.proofs.BasicGroups.{opening_within, opening_starts, group_stands, no_group_inside, no_group_end, opens_unclosed}
+use Rattle.re_syntax.proofs.BasicItems.{no_items_without_atom, item_of_atom, item_repeated, too_deep, shown_deep, no_items_bad, one_more, all_read, duplication_takes}
 use Rattle.re_syntax.proofs.basic.+read_items.Goals as goal
 
 pub read_atom-bounds-text-at : goal.read_atom-bounds-text-at
@@ -24,7 +26,12 @@ read_atom-read_escaped-requires t c =
 
 pub read_atom-returns-in-91-clause-read : goal.read_atom-returns-in-91-clause-read
 read_atom-returns-in-91-clause-read t c =
-    ok_as _ _ c.read_bracket_atom.result c.read_bracket_atom.ensures.read (λ piece h p b. atom_higher c.args.levels c.args.text.now c.args.at piece p (h p))
+    ok_as _ _ c.read_bracket_atom.result c.read_bracket_atom.ensures.read (λ piece h p b. bracket_atom c.args.levels c.args.text.now c.args.at piece h p)
+
+pub read_atom-returns-in-91-clause-refused : goal.read_atom-returns-in-91-clause-refused
+read_atom-returns-in-91-clause-refused t c =
+    err_as _ _ c.read_bracket_atom.result c.read_bracket_atom.ensures.refused
+    (λ fault h p. told (no_bracket_atom c.args.text.now c.args.at fault (byte_here c.args.text.now c.args.at 91 (item_within c.args.text.now c.args.at c.requires.within c.requires.item) c.in-91.is) h p c.args.levels) (shown_no_bracket c.args.text.now c.args.at fault h))
 
 pub read_atom-returns-in-92-clause-read : goal.read_atom-returns-in-92-clause-read
 read_atom-returns-in-92-clause-read t c = ok_as _ _ c.read_escaped.result c.read_escaped.ensures.read (λ piece h p b. h p)
@@ -48,7 +55,7 @@ pub read_escaped-returns-in_err-byte-clause-refused : goal.read_escaped-returns-
 read_escaped-returns-in_err-byte-clause-refused t c =
     let q = err_from_is_err_and c.from_residual.result c.from_residual.ensures.1 in
     let no_group = nothing_found _ _ c.after.result c.is_some.result c.is_some.ensures c.if-is_some.false c.after.ensures in
-    rw (q.1, q.2) (λ p. told (no_escape_atom c.requires.escapes no_group c.in_err-byte.ensures.refused p c.args.levels) c.in_err-byte.ensures.refused.shown)
+    rw (q.1, q.2) (λ p. told (no_escape_atom c.requires.escapes no_group c.in_err-byte.ensures.refused p c.args.levels) (shown_escape c.args.text.now c.args.at _ c.in_err-byte.ensures.refused))
 
 pub read_escaped-returns-clause-read : goal.read_escaped-returns-clause-read
 read_escaped-returns-clause-read t c p =
@@ -68,7 +75,8 @@ read_group-returns-in_err-items-clause-refused t c =
 
 pub read_group-returns-in-None-clause-refused : goal.read_group-returns-in-None-clause-refused
 read_group-returns-in-None-clause-refused t c p =
-    told (no_group_end c.args.levels c.args.text.now c.args.at c.in_ok-items.items c.requires.opens c.in_ok-items.ensures.read c.in-None.ensures p) c.requires.opens
+    told (no_group_end c.args.levels c.args.text.now c.args.at c.in_ok-items.items c.requires.opens c.in_ok-items.ensures.read c.in-None.ensures p)
+    (opens_unclosed (c.args.levels - 1) c.args.text.now c.args.at c.in_ok-items.items c.requires.opens c.in_ok-items.ensures.read c.in-None.ensures)
 
 pub read_group-returns-in-Some-clause-read : goal.read_group-returns-in-Some-clause-read
 read_group-returns-in-Some-clause-read t c p =

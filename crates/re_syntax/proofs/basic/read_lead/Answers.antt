@@ -1,6 +1,6 @@
 use Rattle.std.proofs.Common.{refl}
 use Rattle.re_syntax.proofs.ExpressionLaws.{expression-Begin}
-use Rattle.re_syntax.proofs.BasicEnds.{ok_as}
+use Rattle.re_syntax.proofs.Places.{ok_as}
 use Rattle.re_syntax.proofs.BasicLeads.{without_lead, with_lead}
 use Rattle.re_syntax.proofs.basic.read_lead.Goals as goal
 

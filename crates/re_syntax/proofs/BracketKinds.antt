@@ -1,0 +1,30 @@
+-- The kinds of fault that a bracket expression can have.
+use Rattle.re_syntax.specs.declared.fault.FaultKind.{FaultKind}
+use Rattle.re_syntax.specs.declared.fault.FaultKind.TheVariants.{UnclosedBracket, BadClass, BadCollatingSymbol, BadRange, UnclosedGroup, UnopenedGroup, BadInterval, IntervalTooLarge, NothingToRepeat, TrailingBackslash, UndefinedEscape, BackReference, TooDeep, TooLarge, Memory}
+use Rattle.re_syntax.specs.Bytes.{Text}
+use Rattle.re_syntax.specs.Faults.{ShowsBracketFault}
+
+-- one of four
+pub data IsBracketKind : FaultKind → Type 0 where
+  is_unclosed : IsBracketKind UnclosedBracket
+  is_class : IsBracketKind BadClass
+  is_symbol : IsBracketKind BadCollatingSymbol
+  is_range : IsBracketKind BadRange
+
+-- since no other shows in one
+pub bracket_kind : (kind : FaultKind) (t : Text) → ShowsBracketFault kind t → IsBracketKind kind
+bracket_kind UnclosedBracket t h = is_unclosed
+bracket_kind BadClass t h = is_class
+bracket_kind BadCollatingSymbol t h = is_symbol
+bracket_kind BadRange t h = is_range
+bracket_kind UnclosedGroup t h = absurd h
+bracket_kind UnopenedGroup t h = absurd h
+bracket_kind BadInterval t h = absurd h
+bracket_kind IntervalTooLarge t h = absurd h
+bracket_kind NothingToRepeat t h = absurd h
+bracket_kind TrailingBackslash t h = absurd h
+bracket_kind UndefinedEscape t h = absurd h
+bracket_kind BackReference t h = absurd h
+bracket_kind TooDeep t h = absurd h
+bracket_kind TooLarge t h = absurd h
+bracket_kind Memory t h = absurd h

@@ -1,0 +1,175 @@
+use Rattle.std.proofs.Common.{◌≡◌, ◌≢◌, ◌+◌, ◌-◌, inl, true, get_or, drop, refl, ap, ◌∙◌, arith, rules}
+use Rattle.std.proofs.lemmas.Result.{err_from_is_err_and}
+use Rattle.re_syntax.specs.Expression.{one_of}
+use Rattle.re_syntax.specs.PieceSteps.{told}
+use Rattle.re_syntax.specs.ExtendedSteps.{stops, DuplicationStands}
+use Rattle.re_syntax.proofs.ExpressionLaws.{expression-Set, expression-Begin, expression-End}
+use Rattle.re_syntax.proofs.ExtendedAtoms.{shown_escape, escaped_stands, no_escape_atom, bracket_atom, no_bracket_atom, shown_no_bracket, dollar_stands, single_stands}
+use Rattle.re_syntax.proofs.ExtendedItems.{no_items_without_atom, item_of_atom, item_read, item_repeated, duplication_takes, too_deep, shown_deep, no_items_opening, no_items_bad, anchor_next, item_next, none_so_far, one_more, branch_read}
+use Rattle.re_syntax.proofs.ExtendedBranches.{first_branch, next_branch, no_branches, bar_starts, branches_read, opening_within, opening_starts, group_stands, no_group_left, no_group_inside, no_group_end, opens_unclosed}
+use Rattle.re_syntax.proofs.Places.{ok_as, err_as, byte_here, front_here, refused_as}
+use Rattle.re_syntax.proofs.extended.+read_branches.Goals as goal
+
+pub read_atom-returns-in_err-byte-in-92-clause-refused : goal.read_atom-returns-in_err-byte-in-92-clause-refused
+read_atom-returns-in_err-byte-in-92-clause-refused t c =
+    let q = err_from_is_err_and c.from_residual.result c.from_residual.ensures.1 in
+    let front = front_here c.args.text.now c.args.at 92 c.requires.within c.in-92.is in
+    rw (q.1, q.2)
+    (told (no_escape_atom c.args.in_group c.args.levels (drop (c.args.at + 1) c.args.text.now, front) c.in_err-byte-in-92.ensures.refused)
+    (shown_escape c.args.text.now c.args.at _ c.in_err-byte-in-92.ensures.refused))
+
+pub read_atom-returns-in-91-clause-read : goal.read_atom-returns-in-91-clause-read
+read_atom-returns-in-91-clause-read t c =
+    ok_as _ _ c.read_bracket_atom.result c.read_bracket_atom.ensures.read (λ piece h. bracket_atom c.args.in_group c.args.levels c.args.text.now c.args.at piece h)
+
+pub read_atom-returns-in-91-clause-refused : goal.read_atom-returns-in-91-clause-refused
+read_atom-returns-in-91-clause-refused t c =
+    err_as _ _ c.read_bracket_atom.result c.read_bracket_atom.ensures.refused
+    (λ fault h. told
+    (no_bracket_atom c.args.in_group c.args.levels c.args.text.now c.args.at fault (byte_here c.args.text.now c.args.at 91 c.requires.within c.in-91.is) h)
+    (shown_no_bracket c.args.text.now c.args.at fault h))
+
+pub read_atom-returns-in_ok-byte-in-92-clause-read : goal.read_atom-returns-in_ok-byte-in-92-clause-read
+read_atom-returns-in_ok-byte-in-92-clause-read t c =
+    escaped_stands c.args.in_group c.args.levels c.args.text.now c.args.at c.in_ok-byte-in-92.byte _ c.in_ok-byte-in-92.ensures.read
+    (expression-Set c.only.result ∙ ap one_of c.only.ensures) refl refl
+
+pub read_atom-returns-in-36-clause-read : goal.read_atom-returns-in-36-clause-read
+read_atom-returns-in-36-clause-read t c =
+    dollar_stands c.args.in_group c.args.levels c.args.text.now c.args.at _ c.requires.within
+    (front_here c.args.text.now c.args.at 36 c.requires.within c.in-36.is) expression-End refl refl
+
+pub read_atom-returns-in_default-clause-read : goal.read_atom-returns-in_default-clause-read
+read_atom-returns-in_default-clause-read t c =
+    let not_bracket : get_or c.args.text.now c.args.at 0 ≢ 91 = search rules in
+    let not_backslash : get_or c.args.text.now c.args.at 0 ≢ 92 = search rules in
+    let not_group : get_or c.args.text.now c.args.at 0 ≢ 40 = search rules in
+    let not_dollar : get_or c.args.text.now c.args.at 0 ≢ 36 = search rules in
+    single_stands c.args.in_group c.args.levels c.args.text.now c.args.at (get_or c.args.text.now c.args.at 0) _ c.requires.within
+    (front_here c.args.text.now c.args.at (get_or c.args.text.now c.args.at 0) c.requires.within refl) c.requires.begins not_bracket not_backslash not_group not_dollar
+    (expression-Set c.meant_by.result ∙ ap one_of c.meant_by.ensures) refl refl
+
+pub read_branch-items-init : goal.read_branch-items-init
+read_branch-items-init t c =
+    none_so_far c.args.in_group c.args.levels c.args.text.now c.args.from _ c.requires.within c.requires.starts c.new.ensures.items refl refl
+
+pub read_branch-returns-in_err-piece-clause-refused : goal.read_branch-returns-in_err-piece-clause-refused
+read_branch-returns-in_err-piece-clause-refused t c =
+    let q = err_from_is_err_and c.from_residual.result c.from_residual.ensures.1 in
+    rw (q.1, q.2) (refused_as c.in_err-piece.ensures.refused c.items.invariant.back)
+
+pub read_branch-items-preserved : goal.read_branch-items-preserved
+read_branch-items-preserved t c =
+    one_more c.args.in_group c.args.levels c.args.text.now c.args.from c.items.items c.in_ok-items.items c.in_ok-piece.piece c.items.invariant c.in_ok-piece.ensures.read
+    c.in_ok-items.ensures.made
+
+pub read_branch-returns-clause-read : goal.read_branch-returns-clause-read
+read_branch-returns-clause-read t c =
+    let at_end : stops c.args.in_group (drop c.items.items.behind c.args.text.now) ≡ true = search rules in
+    branch_read c.args.in_group c.args.levels c.args.text.now c.args.from c.items.items _ c.items.invariant at_end c.sequence_of.ensures refl refl
+
+pub read_branches-returns-in_err-first-clause-refused : goal.read_branches-returns-in_err-first-clause-refused
+read_branches-returns-in_err-first-clause-refused t c =
+    let q = err_from_is_err_and c.from_residual.result c.from_residual.ensures.1 in
+    rw (q.1, q.2) (refused_as c.in_err-first.ensures.refused no_branches)
+
+pub read_branches-branches-init : goal.read_branches-branches-init
+read_branches-branches-init t c =
+    first_branch c.args.in_group c.args.levels c.args.text.now c.args.from _ c.in_ok-branches.branches c.in_ok-first.first c.in_ok-first.ensures.read
+    c.new.ensures.items refl c.in_ok-branches.ensures.made
+
+pub read_branches-read_branch-requires-in-Some : goal.read_branches-read_branch-requires-in-Some
+read_branches-read_branch-requires-in-Some t c = (search rules, (c.in-Some.ensures.within, (bar_starts c.in-Some.ensures, c.requires.few)))
+
+pub read_branches-returns-in_err-branch-clause-refused : goal.read_branches-returns-in_err-branch-clause-refused
+read_branches-returns-in_err-branch-clause-refused t c =
+    let q = err_from_is_err_and c.from_residual-in_err-branch.result c.from_residual-in_err-branch.ensures.1 in
+    rw (q.1, q.2)
+    (refused_as c.in_err-branch.ensures.refused
+    (λ k. c.branches.invariant.back (drop c.in-Some.behind c.args.text.now) c.in-Some.ensures.front (no_branches k)))
+
+pub read_branches-branches-preserved : goal.read_branches-branches-preserved
+read_branches-branches-preserved t c =
+    next_branch c.args.in_group c.args.levels c.args.text.now c.args.from c.branches.branches c.in_ok-branches-2.branches c.in-Some.behind c.in_ok-branch.branch
+    c.branches.invariant c.in-Some.ensures c.in_ok-branch.ensures.read c.in_ok-branches-2.ensures.made
+
+pub read_group-read_branches-requires : goal.read_group-read_branches-requires
+read_group-read_branches-requires t c =
+    (search rules, (opening_within c.args.text.now c.args.at c.requires.opens, (opening_starts c.args.text.now c.args.at c.requires.opens, omega arith)))
+
+pub read_group-returns-in_err-branches-clause-refused : goal.read_group-returns-in_err-branches-clause-refused
+read_group-returns-in_err-branches-clause-refused t c =
+    let q = err_from_is_err_and c.from_residual.result c.from_residual.ensures.1 in
+    rw (q.1, q.2)
+    (refused_as c.in_err-branches.ensures.refused
+    (λ k. no_group_inside c.args.in_group c.args.levels c.args.text.now c.args.at c.requires.opens k))
+
+pub read_group-returns-in-None-clause-refused : goal.read_group-returns-in-None-clause-refused
+read_group-returns-in-None-clause-refused t c =
+    told
+    (no_group_end c.args.in_group c.args.levels c.args.text.now c.args.at c.in_ok-branches.branches c.requires.opens c.in_ok-branches.ensures.read c.in-None.ensures)
+    (opens_unclosed (c.args.levels - 1) c.args.text.now c.args.at c.in_ok-branches.branches c.requires.opens c.in_ok-branches.ensures.read c.in-None.ensures)
+
+pub read_group-returns-in-Some-clause-read : goal.read_group-returns-in-Some-clause-read
+read_group-returns-in-Some-clause-read t c =
+    group_stands c.args.in_group c.args.levels c.args.text.now c.args.at c.in_ok-branches.branches _ c.requires.opens c.if-levels-eq0.false
+    c.in_ok-branches.ensures.read c.in-Some.ensures refl c.choice_of.ensures
+
+pub read_item-returns-in_err-piece-clause-refused : goal.read_item-returns-in_err-piece-clause-refused
+read_item-returns-in_err-piece-clause-refused t c =
+    let q = err_from_is_err_and c.from_residual.result c.from_residual.ensures.1 in
+    rw (q.1, q.2) (refused_as c.in_err-piece.ensures.refused (no_items_without_atom c.requires.begins))
+
+pub read_item-duplications-init : goal.read_item-duplications-init
+read_item-duplications-init t c = item_of_atom c.in_ok-piece.ensures.read
+
+pub read_item-returns-in_err-counts-clause-refused : goal.read_item-returns-in_err-counts-clause-refused
+read_item-returns-in_err-counts-clause-refused t c =
+    let q = err_from_is_err_and c.from_residual-in_err-counts.result c.from_residual-in_err-counts.ensures.1 in
+    let bad = c.in_err-counts.ensures.refused in
+    rw (q.1, q.2)
+    (told (no_items_bad c.args.in_group c.args.levels c.args.text.now c.args.at c.duplications.piece _ c.duplications.invariant bad) bad.shown)
+
+pub read_item-returns-then-piece-levels-clause-refused : goal.read_item-returns-then-piece-levels-clause-refused
+read_item-returns-then-piece-levels-clause-refused t c =
+    let d = rw c.in-Some.is at c.in_ok-counts.ensures.read in
+    told
+    (too_deep c.args.in_group c.args.levels c.args.text.now c.args.at c.duplications.piece c.in-Some.counts c.in-Some.behind c.duplications.invariant
+    c.if-piece-levels.true d)
+    (shown_deep c.args.text.now c.duplications.piece.behind c.in-Some.counts c.in-Some.behind d)
+
+pub read_item-duplications-smaller : goal.read_item-duplications-smaller
+read_item-duplications-smaller t c =
+    let d : DuplicationStands c.args.text.now c.duplications.piece.behind c.in-Some.counts c.in-Some.behind = rw c.in-Some.is at c.in_ok-counts.ensures.read in
+    let takes = duplication_takes d in
+    let within = d.within in
+    let place = c.in_ok-piece-2.ensures.made.place in
+    omega arith
+
+pub read_item-duplications-preserved : goal.read_item-duplications-preserved
+read_item-duplications-preserved t c =
+    let d : DuplicationStands c.args.text.now c.duplications.piece.behind c.in-Some.counts c.in-Some.behind = rw c.in-Some.is at c.in_ok-counts.ensures.read in
+    item_repeated c.args.in_group c.args.levels c.args.text.now c.args.at c.duplications.piece c.in_ok-piece-2.piece c.in-Some.counts c.in-Some.behind
+    c.duplications.invariant c.if-piece-levels.false d c.in_ok-piece-2.ensures.made
+
+pub read_next-returns-in-Some-clause-read : goal.read_next-returns-in-Some-clause-read
+read_next-returns-in-Some-clause-read t c =
+    anchor_next c.args.in_group c.args.levels c.args.text.now c.args.at _ c.in-Some.ensures expression-Begin refl
+
+pub read_next-returns-then-opens_duplication-clause-refused : goal.read_next-returns-then-opens_duplication-clause-refused
+read_next-returns-then-opens_duplication-clause-refused t c =
+    let o = c.if-opens_duplication.ensures in
+    told (no_items_opening c.args.in_group c.args.levels o) (o, c.requires.opens o)
+
+pub read_next-returns-clause-read : goal.read_next-returns-clause-read
+read_next-returns-clause-read t c = ok_as _ _ c.read_item.result c.read_item.ensures.read (λ piece h. item_next h)
+
+pub read_group-returns-then-levels-eq0-clause-refused : goal.read_group-returns-then-levels-eq0-clause-refused
+read_group-returns-then-levels-eq0-clause-refused t c =
+    told (no_group_left c.args.in_group c.args.levels c.args.text.now c.args.at c.requires.opens c.if-levels-eq0.true) (inl c.requires.opens)
+
+pub read_item-returns-clause-read : goal.read_item-returns-clause-read
+read_item-returns-clause-read t c = item_read c.duplications.invariant (rw c.in_default.is at c.in_ok-counts.ensures.read)
+
+pub read_branches-returns-clause-read : goal.read_branches-returns-clause-read
+read_branches-returns-clause-read t c = branches_read c.branches.invariant c.in_default.ensures

@@ -1,0 +1,22 @@
+-- Why an interval is refused for its numbers (XBD 9.3.6 item 5, 9.4.6 item 5).
+use Rattle.std.specs.Prelude.{◌≡◌, ℕ, ◌<◌, ◌++◌, Option, Some}
+use Rattle.re_syntax.specs.declared.fault.FaultKind.{FaultKind}
+use Rattle.re_syntax.specs.declared.fault.FaultKind.TheVariants.{BadInterval, IntervalTooLarge}
+use Rattle.re_syntax.specs.Bytes.{Text}
+use Rattle.re_syntax.specs.Intervals.{ClosedInterval, most_repeats}
+
+-- why an interval of these numbers is refused
+pub data IsDisallowed : FaultKind → ℕ → Option ℕ → Type 0 where
+  least_too_large : {least : ℕ} {most : Option ℕ} → most_repeats < least → IsDisallowed IntervalTooLarge least most
+  most_too_large : {least top : ℕ} → most_repeats < top → IsDisallowed IntervalTooLarge least (Some top)
+  descending : {least top : ℕ} → top < least → IsDisallowed BadInterval least (Some top)
+
+-- an interval stands between these braces and is refused for its numbers
+pub record OpensDisallowed (opening close : Text) (kind : FaultKind) (t : Text) : Type 0 where
+  pub inside : Text
+  pub rest : Text
+  pub least : ℕ
+  pub most : Option ℕ
+  pub opens : t ≡ opening ++ inside
+  pub stands : ClosedInterval close inside rest least most
+  pub disallowed : IsDisallowed kind least most

@@ -1,0 +1,53 @@
+//! A backslash and the byte behind it (XBD 9.3.3, 9.4.3), in basic and in extended expressions.
+ghost use Rattle.std.specs.Prelude.{◌≡◌, IsTrue, IfOk, IfErr, MatchOption, codes, drop};
+ghost use Rattle.re_syntax.specs.Bytes.{Begins, in_class};
+ghost use Rattle.re_syntax.specs.Escapes.{is_undefined};
+ghost use Rattle.re_syntax.specs.EscapeFaults.{IsRefusedEscape};
+ghost use Rattle.re_syntax.specs.EscapeSteps.{EscapeStands, HasNoEscape};
+
+use crate::ahead::byte_at;
+use crate::class::Class;
+use crate::fault::{FaultKind, PatternFault};
+
+/// Whether a byte is a letter or a digit.
+fn is_alphanumeric(byte: u8) -> bool
+    ensures { result ≡ in_class Class.Alnum byte }
+{
+    let is_upper = (b'A' <= byte) & (byte <= b'Z');
+    let is_lower = (b'a' <= byte) & (byte <= b'z');
+    let is_digit = (b'0' <= byte) & (byte <= b'9');
+    is_upper | is_lower | is_digit
+}
+
+/// Why a byte may not follow a backslash, if it may not: it is a letter, a digit or one of the
+/// others.
+fn escape_fault(byte: u8, others: &[u8]) -> Option<FaultKind>
+    ensures { MatchOption result (¬ IsTrue (is_undefined others.now byte)) (λ kind. IsRefusedEscape others.now kind byte) }
+{
+    if (b'1' <= byte) & (byte <= b'9') {
+        return Some(FaultKind::BackReference);
+    }
+    if is_alphanumeric(byte) | others.contains(&byte) {
+        return Some(FaultKind::UndefinedEscape);
+    }
+    None
+}
+
+/// The byte behind the backslash at a place, where it stands for itself there: it is no letter, no
+/// digit and none of the others.
+pub fn read_escape(text: &[u8], at: usize, others: &[u8]) -> Result<u8, PatternFault>
+    requires { Begins (codes "\\") (drop at text.now) }
+    ensures read { IfOk result (EscapeStands others.now text.now at) }
+    ensures refused { IfErr result (HasNoEscape others.now text.now at) }
+{
+    match byte_at(text, at + 1) {
+        None => Err(PatternFault {
+            kind: FaultKind::TrailingBackslash,
+            at,
+        }),
+        Some(byte) => match escape_fault(byte, others) {
+            None => Ok(byte),
+            Some(kind) => Err(PatternFault { kind, at }),
+        },
+    }
+}

@@ -1,0 +1,316 @@
+//! Extended regular expressions (XBD 9.4), read in one pass from left to right.
+ghost use Rattle.std.specs.Prelude.{◌≡◌, ◌≤◌, ◌<◌, ◌⊎◌, ◌∷◌, [], false, IfOk, IfErr, MatchOption, MatchBool, codes, length, take, drop, map};
+ghost use Rattle.re_syntax.specs.Bytes.{Begins};
+ghost use Rattle.re_syntax.specs.Expression.{expression_of, choice};
+ghost use Rattle.re_syntax.specs.Extended.{Duplication};
+ghost use Rattle.re_syntax.specs.declared.syntax.Syntax.TheVariants.{Extended};
+ghost use Rattle.re_syntax.specs.Spelled.{IsSpelled, SpellsNoOther};
+ghost use Rattle.re_syntax.specs.ExtendedFaults.{OpensDuplication, IsStart, HasNothingToRepeat, IsShownIn, IsNoExtended};
+ghost use Rattle.re_syntax.specs.PieceSteps.{IsRefused};
+ghost use Rattle.re_syntax.specs.ExtendedSteps.{stops, IsNoSign, DuplicationStands, HasBadInterval, MayBegin, AtomStands, HasNoAtom, ItemStands, HasNoItems, IsNext, BranchStands, HasNoBranches, BranchesStand};
+
+use crate::ahead::{after, byte_at};
+use crate::bytes::ByteSet;
+use crate::escape::read_escape;
+use crate::fault::{FaultKind, PatternFault};
+use crate::fixed::sequence_of;
+use crate::interval::{Counts, counts_fault, read_interval};
+use crate::pieces::{MOST_LEVELS, Piece, Pieces, joined, meant_by, read_bracket_atom, repeated};
+use crate::tree::Tree;
+use std::alloc::Global;
+
+/// How often a byte repeats what is before it, where it is a duplication alone.
+fn sign_counts(byte: u8) -> Option<Counts>
+    ensures { MatchOption result (IsNoSign byte) (λ counts. Duplication (byte ∷ []) counts.least counts.most) }
+{
+    match byte {
+        b'*' => Some(Counts {
+            least: 0,
+            most: None,
+        }),
+        b'+' => Some(Counts {
+            least: 1,
+            most: None,
+        }),
+        b'?' => Some(Counts {
+            least: 0,
+            most: Some(1),
+        }),
+        _ => None,
+    }
+}
+
+/// The duplication that stands at a place of the text, if one does, and the place behind it. A `{`
+/// that begins no text of an interval's form is none.
+fn read_duplication(text: &[u8], at: usize) -> Result<Option<(Counts, usize)>, PatternFault>
+    requires { at ≤ length text.now }
+    ensures read { IfOk result (λ found. MatchOption found (¬ OpensDuplication (drop at text.now)) (λ d. DuplicationStands text.now at d.0 d.1)) }
+    ensures refused { IfErr result (HasBadInterval text.now at) }
+{
+    let sign = match byte_at(text, at) {
+        None => return Ok(None),
+        Some(byte) => sign_counts(byte),
+    };
+    if let Some(counts) = sign {
+        return Ok(Some((counts, at + 1)));
+    }
+    match after(text, at, b"{") {
+        None => Ok(None),
+        Some(inside) => match read_interval(text, inside, b"}") {
+            None => Ok(None),
+            Some((counts, behind)) => match counts_fault(counts) {
+                Some(kind) => Err(PatternFault { kind, at }),
+                None => Ok(Some((counts, behind))),
+            },
+        },
+    }
+}
+
+/// Whether a duplication stands at a place, or an interval whose numbers are refused.
+fn opens_duplication(text: &[u8], at: usize) -> bool
+    requires { at ≤ length text.now }
+    ensures { MatchBool result (OpensDuplication (drop at text.now)) (¬ OpensDuplication (drop at text.now)) }
+{
+    match read_duplication(text, at) {
+        Ok(found) => found.is_some(),
+        Err(_) => true,
+    }
+}
+
+/// Whether a branch ends at a place: at the text's end, at a bar, or in a group at its closing.
+fn stops_at(text: &[u8], at: usize, in_group: bool) -> bool
+    ensures { result ≡ stops in_group (drop at text.now) }
+{
+    match byte_at(text, at) {
+        None => true,
+        Some(byte) => (byte == b'|') | (in_group & (byte == b')')),
+    }
+}
+
+/// One tree for the trees of an expression's branches, in order.
+fn choice_of(mut branches: Vec<Tree>) -> Tree
+    ensures { expression_of result ≡ choice (map expression_of branches.items) }
+{
+    if branches.len() < 2 {
+        match branches.pop() {
+            Some(only) => only,
+            None => Tree::Empty,
+        }
+    } else {
+        Tree::Alt(branches)
+    }
+}
+
+/// The group whose `(` stands at a place, at most so many levels high.
+#[cycle(read_branches)]
+fn read_group(
+    alloc: Global,
+    text: &[u8],
+    at: usize,
+    in_group: bool,
+    levels: usize,
+) -> Result<Piece, PatternFault>
+    requires opens { Begins (codes "(") (drop at text.now) }
+    requires few { levels ≤ 256 }
+    ensures read { IfOk result (AtomStands in_group levels text.now at) }
+    ensures refused { IfErr result (λ fault. IsRefused (HasNoAtom in_group levels (drop at text.now)) (IsShownIn text.now fault) fault) }
+{
+    if levels == 0 {
+        return Err(PatternFault {
+            kind: FaultKind::TooDeep,
+            at,
+        });
+    }
+    let branches = read_branches(alloc, text, at + 1, true, levels - 1)?;
+    match after(text, branches.behind, b")") {
+        None => Err(PatternFault {
+            kind: FaultKind::UnclosedGroup,
+            at,
+        }),
+        Some(behind) => Ok(Piece {
+            tree: choice_of(branches.trees),
+            height: branches.height + 1,
+            behind,
+        }),
+    }
+}
+
+/// The atom that stands at a place, where the branch goes on and neither an anchor nor a
+/// duplication comes first.
+#[cycle(read_branches)]
+fn read_atom(
+    alloc: Global,
+    text: &[u8],
+    at: usize,
+    in_group: bool,
+    levels: usize,
+) -> Result<Piece, PatternFault>
+    requires within { at < length text.now }
+    requires begins { MayBegin in_group (drop at text.now) }
+    requires few { levels ≤ 256 }
+    ensures read { IfOk result (AtomStands in_group levels text.now at) }
+    ensures refused { IfErr result (λ fault. IsRefused (HasNoAtom in_group levels (drop at text.now)) (IsShownIn text.now fault) fault) }
+{
+    match text[at] {
+        b'[' => read_bracket_atom(text, at),
+        b'(' => read_group(alloc, text, at, in_group, levels),
+        b'\\' => {
+            let byte = read_escape(text, at, b"<>`'")?;
+            Ok(Piece {
+                tree: Tree::Set(ByteSet::only(byte)),
+                height: 0,
+                behind: at + 2,
+            })
+        }
+        b'$' => Ok(Piece {
+            tree: Tree::End,
+            height: 0,
+            behind: at + 1,
+        }),
+        byte => Ok(Piece {
+            tree: Tree::Set(meant_by(byte)),
+            height: 0,
+            behind: at + 1,
+        }),
+    }
+}
+
+/// The atom that stands at a place, and the duplications after it.
+#[cycle(read_branches)]
+fn read_item(
+    alloc: Global,
+    text: &[u8],
+    at: usize,
+    in_group: bool,
+    levels: usize,
+) -> Result<Piece, PatternFault>
+    requires within { at < length text.now }
+    requires begins { MayBegin in_group (drop at text.now) }
+    requires few { levels ≤ 256 }
+    ensures read { IfOk result (ItemStands in_group levels text.now at) }
+    ensures refused { IfErr result (λ fault. IsRefused (HasNoItems in_group levels (drop at text.now)) (IsShownIn text.now fault) fault) }
+{
+    let mut piece = read_atom(alloc, text, at, in_group, levels)?;
+    'duplications: while let Some((counts, behind)) = read_duplication(text, piece.behind)? {
+        if piece.height == levels {
+            return Err(PatternFault {
+                kind: FaultKind::TooDeep,
+                at: piece.behind,
+            });
+        }
+        piece = repeated(alloc, piece, counts, behind)?;
+    }
+    Ok(piece)
+}
+
+/// The anchor or the item that stands at a place, where the branch goes on.
+#[cycle(read_branches)]
+fn read_next(
+    alloc: Global,
+    text: &[u8],
+    at: usize,
+    in_group: bool,
+    levels: usize,
+) -> Result<Piece, PatternFault>
+    requires within { at ≤ length text.now }
+    requires goes_on { stops in_group (drop at text.now) ≡ false }
+    requires opens { OpensDuplication (drop at text.now) → HasNothingToRepeat (take at text.now) }
+    requires few { levels ≤ 256 }
+    ensures read { IfOk result (IsNext in_group levels text.now at) }
+    ensures refused { IfErr result (λ fault. IsRefused (HasNoItems in_group levels (drop at text.now)) (IsShownIn text.now fault) fault) }
+{
+    if let Some(behind) = after(text, at, b"^") {
+        return Ok(Piece {
+            tree: Tree::Begin,
+            height: 0,
+            behind,
+        });
+    }
+    if opens_duplication(text, at) {
+        return Err(PatternFault {
+            kind: FaultKind::NothingToRepeat,
+            at,
+        });
+    }
+    read_item(alloc, text, at, in_group, levels)
+}
+
+/// The branch that begins at a place, up to where it ends.
+#[cycle(read_branches)]
+fn read_branch(
+    alloc: Global,
+    text: &[u8],
+    from: usize,
+    in_group: bool,
+    levels: usize,
+) -> Result<Piece, PatternFault>
+    requires within { from ≤ length text.now }
+    requires starts { IsStart (take from text.now) }
+    requires few { levels ≤ 256 }
+    ensures read { IfOk result (BranchStands in_group levels text.now from) }
+    ensures refused { IfErr result (λ fault. IsRefused (HasNoItems in_group levels (drop from text.now)) (IsShownIn text.now fault) fault) }
+{
+    let mut items = Pieces {
+        trees: Vec::new(alloc),
+        height: 0,
+        behind: from,
+    };
+    'items: while !stops_at(text, items.behind, in_group) {
+        let piece = read_next(alloc, text, items.behind, in_group, levels)?;
+        items = joined(items, piece)?;
+    }
+    Ok(Piece {
+        tree: sequence_of(items.trees),
+        height: items.height,
+        behind: items.behind,
+    })
+}
+
+/// The branches of the expression that begins at a place, up to where it ends.
+#[cycle(read_branches)]
+fn read_branches(
+    alloc: Global,
+    text: &[u8],
+    from: usize,
+    in_group: bool,
+    levels: usize,
+) -> Result<Pieces, PatternFault>
+    requires within { from ≤ length text.now }
+    requires starts { IsStart (take from text.now) }
+    requires few { levels ≤ 256 }
+    ensures read { IfOk result (BranchesStand in_group levels text.now from) }
+    ensures refused { IfErr result (λ fault. IsRefused (HasNoBranches in_group levels (drop from text.now)) (IsShownIn text.now fault) fault) }
+{
+    let none = Pieces {
+        trees: Vec::new(alloc),
+        height: 0,
+        behind: from,
+    };
+    let first = read_branch(alloc, text, from, in_group, levels)?;
+    let mut branches = joined(none, first)?;
+    'branches: while let Some(behind) = after(text, branches.behind, b"|") {
+        let branch = read_branch(alloc, text, behind, in_group, levels)?;
+        branches = joined(branches, branch)?;
+    }
+    Ok(branches)
+}
+
+/// The tree of an extended regular expression (XBD 9.4): `Set`, `Not`, `Begin`, `End` and `Repeat`
+/// for its items, of a branch without items `Empty`, with several a `Cat` in order, and of several
+/// branches an `Alt` in order.
+///
+/// # Errors
+///
+/// Where the text is no extended expression, the first fault that a reading from the left meets, by
+/// the bytes at its place; `FaultKind::Memory` where memory runs out.
+pub fn read_extended(alloc: Global, text: &[u8]) -> Result<Tree, PatternFault>
+    ensures read { IfOk result (λ tree. IsSpelled Extended text.now (expression_of tree)) }
+    ensures only { IfOk result (λ tree. SpellsNoOther Extended text.now (expression_of tree)) }
+    ensures refused { IfErr result (λ fault. (fault ≡ record { kind = FaultKind.Memory; at = 0 }) ⊎ IsNoExtended text.now fault) }
+{
+    let branches = read_branches(alloc, text, 0, false, MOST_LEVELS)?;
+    Ok(choice_of(branches.trees))
+}
+
+#[cfg(test)]
+mod tests;
