@@ -1,0 +1,5 @@
+use Rattle.re_auto.proofs.BitLemmas.{has_bit}
+use Rattle.re_auto.proofs.bits.has.Goals as goal
+
+pub returns : goal.returns
+returns c = has_bit c.args.words.now c.args.e

@@ -1,0 +1,8 @@
+use Rattle.std.proofs.Common.{arith}
+use Rattle.re_auto.proofs.BitLemmas.{and_has}
+use Rattle.re_auto.proofs.bits.keep.Goals as goal
+
+pub returns-clause-kept : goal.returns-clause-kept
+returns-clause-kept c =
+    and_has c.args.into.now c.args.row.now c.words.into c.requires.same c.words.invariant.0
+    (λ j lt. c.words.invariant.1 j (omega arith))

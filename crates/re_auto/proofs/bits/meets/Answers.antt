@@ -1,0 +1,12 @@
+use Rattle.std.proofs.Common.{arith, refl, true≢false, sym}
+use Rattle.re_auto.proofs.BitLemmas.{common, no_common}
+use Rattle.re_auto.proofs.bits.meets.Goals as goal
+
+pub returns-then-a-k-ne0 : goal.returns-then-a-k-ne0
+returns-then-a-k-ne0 c = (λ h. common c.args.a.now c.args.b.now c.words.k (c.type_inv.a c.words.k).fits c.if-a-k-ne0.true, λ h. refl)
+
+pub returns : goal.returns
+returns c = (
+  λ h. absurd (true≢false (sym h)),
+  λ m. absurd (no_common c.args.a.now c.args.b.now c.words.k c.words.invariant (omega arith) m.0 m.1 m.2),
+)

@@ -1,0 +1,6 @@
+use Rattle.std.proofs.Common.{◌≡◌, ℕ, ◌<◌, get_or}
+use Rattle.std.specs.Prelude.{bit_and}
+use Rattle.re_auto.proofs.bits.meets.Given as goal
+
+abbrev pub invariant-words : goal.invariant-words
+invariant-words l = (j : ℕ) → j < l.k → bit_and (get_or l.a j 0) (get_or l.b j 0) ≡ 0

@@ -1,0 +1,22 @@
+use Rattle.std.proofs.Common.{arith, ◌∙◌}
+use Rattle.re_syntax.specs.Expression.{expression_of}
+use Rattle.re_auto.specs.StartSets.{Carries, Brings}
+use Rattle.re_auto.proofs.BitLemmas.{word_added, all_added, chained}
+use Rattle.re_auto.proofs.starts.Starts.carry.Goals as goal
+
+pub words-preserved : goal.words-preserved
+words-preserved c = (
+  (c.carry_word.ensures.alike.0 ∙ c.words.invariant.0.0, c.carry_word.ensures.alike.1 ∙ c.words.invariant.0.1),
+  λ q m. chained
+      (word_added (Carries c.words.self q m) (Carries c.carry_word.new.self q m)
+      (λ p. Brings (expression_of c.args.automaton.now) c.args.from.now c.args.taking.now p q m)
+      c.args.from.now.held.items c.words.k
+      (c.carry_word.ensures.carried q m))
+      (c.words.invariant.1 q m),
+)
+
+pub returns-clause-carried : goal.returns-clause-carried
+returns-clause-carried c = λ q m.
+    all_added (Carries c.args.self.now q m) (Carries c.words.self q m)
+    (λ p. Brings (expression_of c.args.automaton.now) c.args.from.now c.args.taking.now p q m)
+    c.args.from.now.held.items c.words.k (omega (arith, c.args.from.now.held.ok.0)) (c.words.invariant.1 q m)

@@ -1,0 +1,40 @@
+use Rattle.std.proofs.Common.{arith, ◌<◌, ◌+◌, ◌*◌, ◌∙◌, inl, w64}
+use Rattle.std.proofs.lemmas.List.{get_or_read_under}
+use Rattle.re_syntax.specs.Expression.{expression_of}
+use Rattle.re_auto.specs.Bits.{Has}
+use Rattle.re_auto.specs.StartSets.{Carries, Brings}
+use Rattle.re_auto.proofs.BitLemmas.{at_word}
+use Rattle.re_auto.proofs.StartSteps.{one_row}
+use Rattle.std.specs.Int.{trailing_zeros}
+use Rattle.re_auto.proofs.BitLemmas.{lowest, one_added, none_left, chained}
+use Rattle.re_auto.proofs.starts.Starts.carry_word.Goals as goal
+
+pub bits-smaller : goal.bits-smaller
+bits-smaller c = (lowest c.bits.left (omega arith) c.bits.auto.left-fits.fits).less
+
+pub following-requires : goal.following-requires
+following-requires c =
+    let low = lowest c.bits.left (omega arith) c.bits.auto.left-fits.fits in
+    c.requires.from.1 _ ((at_word c.args.from.now.held.items c.args.k _ low.small).1 (c.bits.invariant.1 _ low.small low.set))
+
+pub bits-preserved : goal.bits-preserved
+bits-preserved c =
+    let low = lowest c.bits.left (omega arith) c.bits.auto.left-fits.fits in
+    let v = c.args.from.now.starts in
+    let within : c.args.k * 64 + trailing_zeros w64 c.bits.left < v.len = omega (arith, low.small, c.args.from.now.one_each, c.args.from.now.held.ok.0) in
+    let is = get_or_read_under v.items _ v.len c.index.result.now 0 c.index.ensures within v.ok.0 in (
+      (c.lower_row.ensures.alike.0 ∙ c.bits.invariant.0.0, c.lower_row.ensures.alike.1 ∙ c.bits.invariant.0.1),
+      (λ b lt h. c.bits.invariant.1 b lt ((low.rest b lt).1 (inl h))),
+      λ q m. chained
+          (one_added (Carries c.bits.self q m) (Carries c.lower_row.new.self q m)
+          (λ b. Brings (expression_of c.args.automaton.now) c.args.from.now c.args.taking.now (c.args.k * 64 + b) q m)
+          c.bits.left _ (trailing_zeros w64 c.bits.left) low.small
+          (one_row (Carries c.bits.self q m) (Carries c.lower_row.new.self q m) _ _ (Has c.args.taking.now q) _ (c.following.ensures.1 q) (rw is at (c.lower_row.ensures.lowered q m)))
+          low.rest)
+          (c.bits.invariant.2 q m),
+    )
+
+pub returns-clause-carried : goal.returns-clause-carried
+returns-clause-carried c = λ q m.
+    none_left (Carries c.bits.self q m) _
+    (λ b. Brings (expression_of c.args.automaton.now) c.args.from.now c.args.taking.now (c.args.k * 64 + b) q m) c.bits.left (omega arith) (c.bits.invariant.2 q m)

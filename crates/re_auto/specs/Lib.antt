@@ -1,0 +1,11 @@
+pub mod Positions
+pub mod Stepping
+pub mod Starts
+pub mod Laws
+pub mod Meters
+pub mod Bits
+pub mod Tables
+pub mod StateSets
+pub mod StartSets
+pub mod Building
+pub mod ByteClasses

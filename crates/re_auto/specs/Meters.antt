@@ -1,0 +1,20 @@
+-- The steps that a search takes, counted up to the greatest u64.
+use Rattle.std.specs.Prelude.{ℕ, ◌+◌, ◌-◌, ◌^◌, min}
+
+-- the steps that were worked out, and those that were found in a cache
+pub record Steps : Type 0 where
+  pub built : ℕ
+  pub reused : ℕ
+
+abbrev pub fresh : Steps
+fresh = record { built = 0; reused = 0 }
+
+-- so many more, by a count that stays at the greatest
+abbrev pub counted : ℕ → ℕ → ℕ
+counted more n = min (n + more) (2 ^ 64 - 1)
+
+abbrev pub many_built : ℕ → Steps → Steps
+many_built more steps = record { built = counted more steps.built; reused = steps.reused }
+
+abbrev pub one_reused : Steps → Steps
+one_reused steps = record { built = steps.built; reused = counted 1 steps.reused }

@@ -1,0 +1,54 @@
+//! How many positions an expression has, without writing its intervals out.
+ghost use Rattle.std.specs.Prelude.{◌≡◌, ◌<◌, map, min};
+ghost use Rattle.re_syntax.specs.Expression.{cat, expression_of};
+ghost use Rattle.re_syntax.specs.Holds.{copies, positions};
+
+use re_syntax::Tree;
+
+/// Where counting stops: one more than the most positions that an automaton may have.
+pub(crate) const TOO_MANY: usize = 4097;
+
+/// The positions of the expression once each interval is written out, or [`TOO_MANY`] where there
+/// are more.
+#[cycle(count)]
+pub fn position_count(tree: &Tree) -> usize
+    ensures { result ≡ min (positions (expression_of tree.now)) TOO_MANY }
+{
+    match tree {
+        Tree::Empty => 0,
+        Tree::Begin => 0,
+        Tree::End => 0,
+        Tree::Set(_) => 1,
+        Tree::Not(_) => 1,
+        Tree::Cat(members) => count_all(members),
+        Tree::Alt(members) => count_all(members),
+        Tree::Repeat(part, least, most) => {
+            let copies = copies_of(*least, *most);
+            (copies * position_count(part)).min(TOO_MANY)
+        }
+    }
+}
+
+/// The sum of the members' counts.
+#[cycle(count)]
+fn count_all(members: &[Tree]) -> usize
+    ensures { result ≡ min (positions (cat (map expression_of members.now))) TOO_MANY }
+{
+    let mut count = 0;
+    'members: for i in 0..members.len() {
+        count = (count + position_count(&members[i])).min(TOO_MANY);
+    }
+    count
+}
+
+/// How often a repeated part is written out: as often as it may stand at most, or, where it may
+/// stand any number of times, as often as it has to, and once at least.
+pub fn copies_of(least: u16, most: Option<u16>) -> usize
+    ensures is { result ≡ copies least most }
+    ensures small { result < 65536 }
+{
+    match most {
+        Some(most) => most as usize,
+        None => least.max(1) as usize,
+    }
+}

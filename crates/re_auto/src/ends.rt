@@ -1,0 +1,166 @@
+//! The ends of a part of an expression: what its neighbours have to know of it.
+ghost use Rattle.std.specs.Prelude.{◌≡◌, ℕ, ◌<◌, ◌*◌, ◌↔◌, ◌⊎◌, IsTrue, IfOk, length};
+ghost use Rattle.re_auto.specs.Bits.{Has};
+ghost use Rattle.re_auto.specs.Building.{HasWidth, IsBlank, IsOne, IsSet, Shows, shown};
+ghost use Rattle.re_auto.specs.Positions.{either, in_turn, optional};
+
+use crate::bits;
+use crate::tables::Empty;
+use std::alloc::{AllocError, Global};
+
+/// The positions that a part of an expression can begin and end with, as sets of words of bits, and
+/// where it may be empty.
+#[derive(Drop)]
+pub struct Ends {
+    /// The number of the part's first position.
+    pub begins: usize,
+    /// The positions that a stretch can begin with at the line's first place.
+    pub first_at_begin: Vec<u64>,
+    /// The positions that a stretch can begin with at any other place.
+    pub first_inside: Vec<u64>,
+    /// The positions that a stretch can end with at the line's last place.
+    pub last_at_end: Vec<u64>,
+    /// The positions that a stretch can end with at any other place.
+    pub last_inside: Vec<u64>,
+    /// Where the part holds on the empty stretch.
+    pub empty: Empty,
+}
+
+impl Ends {
+    /// The ends of a part without positions, from a number on.
+    pub fn blank(
+        alloc: Global,
+        width: usize,
+        begins: usize,
+        empty: Empty,
+    ) -> Result<Ends, AllocError>
+        ensures { IfOk result (IsBlank width begins empty) }
+    {
+        Ok(Ends {
+            begins,
+            first_at_begin: blank_set(alloc, width)?,
+            first_inside: blank_set(alloc, width)?,
+            last_at_end: blank_set(alloc, width)?,
+            last_inside: blank_set(alloc, width)?,
+            empty,
+        })
+    }
+
+    /// The ends of one position.
+    pub fn one(alloc: Global, width: usize, position: usize) -> Result<Ends, AllocError>
+        requires { position < width * 64 }
+        ensures { IfOk result (IsOne width position) }
+    {
+        Ok(Ends {
+            begins: position,
+            first_at_begin: one_member(alloc, width, position)?,
+            first_inside: one_member(alloc, width, position)?,
+            last_at_end: one_member(alloc, width, position)?,
+            last_inside: one_member(alloc, width, position)?,
+            empty: Empty::nowhere(),
+        })
+    }
+
+    /// The ends of a part that may be left out.
+    pub fn optional(self) -> Ends
+        requires { HasWidth (length self.first_inside.items) self }
+        ensures begins { result.begins ≡ self.begins }
+        ensures shows { Shows (optional (shown self)) (length self.first_inside.items) result }
+    {
+        Ends {
+            empty: Empty::anywhere(),
+            ..self
+        }
+    }
+
+    /// The ends of two parts in turn.
+    pub fn in_turn(self, rest: Ends) -> Ends
+        requires left { HasWidth (length self.first_inside.items) self }
+        requires right { HasWidth (length self.first_inside.items) rest }
+        ensures begins { result.begins ≡ self.begins }
+        ensures shows { Shows (in_turn (shown self) (shown rest)) (length self.first_inside.items) result }
+    {
+        let mut first_at_begin = self.first_at_begin;
+        let mut first_inside = self.first_inside;
+        let mut last_at_end = rest.last_at_end;
+        let mut last_inside = rest.last_inside;
+        add_if(
+            &mut first_at_begin,
+            &rest.first_at_begin,
+            self.empty.at_begin,
+        );
+        add_if(&mut first_inside, &rest.first_inside, self.empty.inside);
+        add_if(&mut last_at_end, &self.last_at_end, rest.empty.at_end);
+        add_if(&mut last_inside, &self.last_inside, rest.empty.inside);
+        Ends {
+            begins: self.begins,
+            first_at_begin,
+            first_inside,
+            last_at_end,
+            last_inside,
+            empty: self.empty.and(rest.empty),
+        }
+    }
+
+    /// The ends of a choice between two parts.
+    pub fn either(self, rest: Ends) -> Ends
+        requires left { HasWidth (length self.first_inside.items) self }
+        requires right { HasWidth (length self.first_inside.items) rest }
+        ensures begins { result.begins ≡ self.begins }
+        ensures shows { Shows (either (shown self) (shown rest)) (length self.first_inside.items) result }
+    {
+        let mut first_at_begin = self.first_at_begin;
+        let mut first_inside = self.first_inside;
+        let mut last_at_end = self.last_at_end;
+        let mut last_inside = self.last_inside;
+        add_set(&mut first_at_begin, &rest.first_at_begin);
+        add_set(&mut first_inside, &rest.first_inside);
+        add_set(&mut last_at_end, &rest.last_at_end);
+        add_set(&mut last_inside, &rest.last_inside);
+        Ends {
+            begins: self.begins,
+            first_at_begin,
+            first_inside,
+            last_at_end,
+            last_inside,
+            empty: self.empty.or(rest.empty),
+        }
+    }
+}
+
+/// A set without members, of so many words.
+pub fn blank_set(alloc: Global, width: usize) -> Result<Vec<u64>, AllocError>
+    ensures { IfOk result (IsSet (λ q. ⊥) width) }
+{
+    vec![in alloc; 0; width]
+}
+
+// The set of one number.
+fn one_member(alloc: Global, width: usize, member: usize) -> Result<Vec<u64>, AllocError>
+    requires { member < width * 64 }
+    ensures { IfOk result (IsSet (λ q. q ≡ member) width) }
+{
+    let mut set = blank_set(alloc, width)?;
+    bits::insert(&mut set, member);
+    Ok(set)
+}
+
+// Adds the members of `row` where that is wanted.
+fn add_if(into: &mut Vec<u64>, row: &Vec<u64>, wanted: bool)
+    requires same { length into.old.items ≡ length row.now.items }
+    ensures len { length into.new.items ≡ length into.old.items }
+    ensures added { (q : ℕ) → Has into.new.items q ↔ (Has into.old.items q ⊎ IsTrue wanted × Has row.now.items q) }
+{
+    if wanted {
+        add_set(into, row);
+    }
+}
+
+// Adds the members of `row`.
+fn add_set(into: &mut Vec<u64>, row: &Vec<u64>)
+    requires same { length into.old.items ≡ length row.now.items }
+    ensures len { length into.new.items ≡ length into.old.items }
+    ensures added { (q : ℕ) → Has into.new.items q ↔ (Has into.old.items q ⊎ Has row.now.items q) }
+{
+    bits::add(into, row);
+}

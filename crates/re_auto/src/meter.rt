@@ -1,0 +1,60 @@
+ghost use Rattle.std.specs.Prelude.{◌≡◌};
+ghost use Rattle.re_auto.specs.Meters.{many_built, one_reused, fresh};
+
+use std::marker::Model;
+
+/// How many steps were taken: bytes over which a set of positions was advanced. Each count stays
+/// at the greatest `u64`. Only [`fresh_meter`] makes one.
+#[derive(Drop)]
+pub struct Meter {
+    built: u64,
+    reused: u64,
+}
+
+impl Model for Meter {
+    ghost use Rattle.re_auto.specs.Meters.{Steps};
+
+    ghost Value = { Steps };
+
+    ghost view = { λ m. record { built = m.built; reused = m.reused } };
+}
+
+impl Meter {
+    /// The steps that were worked out.
+    pub fn built(&self) -> u64
+        ensures { result ≡ self.now.built }
+    {
+        self.built
+    }
+
+    /// The steps that were found in a cache.
+    pub fn reused(&self) -> u64
+        ensures { result ≡ self.now.reused }
+    {
+        self.reused
+    }
+
+    /// Counts so many more steps as worked out. For this crate and the matchers above it.
+    pub fn add_built(&mut self, steps: u64)
+        ensures { self.new ≡ many_built steps self.old }
+    {
+        self.built = self.built.saturating_add(steps);
+    }
+
+    /// Counts one more step as found in a cache. For the matchers above this crate.
+    pub fn add_reused(&mut self)
+        ensures { self.new ≡ one_reused self.old }
+    {
+        self.reused = self.reused.saturating_add(1);
+    }
+}
+
+/// A meter that stands at 0.
+pub fn fresh_meter() -> Meter
+    ensures { result ≡ fresh }
+{
+    Meter {
+        built: 0,
+        reused: 0,
+    }
+}
