@@ -1,0 +1,29 @@
+use Rattle.std.proofs.Common.{◌≡◌, map, take, arith, take_all}
+use Rattle.std.proofs.lemmas.List.{length-map}
+use Rattle.re_search.proofs.Turns.{same_after, one_more, value_at, within, part_more, steps_more}
+use Rattle.re_search.proofs.several.parts.Goals as goal
+
+pub loop-matcher-preserved : goal.loop-matcher-preserved
+loop-matcher-preserved g c =
+    let expression = g.M.LineMatch.expression in
+    let whole = g.M.LineMatch.whole in
+    let old = c.args.matchers.now in
+    let now = c.loop-matcher.matchers in
+    let i = c.loop-matcher.matcher-index in
+    let d = c.matcher-item.result in
+    let es = c.loop-matcher.invariant.same_expressions in
+    let ws = c.loop-matcher.invariant.same_wholes in
+    let h = c.loop-matcher-test.true in
+    record {
+      told = part_more _ _ _ i _ _ (within whole old now ws i d h).1 (value_at whole old now ws i d h _) _ _ _ _ (one_more expression old now es i d h) c.better-best.ensures
+          c.loop-matcher.invariant.told c.find-found.ensures.told;
+      same_expressions = same_after expression old now es i d _ c.find-found.ensures.same_expression;
+      same_wholes = same_after whole old now ws i d _ c.find-found.ensures.same_whole;
+      steps = steps_more i _ _ _ _ c.loop-matcher.invariant.steps c.find-found.ensures.steps;
+    }
+
+pub returns-clause-told : goal.returns-clause-told
+returns-clause-told g c =
+    let es = map g.M.LineMatch.expression c.args.matchers.now in
+    let all : take c.loop-matcher.matcher-index es ≡ es = take_all _ _ (omega (arith, length-map c.args.matchers.now g.M.LineMatch.expression)) in
+    rw all at (c.loop-matcher.invariant.told)

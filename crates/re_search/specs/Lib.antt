@@ -1,0 +1,5 @@
+pub mod Searching
+pub mod Literals
+pub mod Reading
+pub mod Simulated
+pub mod Simulations

@@ -1,0 +1,60 @@
+-- Which matcher the text of a pattern gets, and when it gets none (XCU grep, OPTIONS -E, -F, -i, -x).
+use Rattle.std.specs.Prelude.{◌≡◌, ◌<◌, ◌≤◌, Bool, true, false, IsTrue, ◌⊎◌}
+use Rattle.re_syntax.specs.declared.syntax.Syntax.{Syntax}
+use Rattle.re_syntax.specs.declared.syntax.Syntax.TheVariants.{Basic, Extended, Fixed}
+use Rattle.re_syntax.specs.declared.fault.FaultKind.TheVariants.{TooLarge, Memory}
+use Rattle.re_syntax.specs.declared.fault.PatternFault.{PatternFault}
+use Rattle.re_syntax.specs.BasicFaults.{IsNoBasic}
+use Rattle.re_syntax.specs.Bytes.{Text}
+use Rattle.re_syntax.specs.Expression.{Expression, expression_of}
+use Rattle.re_syntax.specs.ExtendedFaults.{IsNoExtended}
+use Rattle.re_syntax.specs.Holds.{positions, most_positions}
+use Rattle.re_syntax.specs.Spelled.{IsMeant, has_limit}
+use Rattle.re_search.specs.declared.matcher.Matcher.{Matcher}
+use Rattle.re_search.specs.declared.matcher.Matcher.TheVariants as m
+use Rattle.re_search.specs.Literals.{literal_expression}
+
+-- the expression that a matcher stands for
+abbrev pub matched_expression : Matcher → Expression
+matched_expression (m.Fixed literal) = literal_expression literal
+matched_expression (m.Simulated matcher) = expression_of matcher.tree
+
+-- whether it wants the whole line
+abbrev pub wants_whole : Matcher → Bool
+wants_whole (m.Fixed literal) = literal.whole
+wants_whole (m.Simulated matcher) = matcher.whole
+
+-- whether it looks for a string
+abbrev pub is_fixed : Matcher → Bool
+is_fixed (m.Fixed literal) = true
+is_fixed (m.Simulated matcher) = false
+
+-- the expression is small enough, where it has to be
+abbrev pub IsSmallFor : Syntax → Bool → Expression → Type 0
+IsSmallFor syntax fold e = IsTrue (has_limit syntax fold) → positions e ≤ most_positions
+
+-- the text means an expression that is small enough
+abbrev pub IsReadable : Syntax → Bool → Text → Type 0
+IsReadable syntax fold text = (e : Expression) × IsMeant syntax fold text e × IsSmallFor syntax fold e
+
+-- memory ran out, and nothing is said of the text
+abbrev pub IsOutOfMemory : PatternFault → Type 0
+IsOutOfMemory fault = fault ≡ record { kind = Memory; at = 0 }
+
+-- the text spells nothing in its syntax, and the fault shows where it says
+abbrev pub IsNotSpelled : Syntax → Text → PatternFault → Type 0
+IsNotSpelled Basic text fault = IsNoBasic text fault
+IsNotSpelled Extended text fault = IsNoExtended text fault
+IsNotSpelled Fixed text fault = ⊥
+
+-- the text means an expression that is too large
+pub record IsTooLarge (syntax : Syntax) (fold : Bool) (text : Text) (fault : PatternFault) : Type 0 where
+  pub told : fault ≡ record { kind = TooLarge; at = 0 }
+  pub limited : IsTrue (has_limit syntax fold)
+  pub meaning : Expression
+  pub meant : IsMeant syntax fold text meaning
+  pub large : most_positions < positions meaning
+
+-- why a text is refused where there was memory
+abbrev pub IsRefusedFor : Syntax → Bool → Text → PatternFault → Type 0
+IsRefusedFor syntax fold text fault = IsNotSpelled syntax text fault ⊎ IsTooLarge syntax fold text fault

@@ -1,0 +1,122 @@
+//! Search for one fixed string (XCU grep, option `-F`).
+ghost use Rattle.std.specs.Prelude.{◌≡◌, ◌+◌, ◌-◌, ◌≤◌, ◌↔◌, [], ◌∷◌, true, false, IsTrue, IfOk, length};
+ghost use Rattle.re_syntax.specs.Holds.{Matches};
+ghost use Rattle.re_auto.specs.Meters.{many_built};
+ghost use Rattle.re_search.specs.Literals.{literal_expression};
+ghost use Rattle.re_search.specs.Searching.{FindsPart, AddsAtMost};
+
+use crate::line_match::LineMatch;
+use crate::span::Span;
+use memchr::memmem::Finder;
+use re_auto::Meter;
+use std::alloc::{AllocError, Global};
+use std::marker::Model;
+
+/// A matcher for one fixed string. Contracts see it as the string and whether the whole line has
+/// to be it.
+#[derive(Drop)]
+pub struct Fixed {
+    finder: Finder<'static>,
+    whole: bool,
+}
+
+impl Model for Fixed {
+    ghost use Rattle.re_search.specs.Literals.{Literal};
+
+    ghost Value = { Literal };
+
+    ghost view = { λ f. record { text = f.finder; whole = f.whole } };
+}
+
+impl Fixed {
+    /// A matcher for the text, of which no byte is special. The one error is that memory was
+    /// refused.
+    pub fn new(alloc: Global, text: &[u8], whole: bool) -> Result<Fixed, AllocError>
+        ensures { IfOk result (λ f. f ≡ record { text = text.now; whole = whole }) }
+    {
+        let finder = Finder::new(text).into_owned(alloc)?;
+        Ok(Fixed { finder, whole })
+    }
+
+    // Whether the line is the string.
+    fn is_line(&self, line: &[u8]) -> bool
+        ensures { IsTrue result ↔ Matches (literal_expression self.now) line.now true }
+    {
+        line == self.finder.needle()
+    }
+
+    // Whether the string stands at some place of the line.
+    fn stands_in(&self, line: &[u8]) -> bool
+        ensures { IsTrue result ↔ Matches (literal_expression self.now) line.now false }
+    {
+        self.finder.find(line).is_some()
+    }
+
+    // The part where the whole line has to be the string.
+    fn whole_line(&self, line: &[u8], from: usize) -> Option<Span>
+        ensures { FindsPart (literal_expression self.now ∷ []) line.now true from result }
+    {
+        if from > 0 || line.is_empty() || !self.is_line(line) {
+            return None;
+        }
+        Some(Span {
+            start: 0,
+            end: line.len(),
+        })
+    }
+
+    // The first place of the string at `from` or later. An empty string makes no part.
+    fn occurrence(&self, line: &[u8], from: usize) -> Option<Span>
+        requires { from ≤ length line.now }
+        ensures { FindsPart (literal_expression self.now ∷ []) line.now false from result }
+    {
+        let length = self.finder.needle().len();
+        if length == 0 {
+            return None;
+        }
+        let start = from + self.finder.find(&line[from..])?;
+        Some(Span {
+            start,
+            end: start + length,
+        })
+    }
+}
+
+impl LineMatch for Fixed {
+    ghost use Rattle.re_search.specs.Literals.{literal_expression};
+
+    ghost expression = { λ f. literal_expression f };
+
+    ghost whole = { λ f. f.whole };
+
+    fn is_match(&mut self, line: &[u8], meter: &mut Meter) -> bool
+        ensures told { IsTrue result ↔ Matches (literal_expression self.old) line.now self.old.whole }
+        ensures same_expression { literal_expression self.new ≡ literal_expression self.old }
+        ensures same_whole { self.new.whole ≡ self.old.whole }
+        ensures steps { AddsAtMost (length line.now + 1) meter.old meter.new }
+        ensures same { self.new ≡ self.old }
+        ensures counted { meter.new ≡ many_built (length line.now + 1) meter.old }
+    {
+        meter.add_built(line.len() as u64 + 1);
+        if self.whole {
+            return self.is_line(line);
+        }
+        self.stands_in(line)
+    }
+
+    fn find(&mut self, line: &[u8], from: usize, meter: &mut Meter) -> Option<Span>
+        requires { from ≤ length line.now }
+        ensures told { FindsPart (literal_expression self.old ∷ []) line.now self.old.whole from result }
+        ensures same_expression { literal_expression self.new ≡ literal_expression self.old }
+        ensures same_whole { self.new.whole ≡ self.old.whole }
+        ensures steps { AddsAtMost (length line.now - from + 1) meter.old meter.new }
+        ensures same { self.new ≡ self.old }
+        ensures counted { meter.new ≡ many_built (length line.now - from + 1) meter.old }
+    {
+        meter.add_built((line.len() - from) as u64 + 1);
+        if self.whole {
+            return self.whole_line(line, from);
+        }
+        self.occurrence(line, from)
+    }
+}

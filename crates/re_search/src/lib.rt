@@ -1,0 +1,22 @@
+//! Matchers: what decides whether a line is matched by a pattern, and finds its matched parts, in
+//! counted steps.
+#![tactic(auto)]
+
+mod fixed;
+mod line_match;
+mod matcher;
+mod several;
+mod simulated;
+mod span;
+
+pub use fixed::Fixed;
+pub use line_match::LineMatch;
+pub use matcher::Matcher;
+pub use re_auto::Meter;
+pub use re_syntax::Syntax;
+pub use several::{is_matched, parts};
+pub use simulated::Simulated;
+pub use span::Span;
+
+#[cfg(test)]
+mod tests;

@@ -1,0 +1,178 @@
+//! Matchers made from the texts of patterns.
+ghost use Rattle.std.specs.Prelude.{◌≡◌, ◌+◌, ◌-◌, ◌≤◌, ◌↔◌, ◌⊎◌, [], ◌∷◌, not, false, IsTrue, IfOk, IfErr, length};
+ghost use Rattle.re_syntax.specs.Expression.{expression_of};
+ghost use Rattle.re_syntax.specs.Holds.{Matches};
+ghost use Rattle.re_syntax.specs.Spelled.{IsSpelled, IsMeant, has_limit};
+ghost use Rattle.re_auto.specs.Tables.{IsRefused};
+ghost use Rattle.re_search.specs.Reading.{matched_expression, wants_whole, is_fixed, IsSmallFor, IsReadable, IsOutOfMemory, IsNotSpelled, IsRefusedFor};
+ghost use Rattle.re_search.specs.Searching.{FindsPart, AddsAtMost};
+
+use crate::fixed::Fixed;
+use crate::line_match::LineMatch;
+use crate::simulated::Simulated;
+use crate::span::Span;
+use re_auto::{BuildFault, Meter};
+use re_syntax::{FaultKind, PatternFault, Syntax, Tree, read_basic, read_extended, read_fixed};
+use std::alloc::Global;
+
+/// A matcher of either kind.
+#[derive(Drop)]
+pub enum Matcher {
+    /// Looks for a string.
+    Fixed(Fixed),
+    /// Steps an automaton.
+    Simulated(Simulated),
+}
+
+impl Matcher {
+    /// The matcher for the text of a pattern, read in its syntax; with `fold` both cases of each
+    /// letter are alike (XCU grep, option `-i`), and with `whole` the whole line has to be matched
+    /// (option `-x`). A string that is not folded is looked for as it is, and may be of any length;
+    /// all other patterns get an automaton. `_states`, from 1 to 65,536, is the size of a cache that
+    /// there is not yet, and has no effect.
+    ///
+    /// # Errors
+    ///
+    /// `FaultKind::Memory` at 0 where memory ran out; where the text is no expression the fault of
+    /// [`re_syntax::read_basic`] or [`re_syntax::read_extended`]; `FaultKind::TooLarge` at 0 where
+    /// its expression has more than 4,096 positions, its intervals written out.
+    pub fn new(
+        alloc: Global,
+        text: &[u8],
+        syntax: Syntax,
+        fold: bool,
+        whole: bool,
+        _states: usize,
+    ) -> Result<Matcher, PatternFault>
+        requires { (1 ≤ _states) × (_states ≤ 65536) }
+        ensures meant { IfOk result (λ m. IsMeant syntax fold text.now (matched_expression m)) }
+        ensures whole { IfOk result (λ m. wants_whole m ≡ whole) }
+        ensures small { IfOk result (λ m. IsSmallFor syntax fold (matched_expression m)) }
+        ensures kind { IfOk result (λ m. is_fixed m ≡ not (has_limit syntax fold)) }
+        ensures refused { IfErr result (λ fault. IsOutOfMemory fault ⊎ IsRefusedFor syntax fold text.now fault) }
+        ensures unreadable { IfErr result (λ fault. IsOutOfMemory fault ⊎ (IsReadable syntax fold text.now → ⊥)) }
+    {
+        if is_limited(syntax, fold) {
+            return simulated_matcher(alloc, text, syntax, fold, whole);
+        }
+        fixed_matcher(alloc, text, whole)
+    }
+}
+
+impl LineMatch for Matcher {
+    ghost use Rattle.re_search.specs.Reading.{matched_expression, wants_whole};
+
+    ghost expression = { matched_expression };
+
+    ghost whole = { wants_whole };
+
+    fn is_match(&mut self, line: &[u8], meter: &mut Meter) -> bool
+        ensures told { IsTrue result ↔ Matches (matched_expression self.old) line.now (wants_whole self.old) }
+        ensures same_expression { matched_expression self.new ≡ matched_expression self.old }
+        ensures same_whole { wants_whole self.new ≡ wants_whole self.old }
+        ensures steps { AddsAtMost (length line.now + 1) meter.old meter.new }
+    {
+        match self {
+            Matcher::Fixed(fixed) => fixed.is_match(line, meter),
+            Matcher::Simulated(simulated) => simulated.is_match(line, meter),
+        }
+    }
+
+    fn find(&mut self, line: &[u8], from: usize, meter: &mut Meter) -> Option<Span>
+        requires { from ≤ length line.now }
+        ensures told { FindsPart (matched_expression self.old ∷ []) line.now (wants_whole self.old) from result }
+        ensures same_expression { matched_expression self.new ≡ matched_expression self.old }
+        ensures same_whole { wants_whole self.new ≡ wants_whole self.old }
+        ensures steps { AddsAtMost (length line.now - from + 1) meter.old meter.new }
+    {
+        match self {
+            Matcher::Fixed(fixed) => fixed.find(line, from, meter),
+            Matcher::Simulated(simulated) => simulated.find(line, from, meter),
+        }
+    }
+}
+
+// Whether an expression of the syntax has to be small: an automaton is made for it.
+fn is_limited(syntax: Syntax, fold: bool) -> bool
+    ensures { result ≡ has_limit syntax fold }
+{
+    match syntax {
+        Syntax::Basic => true,
+        Syntax::Extended => true,
+        Syntax::Fixed => fold,
+    }
+}
+
+// The matcher that looks for the text as it is. Its one fault is that memory ran out.
+fn fixed_matcher(alloc: Global, text: &[u8], whole: bool) -> Result<Matcher, PatternFault>
+    ensures made { IfOk result (λ m. m ≡ Matcher.Fixed (record { text = text.now; whole = whole })) }
+    ensures refused { IfErr result IsOutOfMemory }
+{
+    match Fixed::new(alloc, text, whole) {
+        Ok(fixed) => Ok(Matcher::Fixed(fixed)),
+        Err(_) => Err(fault_at_first(FaultKind::Memory)),
+    }
+}
+
+// The matcher that steps the automaton of what the text means.
+fn simulated_matcher(
+    alloc: Global,
+    text: &[u8],
+    syntax: Syntax,
+    fold: bool,
+    whole: bool,
+) -> Result<Matcher, PatternFault>
+    requires { IsTrue (has_limit syntax fold) }
+    ensures meant { IfOk result (λ m. IsMeant syntax fold text.now (matched_expression m)) }
+    ensures whole { IfOk result (λ m. wants_whole m ≡ whole) }
+    ensures small { IfOk result (λ m. IsSmallFor syntax fold (matched_expression m)) }
+    ensures kind { IfOk result (λ m. is_fixed m ≡ false) }
+    ensures refused { IfErr result (λ fault. IsOutOfMemory fault ⊎ IsRefusedFor syntax fold text.now fault) }
+{
+    let tree = match meant_tree(alloc, text, syntax, fold) {
+        Ok(tree) => tree,
+        Err(fault) => return Err(fault),
+    };
+    match Simulated::new(alloc, tree, whole) {
+        Ok(simulated) => Ok(Matcher::Simulated(simulated)),
+        Err(BuildFault::TooLarge) => Err(fault_at_first(FaultKind::TooLarge)),
+        Err(BuildFault::Memory) => Err(fault_at_first(FaultKind::Memory)),
+    }
+}
+
+// The tree of what the text means.
+fn meant_tree(alloc: Global, text: &[u8], syntax: Syntax, fold: bool) -> Result<Tree, PatternFault>
+    ensures meant { IfOk result (λ tree. IsMeant syntax fold text.now (expression_of tree)) }
+    ensures refused { IfErr result (λ fault. IsOutOfMemory fault ⊎ IsNotSpelled syntax text.now fault) }
+{
+    let tree = match spelled_tree(alloc, text, syntax) {
+        Ok(tree) => tree,
+        Err(fault) => return Err(fault),
+    };
+    if fold {
+        return Ok(re_syntax::fold(tree));
+    }
+    Ok(tree)
+}
+
+// The tree of what the text spells.
+fn spelled_tree(alloc: Global, text: &[u8], syntax: Syntax) -> Result<Tree, PatternFault>
+    ensures read { IfOk result (λ tree. IsSpelled syntax text.now (expression_of tree)) }
+    ensures refused { IfErr result (λ fault. IsOutOfMemory fault ⊎ IsNotSpelled syntax text.now fault) }
+{
+    match syntax {
+        Syntax::Basic => read_basic(alloc, text),
+        Syntax::Extended => read_extended(alloc, text),
+        Syntax::Fixed => read_fixed(alloc, text),
+    }
+}
+
+// A fault of the whole text, told at its first place.
+fn fault_at_first(kind: FaultKind) -> PatternFault
+    ensures { result ≡ record { kind = kind; at = 0 } }
+{
+    PatternFault { kind, at: 0 }
+}
+
+#[cfg(test)]
+mod tests;

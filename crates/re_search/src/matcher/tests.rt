@@ -1,0 +1,306 @@
+use super::*;
+use crate::tests::all_parts;
+use re_auto::fresh_meter;
+use std::alloc::AllocError;
+use std::test::Fail;
+
+// A pattern: its syntax and text, whether both cases of a letter are alike, and whether the whole
+// line has to be matched.
+type Pattern<'a> = (Syntax, &'a [u8], bool, bool);
+
+// A pattern, a line, whether it is matched, and its parts.
+type Row<'a> = (Pattern<'a>, &'a [u8], bool, &'a [(usize, usize)]);
+
+// All parts of the line for one matcher.
+fn parts_of_one(
+    alloc: Global,
+    matcher: Matcher,
+    line: &[u8],
+) -> Result<Vec<(usize, usize)>, AllocError> {
+    all_parts(alloc, &mut [matcher], line)
+}
+
+#[test]
+fn a_line_has_its_parts(rt: HostRuntime) -> Result<(), Fail> {
+    let rows: [Row; 38] = [
+        (
+            (Syntax::Basic, b"a*", false, false),
+            b"baaac",
+            true,
+            &[(1, 4)],
+        ),
+        (
+            (Syntax::Extended, b"ab|abcd|bc", false, false),
+            b"xabcde",
+            true,
+            &[(1, 5)],
+        ),
+        (
+            (Syntax::Extended, b"a{2,3}", false, false),
+            b"aaaaaaa",
+            true,
+            &[(0, 3), (3, 6)],
+        ),
+        (
+            (Syntax::Basic, b"[]a-]", false, false),
+            b"a]-b",
+            true,
+            &[(0, 1), (1, 2), (2, 3)],
+        ),
+        (
+            (Syntax::Basic, b"[^a]", true, false),
+            b"aAb",
+            true,
+            &[(2, 3)],
+        ),
+        (
+            (Syntax::Basic, b"[^a]", false, false),
+            b"aAb",
+            true,
+            &[(1, 2), (2, 3)],
+        ),
+        (
+            (Syntax::Extended, b"(^a|b)c", false, false),
+            b"ac",
+            true,
+            &[(0, 2)],
+        ),
+        (
+            (Syntax::Extended, b"(^a|b)c", false, false),
+            b"bc",
+            true,
+            &[(0, 2)],
+        ),
+        (
+            (Syntax::Extended, b"(^a|b)c", false, false),
+            b"xac",
+            false,
+            &[],
+        ),
+        (
+            (Syntax::Basic, b".", false, false),
+            b"\xff",
+            true,
+            &[(0, 1)],
+        ),
+        ((Syntax::Basic, b".", false, false), b"\x00", false, &[]),
+        (
+            (Syntax::Extended, b"(^a|b)*", false, true),
+            b"abb",
+            true,
+            &[(0, 3)],
+        ),
+        (
+            (Syntax::Extended, b"(^a|b)*", false, true),
+            b"bab",
+            false,
+            &[],
+        ),
+        ((Syntax::Extended, b"(^a|b)*", false, true), b"", true, &[]),
+        ((Syntax::Basic, b"^$", false, false), b"", true, &[]),
+        ((Syntax::Basic, b"^$", false, false), b"a", false, &[]),
+        ((Syntax::Extended, b"a^b", false, false), b"a^b", false, &[]),
+        ((Syntax::Extended, b"a^b", false, false), b"ab", false, &[]),
+        (
+            (Syntax::Basic, b"a^b", false, false),
+            b"a^b",
+            true,
+            &[(0, 3)],
+        ),
+        ((Syntax::Basic, b"a^b", false, false), b"ab", false, &[]),
+        (
+            (Syntax::Basic, b"^a", false, false),
+            b"aaa",
+            true,
+            &[(0, 1)],
+        ),
+        (
+            (Syntax::Basic, b"a$", false, false),
+            b"aaa",
+            true,
+            &[(2, 3)],
+        ),
+        ((Syntax::Basic, b"a*", false, true), b"aa", true, &[(0, 2)]),
+        ((Syntax::Basic, b"a*", false, true), b"", true, &[]),
+        ((Syntax::Basic, b"a*", false, true), b"aab", false, &[]),
+        ((Syntax::Basic, b"x*", false, false), b"y", true, &[]),
+        (
+            (Syntax::Basic, b"x*", false, false),
+            b"yxxyx",
+            true,
+            &[(1, 3), (4, 5)],
+        ),
+        (
+            (Syntax::Extended, b"b|ab*", false, false),
+            b"babbxb",
+            true,
+            &[(0, 1), (1, 4), (5, 6)],
+        ),
+        (
+            (Syntax::Basic, b"[\x7f\x80]", false, false),
+            b"\x00\x7f\x80\xff",
+            true,
+            &[(1, 2), (2, 3)],
+        ),
+        (
+            (Syntax::Basic, b".*", false, false),
+            b"\x01\x7f\x80\xff",
+            true,
+            &[(0, 4)],
+        ),
+        ((Syntax::Fixed, b"", false, false), b"x", true, &[]),
+        (
+            (Syntax::Fixed, b"a.", false, false),
+            b"aba.",
+            true,
+            &[(2, 4)],
+        ),
+        (
+            (Syntax::Fixed, b"a.", true, false),
+            b"abA.",
+            true,
+            &[(2, 4)],
+        ),
+        ((Syntax::Fixed, b"a.", false, false), b"abA.", false, &[]),
+        ((Syntax::Fixed, b"aB", true, true), b"Ab", true, &[(0, 2)]),
+        (
+            (Syntax::Fixed, b"\x00\xff", false, false),
+            b"\x00\x00\xff",
+            true,
+            &[(1, 3)],
+        ),
+        (
+            (Syntax::Fixed, b"\x00\xff", true, false),
+            b"\x00\x00\xff",
+            true,
+            &[(1, 3)],
+        ),
+        ((Syntax::Basic, b"ab", true, true), b"abx", false, &[]),
+    ];
+    for ((syntax, text, fold, whole), line, is_selected, expected) in rows {
+        let mut matcher = Matcher::new(rt.alloc(), text, syntax, fold, whole, 1)?;
+        let is_match = matcher.is_match(line, &mut fresh_meter());
+        assert_eq!(rt; is_match, is_selected, "{text:?} on {line:?}");
+        let found = parts_of_one(rt.alloc(), matcher, line)?;
+        assert_eq!(rt; found.as_slice(), expected, "{text:?} on {line:?}");
+    }
+    Ok(())
+}
+
+// A pattern, a line and a place: the part from there on, and the most steps that it may take.
+type Search<'a> = (Pattern<'a>, &'a [u8], usize, Option<(usize, usize)>, u64);
+
+#[test]
+fn a_part_is_found_in_so_many_steps(rt: HostRuntime) -> Result<(), Fail> {
+    let choice: Pattern = (Syntax::Extended, b"ab|abcd|bc", false, false);
+    let whole: Pattern = (Syntax::Basic, b"a*", false, true);
+    let first: Pattern = (Syntax::Basic, b"^a", false, false);
+    let rows: [Search; 10] = [
+        (choice, b"xabcde", 0, Some((1, 5)), 7),
+        (choice, b"xabcde", 2, Some((2, 4)), 5),
+        (choice, b"xabcde", 5, None, 2),
+        (choice, b"xabcde", 6, None, 1),
+        (whole, b"aa", 0, Some((0, 2)), 3),
+        (whole, b"aa", 1, None, 2),
+        (whole, b"", 0, None, 1),
+        (first, b"aaa", 0, Some((0, 1)), 4),
+        (first, b"aaa", 1, None, 3),
+        (
+            (Syntax::Fixed, b"aa", false, false),
+            b"aaa",
+            1,
+            Some((1, 3)),
+            3,
+        ),
+    ];
+    for ((syntax, text, fold, whole), line, from, expected, most) in rows {
+        let mut matcher = Matcher::new(rt.alloc(), text, syntax, fold, whole, 65_536)?;
+        let mut meter = fresh_meter();
+        assert!(rt; from <= line.len());
+        let found = matcher.find(line, from, &mut meter);
+        let place = found.map(|part| (part.start, part.end));
+        assert_eq!(rt; place, expected, "{text:?} on {line:?} from {from}");
+        assert!(rt; meter.built() <= most && meter.reused() == 0, "{line:?}");
+    }
+    Ok(())
+}
+
+#[test]
+fn a_text_that_is_refused_has_its_fault(rt: HostRuntime) {
+    let rows: [(Syntax, &[u8], FaultKind, usize); 6] = [
+        (Syntax::Basic, b"\\(a\\)\\1", FaultKind::BackReference, 5),
+        (Syntax::Extended, b"a{256}", FaultKind::IntervalTooLarge, 1),
+        (Syntax::Extended, b"(", FaultKind::UnclosedGroup, 0),
+        (Syntax::Basic, b"[a", FaultKind::UnclosedBracket, 0),
+        (
+            Syntax::Extended,
+            b"(a{255}){16}a{17}",
+            FaultKind::TooLarge,
+            0,
+        ),
+        (
+            Syntax::Basic,
+            b"\\(a\\{255\\}\\)\\{17\\}",
+            FaultKind::TooLarge,
+            0,
+        ),
+    ];
+    for (syntax, text, kind, at) in rows {
+        let fault = Matcher::new(rt.alloc(), text, syntax, false, false, 1).err();
+        assert_eq!(rt; fault, Some(PatternFault { kind, at }), "{text:?}");
+    }
+    let most = Matcher::new(
+        rt.alloc(),
+        b"(a{255}){16}a{16}",
+        Syntax::Extended,
+        true,
+        false,
+        1,
+    );
+    assert!(rt; most.is_ok());
+}
+
+#[test]
+fn a_string_is_large_only_where_it_is_folded(rt: HostRuntime) -> Result<(), Fail> {
+    let text = vec![in rt.alloc(); b'a'; 4_097]?;
+    let mut plain = Matcher::new(rt.alloc(), &text, Syntax::Fixed, false, true, 1)?;
+    assert!(rt; plain.is_match(&text, &mut fresh_meter()));
+    let folded = Matcher::new(rt.alloc(), &text, Syntax::Fixed, true, true, 1).err();
+    let too_large = PatternFault {
+        kind: FaultKind::TooLarge,
+        at: 0,
+    };
+    assert_eq!(rt; folded, Some(too_large));
+    Ok(())
+}
+
+#[test]
+fn a_long_line_takes_no_step_where_nothing_can_begin(rt: HostRuntime) -> Result<(), Fail> {
+    let mut line = vec![in rt.alloc(); b'a'; 100_000]?;
+    let mut matcher = Matcher::new(rt.alloc(), b"bc*", Syntax::Basic, false, false, 1)?;
+    let mut meter = fresh_meter();
+    assert!(rt; !matcher.is_match(&line, &mut meter));
+    assert_eq!(rt; meter.built(), 1);
+    line.extend_from_slice(b"bcca")?;
+    assert!(rt; matcher.is_match(&line, &mut meter));
+    assert_eq!(rt; meter.built(), 3);
+    let part = matcher.find(&line, 0, &mut meter);
+    assert_eq!(rt;
+        part.map(|span| (span.start, span.end)),
+        Some((100_000, 100_003))
+    );
+    assert_eq!(rt; meter.built(), 8);
+    Ok(())
+}
+
+#[test]
+fn a_long_line_is_stepped_to_its_end(rt: HostRuntime) -> Result<(), Fail> {
+    let line = vec![in rt.alloc(); b'a'; 100_000]?;
+    let mut matcher = Matcher::new(rt.alloc(), b"a*b", Syntax::Basic, false, false, 1)?;
+    let mut meter = fresh_meter();
+    assert!(rt; !matcher.is_match(&line, &mut meter));
+    assert_eq!(rt; meter.built(), 100_000);
+    assert!(rt; matcher.find(&line, 1, &mut meter).is_none());
+    assert_eq!(rt; meter.built(), 199_999);
+    Ok(())
+}

@@ -1,0 +1,75 @@
+//! Several matchers over one line (XCU grep: a line is selected where any of the patterns matches
+//! it).
+ghost use Rattle.std.specs.Prelude.{ℕ, Bool, List, ◌≡◌, ◌+◌, ◌-◌, ◌*◌, ◌≤◌, ◌++◌, length, map};
+ghost use Rattle.re_syntax.specs.Bytes.{Text};
+ghost use Rattle.re_syntax.specs.Expression.{Expression};
+ghost use Rattle.re_search.specs.Searching.{FindsPart, FindsPartOfAll, TellsMatchOfAll, AllAnswer, AddsAtMost};
+
+use crate::line_match::LineMatch;
+use crate::span::Span;
+use re_auto::Meter;
+
+/// The next part of the line: of all stretches that are not empty, begin at `from` or later and
+/// are matched by some matcher the one that begins earliest, and of those that begin there the
+/// longest (XBD 9.1). All matchers have to agree on whether the whole line has to be matched.
+/// Called with 0 and then with the end of each part it gives all parts of the line. It takes at
+/// most one step for each matcher and byte from `from` on, and one more for each matcher.
+pub fn parts<M: LineMatch>(
+    matchers: &mut [M],
+    line: &[u8],
+    from: usize,
+    meter: &mut Meter,
+) -> Option<Span>
+    requires within { from ≤ length line.now }
+    requires alike { (whole : Bool) × AllAnswer whole (map M.whole matchers.old) }
+    ensures told { FindsPartOfAll (map M.expression matchers.old) (map M.whole matchers.old) line.now from result }
+    ensures same_expressions { map M.expression matchers.new ≡ map M.expression matchers.old }
+    ensures same_wholes { map M.whole matchers.new ≡ map M.whole matchers.old }
+    ensures steps { AddsAtMost (length matchers.old * (length line.now - from + 1)) meter.old meter.new }
+{
+    let mut best = None;
+    for matcher in matchers.iter_mut() {
+        let found = matcher.find(line, from, meter);
+        best = better(best, found);
+    }
+    best
+}
+
+// Of two parts the one that begins earlier, and of two that begin together the longer one.
+fn better(best: Option<Span>, found: Option<Span>) -> Option<Span>
+    ensures { (es fs : List Expression) (line : Text) (whole : Bool) (from : ℕ)
+        → FindsPart es line whole from best → FindsPart fs line whole from found
+        → FindsPart (es ++ fs) line whole from result }
+{
+    let Some(old) = best else {
+        return found;
+    };
+    let Some(new) = found else {
+        return best;
+    };
+    if new.start < old.start {
+        return found;
+    }
+    if new.start == old.start && old.end < new.end {
+        return found;
+    }
+    best
+}
+
+/// Whether some matcher matches the line. All matchers have to agree on whether the whole line has
+/// to be matched. None is asked behind the first that matches. It takes at most one step for each
+/// matcher and byte, and one more for each matcher.
+pub fn is_matched<M: LineMatch>(matchers: &mut [M], line: &[u8], meter: &mut Meter) -> bool
+    requires { (whole : Bool) × AllAnswer whole (map M.whole matchers.old) }
+    ensures told { TellsMatchOfAll (map M.expression matchers.old) (map M.whole matchers.old) line.now result }
+    ensures same_expressions { map M.expression matchers.new ≡ map M.expression matchers.old }
+    ensures same_wholes { map M.whole matchers.new ≡ map M.whole matchers.old }
+    ensures steps { AddsAtMost (length matchers.old * (length line.now + 1)) meter.old meter.new }
+{
+    for matcher in matchers.iter_mut() {
+        if matcher.is_match(line, meter) {
+            return true;
+        }
+    }
+    false
+}

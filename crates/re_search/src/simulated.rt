@@ -1,0 +1,117 @@
+//! Search by stepping an automaton over the line.
+ghost use Rattle.std.specs.Prelude.{◌≡◌, ◌+◌, ◌-◌, ◌≤◌, ◌↔◌, [], ◌∷◌, true, IsTrue, IfOk, IfErr, length};
+ghost use Rattle.re_syntax.specs.Expression.{expression_of};
+ghost use Rattle.re_syntax.specs.Holds.{Matches, most_positions, positions};
+ghost use Rattle.re_auto.specs.Tables.{IsRefused};
+ghost use Rattle.re_search.specs.Searching.{FindsPart, AddsAtMost};
+
+mod least;
+mod sets;
+mod skipping;
+
+use crate::line_match::LineMatch;
+use crate::span::Span;
+use least::StartPair;
+use re_auto::{Automaton, BuildFault, Meter};
+use re_syntax::Tree;
+use sets::SetPair;
+use std::alloc::Global;
+use std::marker::Model;
+
+/// A matcher for an expression. Contracts see it as the tree and whether the whole line has to be
+/// matched.
+#[derive(Drop)]
+pub struct Simulated {
+    automaton: Automaton,
+    whole: bool,
+    sets: SetPair,
+    starts: StartPair,
+}
+
+impl Model for Simulated {
+    ghost use Rattle.re_syntax.specs.Expression.{expression_of};
+    ghost use Rattle.re_syntax.specs.contracts.tree.Tree as e;
+    ghost use Rattle.re_search.specs.Simulated.{TreeMatcher};
+    ghost use Rattle.re_search.specs.Simulations.{AreSetsFor, AreStartsFor};
+    ghost use Rattle.std.specs.Coded.{codes};
+
+    ghost Value = { TreeMatcher };
+
+    ghost coded = { Prim.hlevel (codes, e.the_row.coded) };
+
+    ghost view = { λ s. record { tree = s.automaton; whole = s.whole } };
+
+    ghost invariant = { λ s. AreSetsFor (expression_of s.automaton) s.sets × AreStartsFor (expression_of s.automaton) s.starts };
+}
+
+impl Simulated {
+    /// A matcher for the tree. All memory that searches need is taken here. The errors are
+    /// `TooLarge`, exactly where the expression has more than 4,096 positions once its intervals
+    /// are written out, and `Memory`.
+    pub fn new(alloc: Global, tree: Tree, whole: bool) -> Result<Simulated, BuildFault>
+        ensures made { IfOk result (λ s. s ≡ record { tree = tree; whole = whole }) }
+        ensures few { IfOk result (λ _. positions (expression_of tree) ≤ most_positions) }
+        ensures refused { IfErr result (IsRefused (positions (expression_of tree))) }
+    {
+        let automaton = Automaton::build(alloc, tree)?;
+        let sets = SetPair::new(alloc, &automaton)?;
+        let starts = StartPair::new(alloc, &automaton)?;
+        Ok(Simulated {
+            automaton,
+            whole,
+            sets,
+            starts,
+        })
+    }
+
+    // The part where the whole line has to be matched.
+    fn whole_line(&mut self, line: &[u8], from: usize, meter: &mut Meter) -> Option<Span>
+        requires { from ≤ length line.now }
+        ensures told { FindsPart (expression_of self.old.tree ∷ []) line.now true from result }
+        ensures same { self.new ≡ self.old }
+        ensures steps { AddsAtMost (length line.now - from) meter.old meter.new }
+    {
+        if from > 0 || line.is_empty() || !self.sets.is_line(&self.automaton, line, meter) {
+            return None;
+        }
+        Some(Span {
+            start: 0,
+            end: line.len(),
+        })
+    }
+}
+
+impl LineMatch for Simulated {
+    ghost use Rattle.re_syntax.specs.Expression.{expression_of};
+
+    ghost expression = { λ s. expression_of s.tree };
+
+    ghost whole = { λ s. s.whole };
+
+    fn is_match(&mut self, line: &[u8], meter: &mut Meter) -> bool
+        ensures told { IsTrue result ↔ Matches (expression_of self.old.tree) line.now self.old.whole }
+        ensures same_expression { expression_of self.new.tree ≡ expression_of self.old.tree }
+        ensures same_whole { self.new.whole ≡ self.old.whole }
+        ensures steps { AddsAtMost (length line.now + 1) meter.old meter.new }
+        ensures same { self.new ≡ self.old }
+    {
+        if self.whole {
+            return self.sets.is_line(&self.automaton, line, meter);
+        }
+        self.sets.stands_in(&self.automaton, line, meter)
+    }
+
+    fn find(&mut self, line: &[u8], from: usize, meter: &mut Meter) -> Option<Span>
+        requires { from ≤ length line.now }
+        ensures told { FindsPart (expression_of self.old.tree ∷ []) line.now self.old.whole from result }
+        ensures same_expression { expression_of self.new.tree ≡ expression_of self.old.tree }
+        ensures same_whole { self.new.whole ≡ self.old.whole }
+        ensures steps { AddsAtMost (length line.now - from + 1) meter.old meter.new }
+        ensures same { self.new ≡ self.old }
+    {
+        if self.whole {
+            return self.whole_line(line, from, meter);
+        }
+        self.starts.find(&self.automaton, line, from, meter)
+    }
+}

@@ -1,0 +1,107 @@
+//! Sets of positions on their way over a line.
+ghost use Rattle.std.specs.Prelude.{◌≡◌, ℕ, suc, ◌-◌, ◌<◌, ◌≤◌, ◌↔◌, true, false, Some, IsTrue, IfOk, IfErr, length, slice_get};
+ghost use Rattle.re_syntax.specs.Bytes.{Text};
+ghost use Rattle.re_syntax.specs.Expression.{expression_of};
+ghost use Rattle.re_syntax.specs.Holds.{Matches};
+ghost use Rattle.re_auto.specs.declared.build.BuildFault.TheVariants.{Memory};
+ghost use Rattle.re_auto.specs.declared.mode.Mode.TheVariants.{Search};
+ghost use Rattle.re_auto.specs.Meters.{many_built};
+ghost use Rattle.re_auto.specs.StateSets.{StandsAt};
+ghost use Rattle.re_search.specs.Searching.{AddsAtMost};
+ghost use Rattle.re_search.specs.Simulations.{AreSetsFor};
+
+use crate::simulated::skipping::next_beginning;
+use re_auto::{Automaton, BuildFault, Meter, Mode, StateSet};
+use std::alloc::Global;
+use std::mem;
+
+/// A set of positions on its way over a line, and a spare one in which the next is made.
+#[derive(Drop)]
+pub struct SetPair {
+    current: StateSet,
+    spare: StateSet,
+}
+
+impl SetPair {
+    /// Two sets for this automaton. The one error is `Memory`.
+    pub fn new(alloc: Global, automaton: &Automaton) -> Result<SetPair, BuildFault>
+        ensures made { IfOk result (AreSetsFor (expression_of automaton.now)) }
+        ensures refused { IfErr result (λ fault. fault ≡ Memory) }
+    {
+        let current = StateSet::blank(alloc, automaton)?;
+        let spare = StateSet::blank(alloc, automaton)?;
+        Ok(SetPair { current, spare })
+    }
+
+    /// Whether some stretch of the line is matched. It ends at the first place where one ends, and
+    /// takes no step over bytes that no stretch can begin with while none is on its way.
+    pub fn stands_in(&mut self, automaton: &Automaton, line: &[u8], meter: &mut Meter) -> bool
+        requires made { AreSetsFor (expression_of automaton.now) self.old }
+        ensures made { AreSetsFor (expression_of automaton.now) self.new }
+        ensures told { IsTrue result ↔ Matches (expression_of automaton.now) line.now false }
+        ensures steps { AddsAtMost (length line.now) meter.old meter.new }
+    {
+        automaton.start(&mut self.current);
+        let mut place = 0;
+        'places: while place < line.len() {
+            if automaton.accepts(Mode::Search, &self.current, false) {
+                return true;
+            }
+            place = self.pass(automaton, line, place, meter);
+        }
+        automaton.accepts(Mode::Search, &self.current, true)
+    }
+
+    /// Whether the whole line is matched. It ends where no stretch from the line's first place is
+    /// on its way any more.
+    pub fn is_line(&mut self, automaton: &Automaton, line: &[u8], meter: &mut Meter) -> bool
+        requires made { AreSetsFor (expression_of automaton.now) self.old }
+        ensures made { AreSetsFor (expression_of automaton.now) self.new }
+        ensures told { IsTrue result ↔ Matches (expression_of automaton.now) line.now true }
+        ensures steps { AddsAtMost (length line.now) meter.old meter.new }
+    {
+        automaton.start(&mut self.current);
+        'places: for place in 0..line.len() {
+            if self.current.is_nowhere() {
+                return false;
+            }
+            self.advance(automaton, Mode::Whole, line[place], meter);
+        }
+        automaton.accepts(Mode::Whole, &self.current, true)
+    }
+
+    // Goes over the byte at `place`, or, where no stretch is on its way, over those from there on
+    // that none can begin with, and gives the place behind. At the places passed without a step the
+    // set of before stands.
+    fn pass(&mut self, automaton: &Automaton, line: &[u8], place: usize, meter: &mut Meter) -> usize
+        requires made { AreSetsFor (expression_of automaton.now) self.old }
+        requires within { place < length line.now }
+        requires stands { StandsAt (expression_of automaton.now) Search line.now place self.old.current }
+        ensures made { AreSetsFor (expression_of automaton.now) self.new }
+        ensures on { (place < result) × (result ≤ length line.now) }
+        ensures stands { StandsAt (expression_of automaton.now) Search line.now result self.new.current }
+        ensures between { (k : ℕ) → place ≤ k → k < result → StandsAt (expression_of automaton.now) Search line.now k self.old.current }
+        ensures steps { AddsAtMost (result - place) meter.old meter.new }
+    {
+        if self.current.is_nowhere() {
+            let next = next_beginning(automaton, line, place);
+            if next > place {
+                return next;
+            }
+        }
+        self.advance(automaton, Mode::Search, line[place], meter);
+        place + 1
+    }
+
+    // Sets the set to what it becomes by one more byte, which counts as one step.
+    fn advance(&mut self, automaton: &Automaton, mode: Mode, byte: u8, meter: &mut Meter)
+        requires made { AreSetsFor (expression_of automaton.now) self.old }
+        ensures made { AreSetsFor (expression_of automaton.now) self.new }
+        ensures stands { (line : Text) (j : ℕ) → slice_get line j ≡ Some byte
+            → StandsAt (expression_of automaton.now) mode line j self.old.current → StandsAt (expression_of automaton.now) mode line (suc j) self.new.current }
+        ensures counted { meter.new ≡ many_built 1 meter.old }
+    {
+        automaton.advance(mode, &self.current, byte, &mut self.spare, meter);
+        mem::swap(&mut self.current, &mut self.spare);
+    }
+}

@@ -1,0 +1,136 @@
+ghost use Rattle.std.specs.Prelude.{Bool, IfOk, map};
+ghost use Rattle.re_search.specs.Searching.{AllAnswer};
+
+use super::*;
+use re_auto::fresh_meter;
+use std::alloc::{AllocError, Global};
+use std::test::Fail;
+
+fn fixed(alloc: Global, texts: &[&[u8]], whole: bool) -> Result<Vec<Fixed>, AllocError>
+    ensures { IfOk result (λ v. AllAnswer whole (map ⟦<Fixed as LineMatch>⟧.whole v.items)) }
+{
+    let mut matchers = Vec::new(alloc);
+    for text in texts {
+        matchers.push(Fixed::new(alloc, text, whole)?)?;
+    }
+    Ok(matchers)
+}
+
+// All parts of the line, each as the places of its first byte and behind its last.
+pub(crate) fn all_parts<M: LineMatch>(
+    alloc: Global,
+    matchers: &mut [M],
+    line: &[u8],
+) -> Result<Vec<(usize, usize)>, AllocError>
+    requires { (whole : Bool) × AllAnswer whole (map M.whole matchers.old) }
+{
+    let mut meter = fresh_meter();
+    let mut found = Vec::new(alloc);
+    let mut from = 0;
+    for _ in line {
+        let Some(part) = parts(matchers, line, from, &mut meter) else {
+            return Ok(found);
+        };
+        found.push((part.start, part.end))?;
+        from = part.end;
+    }
+    Ok(found)
+}
+
+// For texts, whether the whole line has to be matched, and a line: whether some text matches the
+// line, and its parts.
+type Row<'a> = (&'a [&'a [u8]], bool, &'a [u8], bool, &'a [(usize, usize)]);
+
+#[test]
+fn several_texts_have_their_parts(rt: HostRuntime) -> Result<(), Fail> {
+    let rows: [Row; 14] = [
+        (&[b"aa"], false, b"aaa", true, &[(0, 2)]),
+        (&[b"aa"], false, b"aaaa", true, &[(0, 2), (2, 4)]),
+        (
+            &[b"ab", b"abc", b"c"],
+            false,
+            b"abcc",
+            true,
+            &[(0, 3), (3, 4)],
+        ),
+        (
+            &[b"abc", b"ab", b"c"],
+            false,
+            b"abcc",
+            true,
+            &[(0, 3), (3, 4)],
+        ),
+        (&[b"b", b"ab"], false, b"ab", true, &[(0, 2)]),
+        (&[b""], false, b"x", true, &[]),
+        (&[b"", b"x"], false, b"x", true, &[(0, 1)]),
+        (&[b""], false, b"", true, &[]),
+        (&[b"aa"], true, b"aa", true, &[(0, 2)]),
+        (&[b"a", b"aa"], true, b"aa", true, &[(0, 2)]),
+        (&[b"a"], true, b"aa", false, &[]),
+        (&[b""], true, b"", true, &[]),
+        (&[b"ab", b"abcd"], false, b"abc", true, &[(0, 2)]),
+        (&[], false, b"a", false, &[]),
+    ];
+    for (texts, whole, line, is_selected, expected) in rows {
+        let mut matchers = fixed(rt.alloc(), texts, whole)?;
+        let verdict = is_matched(&mut matchers, line, &mut fresh_meter());
+        assert_eq!(rt; verdict, is_selected, "{line:?}");
+        let found = all_parts(rt.alloc(), &mut fixed(rt.alloc(), texts, whole)?, line)?;
+        assert_eq!(rt; found.as_slice(), expected, "{line:?}");
+    }
+    Ok(())
+}
+
+// For a text, whether the whole line has to be matched, a line and a place: the part, and the steps.
+type Search<'a> = (&'a [u8], bool, &'a [u8], usize, Option<(usize, usize)>, u64);
+
+#[test]
+fn a_text_is_found_in_so_many_steps(rt: HostRuntime) -> Result<(), Fail> {
+    let rows: [Search; 14] = [
+        (b"aa", false, b"aaa", 0, Some((0, 2)), 4),
+        (b"aa", false, b"aaa", 1, Some((1, 3)), 3),
+        (b"aa", false, b"aaa", 2, None, 2),
+        (b"aa", false, b"aaa", 3, None, 1),
+        (b"ab", false, b"xxab", 0, Some((2, 4)), 5),
+        (b"abc", false, b"ab", 0, None, 3),
+        (b"\x00\xff", false, b"a\x00\xff\x00", 0, Some((1, 3)), 5),
+        (b"\xff", false, b"\x00\xff", 1, Some((1, 2)), 2),
+        (b"", false, b"x", 0, None, 2),
+        (b"aa", true, b"aa", 0, Some((0, 2)), 3),
+        (b"aa", true, b"aa", 1, None, 2),
+        (b"aa", true, b"aaa", 0, None, 4),
+        (b"", true, b"", 0, None, 1),
+        (b".*", false, b"a.*", 0, Some((1, 3)), 4),
+    ];
+    for (text, whole, line, from, expected, steps) in rows {
+        let mut matcher = Fixed::new(rt.alloc(), text, whole)?;
+        let mut meter = fresh_meter();
+        let found = matcher.find(line, from, &mut meter);
+        let place = found.map(|part| (part.start, part.end));
+        assert_eq!(rt; place, expected, "{text:?} on {line:?} from {from}");
+        assert_eq!(rt; (meter.built(), meter.reused()), (steps, 0), "{line:?}");
+    }
+    Ok(())
+}
+
+#[test]
+fn a_long_line_is_searched_to_its_end(rt: HostRuntime) -> Result<(), Fail> {
+    let mut line = vec![in rt.alloc(); b'a'; 100_000]?;
+    let mut matcher = Fixed::new(rt.alloc(), b"ab", false)?;
+    let mut meter = fresh_meter();
+    assert!(rt; !matcher.is_match(&line, &mut meter));
+    assert_eq!(rt; meter.built(), 100_001);
+    line.push(b'b')?;
+    assert!(rt; matcher.is_match(&line, &mut meter));
+    assert_eq!(rt; meter.built(), 200_003);
+    let part = matcher.find(&line, 50_000, &mut meter);
+    assert_eq!(rt;
+        part,
+        Some(Span {
+            start: 99_999,
+            end: 100_001
+        })
+    );
+    assert_eq!(rt; meter.built(), 250_005);
+    Ok(())
+}
