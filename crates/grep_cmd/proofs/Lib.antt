@@ -1,3 +1,6 @@
 pub mod FixedLemmas
 pub mod SearchLemmas
 pub mod RunLemmas
+pub mod PieceLemmas
+pub mod WordLemmas
+pub mod UsageLemmas

@@ -19,6 +19,8 @@ use Rattle.grep_core.specs.Reading.{file_of, failures_of}
 use Rattle.grep_core.specs.Run.{Devices, TakesAll, TakesFront, Finishes, BreaksOff, StopsBehind, Runs, first_lines}
 use Rattle.grep_core.specs.LineReader.{LineReader}
 use Rattle.grep_core.specs.Pass.{BeginsWith, WritesRows}
+use Rattle.grep_core.specs.Cost.{SearchesFiles}
+use Rattle.grep_core.proofs.CostLaws.{searched_without_steps}
 use Rattle.grep_core.proofs.ChooseLaws.{EachGives-one}
 use Rattle.grep_core.proofs.Exist.{Messages-exist}
 use Rattle.grep_core.proofs.RowsLaws.{RowsOf-file}
@@ -38,7 +40,11 @@ fixed-meant : (number invert : Bool) (patterns : List Text) → AreMeant Fixed (
 fixed-meant number invert [] = tt
 fixed-meant number invert (p ∷ patterns) = ((sequence (map byte p), as_fixed, refl), fixed-meant number invert patterns)
 
-module _ (search : FixedSearch) (known : Option Text) (old new : Devices) where
+-- where no step was counted, there are no more than the search of the files costs
+within_cost : (es : List Expression) (options : Options) (files : List File) (old new : Devices) → new.steps ≡ old.steps → SearchesFiles es options (length es) files old.steps new.steps
+within_cost es options files old new none = subst (SearchesFiles es options (length es) files old.steps) (sym none) (searched_without_steps es options (length es) files old.steps)
+
+module _ (search : FixedSearch) (known : Option Text) (old new : Devices) (no_step : new.steps ≡ old.steps) where
   abbrev es : List Expression
   es = expressions_of search
 
@@ -70,6 +76,7 @@ module _ (search : FixedSearch) (known : Option Text) (old new : Devices) where
         failures = failures_of s.stands.reading;
         are_failures = FailuresMet-one es (options_of search) (standard_input known) s.stands.reading (failures_of s.stands.reading) (inr (none_met, not_failed));
         counted = s.stands.counted;
+        steps = within_cost es (options_of search) (file ∷ []) old new no_step;
       }
 
   -- a read failed, which was told
@@ -93,6 +100,7 @@ module _ (search : FixedSearch) (known : Option Text) (old new : Devices) where
         failures = failures_of s.stands.reading;
         are_failures = FailuresMet-one es (options_of search) (standard_input known) s.stands.reading (failures_of s.stands.reading) (inl (met, refl));
         counted = s.stands.counted;
+        steps = within_cost es (options_of search) (file ∷ []) old new no_step;
       }
 
   -- a read failed, and the message could not be written
@@ -111,6 +119,7 @@ module _ (search : FixedSearch) (known : Option Text) (old new : Devices) where
         are_messages = subst (λ f. Messages es (options_of search) (f ∷ []) (read_error standard_input_name ∷ [])) (sym same) (Messages-broken es (options_of search) refl standard_input_name s.lines refl refl);
         wrote = subst (TakesFront old.out new.out) (append-nil s.wrote.rows) (TakesFront-all old.out new.out s.wrote.rows [] s.wrote.wrote);
         told = told;
+        steps = within_cost es (options_of search) (file ∷ []) old new no_step;
       }
 
   -- a row could not be written
@@ -128,9 +137,10 @@ module _ (search : FixedSearch) (known : Option Text) (old new : Devices) where
         are_messages = messages.1;
         wrote = s.front.wrote;
         told = TakesFront-all old.messages new.messages [] messages.0 told;
+        steps = within_cost es (options_of search) (file ∷ []) old new no_step;
       }
 
-module _ (es : List Expression) (number invert : Bool) (known : Option Text) (old new : Devices) where
+module _ (es : List Expression) (number invert : Bool) (known : Option Text) (old new : Devices) (no_step : new.steps ≡ old.steps) where
   abbrev options : Options
   options = fixed_options number invert
 
@@ -154,6 +164,7 @@ module _ (es : List Expression) (number invert : Bool) (known : Option Text) (ol
         are_messages = ([], refl, refl);
         wrote = wrote.wrote;
         told = told;
+        steps = within_cost es options (file ∷ []) old new no_step;
       }
 
 -- ---- the answers
@@ -170,11 +181,11 @@ pub runs_for_nothing : (number invert : Bool) (patterns : List Text) (known : Op
 runs_for_nothing number invert patterns known devices = (
   fixed_strings patterns,
   fixed-meant number invert patterns,
-  stops_at (fixed_strings patterns) number invert known devices devices 0 [] false refl (begins_nothing known)
+  stops_at (fixed_strings patterns) number invert known devices devices refl 0 [] false refl (begins_nothing known)
       (WritesRows-none (fixed_strings patterns) (fixed_options number invert) false standard_input_name devices.out) (TakesAll-nothing devices.messages),
 )
 
-module _ (search : FixedSearch) (patterns : List Text) (are : texts search.patterns.items ≡ patterns) (known : Option Text) (old new : Devices) where
+module _ (search : FixedSearch) (patterns : List Text) (are : texts search.patterns.items ≡ patterns) (known : Option Text) (old new : Devices) (no_step : new.steps ≡ old.steps) where
   abbrev RunsSo : Result Status RunFault → Type 0
   RunsSo result = Runs Fixed (options_of search) patterns (standard_input known ∷ []) old new result
 
@@ -183,19 +194,19 @@ module _ (search : FixedSearch) (patterns : List Text) (are : texts search.patte
 
   pub runs_whole : (some : Bool) → Searched search known old.source_failures new.source_failures old.out new.out Whole some → TakesAll old.messages new.messages []
       → RunsSo (Ok (if some then selected else NoneSelected))
-  runs_whole some s told = (expressions_of search, meant, finishes_whole search known old new some s told)
+  runs_whole some s told = (expressions_of search, meant, finishes_whole search known old new no_step some s told)
 
   pub runs_broken : (some : Bool) → Searched search known old.source_failures new.source_failures old.out new.out Broken some → TakesAll old.messages new.messages (read_error standard_input_name ∷ [])
       → RunsSo (Ok Error)
-  runs_broken some s told = (expressions_of search, meant, finishes_broken search known old new some s told)
+  runs_broken some s told = (expressions_of search, meant, finishes_broken search known old new no_step some s told)
 
   pub runs_unwritten : StoppedByWrite search known old.source_failures new.source_failures old.out new.out → TakesAll old.messages new.messages [] → RunsSo (Err Write)
-  runs_unwritten s told = (expressions_of search, meant, (breaks_off search known old new s told, s.counted, told.none_failed))
+  runs_unwritten s told = (expressions_of search, meant, (breaks_off search known old new no_step s told, s.counted, told.none_failed))
 
   pub runs_untold : (some : Bool) → Searched search known old.source_failures new.source_failures old.out new.out Broken some → TakesFront old.messages new.messages (read_error standard_input_name ∷ [])
       → new.messages.failures ≡ one_more old.messages.failures → RunsSo (Err MessageWrite)
-  runs_untold some s told failed = (expressions_of search, meant, (breaks_off_told search known old new some s told, s.wrote.wrote.none_failed, failed))
+  runs_untold some s told failed = (expressions_of search, meant, (breaks_off_told search known old new no_step some s told, s.wrote.wrote.none_failed, failed))
 
   pub runs_out_of_memory : (n : ℕ) → StoppedByMemory search known old.source_failures new.source_failures old.out new.out n → TakesAll old.messages new.messages [] → RunsSo (Err (Memory 0 n))
   runs_out_of_memory n s told =
-      (expressions_of search, meant, stops_at (expressions_of search) search.line_number search.invert_match known old new n s.lines s.some s.counted s.begins s.wrote told)
+      (expressions_of search, meant, stops_at (expressions_of search) search.line_number search.invert_match known old new no_step n s.lines s.some s.counted s.begins s.wrote told)

@@ -5,7 +5,11 @@ pub use Rattle.re_syntax.specs.Holds
 pub use Rattle.re_syntax.specs.Lines
 pub use Rattle.re_syntax.specs.Spelled
 pub use Rattle.grep_core.specs.Files
+pub use Rattle.grep_core.specs.Meters
 pub use Rattle.grep_core.specs.Run
 pub mod FixedStrings
 pub mod FixedSearch
 pub mod FixedRun
+pub mod Words
+pub mod Texts
+pub mod Pieces

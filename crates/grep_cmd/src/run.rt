@@ -2,6 +2,7 @@
 ghost use Rattle.std.specs.Prelude.{◌≡◌, ℕ, [], ◌∷◌, IfOk, Err};
 ghost use Rattle.re_syntax.specs.Lines.{list_of};
 ghost use Rattle.re_syntax.specs.declared.syntax.Syntax.TheVariants.{Fixed};
+ghost use Rattle.grep_core.specs.Meters.{fresh};
 ghost use Rattle.grep_core.specs.Run.{writer, Runs};
 ghost use Rattle.grep_cmd.specs.FixedSearch.{fixed_options};
 ghost use Rattle.grep_cmd.specs.FixedRun.{standard_input, Searched, StoppedByWrite, StoppedByMemory};
@@ -113,7 +114,8 @@ fn search_reader<R: CountedRead, W: CountedWrite>(
 /// The reader is read once, from front to back. `RunFault::Write` and `RunFault::MessageWrite`
 /// come where a write fails, and what went out are beginnings of the output and of the messages.
 /// `RunFault::Memory` comes where a growth is refused: the rows of the source's first lines went
-/// out, and nothing else. A source of more than `u64::MAX` lines is broken behind that line.
+/// out, and nothing else. A source of more than `u64::MAX` lines is broken behind that line. No
+/// meter is needed, and so no step is counted.
 pub fn grep_fixed<R: CountedRead, W: CountedWrite, M: CountedWrite>(
     alloc: Global,
     list: &[u8],
@@ -129,11 +131,13 @@ pub fn grep_fixed<R: CountedRead, W: CountedWrite, M: CountedWrite>(
           out = writer W.contents W.failures out.old;
           messages = writer M.contents M.failures messages.old;
           source_failures = R.failures reader.old;
+          steps = fresh;
         }
         record {
           out = writer W.contents W.failures out.new;
           messages = writer M.contents M.failures messages.new;
           source_failures = R.failures reader.new;
+          steps = fresh;
         }
         result }
 {

@@ -1,5 +1,5 @@
 -- The lines that a reader of lines has handed out, one more at a time, and the file for which its source stands.
-use Rattle.std.proofs.Common.{◌≡◌, ◌≢◌, ℕ, ◌≤◌, List, [], ◌∷◌, ◌++◌, Option, None, Some, IfSome, length, All, refl, sym, ap, ◌∙◌, subst, append_assoc, append-nil}
+use Rattle.std.proofs.Common.{◌≡◌, ◌≢◌, ℕ, ◌≤◌, List, [], ◌∷◌, ◌++◌, Option, None, Some, IfSome, length, All, inl, inr, refl, sym, ap, ◌∙◌, subst, append_assoc, append-nil}
 use Rattle.std.proofs.KnownBytes.{Consumes-nil, Consumes-trans, Consumes-kept, prepend_known-nil}
 use Rattle.std.proofs.lemmas.List.Elements.{All-push}
 use Rattle.std.specs.Io.KnownBytes.{prepend_known, Consumes, IsAtEnd}
@@ -133,6 +133,7 @@ module _ {R : Type 0} (remaining : R → Option Text) (failures : R → ℕ) whe
         more = cut.0;
         named = ap (λ (f : File). f.name) (same ∙ cut.2);
         has_lines = ap (λ (f : File). f.lines) (same ∙ cut.2);
+        ends = elim cut.3 [ inl e ↦ inl (ap (λ (f : File). f.ending) (same ∙ cut.2) ∙ e) | inr e ↦ inr (ap (λ (f : File). f.ending) (same ∙ cut.2) ∙ e) ];
       }
 
   -- no line is left

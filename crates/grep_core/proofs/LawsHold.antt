@@ -1,4 +1,4 @@
--- The laws of the definitions: one output, one list of messages, one status, and one meaning of the patterns.
+-- The laws of the definitions: one output, one list of messages, one status, one cost of the search, and one meaning of the patterns.
 use Rattle.std.proofs.Common.{◌≡◌, Bool, [], ◌∷◌, refl, sym, ap, ◌∙◌, if◌then◌else◌}
 use Rattle.re_syntax.specs.declared.syntax.Syntax.{Syntax}
 use Rattle.re_syntax.specs.Bytes.{Text}
@@ -9,7 +9,9 @@ use Rattle.re_syntax.proofs.SpelledUnique.{spells_one}
 use Rattle.grep_core.specs.declared.options.Options.{Options}
 use Rattle.grep_core.specs.Output.{Out}
 use Rattle.grep_core.specs.Messages.{Messages, StatusOf}
+use Rattle.grep_core.specs.Cost.{FilesCost}
 use Rattle.grep_core.specs.Laws.{IsOne, HasOneAnswer, MeansOne}
+use Rattle.grep_core.proofs.CostLaws.{files_cost, FilesCost-determined}
 use Rattle.grep_core.proofs.Determined.{Out-determined, Messages-determined, StatusOf-determined}
 use Rattle.grep_core.proofs.Exist.{Out-exist, Messages-exist, StatusOf-exist}
 
@@ -17,12 +19,13 @@ use Rattle.grep_core.proofs.Exist.{Out-exist, Messages-exist, StatusOf-exist}
 is_one : {A : Type 0} (P : A → Type 0) → (x : A) × P x → ((x y : A) → P x → P y → x ≡ y) → IsOne P
 is_one P found once = (found.0, found.1, λ y p. once y found.0 p found.1)
 
--- there is one output, one list of messages and one status
+-- there is one output, one list of messages, one status and one cost of the search
 pub has_one_answer : (options : Options) → HasOneAnswer options
 has_one_answer options = record {
   one_output = (λ es files. is_one (Out es options files) (Out-exist es options files) (Out-determined es options files));
   one_list_of_messages = (λ es files. is_one (Messages es options files) (Messages-exist es options files) (Messages-determined es options files));
   one_status = (λ es files. is_one (StatusOf es options files) (StatusOf-exist es options files) (StatusOf-determined es options files));
+  one_cost = (λ es matchers files. is_one (FilesCost es options matchers files) (files_cost es options matchers files) (FilesCost-determined es options matchers files));
 }
 
 -- a pattern means at most one expression

@@ -22,3 +22,11 @@ pub mod RowsLaws
 pub mod HandedLemmas
 pub mod PassLemmas
 pub mod OneFile
+pub mod OneLineLemmas
+pub mod FileOutput
+pub mod LinesLemmas
+pub mod OpenedLemmas
+pub mod SummaryLemmas
+pub mod RunLaws
+pub mod CostLaws
+pub mod PartsLemmas

@@ -1,41 +1,33 @@
 -- The messages, file by file, up to the one at which `-q` stops.
-use Rattle.std.proofs.Common.{◌≡◌, Bool, true, false, IsTrue, List, [], ◌∷◌, ◌++◌, inl, inr, refl, subst, MatchBool, Any}
+use Rattle.std.proofs.Common.{◌≡◌, Bool, true, false, List, [], ◌∷◌, ◌++◌, inl, inr, refl, subst, MatchBool, Any}
 use Rattle.std.proofs.lemmas.List.{append-nil}
 use Rattle.re_syntax.specs.Bytes.{Text}
 use Rattle.re_syntax.specs.Expression.{Expression}
 use Rattle.re_syntax.proofs.Decisions.{Any-first, Any-later}
 use Rattle.grep_core.specs.declared.options.Options.{Options}
 use Rattle.grep_core.specs.Choose.{EachGives}
-use Rattle.grep_core.specs.Files.{File, HasSelected}
-use Rattle.grep_core.specs.Messages.{Reached, Message, Messages}
+use Rattle.grep_core.specs.Files.{File}
+use Rattle.grep_core.specs.Messages.{Stops, Reached, Message, Told, Messages}
 use Rattle.grep_core.proofs.ChooseLaws.{EachGives-append, EachGives-exist}
 use Rattle.grep_core.proofs.Exist.{Reached-exist, Message-exist}
 
 module _ (es : List Expression) (options : Options) where
-  -- a run stops at the file
-  abbrev pub Stops : File → Type 0
-  Stops file = IsTrue options.quiet × HasSelected es options file
-
-  -- what is told of files that are all reached
-  abbrev pub Told : List File → List Text → Type 0
-  Told files told = MatchBool options.no_messages (told ≡ []) (EachGives (Message es options) files told)
-
   -- behind files at which a run does not stop, the files that are reached follow
-  pub Reached-behind : (front rest reached : List File) → (Any Stops front → ⊥) → Reached es options rest reached → Reached es options (front ++ rest) (front ++ reached)
+  pub Reached-behind : (front rest reached : List File) → (Any (Stops es options) front → ⊥) → Reached es options rest reached → Reached es options (front ++ rest) (front ++ reached)
   Reached-behind [] rest reached none r = r
   Reached-behind (file ∷ front) rest reached none r =
-      (front ++ reached, refl, inr ((λ s. none (Any-first Stops file front s)), Reached-behind front rest reached (λ a. none (Any-later Stops file front a)) r))
+      (front ++ reached, refl, inr ((λ s. none (Any-first (Stops es options) file front s)), Reached-behind front rest reached (λ a. none (Any-later (Stops es options) file front a)) r))
 
   -- where a run stops at no file, all are reached
-  pub Reached-all : (files : List File) → (Any Stops files → ⊥) → Reached es options files files
+  pub Reached-all : (files : List File) → (Any (Stops es options) files → ⊥) → Reached es options files files
   Reached-all files none = subst (λ xs. Reached es options xs xs) (append-nil files) (Reached-behind files [] [] none refl)
 
   -- where a run stops at a file, it is the last that is reached
-  pub Reached-stopped : (front rest : List File) (file : File) → (Any Stops front → ⊥) → Stops file → Reached es options (front ++ file ∷ rest) (front ++ file ∷ [])
+  pub Reached-stopped : (front rest : List File) (file : File) → (Any (Stops es options) front → ⊥) → Stops es options file → Reached es options (front ++ file ∷ rest) (front ++ file ∷ [])
   Reached-stopped front rest file none stops = Reached-behind front (file ∷ rest) (file ∷ []) none ([], refl, inl (stops, refl))
 
   -- the messages are what is told of the files that are reached
-  pub Messages-reached : (files reached : List File) (told : List Text) → Reached es options files reached → Told reached told → Messages es options files told
+  pub Messages-reached : (files reached : List File) (told : List Text) → Reached es options files reached → Told es options reached told → Messages es options files told
   Messages-reached files reached told r t = by_flag options.no_messages t
     where
       by_flag : (none : Bool) → MatchBool none (told ≡ []) (EachGives (Message es options) reached told) →
@@ -44,7 +36,7 @@ module _ (es : List Expression) (options : Options) where
       by_flag false h = (reached, r, h)
 
   -- nothing is told of no file
-  pub Told-nothing : Told [] []
+  pub Told-nothing : Told es options [] []
   Told-nothing = by_flag options.no_messages
     where
       by_flag : (none : Bool) → MatchBool none (◌≡◌ {A = List Text} [] []) (EachGives (Message es options) [] [])
@@ -52,7 +44,7 @@ module _ (es : List Expression) (options : Options) where
       by_flag false = refl
 
   -- what is told of some files, and of others behind them
-  pub Told-append : (xs ys : List File) (us vs : List Text) → Told xs us → Told ys vs → Told (xs ++ ys) (us ++ vs)
+  pub Told-append : (xs ys : List File) (us vs : List Text) → Told es options xs us → Told es options ys vs → Told es options (xs ++ ys) (us ++ vs)
   Told-append xs ys us vs a b = by_flag options.no_messages a b
     where
       by_flag : (none : Bool) → MatchBool none (us ≡ []) (EachGives (Message es options) xs us) → MatchBool none (vs ≡ []) (EachGives (Message es options) ys vs) →
@@ -61,7 +53,7 @@ module _ (es : List Expression) (options : Options) where
       by_flag false h k = EachGives-append _ xs ys us vs h k
 
   -- something is told of any files, if only nothing
-  pub Told-exist : (files : List File) → (told : List Text) × Told files told
+  pub Told-exist : (files : List File) → (told : List Text) × Told es options files told
   Told-exist files = by_flag options.no_messages
     where
       by_flag : (none : Bool) → (told : List Text) × MatchBool none (told ≡ []) (EachGives (Message es options) files told)
@@ -69,7 +61,7 @@ module _ (es : List Expression) (options : Options) where
       by_flag false = EachGives-exist (Message es options) (Message-exist es options) files
 
   -- what is told of files at which a run does not stop is a beginning of the messages
-  pub Messages-front : (front rest : List File) (told : List Text) → (Any Stops front → ⊥) → Told front told → (more : List Text) × Messages es options (front ++ rest) (told ++ more)
+  pub Messages-front : (front rest : List File) (told : List Text) → (Any (Stops es options) front → ⊥) → Told es options front told → (more : List Text) × Messages es options (front ++ rest) (told ++ more)
   Messages-front front rest told none t =
       let reached = Reached-exist es options rest in
       let more = Told-exist reached.0 in

@@ -38,7 +38,8 @@ module _ {W : Type 0} (contents : W → Option Text) (failures : W → ℕ) wher
 
 -- ---- rows
 
-or_tells : {P Q : Type 0} (a b : Bool) → Decides a P → Decides b Q → {S : Type 0} → (P → S) → (Q → S) → (S → (P → ⊥) → (Q → ⊥) → ⊥) → Decides (a || b) S
+-- the verdict on one of two
+pub or_tells : {P Q : Type 0} (a b : Bool) → Decides a P → Decides b Q → {S : Type 0} → (P → S) → (Q → S) → (S → (P → ⊥) → (Q → ⊥) → ⊥) → Decides (a || b) S
 or_tells true b p q f g none = ((λ _. f (p.0 refl)), (λ _. refl))
 or_tells false true p q f g none = ((λ _. g (q.0 refl)), (λ _. refl))
 or_tells false false p q f g none =

@@ -5,11 +5,10 @@ use Rattle.re_syntax.proofs.Decisions.{Any-first, Any-later}
 use Rattle.grep_core.specs.declared.options.Options.{Options}
 use Rattle.grep_core.specs.Counted.{one_more}
 use Rattle.grep_core.specs.Choose.{IfHolds}
-use Rattle.grep_core.specs.Messages.{FaultMet}
+use Rattle.grep_core.specs.Messages.{FaultMet, Stops}
 use Rattle.grep_core.specs.Reading.{Source, Reading, file_of, failures_of}
 use Rattle.grep_core.specs.Run.{files_of, AreReadings, FailuresMet, count_more}
 use Rattle.grep_core.proofs.Decided.{dec_stops, dec_fault_met}
-use Rattle.grep_core.proofs.MessageLaws.{Stops}
 
 -- readings of some sources, and of others behind them
 pub AreReadings-append : (xs ys : List Source) (rs ss : List Reading) → AreReadings xs rs → AreReadings ys ss → AreReadings (xs ++ ys) (rs ++ ss)

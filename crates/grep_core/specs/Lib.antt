@@ -1,10 +1,12 @@
--- what the public clauses cite of the crate below
+-- what the public clauses cite of the crates below
 pub use Rattle.re_syntax.specs.Bytes
 pub use Rattle.re_syntax.specs.Expression
 pub use Rattle.re_syntax.specs.Holds
 pub use Rattle.re_syntax.specs.Parts
 pub use Rattle.re_syntax.specs.Lines
 pub use Rattle.re_syntax.specs.Spelled
+pub use Rattle.re_auto.specs.Meters
+pub use Rattle.re_search.specs.Searching
 pub mod Counted
 pub mod Limited
 pub mod LineReader
@@ -18,6 +20,11 @@ pub mod Output
 pub mod Messages
 pub mod Reading
 pub mod Run
+pub mod Sources
 pub mod Pass
+pub mod Wanted
+pub mod OneLine
+pub mod Searched
+pub mod Cost
 pub mod Buffer
 pub mod Laws

@@ -30,15 +30,23 @@ module _ (es : List Expression) (options : Options) where
   abbrev pub FaultMet : File → Type 0
   FaultMet file = FaultMetBy file.ending file
 
+  -- a run stops at the file
+  abbrev pub Stops : File → Type 0
+  Stops file = IsTrue options.quiet × HasSelected es options file
+
   -- the files up to the one at which `-q` stops, or all
   abbrev pub Reached : List File → List File → Type 0
   Reached [] reached = reached ≡ []
   Reached (file ∷ files) reached =
       (rest : List File) × (reached ≡ file ∷ rest)
-      × IfHolds (IsTrue options.quiet × HasSelected es options file) (rest ≡ []) (Reached files rest)
+      × IfHolds (Stops file) (rest ≡ []) (Reached files rest)
 
   abbrev pub Message : File → List Text → Type 0
   Message file told = IfHolds (FaultMet file) (told ≡ message file.ending file.name) (told ≡ [])
+
+  -- what is told of files that are all reached, and nothing under `-s`
+  abbrev pub Told : List File → List Text → Type 0
+  Told files told = MatchBool options.no_messages (told ≡ []) (EachGives Message files told)
 
   -- one message for each file that is reached and whose fault is met, and none under `-s`
   abbrev pub Messages : List File → List Text → Type 0

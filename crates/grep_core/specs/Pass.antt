@@ -1,5 +1,5 @@
 -- A pass over the lines of a reader, from its first line on: which lines were handed out, and what was written for them.
-use Rattle.std.specs.Prelude.{◌≡◌, ℕ, Bool, IsTrue, ◌↔◌, List, ◌++◌, All, Any, Option}
+use Rattle.std.specs.Prelude.{◌≡◌, ℕ, Bool, IsTrue, ◌↔◌, ◌⊎◌, List, ◌++◌, All, Any, Option}
 use Rattle.std.specs.Io.KnownBytes.{Consumes, IsAtEnd}
 use Rattle.re_syntax.specs.Bytes.{Text}
 use Rattle.re_syntax.specs.Expression.{Expression}
@@ -8,7 +8,7 @@ use Rattle.grep_core.specs.declared.lines.Stage.{Stage}
 use Rattle.grep_core.specs.declared.lines.Stage.TheVariants.{Open, Ended, Failed}
 use Rattle.grep_core.specs.declared.options.Options.{Options}
 use Rattle.grep_core.specs.LineReader.{LineReader, to_come}
-use Rattle.grep_core.specs.Files.{File, Ending, whole, Selected}
+use Rattle.grep_core.specs.Files.{File, Ending, whole, broken, Selected}
 use Rattle.grep_core.specs.Reading.{Reading, IsReadingOf, open_source, file_of, failures_of}
 use Rattle.grep_core.specs.Output.{RowsOf}
 use Rattle.grep_core.specs.Run.{Writer, TakesAll, TakesFront, count_more}
@@ -42,6 +42,7 @@ pub record BeginsWith (name : Text) (known : Option Text) (lines : List Text) : 
   pub more : List Text
   pub named : (file_of name reading).name ≡ name
   pub has_lines : (file_of name reading).lines ≡ lines ++ more
+  pub ends : ((file_of name reading).ending ≡ whole) ⊎ ((file_of name reading).ending ≡ broken)
 
 -- a file that has these lines so far
 abbrev pub file_so_far : Text → List Text → File

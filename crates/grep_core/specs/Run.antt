@@ -5,6 +5,7 @@ use Rattle.std.specs.Io.KnownBytes.{Appends}
 use Rattle.re_syntax.specs.declared.syntax.Syntax.{Syntax}
 use Rattle.re_syntax.specs.Bytes.{Text}
 use Rattle.re_syntax.specs.Expression.{Expression}
+use Rattle.re_auto.specs.Meters.{Steps}
 use Rattle.grep_core.specs.declared.options.Options.{Options}
 use Rattle.grep_core.specs.declared.status.Status.{Status}
 use Rattle.grep_core.specs.declared.status.RunFault.{RunFault}
@@ -15,6 +16,7 @@ use Rattle.grep_core.specs.Files.{File, whole, missing, HasSelected, AreMeant}
 use Rattle.grep_core.specs.Output.{Form, parts, lines, form, OutAs, Out, are_many, written}
 use Rattle.grep_core.specs.Messages.{FaultMet, Messages, StatusOf}
 use Rattle.grep_core.specs.Reading.{Source, Reading, IsReadingOf, file_of, failures_of}
+use Rattle.grep_core.specs.Cost.{SearchesFiles}
 
 -- ---- devices
 
@@ -26,11 +28,12 @@ pub record Writer : Type 0 where
 abbrev pub writer : {W : Type 0} → (W → Option Text) → (W → ℕ) → W → Writer
 writer contents failures w = record { contents = contents w; failures = failures w }
 
--- standard output, standard error, and how often a source could not be opened or read
+-- standard output, standard error, how often a source could not be opened or read, and the steps that were counted
 pub record Devices : Type 0 where
   pub out : Writer
   pub messages : Writer
   pub source_failures : ℕ
+  pub steps : Steps
 
 -- so many more failures, by a count that stays at the greatest u64
 abbrev pub count_more : ℕ → ℕ → ℕ
@@ -86,7 +89,7 @@ first_lines n file = record { name = file.name; lines = take n file.lines; endin
 abbrev pub file_at : List File → ℕ → File
 file_at files k = get_or files k (record { name = []; lines = []; ending = missing })
 
--- ---- runs
+-- ---- runs; the steps of each are no more than the search of the files costs
 
 module _ (es : List Expression) (options : Options) (sources : List Source) (old new : Devices) where
   -- a whole run: output, messages and status are those of the files for which the sources stand
@@ -103,6 +106,7 @@ module _ (es : List Expression) (options : Options) (sources : List Source) (old
     pub failures : ℕ
     pub are_failures : FailuresMet es options sources readings failures
     pub counted : new.source_failures ≡ count_more old.source_failures failures
+    pub steps : SearchesFiles es options (length es) (files_of sources readings) old.steps new.steps
 
   -- a run that a failed write ended: what went out are beginnings of the output and of the messages
   pub record BreaksOff : Type 0 where
@@ -114,6 +118,7 @@ module _ (es : List Expression) (options : Options) (sources : List Source) (old
     pub are_messages : Messages es options (files_of sources readings) messages
     pub wrote : TakesFront old.out new.out output
     pub told : TakesFront old.messages new.messages messages
+    pub steps : SearchesFiles es options (length es) (files_of sources readings) old.steps new.steps
 
   -- a run that want of memory ended behind the first n lines of source k: output and messages are those of the
   -- sources before it, and the rows of these lines follow
@@ -130,6 +135,7 @@ module _ (es : List Expression) (options : Options) (sources : List Source) (old
     pub are_messages : Messages es options (take k (files_of sources readings)) messages
     pub wrote : TakesAll old.out new.out (before ++ rows)
     pub told : TakesAll old.messages new.messages messages
+    pub steps : SearchesFiles es options (length es) (files_of sources readings) old.steps new.steps
 
   -- what a run answers: a fault of a write exactly where a write failed
   abbrev pub RunGives : Result Status RunFault → Type 0

@@ -4,25 +4,35 @@
 
 mod buffered;
 mod counted;
+mod counts;
 mod laws;
 mod limited;
 mod lines;
+mod matching;
 mod messages;
+mod one_line;
 mod options;
 mod pushing;
 mod rows;
+mod run;
+mod search;
+mod sources;
 mod status;
+mod wanted;
 mod window;
 
 pub use buffered::Buffered;
 pub use counted::{CountedRead, CountedWrite, Tally};
+pub use counts::{write_count, write_name};
 pub use laws::{has_one_answer, means_one};
 pub use limited::Limited;
 pub use lines::{Lines, ReadFault, Stage};
-pub use messages::write_read_error;
+pub use messages::{write_cannot_open, write_read_error};
 pub use options::{Flag, Options};
 pub use pushing::{WriteFault, push_all};
 pub use rows::{write_line, write_row};
+pub use run::search_all;
+pub use sources::Sources;
 pub use status::{RunFault, Status};
 
 #[cfg(test)]

@@ -10,8 +10,9 @@ use crate::counted::CountedWrite;
 use crate::pushing::{WriteFault, push_all};
 use itoa::Buffer;
 
+/// Writes the name and a colon, where there is a name.
 #[tactic(auto, using(crate::proofs::RowLemmas::writing))]
-fn write_prefix<W: CountedWrite>(out: &mut W, name: Option<&[u8]>) -> Result<(), WriteFault>
+pub fn write_prefix<W: CountedWrite>(out: &mut W, name: Option<&[u8]>) -> Result<(), WriteFault>
     ensures { Writes W.contents W.failures out.old out.new (prefix (option_copied name.entry)) result }
 {
     let Some(name) = name else {
@@ -21,7 +22,8 @@ fn write_prefix<W: CountedWrite>(out: &mut W, name: Option<&[u8]>) -> Result<(),
     push_all(out, b":")
 }
 
-fn write_decimal<W: CountedWrite>(out: &mut W, number: u64) -> Result<(), WriteFault>
+/// Writes the number in decimal.
+pub fn write_decimal<W: CountedWrite>(out: &mut W, number: u64) -> Result<(), WriteFault>
     ensures { Writes W.contents W.failures out.old out.new (decimal number) result }
 {
     push_all(out, Buffer::new().format(number).as_bytes())

@@ -41,6 +41,20 @@ fn rows_go_through_the_buffer(rt: HostRuntime) -> Result<(), Fail> {
 }
 
 #[test]
+fn counts_names_and_messages_are_lines(rt: HostRuntime) -> Result<(), Fail> {
+    let mut out = Tally::new(Vec::new(rt.alloc()));
+    assert_eq!(rt; write_count(&mut out, b"  ", Some(b"a.txt"), 12), Ok(()));
+    assert_eq!(rt; write_count(&mut out, b"", None, 0), Ok(()));
+    assert_eq!(rt; write_name(&mut out, b"> ", b"a.txt"), Ok(()));
+    assert_eq!(rt; write_cannot_open(&mut out, b"b.txt"), Ok(()));
+    assert_eq!(rt; write_read_error(&mut out, b"c"), Ok(()));
+    let bytes = out.into_inner();
+    let want = b"  a.txt:12\n0\n> a.txt\ngrep: b.txt: cannot open\ngrep: c: read error\n";
+    assert_eq!(rt; bytes.as_slice(), want.as_slice());
+    Ok(())
+}
+
+#[test]
 fn a_failed_flush_keeps_a_beginning(rt: HostRuntime) -> Result<(), Fail> {
     let device = Tally::new(Limited::new(Vec::new(rt.alloc()), 3, 7));
     let mut out = Buffered::new(rt.alloc(), device)?;

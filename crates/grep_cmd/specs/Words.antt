@@ -1,0 +1,223 @@
+-- The words of a command (XBD 12.2, Guidelines 3 to 7, 10, 11 and 13; XCU grep, OPTIONS and OPERANDS). An option behind an operand is
+-- still an option, as GNU grep has it; Guideline 9 has all options before the operands.
+use Rattle.std.specs.Prelude.{◌≡◌, ℕ, nat_eq, Bool, true, false, if◌then◌else◌, List, [], ◌∷◌, ◌++◌, map, codes, bytes_eq, Option, Some, None, Result, Ok, Err, String}
+use Rattle.std.specs.Str.{byte, chars, encode_utf8_all}
+use Rattle.std.specs.String.{string_bytes}
+use Rattle.re_syntax.specs.Bytes.{Text}
+use Rattle.re_syntax.specs.declared.syntax.Syntax.{Syntax}
+use Rattle.re_syntax.specs.declared.syntax.Syntax.TheVariants.{Basic, Extended, Fixed}
+use Rattle.grep_core.specs.declared.options.Options.{Options}
+use Rattle.grep_core.specs.declared.options.Flag.{Flag}
+use Rattle.grep_core.specs.declared.options.Flag.TheVariants.{Count, IgnoreCase, FilesWithMatches, LineNumber, OnlyMatching, Quiet, NoMessages, InvertMatch, LineRegexp}
+use Rattle.grep_cmd.specs.declared.words.UsageFault.{UsageFault}
+use Rattle.grep_cmd.specs.declared.words.UsageFault.TheVariants.{UnknownOption, MissingArgument, TwoSyntaxes, NoPattern, Memory}
+use Rattle.grep_cmd.specs.declared.words.PatternSource.{PatternSource}
+use Rattle.grep_cmd.specs.declared.words.PatternSource.TheVariants as given
+use Rattle.grep_cmd.specs.declared.words.Request.{Request}
+use Rattle.grep_cmd.specs.declared.words.pieces.Argument.{Argument}
+use Rattle.grep_cmd.specs.declared.words.pieces.Argument.TheVariants as argument
+use Rattle.grep_cmd.specs.declared.words.pieces.Meaning.{Meaning}
+use Rattle.grep_cmd.specs.declared.words.pieces.Meaning.TheVariants as meaning
+
+-- a pattern list, or the name of a pattern file
+pub data Source : Type 0 where
+  list : Text → Source
+  file : Text → Source
+
+-- what a request asks for
+pub record Asked : Type 0 where
+  pub syntax : Syntax
+  pub options : Options
+  pub sources : List Source
+  pub files : List Text
+
+-- an option with its argument, an operand, or a fault
+pub data Piece : Type 0 where
+  flag : Flag → Piece
+  reads_as : Syntax → Piece
+  source : Source → Piece
+  operand : Text → Piece
+  fault : UsageFault → Piece
+
+-- an option's argument as a source of patterns
+abbrev pub source_of : Argument → Text → Source
+source_of argument.List text = list text
+source_of argument.File text = file text
+
+-- what a character means as an option (XCU grep, OPTIONS; `o` after the GNU manual)
+unfoldable pub meaning_of : ℕ → Option Meaning
+meaning_of c =
+    if nat_eq c (byte "E") then Some (meaning.Syntax Extended) else
+    if nat_eq c (byte "F") then Some (meaning.Syntax Fixed) else
+    if nat_eq c (byte "c") then Some (meaning.Flag Count) else
+    if nat_eq c (byte "e") then Some (meaning.Takes argument.List) else
+    if nat_eq c (byte "f") then Some (meaning.Takes argument.File) else
+    if nat_eq c (byte "i") then Some (meaning.Flag IgnoreCase) else
+    if nat_eq c (byte "l") then Some (meaning.Flag FilesWithMatches) else
+    if nat_eq c (byte "n") then Some (meaning.Flag LineNumber) else
+    if nat_eq c (byte "o") then Some (meaning.Flag OnlyMatching) else
+    if nat_eq c (byte "q") then Some (meaning.Flag Quiet) else
+    if nat_eq c (byte "s") then Some (meaning.Flag NoMessages) else
+    if nat_eq c (byte "v") then Some (meaning.Flag InvertMatch) else
+    if nat_eq c (byte "x") then Some (meaning.Flag LineRegexp) else None
+
+-- what a word is: `--` ends the options (Guideline 10), a hyphen and more is a group of options (4 and 5), and `-` is an operand (13)
+pub data Word : Type 0 where
+  an_operand : Word
+  ends_options : Word
+  a_group : List ℕ → Word
+
+abbrev pub by_characters : List ℕ → Word
+by_characters [] = an_operand
+by_characters (c ∷ []) = an_operand
+by_characters (c ∷ d ∷ cs) = if nat_eq c (byte "-") then a_group (d ∷ cs) else an_operand
+
+unfoldable pub word_of : Text → Word
+word_of word = if bytes_eq word (codes "--") then ends_options else by_characters (chars word)
+
+-- an option whose argument is still to come, by its character
+pub record Wanting : Type 0 where
+  pub letter : ℕ
+  pub argument : Argument
+
+-- the options of a group and the pieces behind it. The argument of an option is the rest of the group or, where there is none, the next word
+-- (Guidelines 6 and 7)
+module _ (behind : Option Wanting → List Piece) where
+  abbrev pub group : List ℕ → List Piece
+  group [] = behind None
+  group (c ∷ cs) = elim (meaning_of c) [
+    | Some (meaning.Flag f) ↦ flag f ∷ group cs
+    | Some (meaning.Syntax s) ↦ reads_as s ∷ group cs
+    | Some (meaning.Takes a) ↦ elim cs [
+      | [] ↦ behind (Some (record { letter = c; argument = a }))
+      | d ∷ ds ↦ source (source_of a (encode_utf8_all (d ∷ ds))) ∷ behind None
+    ]
+    | None ↦ fault (UnknownOption c) ∷ group cs
+  ]
+
+-- the pieces of words, where an option before them may want the first as its argument
+abbrev pub pieces : List Text → Option Wanting → List Piece
+pieces [] None = []
+pieces [] (Some w) = fault (MissingArgument w.letter) ∷ []
+pieces (word ∷ words) (Some w) = source (source_of w.argument word) ∷ pieces words None
+pieces (word ∷ words) None = elim (word_of word) [
+  | an_operand ↦ operand word ∷ pieces words None
+  | ends_options ↦ map operand words
+  | a_group cs ↦ group (pieces words) cs
+]
+
+-- neither of `-E` and `-F` follows the other (XCU grep, SYNOPSIS)
+abbrev pub may_follow : Syntax → Syntax → Bool
+may_follow Extended Fixed = false
+may_follow Fixed Extended = false
+may_follow _ _ = true
+
+-- the first fault of pieces behind this syntax
+abbrev pub first_fault : Syntax → List Piece → Option UsageFault
+first_fault before [] = None
+first_fault before (fault f ∷ ps) = Some f
+first_fault before (reads_as s ∷ ps) = if may_follow before s then first_fault s ps else Some TwoSyntaxes
+first_fault before (_ ∷ ps) = first_fault before ps
+
+-- the syntax that pieces leave, where this one was asked for before them
+abbrev pub syntax_behind : Syntax → List Piece → Syntax
+syntax_behind before [] = before
+syntax_behind before (reads_as s ∷ ps) = syntax_behind s ps
+syntax_behind before (_ ∷ ps) = syntax_behind before ps
+
+abbrev pub with_flag : Flag → Options → Options
+with_flag Count options = record options { count = true }
+with_flag IgnoreCase options = record options { ignore_case = true }
+with_flag FilesWithMatches options = record options { files_with_matches = true }
+with_flag LineNumber options = record options { line_number = true }
+with_flag OnlyMatching options = record options { only_matching = true }
+with_flag Quiet options = record options { quiet = true }
+with_flag NoMessages options = record options { no_messages = true }
+with_flag InvertMatch options = record options { invert_match = true }
+with_flag LineRegexp options = record options { line_regexp = true }
+
+-- the options that pieces set beside those that were set before
+abbrev pub options_behind : Options → List Piece → Options
+options_behind before [] = before
+options_behind before (flag f ∷ ps) = options_behind (with_flag f before) ps
+options_behind before (_ ∷ ps) = options_behind before ps
+
+abbrev pub sources_of : List Piece → List Source
+sources_of [] = []
+sources_of (source s ∷ ps) = s ∷ sources_of ps
+sources_of (_ ∷ ps) = sources_of ps
+
+abbrev pub operands_of : List Piece → List Text
+operands_of [] = []
+operands_of (operand text ∷ ps) = text ∷ operands_of ps
+operands_of (_ ∷ ps) = operands_of ps
+
+-- a request with the pieces behind it
+abbrev pub with_pieces : Asked → List Piece → Asked
+with_pieces before ps = record {
+  syntax = syntax_behind before.syntax ps;
+  options = options_behind before.options ps;
+  sources = before.sources ++ sources_of ps;
+  files = before.files ++ operands_of ps;
+}
+
+-- without `-e` and `-f` the first operand is the pattern list (XCU grep, OPERANDS)
+abbrev pub with_patterns : Asked → List Source → List Text → Result Asked UsageFault
+with_patterns a (_ ∷ _) _ = Ok a
+with_patterns a [] (text ∷ files) = Ok (record a { sources = list text ∷ []; files = files })
+with_patterns a [] [] = Err NoPattern
+
+abbrev pub completed : Asked → Result Asked UsageFault
+completed a = with_patterns a a.sources a.files
+
+-- the first fault of the pieces, or what the request and they ask for
+abbrev pub reads_on : Asked → List Piece → Result Asked UsageFault
+reads_on before ps = elim (first_fault before.syntax ps) [ Some f ↦ Err f | None ↦ completed (with_pieces before ps) ]
+
+abbrev pub nothing_asked : Asked
+nothing_asked = record {
+  syntax = Basic;
+  options = record {
+    count = false;
+    ignore_case = false;
+    files_with_matches = false;
+    line_number = false;
+    only_matching = false;
+    quiet = false;
+    no_messages = false;
+    invert_match = false;
+    line_regexp = false;
+  };
+  sources = [];
+  files = [];
+}
+
+-- what words ask for, or their first fault
+abbrev pub read : List Text → Result Asked UsageFault
+read words = reads_on nothing_asked (pieces words None)
+
+abbrev pub given_source : PatternSource → Source
+given_source (given.List text) = list (string_bytes text)
+given_source (given.File name) = file (string_bytes name)
+
+abbrev pub texts_of : {Z : Type 0} → List (String Z) → List Text
+texts_of words = map string_bytes words
+
+-- a request by its texts
+abbrev pub asked : Request → Asked
+asked request = record {
+  syntax = request.syntax;
+  options = request.options;
+  sources = map given_source request.sources.items;
+  files = texts_of request.files.items;
+}
+
+-- memory was wanted, or else this holds
+abbrev pub OrMemory : UsageFault → Type 0 → Type 0
+OrMemory Memory P = Unit {0}
+OrMemory _ P = P
+
+-- a request is what its words ask for, and a fault is theirs or want of memory
+abbrev pub AreRead : List Text → Result Request UsageFault → Type 0
+AreRead words (Ok request) = read words ≡ Ok (asked request)
+AreRead words (Err f) = OrMemory f (read words ≡ Err f)

@@ -1,0 +1,16 @@
+-- The sources of a run, each opened once and read from front to back.
+use Rattle.std.specs.Prelude.{◌≡◌, ℕ, true, false, List, [], get_or, Option, None, MatchOption, IfSome}
+use Rattle.re_syntax.specs.Bytes.{Text}
+use Rattle.grep_core.specs.Counted.{one_more}
+use Rattle.grep_core.specs.Reading.{Source}
+
+-- source k, which is there
+abbrev pub source_at : List Source → ℕ → Source
+source_at sources k = get_or sources k (record { name = []; opens = None; bytes = None })
+
+-- what an attempt to open a source answers, where so many failures of sources were counted before and after it: no
+-- reader is one more failure; a reader gives the source's bytes from the first on, and nothing of it has failed
+abbrev pub Opens : {R : Type 0} → (R → Option Text) → (R → ℕ) → Source → ℕ → ℕ → Option R → Type 0
+Opens remaining failures source before after answer =
+    MatchOption answer (IfSome source.opens (λ b. b ≡ false) × (after ≡ one_more before))
+    (λ reader. IfSome source.opens (λ b. b ≡ true) × (remaining reader ≡ source.bytes) × (failures reader ≡ 0) × (after ≡ before))

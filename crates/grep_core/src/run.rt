@@ -1,0 +1,203 @@
+//! The one pass over all sources.
+ghost use Rattle.std.specs.Prelude.{◌≡◌, ◌<◌, map, length, IfOk, OnErr};
+ghost use Rattle.re_search.specs.Searching.{AllAnswer};
+ghost use Rattle.grep_core.specs.Counted.{one_more};
+ghost use Rattle.grep_core.specs.Output.{form};
+ghost use Rattle.grep_core.specs.Run.{writer, TakesAll, TakesFront, RunGives};
+ghost use Rattle.grep_core.specs.Sources.{source_at};
+ghost use Rattle.grep_core.specs.Searched.{summary_as, told_of, status_by, SourceGives};
+
+use crate::counted::CountedWrite;
+use crate::counts::{write_count, write_name};
+use crate::messages::{write_cannot_open, write_read_error};
+use crate::options::Options;
+use crate::pushing::WriteFault;
+use crate::search::{FileEnd, FileFound, SearchFault, search_source};
+use crate::sources::Sources;
+use crate::status::{RunFault, Status};
+use crate::wanted::{Form, Wanted};
+use re_search::{LineMatch, Meter};
+use std::alloc::Global;
+
+/// Writes what comes behind the rows of a file's lines: under `-l` the file's name, where a line
+/// is selected, and under `-c` the number of its selected lines, where it could be opened.
+fn write_summary<W: CountedWrite>(
+    wanted: &Wanted,
+    found: FileFound,
+    out: &mut W,
+) -> Result<(), WriteFault>
+    ensures ok { IfOk result (λ _. TakesAll (writer W.contents W.failures out.old) (writer W.contents W.failures out.new)
+        (summary_as (form wanted.now.options) wanted.now.many wanted.now.name.now found.end found.selected)) }
+    ensures err { OnErr result (TakesFront (writer W.contents W.failures out.old) (writer W.contents W.failures out.new)
+        (summary_as (form wanted.now.options) wanted.now.many wanted.now.name.now found.end found.selected)) }
+    ensures counted { OnErr result (W.failures out.new ≡ one_more (W.failures out.old)) }
+{
+    match wanted.options.form() {
+        Form::Names => {
+            if found.has_selected() {
+                return write_name(out, b"", wanted.name);
+            }
+            Ok(())
+        }
+        Form::Counts => {
+            if found.end.is_missing() {
+                return Ok(());
+            }
+            write_count(out, b"", wanted.shown_name(), found.selected)
+        }
+        Form::Nothing => Ok(()),
+        Form::Parts => Ok(()),
+        Form::Lines => Ok(()),
+    }
+}
+
+/// Writes the message on a file that could not be opened or read, and none under `-s`.
+fn tell_fault<N: CountedWrite>(
+    wanted: &Wanted,
+    end: FileEnd,
+    messages: &mut N,
+) -> Result<(), WriteFault>
+    ensures ok { IfOk result (λ _. TakesAll (writer N.contents N.failures messages.old) (writer N.contents N.failures messages.new)
+        (told_of wanted.now.options.no_messages end wanted.now.name.now)) }
+    ensures err { OnErr result (TakesFront (writer N.contents N.failures messages.old) (writer N.contents N.failures messages.new)
+        (told_of wanted.now.options.no_messages end wanted.now.name.now)) }
+    ensures counted { OnErr result (N.failures messages.new ≡ one_more (N.failures messages.old)) }
+{
+    if wanted.options.no_messages {
+        return Ok(());
+    }
+    match end {
+        FileEnd::Missing => write_cannot_open(messages, wanted.name),
+        FileEnd::Broken => write_read_error(messages, wanted.name),
+        FileEnd::Whole => Ok(()),
+        FileEnd::Left => Ok(()),
+    }
+}
+
+/// Writes the output and the message for one source.
+fn run_source<S: Sources, M: LineMatch, W: CountedWrite, N: CountedWrite>(
+    alloc: Global,
+    sources: &mut S,
+    k: usize,
+    matchers: &mut [M],
+    options: Options,
+    many: bool,
+    out: &mut W,
+    messages: &mut N,
+    meter: &mut Meter,
+) -> Result<FileFound, RunFault>
+    requires place { k < length (S.listed sources.old) }
+    requires whole { AllAnswer options.line_regexp (map M.whole matchers.old) }
+    ensures listed { S.listed sources.new ≡ S.listed sources.old }
+    ensures given { SourceGives (map M.expression matchers.old) options many (source_at (S.listed sources.old) k) k
+        record {
+          out = writer W.contents W.failures out.old;
+          messages = writer N.contents N.failures messages.old;
+          source_failures = S.failures sources.old;
+          steps = meter.old;
+        }
+        record {
+          out = writer W.contents W.failures out.new;
+          messages = writer N.contents N.failures messages.new;
+          source_failures = S.failures sources.new;
+          steps = meter.new;
+        }
+        result }
+    ensures same_expressions { map M.expression matchers.new ≡ map M.expression matchers.old }
+    ensures same_wholes { map M.whole matchers.new ≡ map M.whole matchers.old }
+{
+    let found = match search_source(alloc, sources, k, matchers, options, many, out, meter) {
+        Ok(found) => found,
+        Err(SearchFault::Write) => return Err(RunFault::Write),
+        Err(SearchFault::Memory(lines)) => return Err(RunFault::Memory { source: k, lines }),
+    };
+    let wanted = Wanted {
+        options,
+        many,
+        name: sources.name(k),
+    };
+    match write_summary(&wanted, found, out) {
+        Ok(()) => {}
+        Err(WriteFault) => return Err(RunFault::Write),
+    }
+    match tell_fault(&wanted, found.end, messages) {
+        Ok(()) => Ok(found),
+        Err(WriteFault) => Err(RunFault::MessageWrite),
+    }
+}
+
+// The status of a run that did not stop on its way.
+fn status_of(some: bool, faulty: bool) -> Status
+    ensures { result ≡ status_by some faulty }
+{
+    if faulty {
+        return Status::Error;
+    }
+    if some {
+        return Status::Selected;
+    }
+    Status::NoneSelected
+}
+
+/// One pass over all sources, in order, each opened at most once and read once from front to back
+/// (XCU grep): what is written are the output and the messages that grep's definition gives for
+/// the files for which the sources stand, and the answer is its status. Every reader is given
+/// back. The matchers are those of the patterns, and `-i` is theirs to heed.
+///
+/// Under `-q` nothing is read behind the first selected line, and under `-l` a source is left
+/// there; what is left unread may be anything that agrees with what is known of the source. A
+/// source of more than `u64::MAX` lines is broken behind that line.
+///
+/// The steps that the meter counts are at most those of one search of each line by each matcher,
+/// and where parts are written, of one more for each part of the line and one for its end.
+///
+/// `RunFault::Write` and `RunFault::MessageWrite` come where a write fails, and what went out are
+/// beginnings of the output and of the messages. `RunFault::Memory` comes where a growth is
+/// refused: what went out are the output and the messages for the sources before that one, and the
+/// rows of its first lines. No failed read, open or write is tried again.
+pub fn search_all<S: Sources, M: LineMatch, W: CountedWrite, N: CountedWrite>(
+    alloc: Global,
+    sources: &mut S,
+    matchers: &mut [M],
+    options: &Options,
+    out: &mut W,
+    messages: &mut N,
+    meter: &mut Meter,
+) -> Result<Status, RunFault>
+    requires { AllAnswer options.now.line_regexp (map M.whole matchers.old) }
+    ensures run { RunGives (map M.expression matchers.old) options.now (S.listed sources.old)
+        record {
+          out = writer W.contents W.failures out.old;
+          messages = writer N.contents N.failures messages.old;
+          source_failures = S.failures sources.old;
+          steps = meter.old;
+        }
+        record {
+          out = writer W.contents W.failures out.new;
+          messages = writer N.contents N.failures messages.new;
+          source_failures = S.failures sources.new;
+          steps = meter.new;
+        }
+        result }
+    ensures same_expressions { map M.expression matchers.new ≡ map M.expression matchers.old }
+    ensures same_wholes { map M.whole matchers.new ≡ map M.whole matchers.old }
+{
+    let count = sources.count();
+    let many = count >= 2;
+    let mut some = false;
+    let mut faulty = false;
+    for k in 0..count {
+        let found = match run_source(
+            alloc, sources, k, matchers, *options, many, out, messages, meter,
+        ) {
+            Ok(found) => found,
+            Err(fault) => return Err(fault),
+        };
+        if options.quiet & found.has_selected() {
+            return Ok(Status::Selected);
+        }
+        some |= found.has_selected();
+        faulty |= found.end.is_fault();
+    }
+    Ok(status_of(some, faulty))
+}
