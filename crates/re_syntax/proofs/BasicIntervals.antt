@@ -67,7 +67,7 @@ no_interval {text} {at} {inside} s no_form = record {
 shown_disallowed : (before : Text) {kind : FaultKind} {t : Text} {least : ℕ} {most : Option ℕ} → OpensDisallowed (codes "\\{") (codes "\\}") kind t → IsDisallowed kind least most → ShowsBasicFault kind before t
 shown_disallowed before o (least_too_large h) = o
 shown_disallowed before o (most_too_large h) = o
-shown_disallowed before o (descending h) = inr o
+shown_disallowed before o (descending h small) = inr o
 
 -- one where the interval's counts are refused
 pub bad_interval : {text : Text} {at inside behind : ℕ} {counts : Counts} {kind : FaultKind} → IsAfter (codes "\\{") text at inside →

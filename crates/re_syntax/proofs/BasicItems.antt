@@ -1,5 +1,5 @@
 -- Items of basic expressions, from their atoms and what follows them.
-use Rattle.std.proofs.Common.{◌≡◌, ◌≢◌, ℕ, suc, ◌<◌, ◌≤◌, inl, inr, max, List, ◌∷◌, ◌++◌, length, drop, Option, codes, refl, sym, ap, ◌∙◌, subst, arith, append_assoc, length-append, length-drop}
+use Rattle.std.proofs.Common.{◌≡◌, ◌≢◌, ℕ, suc, ◌<◌, ◌≤◌, inr, max, List, ◌∷◌, ◌++◌, length, drop, Option, refl, sym, ap, ◌∙◌, subst, arith, append_assoc, length-append, length-drop}
 use Rattle.re_syntax.specs.declared.pieces.Piece.{Piece}
 use Rattle.re_syntax.specs.declared.pieces.Pieces.{Pieces}
 use Rattle.re_syntax.specs.declared.interval.Counts.{Counts}
@@ -89,11 +89,8 @@ too_deep levels text at piece counts behind h e d p b = record {
 
 -- which shows at the duplication
 pub shown_deep : (text : Text) (at : ℕ) (counts : Counts) (behind : ℕ) → DuplicationStands text at counts behind → IsShownIn text (record { kind = TooDeep; at = at })
-shown_deep text at counts behind d = go d.duplication d.front
-  where
-    go : {bytes : Text} {least : ℕ} {most : Option ℕ} → Duplication bytes least most → drop at text ≡ bytes ++ drop behind text → IsShownIn text (record { kind = TooDeep; at = at })
-    go star e = inr (inl (drop behind text, e))
-    go (interval {t = t} form allowed) e = inr (inr ((t ++ codes "\\}") ++ drop behind text, e))
+shown_deep text at counts behind d =
+    inr (record { bytes = d.bytes; rest = drop behind text; least = counts.least; most = counts.most; duplication = d.duplication; whole = d.front })
 
 -- behind an item no items begin with an interval's opening
 later_not_interval : {h : ℕ} {t u : Text} {es : List Expression} → Items Later h t u es → (w : Text) → t ≡ 92 ∷ 123 ∷ w → IsAtEnd u → ⊥

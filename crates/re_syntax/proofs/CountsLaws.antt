@@ -24,11 +24,11 @@ pub disallowed_too : {kind : FaultKind} {a : ℕ} {x : Option ℕ} → IsDisallo
 disallowed_too (least_too_large h) l m e f = least_too_large (omega arith)
 disallowed_too (most_too_large h) l None e f = cc
 disallowed_too (most_too_large {top = k} h) l (Some n) e f = let same : k ≡ capped n = cc in most_too_large (omega arith)
-disallowed_too (descending h) l None e f = cc
-disallowed_too (descending {top = k} h) l (Some n) e f = let same : k ≡ capped n = cc in descending (omega arith)
+disallowed_too (descending h small) l None e f = cc
+disallowed_too (descending {top = k} h small) l (Some n) e f = let same : k ≡ capped n = cc in descending (omega arith) (omega arith)
 
 -- counts that are refused are not allowed
 pub not_allowed : {kind : FaultKind} {least : ℕ} {most : Option ℕ} → IsDisallowed kind least most → IsAllowed least most → ⊥
 not_allowed (least_too_large h) a = absurd (omega (arith, a.least_fits))
 not_allowed (most_too_large h) a = absurd (omega (arith, a.most_fits))
-not_allowed (descending h) a = absurd (omega (arith, a.ordered))
+not_allowed (descending h small) a = absurd (omega (arith, a.ordered))

@@ -105,7 +105,7 @@ shown_disallowed : (before : Text) {kind : FaultKind} {t : Text} {least : ℕ} {
     IsDisallowed kind least most → ShowsExtendedFault kind before t
 shown_disallowed before o (least_too_large h) = o
 shown_disallowed before o (most_too_large h) = o
-shown_disallowed before o (descending h) = o
+shown_disallowed before o (descending h small) = o
 
 -- an interval whose counts are refused
 pub bad_interval : {text : Text} {at inside behind : ℕ} {counts : Counts} {kind : FaultKind} → IsAfter (codes "{") text at inside →

@@ -23,6 +23,7 @@ pub mod ExtendedDuplications
 pub mod ExtendedFronts
 pub mod ExtendedUnique
 pub mod BasicIntervals
+pub mod OneByte
 pub mod Places
 pub mod BracketKinds
 pub mod EscapeLaws

@@ -6,10 +6,10 @@ use Rattle.re_syntax.specs.declared.fault.FaultKind.TheVariants.{UnclosedBracket
 use Rattle.re_syntax.specs.declared.fault.PatternFault.{PatternFault}
 use Rattle.re_syntax.specs.declared.syntax.Syntax.TheVariants.{Basic}
 use Rattle.re_syntax.specs.Bytes.{Text, Begins}
-use Rattle.re_syntax.specs.Basic.{First, Items}
+use Rattle.re_syntax.specs.Basic.{First, Duplication, Items}
 use Rattle.re_syntax.specs.EscapeFaults.{BeginsRefusedEscape}
 use Rattle.re_syntax.specs.Expression.{Expression}
-use Rattle.re_syntax.specs.Faults.{Ends, ShowsBracketFault, OpensNoBracket}
+use Rattle.re_syntax.specs.Faults.{Ends, ShowsBracketFault, BeginsDuplication, OpensNoBracket}
 use Rattle.re_syntax.specs.IntervalFaults.{OpensDisallowed}
 use Rattle.re_syntax.specs.IntervalSteps.{HasNoInterval}
 use Rattle.re_syntax.specs.Spelled.{IsSpelled}
@@ -57,7 +57,7 @@ ShowsBasicFault NothingToRepeat before t = Begins (codes "\\{") t × HasNothingT
 ShowsBasicFault TrailingBackslash before t = t ≡ codes "\\"
 ShowsBasicFault UndefinedEscape before t = BeginsRefusedEscape refused_escapes UndefinedEscape t
 ShowsBasicFault BackReference before t = BeginsRefusedEscape refused_escapes BackReference t
-ShowsBasicFault TooDeep before t = Begins (codes "\\(") t ⊎ (Begins (codes "*") t ⊎ Begins (codes "\\{") t)
+ShowsBasicFault TooDeep before t = Begins (codes "\\(") t ⊎ BeginsDuplication Duplication t
 ShowsBasicFault TooLarge before t = ⊥
 ShowsBasicFault Memory before t = ⊥
 

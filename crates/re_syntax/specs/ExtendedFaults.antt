@@ -9,7 +9,7 @@ use Rattle.re_syntax.specs.Bytes.{Text, Begins}
 use Rattle.re_syntax.specs.EscapeFaults.{BeginsRefusedEscape}
 use Rattle.re_syntax.specs.Expression.{Expression}
 use Rattle.re_syntax.specs.Extended.{Duplication, Branches}
-use Rattle.re_syntax.specs.Faults.{Ends, ShowsBracketFault, OpensNoBracket}
+use Rattle.re_syntax.specs.Faults.{Ends, ShowsBracketFault, BeginsDuplication, OpensNoBracket}
 use Rattle.re_syntax.specs.IntervalFaults.{OpensDisallowed}
 use Rattle.re_syntax.specs.Intervals.{ClosedInterval}
 use Rattle.re_syntax.specs.Spelled.{IsSpelled}
@@ -20,15 +20,6 @@ pub data OpensDuplication : Text → Type 0 where
   opens_plus : {u : Text} → OpensDuplication (codes "+" ++ u)
   opens_question : {u : Text} → OpensDuplication (codes "?" ++ u)
   opens_interval : {t u : Text} {least : ℕ} {most : Option ℕ} → ClosedInterval (codes "}") t u least most → OpensDuplication (codes "{" ++ t)
-
--- the text begins with a duplication
-pub record BeginsDuplication (t : Text) : Type 0 where
-  pub bytes : Text
-  pub rest : Text
-  pub least : ℕ
-  pub most : Option ℕ
-  pub duplication : Duplication bytes least most
-  pub whole : t ≡ bytes ++ rest
 
 -- what stands before a branch: nothing, a group's opening, or a bar
 abbrev pub IsStart : Text → Type 0
@@ -64,7 +55,7 @@ ShowsExtendedFault NothingToRepeat before t = OpensDuplication t × HasNothingTo
 ShowsExtendedFault TrailingBackslash before t = t ≡ codes "\\"
 ShowsExtendedFault UndefinedEscape before t = BeginsRefusedEscape refused_escapes UndefinedEscape t
 ShowsExtendedFault BackReference before t = BeginsRefusedEscape refused_escapes BackReference t
-ShowsExtendedFault TooDeep before t = Begins (codes "(") t ⊎ BeginsDuplication t
+ShowsExtendedFault TooDeep before t = Begins (codes "(") t ⊎ BeginsDuplication Duplication t
 ShowsExtendedFault TooLarge before t = ⊥
 ShowsExtendedFault Memory before t = ⊥
 

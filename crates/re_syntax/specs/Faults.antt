@@ -1,5 +1,5 @@
 -- Why a pattern's text is refused: what stands at the place that is told, judged by its bytes alone.
-use Rattle.std.specs.Prelude.{◌≡◌, ℕ, ◌⊎◌, ◌∷◌, ◌++◌, drop, codes}
+use Rattle.std.specs.Prelude.{◌≡◌, ℕ, ◌⊎◌, ◌∷◌, ◌++◌, Option, drop, codes}
 use Rattle.re_syntax.specs.declared.class.Class.{Class}
 use Rattle.re_syntax.specs.declared.fault.FaultKind.{FaultKind}
 use Rattle.re_syntax.specs.declared.fault.FaultKind.TheVariants.{UnclosedBracket, BadClass, BadCollatingSymbol, BadRange}
@@ -21,6 +21,15 @@ ShowsBracketFault BadCollatingSymbol t =
     (Begins (codes "[.") t × ((b : ℕ) → ¬ Begins (codes "[." ++ b ∷ codes ".]") t)) ⊎ (Begins (codes "[=") t × ((b : ℕ) → ¬ Begins (codes "[=" ++ b ∷ codes "=]") t))
 ShowsBracketFault BadRange t = Begins (codes "-") t
 ShowsBracketFault _ t = ⊥
+
+-- the text begins with a duplication of the syntax
+pub record BeginsDuplication (IsDuplication : Text → ℕ → Option ℕ → Type 0) (t : Text) : Type 0 where
+  pub bytes : Text
+  pub rest : Text
+  pub least : ℕ
+  pub most : Option ℕ
+  pub duplication : IsDuplication bytes least most
+  pub whole : t ≡ bytes ++ rest
 
 -- a `[` that begins no bracket expression
 pub record OpensNoBracket (t : Text) : Type 0 where

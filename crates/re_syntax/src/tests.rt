@@ -71,3 +71,20 @@ fn a_set_of_one_byte_has_that_byte_alone(rt: HostRuntime) {
         assert!(rt; is_byte(&Tree::Set(ByteSet::only(byte)), byte), "{byte}");
     }
 }
+
+#[test]
+fn the_byte_of_a_set_is_that_of_a_set_of_one(rt: HostRuntime) {
+    let rows: [(ByteSet, Option<u8>); 8] = [
+        (ByteSet::empty(), None),
+        (ByteSet::only(0), Some(0)),
+        (ByteSet::only(127), Some(127)),
+        (ByteSet::only(128), Some(128)),
+        (ByteSet::only(255), Some(255)),
+        (ByteSet::range(b'a', b'b'), None),
+        (ByteSet::only(0).union(ByteSet::only(128)), None),
+        (ByteSet::only(b'a').closed(), None),
+    ];
+    for (set, byte) in rows {
+        assert_eq!(rt; set.one_byte(), byte);
+    }
+}

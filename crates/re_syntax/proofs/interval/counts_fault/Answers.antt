@@ -8,4 +8,4 @@ pub returns-then-most-gt-MOST_REPEATS : goal.returns-then-most-gt-MOST_REPEATS
 returns-then-most-gt-MOST_REPEATS c = rw c.in_ok-most.was (most_too_large c.if-most-gt-MOST_REPEATS.true)
 
 pub returns-then-most-counts : goal.returns-then-most-counts
-returns-then-most-counts c = rw c.in_ok-most.was (descending c.if-most-counts.true)
+returns-then-most-counts c = rw c.in_ok-most.was (descending c.if-most-counts.true c.if-counts-gt-MOST_REPEATS.false)
