@@ -12,7 +12,7 @@ use Rattle.re_auto.specs.Bits.{Has, Are, row_of}
 use Rattle.std.proofs.lemmas.Slice.{between-put_mid, take-put_mid_below, drop-put_mid}
 use borrow.Rule.Slice.PartMut.{put_mid}
 
-one_of_max : (x y : ℕ) → x < 2 → y < 2 → max x y ≡ 1 → (x ≡ 1) ⊎ (y ≡ 1)
+pub one_of_max : (x y : ℕ) → x < 2 → y < 2 → max x y ≡ 1 → (x ≡ 1) ⊎ (y ≡ 1)
 one_of_max x y a b h = elim (cases_eq x 1) [ inl e ↦ inl e | inr n ↦ inr (omega arith) ]
 
 -- no number past the last word

@@ -1,8 +1,8 @@
 -- Classes of bytes: rows that are appended to a table, and the bytes that are marked one by one.
-use Rattle.std.proofs.Common.{◌≡◌, ℕ, suc, ◌+◌, ◌-◌, ◌*◌, ◌<◌, ◌≤◌, max, Bool, true, false, IsTrue, ◌||◌, nat_eq, List, [], ◌∷◌, ◌++◌, length, length-append, take, drop, get_or, ◌⊎◌, inl, inr, ◌↔◌, refl, sym, ap, ◌∙◌, subst, arith, eqb-true, eq-eqb}
+use Rattle.std.proofs.Common.{◌≡◌, ℕ, suc, ◌+◌, ◌-◌, ◌*◌, ◌<◌, ◌≤◌, max, Bool, false, IsTrue, List, [], ◌∷◌, ◌++◌, length, length-append, take, drop, get_or, set, inl, inr, ◌↔◌, refl, sym, ap, ◌∙◌, subst, arith}
 use Rattle.std.proofs.Math.Seq.{drop-append_seam}
 use Rattle.std.proofs.lemmas.Bool.{cases_eq}
-use Rattle.std.proofs.lemmas.List.{take-append-le, drop-take, get_or_append_left, get_or-append_right}
+use Rattle.std.proofs.lemmas.List.{take-append-le, drop-take, get_or_append_left, get_or-append_right, get_or-set_same, get_or-set_other}
 use Rattle.re_auto.specs.Bits.{row_of}
 use Rattle.re_auto.specs.ByteClasses.{IsClassed}
 use Rattle.re_auto.proofs.RowLemmas.{row_within}
@@ -38,37 +38,14 @@ new_class count width row old new class table same is appended =
       same = ap (λ xs. row_of xs width class) appended ∙ ap (row_of (old ++ row) width) is ∙ row_appended old row width count table same;
     }
 
--- one more byte is looked at: it is added where it is to be
-module _ (s : ℕ → Bool) (R : ℕ → Type 0) (c : ℕ) (before : (b : ℕ) → b < 256 → IsTrue (s b) ↔ ((b < c) × R b)) where
-  pub byte_added : R c → (b : ℕ) → b < 256 → IsTrue (s b || nat_eq b c) ↔ ((b < c + 1) × R b)
-  byte_added r b lt = (
-    λ h. elim (either_true (s b) (nat_eq b c) h) [
-      | inl was ↦ let was = (before b lt).0 was in (omega (arith, was.0), was.1)
-      | inr here ↦ let same : b ≡ c = eqb-true b c here in (omega arith, subst R (sym same) r)
-    ],
-    λ h. elim (cases_eq b c) [
-      | inl same ↦ right_true (s b) (nat_eq b c) (eq-eqb b c same)
-      | inr other ↦ left_true (s b) (nat_eq b c) ((before b lt).1 (omega (arith, h.0), h.1))
-    ],
-  )
-    where
-      either_true : (x y : Bool) → IsTrue (x || y) → IsTrue x ⊎ IsTrue y
-      either_true true y h = inl refl
-      either_true false y h = inr h
-
-      right_true : (x y : Bool) → IsTrue y → IsTrue (x || y)
-      right_true true y h = refl
-      right_true false y h = h
-
-      left_true : (x y : Bool) → IsTrue x → IsTrue (x || y)
-      left_true true y h = refl
-      left_true false y h = absurd (let impossible : false ≡ true = h in cc)
-
-  pub byte_passed : ¬ R c → (b : ℕ) → b < 256 → IsTrue (s b) ↔ ((b < c + 1) × R b)
-  byte_passed none b lt = (
-    λ h. let was = (before b lt).0 h in (omega (arith, was.0), was.1),
-    λ h. elim (cases_eq b c) [ inl same ↦ absurd (none (subst R same h.1)) | inr other ↦ (before b lt).1 (omega (arith, h.0), h.1) ],
-  )
+-- one more byte is marked
+pub one_marked : (marks : List Bool) (c : ℕ) (mark : Bool) (S : ℕ → Type 0) → c < length marks → ((k : ℕ) → k < c → IsTrue (get_or marks k false) ↔ S k) → (IsTrue mark ↔ S c) →
+    (k : ℕ) → k < c + 1 → IsTrue (get_or (set marks c mark) k false) ↔ S k
+one_marked marks c mark S within before here k lt =
+    elim (cases_eq k c) [
+      | inl same ↦ subst (λ j. IsTrue (get_or (set marks c mark) j false) ↔ S j) (sym same) (rw (get_or-set_same marks c mark false within) here)
+      | inr other ↦ rw (get_or-set_other marks c k mark false other) (before k (omega arith))
+    ]
 
 -- one more entry of a list, of which something holds as of those before
 pub pushed : (P : ℕ → ℕ → Type 0) (xs : List ℕ) (x n : ℕ) → length xs ≡ n → ((b : ℕ) → b < n → P b (get_or xs b 0)) → P n x → (b : ℕ) → b < n + 1 → P b (get_or (xs ++ (x ∷ [])) b 0)

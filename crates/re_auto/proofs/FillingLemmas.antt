@@ -1,17 +1,15 @@
 -- The tables of an expression, from blank rows to what they tell.
-use Rattle.std.proofs.Common.{◌≡◌, ℕ, ◌+◌, ◌-◌, ◌*◌, ◌/◌, ◌%◌, ◌<◌, ◌≤◌, IsTrue, List, length-take, drop, get_or, inl, inr, ◌↔◌, sym, ap, ◌∙◌, subst, arith}
+use Rattle.std.proofs.Common.{◌≡◌, ℕ, ◌+◌, ◌-◌, ◌*◌, ◌/◌, ◌%◌, ◌<◌, ◌≤◌, Bool, List, length-take, drop, get_or, inl, inr, ◌↔◌, sym, ap, ◌∙◌, subst, arith}
 use Rattle.std.proofs.lemmas.List.{get_or-take, get_or-drop}
 use Rattle.std.specs.Int.{bit_at}
 use Rattle.re_syntax.specs.Expression.{Expression}
 use Rattle.re_syntax.specs.Holds.{positions}
-use Rattle.re_syntax.specs.Sets.{members}
-use Rattle.re_syntax.specs.declared.bytes.ByteSet.{ByteSet}
 use Rattle.re_auto.specs.declared.classes.Classes.{Classes}
 use Rattle.re_auto.specs.declared.ends.Ends.{Ends}
 use Rattle.re_auto.specs.declared.rows.Rows.{Rows}
 use Rattle.re_auto.specs.Bits.{Has, row_of}
 use Rattle.re_auto.specs.Positions.{Part, part_of}
-use Rattle.re_auto.specs.Tables.{Tells, words_for}
+use Rattle.re_auto.specs.Tables.{Marks, Tells, words_for}
 use Rattle.re_auto.specs.Building.{Shows, Adds, IsAddedOf, AreBlankRows}
 use Rattle.re_auto.specs.ByteClasses.{AreClasses}
 use Rattle.re_auto.proofs.BitLemmas.{within}
@@ -31,10 +29,11 @@ none_in_row table width p q none h =
     none (start * 64 + q) (rw (at, bit) (sym (ap (λ x. bit_at x (q % 64)) word) ∙ h))
 
 -- what was added to blank rows is all that they tell
-pub tells : (e : Expression) (count : ℕ) (r0 r1 : Rows) (a : Ends) (classes : Classes) (set : ByteSet) → count ≡ positions e → count ≤ 4096 → AreBlankRows count r0 → IsAddedOf e count r0 r1 a →
+pub tells : (e : Expression) (count : ℕ) (r0 r1 : Rows) (a : Ends) (classes : Classes) (marks : List Bool) → count ≡ positions e → count ≤ 4096 → AreBlankRows count r0 → IsAddedOf e count r0 r1 a →
     AreClasses r1.takes.items r1.width classes →
-    ((c : ℕ) → c < 256 → IsTrue (members set c) ↔ ((q : ℕ) × Has a.first_inside.items q × Has (row_of r1.takes.items r1.width c) q)) →
+    Marks marks (λ c. (q : ℕ) × Has a.first_inside.items q × Has (row_of r1.takes.items r1.width c) q) →
     Tells e (record {
+      size = count;
       width = r1.width;
       class_of = classes.class_of;
       takes = classes.takes;
@@ -44,9 +43,9 @@ pub tells : (e : Expression) (count : ℕ) (r0 r1 : Rows) (a : Ends) (classes : 
       last_at_end = a.last_at_end;
       last_inside = a.last_inside;
       empty = a.empty;
-      beginnings = set;
+      beginnings = marks;
     })
-tells e count r0 r1 a classes set is few blank added classed meeting =
+tells e count r0 r1 a classes marks is few blank added classed meeting =
     let begins : a.begins ≡ 0 = omega (arith, added.begins, is) in
     let part : Part = part_of e 0 in
     let adds : Adds part r0 r1 = subst (λ n. Adds (part_of e n) r0 r1) begins added.adds in
@@ -54,6 +53,7 @@ tells e count r0 r1 a classes set is few blank added classed meeting =
     let takes : (c q : ℕ) → c < 256 → Has (row_of r1.takes.items r1.width c) q ↔ part.takes q c =
     λ c q lt. rw adds.width (via (adds.takes c q lt) (λ h. elim h [ inl was ↦ absurd (none_in_row r0.takes.items r0.width c q blank.takes was) | inr more ↦ more ], inr)) in
     record {
+      size = is;
       width = adds.width ∙ blank.width ∙ ap words_for is;
       few = omega (arith, is);
       taken = record {
@@ -72,8 +72,11 @@ tells e count r0 r1 a classes set is few blank added classed meeting =
       last_at_end = shows.last_at_end;
       last_inside = shows.last_inside;
       empty = shows.empty;
-      beginnings = λ c lt. via (meeting c lt) (
-        (λ h. (h.0, (shows.first_inside.1 h.0).0 h.1, (takes c h.0 lt).0 h.2)),
-        (λ h. (h.0, (shows.first_inside.1 h.0).1 h.1, (takes c h.0 lt).1 h.2)),
+      beginnings = (
+        meeting.0,
+        λ c lt. via (meeting.1 c lt) (
+          (λ h. (h.0, (shows.first_inside.1 h.0).0 h.1, (takes c h.0 lt).0 h.2)),
+          (λ h. (h.0, (shows.first_inside.1 h.0).1 h.1, (takes c h.0 lt).1 h.2)),
+        ),
       );
     }

@@ -18,3 +18,4 @@ pub mod AddedLemmas
 pub mod RepeatedLemmas
 pub mod ClassLemmas
 pub mod FillingLemmas
+pub mod WordLemmas

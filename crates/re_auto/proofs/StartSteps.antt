@@ -6,15 +6,13 @@ use Rattle.std.proofs.lemmas.Bool.{cases_lt, true_from_ne_false}
 use Rattle.std.proofs.lemmas.Option.{slice_get_within, get_or_from_slice_get}
 use Rattle.re_syntax.specs.Bytes.{Text}
 use Rattle.re_syntax.specs.Expression.{Expression}
-use Rattle.re_syntax.specs.Holds.{positions}
 use Rattle.re_auto.specs.declared.mode.Mode.{Mode}
 use Rattle.re_auto.specs.declared.starts.Starts.{Starts}
 use Rattle.re_auto.specs.Bits.{Has}
 use Rattle.re_auto.specs.Positions.{part_of, is_begin, is_end}
-use Rattle.re_auto.specs.Starts.{Least, IsLeast, Brought, IsNextStarts, Told, IsMatched, IsSpent}
+use Rattle.re_auto.specs.Starts.{Least, Brought, IsNextStarts, Told, IsMatched, IsSpent}
 use Rattle.re_auto.specs.StartSets.{least_of, Carries, Brings, AtMost, StartsAt, AreNext}
 use Rattle.re_auto.specs.Stepping.{MayBegin}
-use Rattle.re_auto.proofs.Numbered.{part_numbered}
 use Rattle.re_auto.proofs.LeastStarts.{pass_begins, starts_stay, starts_tell, spent_is_over}
 
 -- what one position's row adds
@@ -135,14 +133,6 @@ starts_next e mode byte starts into next from line j is stands =
     let there : IsNextStarts (part_of e 0) mode starts.place (least_of starts) (slice_index line j) (least_of into) = rw byte_is next.1 in
     let here = subst (λ (k : ℕ). IsNextStarts (part_of e 0) mode k (least_of starts) (slice_index line j) (least_of into)) stands.0 there in
     (next.0 ∙ ap suc stands.0, omega (arith, stands.1), starts_stay e 0 mode from line j (least_of starts) (least_of into) stands.2 stands.1 lt here)
-
--- the next starts are carried at none but the expression's positions
-pub next_made : (e : Expression) (mode : Mode) (place byte : ℕ) (starts into : Starts) → IsNextStarts (part_of e 0) mode place (least_of starts) byte (least_of into) →
-    (q : ℕ) → Has into.held.items q → q < positions e
-next_made e mode place byte starts into next q h =
-    let least : IsLeast (Brought (part_of e 0) mode place (least_of starts) byte q) (slice_index into.starts.items q) =
-    subst (Least (Brought (part_of e 0) mode place (least_of starts) byte q)) (least_some into q h) (next q)
-    in omega (arith, (part_numbered e 0).takes q byte least.0.0)
 
 -- the least start among the last positions is that of the matched stretches that end here
 pub told_least : (e : Expression) (at_end : Bool) (starts : Starts) (row : List ℕ) (o : Option ℕ) → ((q : ℕ) → Has row q ↔ (part_of e 0).last at_end q) →

@@ -6,6 +6,10 @@ use Rattle.std.specs.Int.{bit_at}
 unfoldable pub Has : List ℕ → ℕ → Type 0
 Has set e = bit_at (slice_index set (e / 64)) (e % 64) ≡ 1
 
+-- the same of a set that is one word
+abbrev pub InWord : ℕ → ℕ → Type 0
+InWord word e = bit_at word e ≡ 1
+
 -- row r of a table whose rows have `width` words
 abbrev pub row_of : List ℕ → ℕ → ℕ → List ℕ
 row_of table width r = slice_range table (r * width) (r * width + width)

@@ -1,5 +1,5 @@
 -- What a set of positions with least starts stands for on a line and a place.
-use Rattle.std.specs.Prelude.{◌≡◌, ℕ, suc, ◌/◌, ◌%◌, ◌<◌, ◌≤◌, List, nat_eq, if◌then◌else◌, length, slice_index, Option, Some, None}
+use Rattle.std.specs.Prelude.{◌≡◌, ℕ, suc, ◌/◌, ◌%◌, ◌≤◌, List, nat_eq, if◌then◌else◌, length, slice_index, Option, Some, None}
 use Rattle.std.specs.Int.{bit_at}
 use Rattle.re_syntax.specs.Bytes.{Text}
 use Rattle.re_syntax.specs.Expression.{Expression}
@@ -32,13 +32,13 @@ abbrev pub AtMost : Option ℕ → ℕ → Type 0
 AtMost None m = ⊥
 AtMost (Some i) m = i ≤ m
 
--- the starts were made for the automaton of this expression, and are carried at none but its positions
+-- the starts were made for the automaton of this expression: there is room for one at each of its positions
 abbrev pub IsMadeForStarts : Expression → Starts → Type 0
-IsMadeForStarts e starts = (length starts.held.items ≡ words_for (positions e)) × ((q : ℕ) → Has starts.held.items q → q < positions e)
+IsMadeForStarts e starts = (length starts.held.items ≡ words_for (positions e)) × (length starts.starts.items ≡ positions e)
 
 -- the two were made for automata of the same size, and are for the same place
 abbrev pub AreAlike : Starts → Starts → Type 0
-AreAlike one other = (length one.held.items ≡ length other.held.items) × (one.place ≡ other.place)
+AreAlike one other = (length one.held.items ≡ length other.held.items) × (length one.starts.items ≡ length other.starts.items) × (one.place ≡ other.place)
 
 -- the starts are right at place j of the line, for the stretches of the mode that begin at `from` or later
 unfoldable pub StartsAt : Expression → Mode → ℕ → Text → ℕ → Starts → Type 0

@@ -1,8 +1,7 @@
 -- What the tables of an automaton tell of the positions of an expression.
-use Rattle.std.specs.Prelude.{◌≡◌, ℕ, ◌+◌, ◌*◌, ◌/◌, ◌<◌, ◌≤◌, true, false, IsTrue, ◌↔◌, length, slice_index}
+use Rattle.std.specs.Prelude.{◌≡◌, ℕ, ◌+◌, ◌*◌, ◌/◌, ◌<◌, ◌≤◌, Bool, true, false, IsTrue, ◌↔◌, List, length, slice_index, slice_index_or}
 use Rattle.re_syntax.specs.Expression.{Expression}
 use Rattle.re_syntax.specs.Holds.{positions, most_positions}
-use Rattle.re_syntax.specs.Sets.{members}
 use Rattle.re_auto.specs.declared.build.BuildFault.{BuildFault}
 use Rattle.re_auto.specs.declared.build.BuildFault.TheVariants.{TooLarge, Memory}
 use Rattle.re_auto.specs.declared.tables.Tables.{Tables}
@@ -14,9 +13,17 @@ use Rattle.re_auto.specs.Positions.{Part, part_of}
 abbrev pub words_for : ℕ → ℕ
 words_for count = (count + 63) / 64
 
+-- a set of the expression's positions is one word
+abbrev pub HasOneWord : Expression → Type 0
+HasOneWord e = (1 ≤ positions e) × (positions e ≤ 64)
+
 -- a stretch inside a line can begin with this byte
 abbrev pub CanBegin : Part → ℕ → Type 0
 CanBegin part c = (q : ℕ) × part.first false q × part.takes q c
+
+-- there is a mark for each of the 256 bytes, which says whether S holds of it
+abbrev pub Marks : List Bool → (ℕ → Type 0) → Type 0
+Marks marks S = (length marks ≡ 256) × ((c : ℕ) → c < 256 → IsTrue (slice_index_or marks c false) ↔ S c)
 
 -- the four answers on the empty stretch
 pub record TellsEmpty (part : Part) (empty : Empty) : Type 0 where
@@ -33,6 +40,7 @@ pub record TellsTakes (part : Part) (tables : Tables) : Type 0 where
 
 -- the tables of an expression, whose positions are numbered from 0 on
 pub record Tells (e : Expression) (tables : Tables) : Type 0 where
+  pub size : tables.size ≡ positions e
   pub width : tables.width ≡ words_for (positions e)
   pub few : positions e ≤ 4096
   pub taken : TellsTakes (part_of e 0) tables
@@ -42,7 +50,7 @@ pub record Tells (e : Expression) (tables : Tables) : Type 0 where
   pub last_at_end : Are tables.last_at_end.items ((part_of e 0).last true) tables.width
   pub last_inside : Are tables.last_inside.items ((part_of e 0).last false) tables.width
   pub empty : TellsEmpty (part_of e 0) tables.empty
-  pub beginnings : (c : ℕ) → c < 256 → IsTrue (members tables.beginnings c) ↔ CanBegin (part_of e 0) c
+  pub beginnings : Marks tables.beginnings (CanBegin (part_of e 0))
 
 -- what a refusal says of the count of positions: too large exactly where there are more than 4,096
 abbrev pub IsRefused : ℕ → BuildFault → Type 0

@@ -11,6 +11,8 @@ ghost use Rattle.re_auto.specs.Stepping.{MayBegin, IsNext};
 ghost use Rattle.re_auto.specs.Tables.{words_for, CanBegin, IsRefused};
 ghost use Rattle.re_auto.specs.StateSets.{IsMadeFor, IsNowhere, StandsAt, IsNextSet, IsAccepting};
 
+mod one_word;
+
 use crate::bits;
 use crate::build::BuildFault;
 use crate::filling::build_tables;
@@ -108,12 +110,20 @@ impl Automaton {
 
     /// Whether a stretch inside a line can begin with this byte. Where none can, a set that is
     /// nowhere stays so in mode `Search`, and the byte may be passed without a step.
+    #[inline(always)]
     pub fn begins(&self, byte: u8) -> bool
         ensures can { IsTrue result ↔ CanBegin (part_of (expression_of self.now) 0) byte }
         ensures stays { result ≡ false → (set : StateSet) (line : Text) (j : ℕ) → IsNowhere set → slice_get line j ≡ Some byte
             → StandsAt (expression_of self.now) Search line j set → StandsAt (expression_of self.now) Search line (suc j) set }
     {
-        self.tables.beginnings.has(byte)
+        self.tables.beginnings[byte as usize]
+    }
+
+    /// How many positions there are.
+    pub(crate) fn size(&self) -> usize
+        ensures { result ≡ positions (expression_of self.now) }
+    {
+        self.tables.size
     }
 
     /// The words of an empty set.
@@ -126,6 +136,21 @@ impl Automaton {
 
     // The words after one more byte.
     fn step(&self, mode: Mode, at_begin: bool, from: &[u64], byte: u8, into: &mut [u64])
+        requires from { Are from.now (λ q. Has from.now q × (q < positions (expression_of self.now))) (words_for (positions (expression_of self.now))) }
+        requires into { length into.old ≡ length from.now }
+        ensures len { length into.new ≡ length into.old }
+        ensures next { IsNext (part_of (expression_of self.now) 0) mode at_begin (Has from.now) byte (Has into.new) }
+    {
+        if self.tables.width == 1 {
+            let word = self.step_word(mode, at_begin, bits::only_word(from), byte);
+            bits::put_word(into, word);
+            return;
+        }
+        self.step_words(mode, at_begin, from, byte, into);
+    }
+
+    // The same, word by word.
+    fn step_words(&self, mode: Mode, at_begin: bool, from: &[u64], byte: u8, into: &mut [u64])
         requires from { Are from.now (λ q. Has from.now q × (q < positions (expression_of self.now))) (words_for (positions (expression_of self.now))) }
         requires into { length into.old ≡ length from.now }
         ensures len { length into.new ≡ length into.old }

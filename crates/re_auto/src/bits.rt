@@ -2,7 +2,7 @@
 ghost use Rattle.std.specs.Prelude.{◌≡◌, ℕ, ◌+◌, ◌*◌, ◌^◌, ◌<◌, ◌≤◌, ◌↔◌, ◌⊎◌, length, IsTrue};
 ghost use Rattle.std.specs.Int.{bit_at};
 ghost use Rattle.re_auto.specs.Bits.{row_of};
-ghost use Rattle.re_auto.specs.Bits.{Has};
+ghost use Rattle.re_auto.specs.Bits.{Has, InWord};
 
 /// Adds the members of `row`.
 #[inline(always)]
@@ -124,6 +124,25 @@ pub fn clear(into: &mut [u64])
     ensures none { (e : ℕ) → Has into.new e → ⊥ }
 {
     into.fill(0);
+}
+
+/// The one word of a set that has no more.
+#[inline(always)]
+pub fn only_word(words: &[u64]) -> u64
+    requires { length words.now ≡ 1 }
+    ensures { (e : ℕ) → InWord result e ↔ Has words.now e }
+{
+    words[0]
+}
+
+/// Makes the set that of the one word.
+#[inline(always)]
+pub fn put_word(into: &mut [u64], word: u64)
+    requires { length into.old ≡ 1 }
+    ensures len { length into.new ≡ length into.old }
+    ensures put { (e : ℕ) → Has into.new e ↔ InWord word e }
+{
+    into[0] = word;
 }
 
 /// Adds the members of `row` to row `r` of a table.

@@ -1,11 +1,10 @@
 //! Bytes by what takes them: those with equal rows share a class.
 ghost use Rattle.std.specs.Prelude.{◌≡◌, ℕ, ◌*◌, ◌<◌, ◌≤◌, ◌↔◌, IsTrue, IfOk, length};
-ghost use Rattle.re_syntax.specs.Sets.{members};
 ghost use Rattle.re_auto.specs.Bits.{Has, row_of};
 ghost use Rattle.re_auto.specs.ByteClasses.{AreClasses, IsClassed};
+ghost use Rattle.re_auto.specs.Tables.{Marks};
 
 use crate::bits;
-use re_syntax::ByteSet;
 use std::alloc::{AllocError, Global};
 
 /// A class for each byte and a row for each class.
@@ -66,17 +65,15 @@ fn find_class(takes: &[u64], width: usize, count: usize, row: &[u64]) -> usize
     count
 }
 
-/// The bytes whose rows have a member in common with the set.
-pub fn bytes_meeting(rows: &[u64], width: usize, set: &[u64]) -> ByteSet
+/// For each byte whether its row has a member in common with the set.
+pub fn bytes_meeting(rows: &[u64], width: usize, set: &[u64]) -> [bool; 256]
     requires table { length rows.now ≡ 256 * width }
     requires same { length set.now ≡ width }
-    ensures { (c : ℕ) → c < 256 → IsTrue (members result c) ↔ ((q : ℕ) × Has set.now q × Has (row_of rows.now width c) q) }
+    ensures { Marks result (λ c. (q : ℕ) × Has set.now q × Has (row_of rows.now width c) q) }
 {
-    let mut bytes = ByteSet::empty();
+    let mut marks = [false; 256];
     'bytes: for c in 0..256usize {
-        if bits::meets(set, bits::row(rows, width, c)) {
-            bytes = bytes.union(ByteSet::only(c as u8));
-        }
+        marks[c] = bits::meets(set, bits::row(rows, width, c));
     }
-    bytes
+    marks
 }

@@ -39,6 +39,7 @@ fn fill_tables(alloc: Global, tree: &Tree, count: usize) -> Result<Tables, Alloc
     let beginnings = bytes_meeting(&rows.takes, rows.width, &ends.first_inside);
     let classes = classes_of(alloc, &rows.takes, rows.width)?;
     Ok(Tables {
+        size: count,
         width: rows.width,
         class_of: classes.class_of,
         takes: classes.takes,

@@ -1,5 +1,6 @@
 //! Least starts on the way over a line.
-ghost use Rattle.std.specs.Prelude.{◌≡◌, ◌*◌, vec_len};
+ghost use Rattle.std.specs.Prelude.{ℕ, ◌<◌, vec_len};
+ghost use Rattle.re_auto.specs.Bits.{Has};
 
 mod lowering;
 mod reading;
@@ -12,7 +13,7 @@ mod stepping;
 pub struct Starts {
     place: usize,
     held: Vec<u64>,
-    // The start of a position counts only where `held` has it.
+    // One for each position; it counts only where `held` has the position.
     starts: Vec<usize>,
-    ghost one_each: { vec_len starts ≡ vec_len held * 64 },
+    ghost one_each: { (q : ℕ) → Has held.items q → q < vec_len starts },
 }

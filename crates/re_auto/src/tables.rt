@@ -1,11 +1,11 @@
 ghost use Rattle.std.specs.Prelude.{Bool, IsTrue, ◌↔◌, ◌⊎◌};
 
-use re_syntax::ByteSet;
-
 /// What is known of an expression's positions, as words of bits: a row is a set of positions and
 /// has `width` words. `Tells` in `specs/Tables.antt` says what each table holds.
 #[derive(Drop)]
 pub struct Tables {
+    /// How many positions there are.
+    pub size: usize,
     /// How many words a row has.
     pub width: usize,
     /// For each byte its class: bytes of one class are taken by the same positions.
@@ -24,8 +24,8 @@ pub struct Tables {
     pub last_inside: Vec<u64>,
     /// Where the expression holds on the empty stretch.
     pub empty: Empty,
-    /// The bytes that a stretch can begin with inside a line.
-    pub beginnings: ByteSet,
+    /// For each of the 256 bytes whether a stretch inside a line can begin with it.
+    pub beginnings: [bool; 256],
 }
 
 /// Whether an expression holds on the empty stretch, for each kind of place.

@@ -20,6 +20,7 @@ impl Starts {
         requires from { IsMadeForStarts (expression_of automaton.now) from.now }
         requires size { length self.old.held.items ≡ words_for (positions (expression_of automaton.now)) }
         requires taking { length taking.now ≡ words_for (positions (expression_of automaton.now)) }
+        requires small { (q : ℕ) → Has taking.now q → q < length self.old.starts.items }
         ensures alike { AreAlike self.new self.old }
         ensures carried { (q m : ℕ) → Carries self.new q m ↔ (Carries self.old q m
             ⊎ ((p : ℕ) × Has from.now.held.items p × Brings (expression_of automaton.now) from.now taking.now p q m)) }
@@ -34,6 +35,7 @@ impl Starts {
         requires from { IsMadeForStarts (expression_of automaton.now) from.now }
         requires size { length self.old.held.items ≡ words_for (positions (expression_of automaton.now)) }
         requires taking { length taking.now ≡ words_for (positions (expression_of automaton.now)) }
+        requires small { (q : ℕ) → Has taking.now q → q < length self.old.starts.items }
         requires within { k < length from.now.held.items }
         ensures alike { AreAlike self.new self.old }
         ensures carried { (q m : ℕ) → Carries self.new q m ↔ (Carries self.old q m
@@ -54,6 +56,7 @@ impl Starts {
     pub(super) fn begin(&mut self, automaton: &Automaton, mode: Mode, place: usize, taking: &[u64])
         requires size { length self.old.held.items ≡ words_for (positions (expression_of automaton.now)) }
         requires taking { length taking.now ≡ words_for (positions (expression_of automaton.now)) }
+        requires small { (q : ℕ) → Has taking.now q → q < length self.old.starts.items }
         ensures alike { AreAlike self.new self.old }
         ensures begun { (q m : ℕ) → Carries self.new q m ↔ (Carries self.old q m
             ⊎ (MayBegin mode (is_begin place) × (part_of (expression_of automaton.now) 0).first (is_begin place) q × Has taking.now q × (place ≤ m))) }
@@ -69,6 +72,7 @@ impl Starts {
     fn lower_row(&mut self, row: &[u64], taking: &[u64], start: usize)
         requires row { length row.now ≡ length self.old.held.items }
         requires taking { length taking.now ≡ length self.old.held.items }
+        requires small { (q : ℕ) → Has taking.now q → q < length self.old.starts.items }
         ensures alike { AreAlike self.new self.old }
         ensures lowered { (q m : ℕ) → Carries self.new q m ↔ (Carries self.old q m ⊎ (Has row.now q × Has taking.now q × (start ≤ m))) }
     {
@@ -81,6 +85,7 @@ impl Starts {
     #[inline(always)]
     fn lower_word(&mut self, k: usize, word: u64, start: usize)
         requires within { k < length self.old.held.items }
+        requires small { (b : ℕ) → b < 64 → bit_at word b ≡ 1 → k * 64 + b < length self.old.starts.items }
         ensures alike { AreAlike self.new self.old }
         ensures lowered { (q m : ℕ) → Carries self.new q m ↔ (Carries self.old q m
             ⊎ ((b : ℕ) × (b < 64) × (bit_at word b ≡ 1) × ((q ≡ k * 64 + b) × (start ≤ m)))) }
@@ -97,6 +102,7 @@ impl Starts {
     #[inline(always)]
     fn lower(&mut self, q: usize, start: usize)
         requires room { q < length self.old.held.items * 64 }
+        requires small { q < length self.old.starts.items }
         ensures alike { AreAlike self.new self.old }
         ensures lowered { (p m : ℕ) → Carries self.new p m ↔ (Carries self.old p m ⊎ ((p ≡ q) × (start ≤ m))) }
     {

@@ -22,7 +22,7 @@ impl Starts {
     // The lesser of `least` and the least start at the positions of one word, the one at `k`.
     #[inline(always)]
     fn least_of_word(&self, least: Option<usize>, k: usize, word: u64) -> Option<usize>
-        requires within { k < length self.now.held.items }
+        requires { (b : ℕ) → b < 64 → bit_at word b ≡ 1 → Has self.now.held.items (k * 64 + b) }
         ensures { (m : ℕ) → AtMost result m ↔ (AtMost least m
             ⊎ ((b : ℕ) × (b < 64) × (bit_at word b ≡ 1) × (slice_index self.now.starts.items (k * 64 + b) ≤ m))) }
     {

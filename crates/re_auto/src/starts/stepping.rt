@@ -26,7 +26,7 @@ impl Starts {
         let Ok(held) = automaton.blank_words(alloc) else {
             return Err(BuildFault::Memory);
         };
-        match vec![in alloc; 0; held.len() * 64] {
+        match vec![in alloc; 0; automaton.size()] {
             Ok(starts) => Ok(Starts {
                 place: 0,
                 held,

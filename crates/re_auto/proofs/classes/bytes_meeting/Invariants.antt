@@ -1,9 +1,9 @@
-use Rattle.std.proofs.Common.{ℕ, ◌<◌, IsTrue}
+use Rattle.std.proofs.Common.{◌≡◌, ℕ, ◌<◌, false, IsTrue, length, get_or}
 use Rattle.std.specs.Prelude.{◌↔◌}
-use Rattle.re_syntax.specs.Sets.{members}
 use Rattle.re_auto.specs.Bits.{Has, row_of}
 use Rattle.re_auto.proofs.classes.bytes_meeting.Given as goal
 
 abbrev pub invariant-bytes : goal.invariant-bytes
 invariant-bytes l =
-    (c : ℕ) → c < 256 → IsTrue (members l.bytes c) ↔ ((c < l.c) × ((q : ℕ) × Has l.set q × Has (row_of l.rows l.width c) q))
+    (length l.marks ≡ 256)
+    × ((k : ℕ) → k < l.c → IsTrue (get_or l.marks k false) ↔ ((q : ℕ) × Has l.set q × Has (row_of l.rows l.width k) q))

@@ -1,4 +1,4 @@
-use Rattle.std.proofs.Common.{arith, ◌<◌, ◌+◌, ◌*◌, ◌∙◌, inl, w64}
+use Rattle.std.proofs.Common.{arith, ◌∙◌, ◌<◌, ◌+◌, ◌*◌, inl, w64}
 use Rattle.std.proofs.lemmas.List.{get_or_read_under}
 use Rattle.re_syntax.specs.Expression.{expression_of}
 use Rattle.re_auto.specs.Bits.{Has}
@@ -15,15 +15,25 @@ bits-smaller c = (lowest c.bits.left (omega arith) c.bits.auto.left-fits.fits).l
 pub following-requires : goal.following-requires
 following-requires c =
     let low = lowest c.bits.left (omega arith) c.bits.auto.left-fits.fits in
-    c.requires.from.1 _ ((at_word c.args.from.now.held.items c.args.k _ low.small).1 (c.bits.invariant.1 _ low.small low.set))
+    omega (arith, c.requires.from.1, c.args.from.now.starts.ok.0, c.args.from.now.one_each _ ((at_word c.args.from.now.held.items c.args.k _ low.small).1 (c.bits.invariant.1 _ low.small low.set)))
+
+pub index-requires : goal.index-requires
+index-requires c =
+    let low = lowest c.bits.left (omega arith) c.bits.auto.left-fits.fits in
+    let inside = c.args.from.now.one_each _ ((at_word c.args.from.now.held.items c.args.k _ low.small).1 (c.bits.invariant.1 _ low.small low.set)) in
+    omega (arith, inside)
+
+pub lower_row-requires-clause-small : goal.lower_row-requires-clause-small
+lower_row-requires-clause-small c = λ q h. omega (arith, c.requires.small q h, c.bits.invariant.0.1)
 
 pub bits-preserved : goal.bits-preserved
 bits-preserved c =
     let low = lowest c.bits.left (omega arith) c.bits.auto.left-fits.fits in
     let v = c.args.from.now.starts in
-    let within : c.args.k * 64 + trailing_zeros w64 c.bits.left < v.len = omega (arith, low.small, c.args.from.now.one_each, c.args.from.now.held.ok.0) in
+    let within : c.args.k * 64 + trailing_zeros w64 c.bits.left < v.len =
+    c.args.from.now.one_each _ ((at_word c.args.from.now.held.items c.args.k _ low.small).1 (c.bits.invariant.1 _ low.small low.set)) in
     let is = get_or_read_under v.items _ v.len c.index.result.now 0 c.index.ensures within v.ok.0 in (
-      (c.lower_row.ensures.alike.0 ∙ c.bits.invariant.0.0, c.lower_row.ensures.alike.1 ∙ c.bits.invariant.0.1),
+      (c.lower_row.ensures.alike.0 ∙ c.bits.invariant.0.0, c.lower_row.ensures.alike.1 ∙ c.bits.invariant.0.1, c.lower_row.ensures.alike.2 ∙ c.bits.invariant.0.2),
       (λ b lt h. c.bits.invariant.1 b lt ((low.rest b lt).1 (inl h))),
       λ q m. chained
           (one_added (Carries c.bits.self q m) (Carries c.lower_row.new.self q m)

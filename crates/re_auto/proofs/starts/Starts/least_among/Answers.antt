@@ -6,6 +6,12 @@ use Rattle.re_auto.specs.StartSets.{AtMost}
 use Rattle.re_auto.proofs.BitLemmas.{named_added, all_named, none_past, both_at_word, without_none, chained}
 use Rattle.re_auto.proofs.starts.Starts.least_among.Goals as goal
 
+pub least_of_word-least-requires : goal.least_of_word-least-requires
+least_of_word-least-requires c = λ b lt h.
+    let v = c.args.self.now.held in
+    let is = get_or_read_under v.items c.words.k v.len c.index.result.now 0 c.index.ensures (omega (arith, v.ok.0)) v.ok.0 in
+    ((both_at_word c.args.self.now.held.items c.args.row.now c.words.k b lt).1 (rw is at h)).0
+
 pub words-preserved : goal.words-preserved
 words-preserved c = λ m.
     let v = c.args.self.now.held in

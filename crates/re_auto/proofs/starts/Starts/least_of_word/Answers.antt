@@ -1,4 +1,4 @@
-use Rattle.std.proofs.Common.{arith, ◌≤◌, ◌<◌, ◌+◌, ◌*◌, get_or, w64}
+use Rattle.std.proofs.Common.{arith, ◌≤◌, ◌<◌, ◌+◌, ◌*◌, get_or, inl, w64}
 use Rattle.std.proofs.lemmas.List.{get_or_read_under}
 use Rattle.re_auto.specs.StartSets.{AtMost}
 use Rattle.std.specs.Int.{trailing_zeros}
@@ -8,17 +8,37 @@ use Rattle.re_auto.proofs.starts.Starts.least_of_word.Goals as goal
 pub bits-smaller : goal.bits-smaller
 bits-smaller c = (lowest c.bits.left (omega arith) c.bits.auto.left-fits.fits).less
 
+pub overflow_mul-k : goal.overflow_mul-k
+overflow_mul-k c =
+    let low = lowest c.bits.left (omega arith) c.bits.auto.left-fits.fits in
+    let inside = c.args.self.now.one_each _ (c.requires _ low.small (c.bits.invariant.0 _ low.small low.set)) in
+    omega (arith, inside)
+
+pub overflow_add-k : goal.overflow_add-k
+overflow_add-k c =
+    let low = lowest c.bits.left (omega arith) c.bits.auto.left-fits.fits in
+    let inside = c.args.self.now.one_each _ (c.requires _ low.small (c.bits.invariant.0 _ low.small low.set)) in
+    omega (arith, inside)
+
+pub index-requires : goal.index-requires
+index-requires c =
+    let low = lowest c.bits.left (omega arith) c.bits.auto.left-fits.fits in
+    let inside = c.args.self.now.one_each _ (c.requires _ low.small (c.bits.invariant.0 _ low.small low.set)) in
+    omega (arith, inside)
+
 pub bits-preserved : goal.bits-preserved
-bits-preserved c = λ m.
+bits-preserved c =
     let low = lowest c.bits.left (omega arith) c.bits.auto.left-fits.fits in
     let v = c.args.self.now.starts in
-    let within : c.args.k * 64 + trailing_zeros w64 c.bits.left < v.len = omega (arith, low.small, c.args.self.now.one_each, c.args.self.now.held.ok.0) in
-    let is = get_or_read_under v.items _ v.len c.index.result.now 0 c.index.ensures within v.ok.0 in
-    chained
-    (one_added (AtMost c.bits.found m) (c.lesser.result ≤ m) (λ b. get_or c.args.self.now.starts.items (c.args.k * 64 + b) 0 ≤ m)
-    c.bits.left _ (trailing_zeros w64 c.bits.left) low.small (rw is at (c.lesser.ensures m)) low.rest)
-    (c.bits.invariant m)
+    let inside : c.args.k * 64 + trailing_zeros w64 c.bits.left < v.len = c.args.self.now.one_each _ (c.requires _ low.small (c.bits.invariant.0 _ low.small low.set)) in
+    let is = get_or_read_under v.items _ v.len c.index.result.now 0 c.index.ensures inside v.ok.0 in (
+      (λ b lt h. c.bits.invariant.0 b lt ((low.rest b lt).1 (inl h))),
+      λ m. chained
+          (one_added (AtMost c.bits.found m) (c.lesser.result ≤ m) (λ b. get_or c.args.self.now.starts.items (c.args.k * 64 + b) 0 ≤ m)
+          c.bits.left _ (trailing_zeros w64 c.bits.left) low.small (rw is at (c.lesser.ensures m)) low.rest)
+          (c.bits.invariant.1 m),
+    )
 
 pub returns : goal.returns
 returns c = λ m.
-    none_left (AtMost c.bits.found m) _ (λ b. get_or c.args.self.now.starts.items (c.args.k * 64 + b) 0 ≤ m) c.bits.left (omega arith) (c.bits.invariant m)
+    none_left (AtMost c.bits.found m) _ (λ b. get_or c.args.self.now.starts.items (c.args.k * 64 + b) 0 ≤ m) c.bits.left (omega arith) (c.bits.invariant.1 m)
