@@ -1,5 +1,6 @@
 pub mod AnyLaws
 pub mod BestSpans
+pub mod NeededLaws
 pub mod Occurrences
 pub mod OneText
 pub mod Passing

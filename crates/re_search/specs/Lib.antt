@@ -1,5 +1,6 @@
 pub mod Searching
 pub mod Literals
+pub mod Needles
 pub mod Reading
 pub mod Simulated
 pub mod Simulations

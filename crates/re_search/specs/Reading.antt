@@ -1,5 +1,5 @@
 -- Which matcher the text of a pattern gets, and when it gets none (XCU grep, OPTIONS -E, -F, -i, -x).
-use Rattle.std.specs.Prelude.{◌≡◌, ◌<◌, ◌≤◌, Bool, true, false, IsTrue, ◌⊎◌}
+use Rattle.std.specs.Prelude.{◌≡◌, ℕ, ◌<◌, ◌≤◌, Bool, true, false, IsTrue, ◌⊎◌}
 use Rattle.re_syntax.specs.declared.syntax.Syntax.{Syntax}
 use Rattle.re_syntax.specs.declared.syntax.Syntax.TheVariants.{Basic, Extended, Fixed}
 use Rattle.re_syntax.specs.declared.fault.FaultKind.TheVariants.{TooLarge, Memory}
@@ -46,6 +46,10 @@ abbrev pub IsNotSpelled : Syntax → Text → PatternFault → Type 0
 IsNotSpelled Basic text fault = IsNoBasic text fault
 IsNotSpelled Extended text fault = IsNoExtended text fault
 IsNotSpelled Fixed text fault = ⊥
+
+-- why no automaton is made for an expression of so many positions, told at the text's first place: it has too many, or memory ran out
+abbrev pub IsBuildFault : ℕ → PatternFault → Type 0
+IsBuildFault count fault = ((fault ≡ record { kind = TooLarge; at = 0 }) × (most_positions < count)) ⊎ (IsOutOfMemory fault × (count ≤ most_positions))
 
 -- the text means an expression that is too large
 pub record IsTooLarge (syntax : Syntax) (fold : Bool) (text : Text) (fault : PatternFault) : Type 0 where

@@ -5,6 +5,7 @@
 mod fixed;
 mod line_match;
 mod matcher;
+mod needle;
 mod several;
 mod simulated;
 mod span;

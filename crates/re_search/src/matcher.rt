@@ -1,10 +1,9 @@
 //! Matchers made from the texts of patterns.
 ghost use Rattle.std.specs.Prelude.{◌≡◌, ◌+◌, ◌-◌, ◌≤◌, ◌↔◌, ◌⊎◌, [], ◌∷◌, not, false, IsTrue, IfOk, IfErr, length};
 ghost use Rattle.re_syntax.specs.Expression.{expression_of};
-ghost use Rattle.re_syntax.specs.Holds.{Matches};
+ghost use Rattle.re_syntax.specs.Holds.{Matches, most_positions, positions};
 ghost use Rattle.re_syntax.specs.Spelled.{IsSpelled, IsMeant, has_limit};
-ghost use Rattle.re_auto.specs.Tables.{IsRefused};
-ghost use Rattle.re_search.specs.Reading.{matched_expression, wants_whole, is_fixed, IsSmallFor, IsReadable, IsOutOfMemory, IsNotSpelled, IsRefusedFor};
+ghost use Rattle.re_search.specs.Reading.{matched_expression, wants_whole, is_fixed, IsSmallFor, IsReadable, IsOutOfMemory, IsBuildFault, IsNotSpelled, IsRefusedFor};
 ghost use Rattle.re_search.specs.Searching.{FindsPart, AddsAtMost};
 
 use crate::fixed::Fixed;
@@ -133,6 +132,16 @@ fn simulated_matcher(
         Ok(tree) => tree,
         Err(fault) => return Err(fault),
     };
+    stepping_matcher(alloc, tree, whole)
+}
+
+// The matcher that steps the automaton of a tree. Its faults are `TooLarge`, exactly where the
+// expression has more than 4,096 positions, and `Memory`.
+fn stepping_matcher(alloc: Global, tree: Tree, whole: bool) -> Result<Matcher, PatternFault>
+    ensures made { IfOk result (λ m. m ≡ Matcher.Simulated (record { tree = tree; whole = whole })) }
+    ensures few { IfOk result (λ _. positions (expression_of tree) ≤ most_positions) }
+    ensures refused { IfErr result (IsBuildFault (positions (expression_of tree))) }
+{
     match Simulated::new(alloc, tree, whole) {
         Ok(simulated) => Ok(Matcher::Simulated(simulated)),
         Err(BuildFault::TooLarge) => Err(fault_at_first(FaultKind::TooLarge)),

@@ -1,5 +1,5 @@
 //! Search by stepping an automaton over the line.
-ghost use Rattle.std.specs.Prelude.{◌≡◌, ◌+◌, ◌-◌, ◌≤◌, ◌↔◌, [], ◌∷◌, true, IsTrue, IfOk, IfErr, length};
+ghost use Rattle.std.specs.Prelude.{◌≡◌, ◌+◌, ◌-◌, ◌≤◌, ◌↔◌, [], ◌∷◌, true, false, IsTrue, IfOk, IfErr, length};
 ghost use Rattle.re_syntax.specs.Expression.{expression_of};
 ghost use Rattle.re_syntax.specs.Holds.{Matches, most_positions, positions};
 ghost use Rattle.re_auto.specs.Tables.{IsRefused};
@@ -10,6 +10,7 @@ mod sets;
 mod skipping;
 
 use crate::line_match::LineMatch;
+use crate::needle::Needle;
 use crate::span::Span;
 use least::StartPair;
 use re_auto::{Automaton, BuildFault, Meter};
@@ -19,11 +20,12 @@ use std::alloc::Global;
 use std::marker::Model;
 
 /// A matcher for an expression. Contracts see it as the tree and whether the whole line has to be
-/// matched.
+/// matched. Where every match has some string in it, lines without it take no step.
 #[derive(Drop)]
 pub struct Simulated {
     automaton: Automaton,
     whole: bool,
+    needle: Option<Needle>,
     sets: SetPair,
     starts: StartPair,
 }
@@ -31,6 +33,7 @@ pub struct Simulated {
 impl Model for Simulated {
     ghost use Rattle.re_syntax.specs.Expression.{expression_of};
     ghost use Rattle.re_syntax.specs.contracts.tree.Tree as e;
+    ghost use Rattle.re_search.specs.Needles.{IsNeedleFor};
     ghost use Rattle.re_search.specs.Simulated.{TreeMatcher};
     ghost use Rattle.re_search.specs.Simulations.{AreSetsFor, AreStartsFor};
     ghost use Rattle.std.specs.Coded.{codes};
@@ -41,7 +44,8 @@ impl Model for Simulated {
 
     ghost view = { λ s. record { tree = s.automaton; whole = s.whole } };
 
-    ghost invariant = { λ s. AreSetsFor (expression_of s.automaton) s.sets × AreStartsFor (expression_of s.automaton) s.starts };
+    ghost invariant = { λ s. AreSetsFor (expression_of s.automaton) s.sets × AreStartsFor (expression_of s.automaton) s.starts
+        × IsNeedleFor (expression_of s.automaton) s.needle };
 }
 
 impl Simulated {
@@ -53,15 +57,51 @@ impl Simulated {
         ensures few { IfOk result (λ _. positions (expression_of tree) ≤ most_positions) }
         ensures refused { IfErr result (IsRefused (positions (expression_of tree))) }
     {
+        let needle = Needle::of(alloc, &tree);
         let automaton = Automaton::build(alloc, tree)?;
+        let Ok(needle) = needle else {
+            return Err(BuildFault::Memory);
+        };
         let sets = SetPair::new(alloc, &automaton)?;
         let starts = StartPair::new(alloc, &automaton)?;
         Ok(Simulated {
             automaton,
             whole,
+            needle,
             sets,
             starts,
         })
+    }
+
+    // Whether some stretch of the line is matched.
+    fn stands_in(&mut self, line: &[u8], meter: &mut Meter) -> bool
+        ensures told { IsTrue result ↔ Matches (expression_of self.old.tree) line.now false }
+        ensures same { self.new ≡ self.old }
+        ensures steps { AddsAtMost (length line.now) meter.old meter.new }
+    {
+        if let Some(needle) = &self.needle {
+            if needle.finder.find(line).is_none() {
+                return false;
+            }
+            if needle.is_all {
+                return true;
+            }
+        }
+        self.sets.stands_in(&self.automaton, line, meter)
+    }
+
+    // Whether the whole line is matched.
+    fn is_line(&mut self, line: &[u8], meter: &mut Meter) -> bool
+        ensures told { IsTrue result ↔ Matches (expression_of self.old.tree) line.now true }
+        ensures same { self.new ≡ self.old }
+        ensures steps { AddsAtMost (length line.now) meter.old meter.new }
+    {
+        if let Some(needle) = &self.needle {
+            if needle.finder.find(line).is_none() {
+                return false;
+            }
+        }
+        self.sets.is_line(&self.automaton, line, meter)
     }
 
     // The part where the whole line has to be matched.
@@ -71,13 +111,32 @@ impl Simulated {
         ensures same { self.new ≡ self.old }
         ensures steps { AddsAtMost (length line.now - from) meter.old meter.new }
     {
-        if from > 0 || line.is_empty() || !self.sets.is_line(&self.automaton, line, meter) {
+        if from > 0 || line.is_empty() || !self.is_line(line, meter) {
             return None;
         }
         Some(Span {
             start: 0,
             end: line.len(),
         })
+    }
+
+    // The next part where it need not be the whole line.
+    fn part(&mut self, line: &[u8], from: usize, meter: &mut Meter) -> Option<Span>
+        requires { from ≤ length line.now }
+        ensures told { FindsPart (expression_of self.old.tree ∷ []) line.now false from result }
+        ensures same { self.new ≡ self.old }
+        ensures steps { AddsAtMost (length line.now - from) meter.old meter.new }
+    {
+        if let Some(needle) = &self.needle {
+            let start = from + needle.finder.find(&line[from..])?;
+            if needle.is_all {
+                return Some(Span {
+                    start,
+                    end: start + needle.finder.needle().len(),
+                });
+            }
+        }
+        self.starts.find(&self.automaton, line, from, meter)
     }
 }
 
@@ -96,9 +155,9 @@ impl LineMatch for Simulated {
         ensures same { self.new ≡ self.old }
     {
         if self.whole {
-            return self.sets.is_line(&self.automaton, line, meter);
+            return self.is_line(line, meter);
         }
-        self.sets.stands_in(&self.automaton, line, meter)
+        self.stands_in(line, meter)
     }
 
     fn find(&mut self, line: &[u8], from: usize, meter: &mut Meter) -> Option<Span>
@@ -112,6 +171,6 @@ impl LineMatch for Simulated {
         if self.whole {
             return self.whole_line(line, from, meter);
         }
-        self.starts.find(&self.automaton, line, from, meter)
+        self.part(line, from, meter)
     }
 }

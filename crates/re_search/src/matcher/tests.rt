@@ -277,7 +277,7 @@ fn a_string_is_large_only_where_it_is_folded(rt: HostRuntime) -> Result<(), Fail
 #[test]
 fn a_long_line_takes_no_step_where_nothing_can_begin(rt: HostRuntime) -> Result<(), Fail> {
     let mut line = vec![in rt.alloc(); b'a'; 100_000]?;
-    let mut matcher = Matcher::new(rt.alloc(), b"bc*", Syntax::Basic, false, false, 1)?;
+    let mut matcher = Matcher::new(rt.alloc(), b"[bB]c*", Syntax::Basic, false, false, 1)?;
     let mut meter = fresh_meter();
     assert!(rt; !matcher.is_match(&line, &mut meter));
     assert_eq!(rt; meter.built(), 1);
@@ -296,11 +296,82 @@ fn a_long_line_takes_no_step_where_nothing_can_begin(rt: HostRuntime) -> Result<
 #[test]
 fn a_long_line_is_stepped_to_its_end(rt: HostRuntime) -> Result<(), Fail> {
     let line = vec![in rt.alloc(); b'a'; 100_000]?;
-    let mut matcher = Matcher::new(rt.alloc(), b"a*b", Syntax::Basic, false, false, 1)?;
+    let mut matcher = Matcher::new(rt.alloc(), b"a*[bB]", Syntax::Basic, false, false, 1)?;
     let mut meter = fresh_meter();
     assert!(rt; !matcher.is_match(&line, &mut meter));
     assert_eq!(rt; meter.built(), 100_000);
     assert!(rt; matcher.find(&line, 1, &mut meter).is_none());
     assert_eq!(rt; meter.built(), 199_999);
+    Ok(())
+}
+
+// A pattern, a line and a place: the part from there on, and whether it is told without a step.
+type Needed<'a> = (Pattern<'a>, &'a [u8], usize, Option<(usize, usize)>, bool);
+
+#[test]
+fn a_string_that_is_needed_is_looked_for_first(rt: HostRuntime) -> Result<(), Fail> {
+    let repeated: Pattern = (Syntax::Basic, b"x*ab", false, false);
+    let numbered: Pattern = (Syntax::Extended, b"ab[0-9]", false, false);
+    let left_out: Pattern = (Syntax::Extended, b"(ab)?c", false, false);
+    let grouped: Pattern = (Syntax::Extended, b"x(ab|cd)y", false, false);
+    let rows: [Needed; 16] = [
+        (repeated, b"xxxaxb", 0, None, true),
+        (repeated, b"abxx", 1, None, true),
+        (repeated, b"cxxab", 0, Some((1, 5)), false),
+        (numbered, b"xabx", 0, None, false),
+        (numbered, b"abxab1", 0, Some((3, 6)), false),
+        (left_out, b"xc", 0, Some((1, 2)), false),
+        (grouped, b"abcd", 0, None, true),
+        (grouped, b"xcdy", 0, Some((0, 4)), false),
+        (
+            (Syntax::Extended, b"ab|cd", false, false),
+            b"cd",
+            0,
+            Some((0, 2)),
+            false,
+        ),
+        (
+            (Syntax::Basic, b"[ab]x*", false, false),
+            b"bx",
+            0,
+            Some((0, 2)),
+            false,
+        ),
+        (
+            (Syntax::Basic, b"ab", false, false),
+            b"xabab",
+            2,
+            Some((3, 5)),
+            true,
+        ),
+        (
+            (Syntax::Basic, b"a", false, false),
+            b"xa",
+            0,
+            Some((1, 2)),
+            true,
+        ),
+        ((Syntax::Basic, b"ab", false, true), b"xab", 0, None, false),
+        ((Syntax::Basic, b"a*b", false, true), b"aa", 0, None, true),
+        (
+            (Syntax::Basic, b"ab", true, false),
+            b"xAb",
+            0,
+            Some((1, 3)),
+            false,
+        ),
+        ((Syntax::Basic, b"a-b", true, false), b"xab", 0, None, true),
+    ];
+    for ((syntax, text, fold, whole), line, from, expected, at_once) in rows {
+        let mut matcher = Matcher::new(rt.alloc(), text, syntax, fold, whole, 1)?;
+        let mut meter = fresh_meter();
+        assert!(rt; from <= line.len());
+        let part = matcher.find(line, from, &mut meter);
+        let place = part.map(|span| (span.start, span.end));
+        assert_eq!(rt; place, expected, "{text:?} on {line:?} from {from}");
+        let is_match = matcher.is_match(&line[from..], &mut meter);
+        assert_eq!(rt; is_match, expected.is_some(), "{text:?} on {line:?}");
+        assert_eq!(rt; meter.built() == 0, at_once, "{text:?} on {line:?}");
+    }
     Ok(())
 }

@@ -94,7 +94,24 @@ impl SetPair {
     }
 
     // Sets the set to what it becomes by one more byte, which counts as one step.
+    #[inline(always)]
     fn advance(&mut self, automaton: &Automaton, mode: Mode, byte: u8, meter: &mut Meter)
+        requires made { AreSetsFor (expression_of automaton.now) self.old }
+        ensures made { AreSetsFor (expression_of automaton.now) self.new }
+        ensures stands { (line : Text) (j : ℕ) → slice_get line j ≡ Some byte
+            → StandsAt (expression_of automaton.now) mode line j self.old.current → StandsAt (expression_of automaton.now) mode line (suc j) self.new.current }
+        ensures counted { meter.new ≡ many_built 1 meter.old }
+    {
+        if automaton.has_one_word() {
+            automaton.advance_in_place(mode, &mut self.current, byte, meter);
+            return;
+        }
+        self.advance_in_spare(automaton, mode, byte, meter);
+    }
+
+    // The same by way of the spare set. It stands apart, since it would cost the loops registers.
+    #[inline(never)]
+    fn advance_in_spare(&mut self, automaton: &Automaton, mode: Mode, byte: u8, meter: &mut Meter)
         requires made { AreSetsFor (expression_of automaton.now) self.old }
         ensures made { AreSetsFor (expression_of automaton.now) self.new }
         ensures stands { (line : Text) (j : ℕ) → slice_get line j ≡ Some byte

@@ -12,6 +12,7 @@ pub fn next_beginning(automaton: &Automaton, line: &[u8], place: usize) -> usize
     requires { place ≤ length line.now }
     ensures within { (place ≤ result) × (result ≤ length line.now) }
     ensures passed { (k : ℕ) → place ≤ k → k < result → ¬ CanBegin (part_of (expression_of automaton.now) 0) (slice_index line.now k) }
+    ensures stops { result < length line.now → CanBegin (part_of (expression_of automaton.now) 0) (slice_index line.now result) }
 {
     'places: for next in place..line.len() {
         if automaton.begins(line[next]) {

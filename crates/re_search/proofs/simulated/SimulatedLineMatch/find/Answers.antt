@@ -5,4 +5,4 @@ use Rattle.re_search.proofs.simulated.SimulatedLineMatch.find.Goals as goal
 pub returns-clause-told : goal.returns-clause-told
 returns-clause-told c =
     let whole : c.args.self.now.whole ≡ false = ap (λ (m : TreeMatcher). m.whole) (sym c.self.view_is) ∙ c.if-self.false in
-    rw (whole, ← c.self.view_is) c.find.ensures.told
+    rw whole c.part.ensures.told
