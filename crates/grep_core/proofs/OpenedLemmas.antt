@@ -25,13 +25,13 @@ use Rattle.grep_core.proofs.Readings.{IsReadingOf-exists}
 use Rattle.grep_core.proofs.FileOutput.{rows_none, output_all, rows_as}
 
 -- a source that was opened and then read may have done what was read
-opened : (source : Source) (r : Reading) → IfSome source.opens (λ b. b ≡ true) → IsReadingOf (open_source source.name source.bytes) r → IsReadingOf source r
+pub opened : (source : Source) (r : Reading) → IfSome source.opens (λ b. b ≡ true) → IsReadingOf (open_source source.name source.bytes) r → IsReadingOf source r
 opened source not_opened opens h = absurd (false≢true (sym h))
 opened source (fails_after bytes) opens h = (opens, h.1)
 opened source (ends_after bytes) opens h = (opens, h.1)
 
 -- what a reader counts from nothing on is counted on
-count_on : (n own : ℕ) → own ≤ 1 → count_more n (count_more 0 own) ≡ count_more n own
+pub count_on : (n own : ℕ) → own ≤ 1 → count_more n (count_more 0 own) ≡ count_more n own
 count_on n own few = elim (cases_own own few) [ inl e ↦ ap (λ k. count_more n (count_more 0 k)) e ∙ ap (count_more n) (sym e) | inr e ↦ ap (λ k. count_more n (count_more 0 k)) e ∙ ap (count_more n) one ∙ ap (count_more n) (sym e) ]
   where
     cases_own : (k : ℕ) → k ≤ 1 → (k ≡ 0) ⊎ (k ≡ 1)
@@ -42,7 +42,7 @@ count_on n own few = elim (cases_own own few) [ inl e ↦ ap (λ k. count_more n
     one = omega arith
 
 -- a source fails at most once
-few_failures : (r : Reading) → failures_of r ≤ 1
+pub few_failures : (r : Reading) → failures_of r ≤ 1
 few_failures not_opened = omega arith
 few_failures (fails_after bytes) = omega arith
 few_failures (ends_after bytes) = omega arith

@@ -30,7 +30,7 @@ pub use lines::{Lines, ReadFault, Stage};
 pub use messages::{write_cannot_open, write_read_error};
 pub use options::{Flag, Options};
 pub use pushing::{WriteFault, push_all};
-pub use rows::{write_line, write_row};
+pub use rows::{write_decimal, write_line, write_row};
 pub use run::search_all;
 pub use sources::Sources;
 pub use status::{RunFault, Status};

@@ -1,5 +1,5 @@
 //! The one pass over all sources.
-ghost use Rattle.std.specs.Prelude.{◌≡◌, ◌<◌, map, length, IfOk, OnErr};
+ghost use Rattle.std.specs.Prelude.{◌≡◌, ◌+◌, ◌<◌, map, length, IfOk, OnErr};
 ghost use Rattle.re_search.specs.Searching.{AllAnswer};
 ghost use Rattle.grep_core.specs.Counted.{one_more};
 ghost use Rattle.grep_core.specs.Output.{form};
@@ -74,7 +74,7 @@ fn tell_fault<N: CountedWrite>(
     }
 }
 
-/// Writes the output and the message for one source.
+/// Writes the output and the message for the next source.
 fn run_source<S: Sources, M: LineMatch, W: CountedWrite, N: CountedWrite>(
     alloc: Global,
     sources: &mut S,
@@ -87,8 +87,11 @@ fn run_source<S: Sources, M: LineMatch, W: CountedWrite, N: CountedWrite>(
     meter: &mut Meter,
 ) -> Result<FileFound, RunFault>
     requires place { k < length (S.listed sources.old) }
+    requires in_order { S.stands_at sources.old k }
     requires whole { AllAnswer options.line_regexp (map M.whole matchers.old) }
     ensures listed { S.listed sources.new ≡ S.listed sources.old }
+    ensures next { S.stands_at sources.new (k + 1) }
+    ensures same_loan { S.loan sources.new ≡ S.loan sources.old }
     ensures given { SourceGives (map M.expression matchers.old) options many (source_at (S.listed sources.old) k) k
         record {
           out = writer W.contents W.failures out.old;
@@ -164,7 +167,9 @@ pub fn search_all<S: Sources, M: LineMatch, W: CountedWrite, N: CountedWrite>(
     messages: &mut N,
     meter: &mut Meter,
 ) -> Result<Status, RunFault>
-    requires { AllAnswer options.now.line_regexp (map M.whole matchers.old) }
+    requires in_order { S.stands_at sources.old 0 }
+    requires whole { AllAnswer options.now.line_regexp (map M.whole matchers.old) }
+    ensures same_loan { S.loan sources.new ≡ S.loan sources.old }
     ensures run { RunGives (map M.expression matchers.old) options.now (S.listed sources.old)
         record {
           out = writer W.contents W.failures out.old;

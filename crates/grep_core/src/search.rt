@@ -156,7 +156,7 @@ fn search_lines<R: CountedRead, M: LineMatch, W: CountedWrite>(
     }
 }
 
-/// Opens a source, searches its lines and gives its reader back.
+/// Opens the next source, searches its lines and gives its reader back.
 pub fn search_source<S: Sources, M: LineMatch, W: CountedWrite>(
     alloc: Global,
     sources: &mut S,
@@ -168,8 +168,11 @@ pub fn search_source<S: Sources, M: LineMatch, W: CountedWrite>(
     meter: &mut Meter,
 ) -> Result<FileFound, SearchFault>
     requires place { k < length (S.listed sources.old) }
+    requires in_order { S.stands_at sources.old k }
     requires whole { AllAnswer options.line_regexp (map M.whole matchers.old) }
     ensures listed { S.listed sources.new ≡ S.listed sources.old }
+    ensures next { S.stands_at sources.new (k + 1) }
+    ensures same_loan { S.loan sources.new ≡ S.loan sources.old }
     ensures ok { IfOk result (λ found. SearchesSource (map M.expression matchers.old) options many
         (source_at (S.listed sources.old) k) (S.failures sources.old) (S.failures sources.new)
         (writer W.contents W.failures out.old) (writer W.contents W.failures out.new)

@@ -1,13 +1,13 @@
 //! The sources that a run reads.
-ghost use Rattle.std.specs.Prelude.{◌≡◌, ℕ, ◌<◌, List, length};
+ghost use Rattle.std.specs.Prelude.{◌≡◌, ℕ, ◌+◌, ◌<◌, List, length, ⊤};
 ghost use Rattle.grep_core.specs.Reading.{Source};
 ghost use Rattle.grep_core.specs.Run.{count_more};
 ghost use Rattle.grep_core.specs.Sources.{source_at, Opens};
 
 use crate::counted::CountedRead;
 
-/// Files, streams or pieces of memory, by their places in a list, counted from 0. A run opens each
-/// at most once, reads it from front to back and gives its reader back.
+/// Files, streams or pieces of memory, by their places in a list, counted from 0. They are opened in
+/// order, each at most once, read from front to back, and their readers are given back.
 pub trait Sources {
     /// What a source is read by.
     type Reader: CountedRead;
@@ -19,6 +19,13 @@ pub trait Sources {
     /// How many attempts to open a source, and reads of readers that were given back, have failed.
     ghost failures: { Self → ℕ };
 
+    /// The sources stand at this place: the one there may be opened next.
+    ghost stands_at: { Self → ℕ → Type 0 } = { λ _ _. ⊤ };
+
+    /// Which loan the sources are, or hold, by the name of its referent's value in proofs. It is
+    /// the same for all that hold none.
+    ghost loan: { Self → ℕ } = { λ _. 0 };
+
     /// How many sources there are.
     fn count(&self) -> usize
         ensures { result ≡ length (listed self.now) };
@@ -28,16 +35,22 @@ pub trait Sources {
         requires { k < length (listed self.now) }
         ensures { result.now ≡ (source_at (listed self.now) k).name };
 
-    /// Opens a source. `None` says that it could not be opened, which is counted as a failure.
+    /// Opens the next source. `None` says that it could not be opened, which is counted as a
+    /// failure.
     fn open(&mut self, k: usize) -> Option<Self::Reader>
-        requires { k < length (listed self.old) }
+        requires place { k < length (listed self.old) }
+        requires in_order { stands_at self.old k }
         ensures listed { listed self.new ≡ listed self.old }
-        ensures opened { Opens Self.Reader.remaining Self.Reader.failures (source_at (listed self.old) k)
+        ensures next { stands_at self.new (k + 1) }
+        ensures same_loan { loan self.new ≡ loan self.old }
+        ensures given { Opens Self.Reader.remaining Self.Reader.failures (source_at (listed self.old) k)
             (failures self.old) (failures self.new) result };
 
     /// Takes a reader back, and counts its failures.
     fn close(&mut self, reader: Self::Reader)
         ensures listed { listed self.new ≡ listed self.old }
+        ensures same_place { (k : ℕ) → stands_at self.old k → stands_at self.new k }
+        ensures same_loan { loan self.new ≡ loan self.old }
         ensures counted { failures self.new ≡ count_more (failures self.old) (Self.Reader.failures reader) };
 
     /// How many attempts to open a source, and reads of readers that were given back, have failed.

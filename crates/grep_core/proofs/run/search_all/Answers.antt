@@ -3,7 +3,7 @@ use Rattle.grep_core.proofs.RunLaws.{run_none, run_further, run_ends_at, run_giv
 use Rattle.grep_core.proofs.run.search_all.Goals as goal
 
 pub loop-k-init : goal.loop-k-init
-loop-k-init g c = record { so_far = run_none _ _ _ _; listed = refl; within = omega arith; same_expressions = refl; same_wholes = refl }
+loop-k-init g c = record { so_far = run_none _ _ _ _; listed = refl; within = omega arith; in_order = c.requires.in_order; same_loan = refl; same_expressions = refl; same_wholes = refl }
 
 pub loop-k-preserved : goal.loop-k-preserved
 loop-k-preserved g c =
@@ -18,6 +18,8 @@ loop-k-preserved g c =
           given c.has_selected.ensures c.if-options-has_selected.false c.has_selected-some.ensures c.is_fault-faulty.ensures;
       listed = c.in-Ok.ensures.listed ∙ s.listed;
       within = omega (arith, inside);
+      in_order = c.in-Ok.ensures.next;
+      same_loan = c.in-Ok.ensures.same_loan ∙ s.same_loan;
       same_expressions = c.in-Ok.ensures.same_expressions ∙ s.same_expressions;
       same_wholes = c.in-Ok.ensures.same_wholes ∙ s.same_wholes;
     }

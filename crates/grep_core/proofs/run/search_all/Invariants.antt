@@ -21,6 +21,8 @@ invariant-loop-k g l = record {
       }) l.some l.faulty;
   listed : g.S.Sources.listed l.sources ≡ g.S.Sources.listed l.fn.sources;
   within : l.k ≤ length (g.S.Sources.listed l.fn.sources);
+  in_order : g.S.Sources.stands_at l.sources l.k;
+  same_loan : g.S.Sources.loan l.sources ≡ g.S.Sources.loan l.fn.sources;
   same_expressions : map g.M.LineMatch.expression l.matchers ≡ map g.M.LineMatch.expression l.fn.matchers;
   same_wholes : map g.M.LineMatch.whole l.matchers ≡ map g.M.LineMatch.whole l.fn.matchers;
 }

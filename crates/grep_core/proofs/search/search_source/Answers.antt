@@ -10,7 +10,7 @@ returns-in_default-clause-ok g c =
     let es = map g.M.LineMatch.expression c.args.matchers.now in
     let source = source_at (g.S.Sources.listed c.args.sources.now) c.args.k in
     source_missing es c.args.options c.args.many source (writer g.W.CountedWrite.contents g.W.CountedWrite.failures c.args.out.now) c.args.meter.now (g.S.Sources.failures c.args.sources.now) (g.S.Sources.failures c.open.new.self)
-    c.in_default.ensures.opened.0 c.in_default.ensures.opened.1
+    c.in_default.ensures.given.0 c.in_default.ensures.given.1
 
 pub returns-in-Err-clause-memory : goal.returns-in-Err-clause-memory
 returns-in-Err-clause-memory g c = λ count is.
@@ -23,7 +23,7 @@ pub returns-clause-ok : goal.returns-clause-ok
 returns-clause-ok g c =
     let es = map g.M.LineMatch.expression c.args.matchers.now in
     let source = source_at (g.S.Sources.listed c.args.sources.now) c.args.k in
-    let opened = c.in-Some.ensures.opened in
+    let opened = c.in-Some.ensures.given in
     let named = c.name.ensures ∙ ap (λ l. (source_at l c.args.k).name) c.open.ensures.listed in
     let counted = c.close-2.ensures.counted ∙ (λ i. count_more (opened.3 i) (g.S.Reader.CountedRead.failures (c.into_reader.ensures i))) in
     found_in g.S.Reader.CountedRead.remaining g.S.Reader.CountedRead.failures es c.args.options c.args.many source opened.0 c.in-Some.reader opened.1 opened.2 c.in-Ok.lines (ap (λ (l : LineReader _). l.reader) c.in-Ok.ensures.ok)
@@ -33,7 +33,7 @@ pub returns-clause-write : goal.returns-clause-write
 returns-clause-write g c = λ is.
     let es = map g.M.LineMatch.expression c.args.matchers.now in
     let source = source_at (g.S.Sources.listed c.args.sources.now) c.args.k in
-    let opened = c.in-Some.ensures.opened in
+    let opened = c.in-Some.ensures.given in
     let named = c.name.ensures ∙ ap (λ l. (source_at l c.args.k).name) c.open.ensures.listed in
     broken_in g.S.Reader.CountedRead.remaining g.S.Reader.CountedRead.failures es c.args.options c.args.many source opened.0 c.in-Some.reader opened.1 opened.2 c.in-Ok.lines (ap (λ (l : LineReader _). l.reader) c.in-Ok.ensures.ok)
     c.name.result.now named _ _ _ _ (c.search_lines-found.ensures.write is)
@@ -42,7 +42,7 @@ pub returns-clause-memory : goal.returns-clause-memory
 returns-clause-memory g c = λ count is.
     let es = map g.M.LineMatch.expression c.args.matchers.now in
     let source = source_at (g.S.Sources.listed c.args.sources.now) c.args.k in
-    let opened = c.in-Some.ensures.opened in
+    let opened = c.in-Some.ensures.given in
     let named = c.name.ensures ∙ ap (λ l. (source_at l c.args.k).name) c.open.ensures.listed in
     stopped_in g.S.Reader.CountedRead.remaining g.S.Reader.CountedRead.failures es c.args.options c.args.many source opened.0 c.in-Some.reader opened.1 opened.2 c.in-Ok.lines (ap (λ (l : LineReader _). l.reader) c.in-Ok.ensures.ok)
     c.name.result.now named _ _ _ _ count (c.search_lines-found.ensures.memory count is)
