@@ -1,12 +1,13 @@
 # make            proves every crate, builds the programs into build/ and tries one of them
 # make test       the whole gate: proofs from nothing, edits that must fail, tests, programs
+# make test-memory  runs the program with each of its allocations refused in turn (wants a C compiler)
 # make install    copies the programs and their manual pages below $(DESTDIR)$(PREFIX)
 # make clean      removes what make built; what rt keeps of its proofs stays
 
 PREFIX = /usr/local
 DESTDIR =
 
-.PHONY: all prove programs first-row test install clean
+.PHONY: all prove programs first-row test test-memory install clean
 
 all: first-row
 
@@ -16,18 +17,21 @@ prove:
 # rt builds a program in order to run it, so it is run on its stored input.
 programs: prove
 	mkdir -p build
-	cd crates/grep && rt run -- -F -n b < stdin > /dev/null
+	cd crates/grep && rt run -- b < stdin > /dev/null
 	cp crates/grep/out/grep build/grep
 
 first-row: programs
-	printf 'b\nab\nB\n' | build/grep -F -n b > build/first-row.out
-	printf '1:b\n2:ab\n' | cmp - build/first-row.out
+	printf 'b\nab\nB\n' | build/grep b > build/first-row.out
+	printf 'b\nab\n' | cmp - build/first-row.out
 
 build/grep:
 	$(MAKE) programs
 
 test:
 	rt ci
+
+test-memory: build/grep
+	tools/refuse_allocations.sh
 
 install: build/grep
 	install -d "$(DESTDIR)$(PREFIX)/bin" "$(DESTDIR)$(PREFIX)/share/man/man1"

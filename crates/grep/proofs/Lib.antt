@@ -1,2 +1,1 @@
-mod WordLemmas
-mod GroupLemmas
+pub mod CountLemmas

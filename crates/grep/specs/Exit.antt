@@ -1,23 +1,48 @@
--- The exit status (XCU grep, EXIT STATUS).
-use Rattle.std.specs.Prelude.{◌≡◌, ◌⊎◌, ℕ, Option, Result, Ok, Err}
+-- How the program ends behind its command (XCU grep, EXIT STATUS and STDERR).
+use Rattle.std.specs.Prelude.{◌≡◌, ℕ, nat_lt, List, [], ◌∷◌, ◌⊎◌, codes, Option, MatchBool}
+use Rattle.grep_core.specs.Buffer.{BufferedWriter, SendsAll, SendsSome, all_contents}
+use Rattle.grep_core.specs.Meters.{Steps, fresh}
+use Rattle.grep_core.specs.Run.{Writer, writer}
 use Rattle.grep_cmd.specs.Bytes.{Text}
-use Rattle.grep_core.specs.Buffer.{BufferedWriter, SendsAll, SendsSome}
-use Rattle.grep_core.specs.declared.status.Status.{Status}
-use Rattle.grep_core.specs.declared.status.Status.TheVariants.{Selected, NoneSelected, Error}
-use Rattle.grep_core.specs.declared.status.RunFault.{RunFault}
-use Rattle.grep_core.specs.declared.status.RunFault.TheVariants.{Write}
+use Rattle.grep_cmd.specs.Command.{Tells, CommandGives}
+use Rattle.grep_cmd.specs.Folder.{Folder}
+use Rattle.grep_cmd.specs.Texts.{write_error}
 
--- 0 where a line was selected, 1 where none was, more than 1 where an error came
-abbrev pub status_of : Result Status RunFault → ℕ
-status_of (Ok Selected) = 0
-status_of (Ok NoneSelected) = 1
-status_of (Ok Error) = 2
-status_of (Err _) = 2
+abbrev pub words_refused : Text
+words_refused = codes "grep: words must be UTF-8"
 
--- all output went out and the status is that of the run's end; or it is 2, where a write fails at the end or failed before
+-- a write error is told, but not where a message could not be written before
+abbrev pub TellsWriteError : Writer → Writer → Type 0
+TellsWriteError old new = MatchBool (nat_lt 0 old.failures) (new ≡ old) (Tells old new (write_error ∷ []))
+
+-- standard output, gathered; standard error; and how often a file could not be opened or read
+pub record Streams (W : Type 0) : Type 0 where
+  pub out : BufferedWriter W
+  pub messages : Writer
+  pub source_failures : ℕ
+
 module _ {W : Type 0} (contents : W → Option Text) (failures : W → ℕ) where
-  abbrev pub EndsAs : BufferedWriter W → BufferedWriter W → Result Status RunFault → ℕ → Type 0
-  EndsAs old new (Err Write) status = (new ≡ old) × (status ≡ 2)
-  EndsAs old new end status =
-      (SendsAll contents failures old new × (status ≡ status_of end))
-      ⊎ (SendsSome contents failures old new × (status ≡ 2))
+  -- where a write of the output failed before, nothing more is sent; otherwise all that waits goes out, and the status
+  -- is the one that was found; or a beginning of it goes out, and that is told and the status is 2
+  abbrev pub EndsAs : BufferedWriter W → BufferedWriter W → Writer → Writer → ℕ → ℕ → Type 0
+  EndsAs old new told_before told found status =
+      MatchBool (nat_lt 0 (failures old.inner))
+      ((new ≡ old) × (told ≡ told_before) × (status ≡ found))
+      ((SendsAll contents failures old new × (told ≡ told_before) × (status ≡ found))
+      ⊎ (SendsSome contents failures old new × TellsWriteError told_before told × (status ≡ 2)))
+
+  -- standard output as the command writes to it
+  abbrev pub gathered : BufferedWriter W → Writer
+  gathered = writer (all_contents contents) (λ out. failures out.inner)
+
+  -- what the program does for its words: what the command does, and then its end
+  pub record ProgramGives (folder : Folder) (words : List Text) (old new : Streams W) (status : ℕ) : Type 0 where
+    pub found : ℕ
+    pub out : BufferedWriter W
+    pub messages : Writer
+    pub steps : Steps
+    pub command : CommandGives folder
+        record { out = gathered old.out; messages = old.messages; source_failures = old.source_failures; steps = fresh }
+        record { out = gathered out; messages = messages; source_failures = new.source_failures; steps = steps }
+        found words
+    pub ends : EndsAs out new.out messages new.messages found status

@@ -1,2 +1,2 @@
+pub mod Disk
 pub mod Exit
-pub mod Words

@@ -1,79 +1,60 @@
-//! `grep -F` over standard input: its words, its devices and its exit status.
+//! `grep`: the words, files and streams of the system for the command, and its exit status.
 #![tactic(auto)]
 
-mod words;
+mod disk;
+mod ending;
 
-ghost use Rattle.std.specs.Prelude.{◌≡◌};
-ghost use Rattle.grep.specs.Exit.{status_of, EndsAs};
+ghost use Rattle.grep_core.specs.Run.{writer};
+ghost use Rattle.grep_cmd.specs.Words.{texts_of};
+ghost use Rattle.grep.specs.Exit.{ProgramGives};
 
-use crate::words::{Request, request_of};
-use grep_cmd::grep_fixed;
-use grep_core::{Buffered, CountedWrite, RunFault, Status, Tally, WriteFault, write_line};
-use std::io::ErrorKind;
+use crate::disk::DiskFiles;
+use crate::ending::{finish, refuse_memory, refuse_words};
+use grep_cmd::{Files, run_grep};
+use grep_core::{Buffered, CountedWrite, Tally};
+use std::alloc::Global;
+use std::io::{ErrorKind, IsTerminal};
 use std::process::ExitCode;
 use std::{env, io};
 
-/// The exit status of a run that met a fault (XCU grep, EXIT STATUS).
-const FAULT: u8 = 2;
-
-/// The exit status for how a run ended (XCU grep, EXIT STATUS).
-fn exit_status(end: Result<Status, RunFault>) -> u8
-    ensures { result ≡ status_of end }
+/// Runs the command, whose output is gathered and sent at the end; answers the exit status.
+fn run_gathered<F: Files, W: CountedWrite, M: CountedWrite>(
+    alloc: Global,
+    words: &[String],
+    files: &mut F,
+    out: &mut Buffered<W>,
+    messages: &mut M,
+) -> u8
+    ensures { ProgramGives W.contents W.failures (F.folder files.old) (texts_of words.now)
+        record {
+          out = out.old;
+          messages = writer M.contents M.failures messages.old;
+          source_failures = F.failures files.old;
+        }
+        record {
+          out = out.new;
+          messages = writer M.contents M.failures messages.new;
+          source_failures = F.failures files.new;
+        }
+        result }
 {
-    match end {
-        Ok(Status::Selected) => 0,
-        Ok(Status::NoneSelected) => 1,
-        Ok(Status::Error) | Err(_) => FAULT,
-    }
+    let found = run_grep(alloc, words, files, out, messages);
+    finish(out, messages, found)
 }
 
-/// Says that a command of these words does not exist yet. Where standard error cannot be written
-/// nothing tells of it but the exit status.
-fn refuse_words(rt: &HostRuntime) -> u8
-    ensures { result ≡ 2 }
-{
-    let mut messages = Tally::new(rt.stderr());
-    let _told = write_line(&mut messages, b"grep: not in this stage");
-    FAULT
-}
-
-/// Sends the output that waits, and answers the exit status. Where a write of the run failed none
-/// is tried again.
-fn finish<W: CountedWrite>(out: &mut Buffered<W>, end: Result<Status, RunFault>) -> u8
-    ensures { EndsAs W.contents W.failures out.old out.new end result }
-{
-    if end == Err(RunFault::Write) {
-        return FAULT;
-    }
-    match out.flush() {
-        Ok(()) => exit_status(end),
-        Err(WriteFault) => FAULT,
-    }
-}
-
-/// Searches standard input, and answers the exit status. Where memory for the output's buffer is
-/// refused nothing is read.
-fn search(rt: &HostRuntime, request: Request) -> u8 {
-    let Ok(mut out) = Buffered::new(rt.alloc(), Tally::new(rt.stdout())) else {
-        return FAULT;
-    };
-    let end = grep_fixed(
-        rt.alloc(),
-        request.list,
-        request.line_number,
-        request.invert_match,
-        &mut Tally::new(rt.stdin()),
-        &mut out,
-        &mut Tally::new(rt.stderr()),
-    );
-    finish(&mut out, end)
-}
-
-/// Does what the words ask for that follow the program's name.
+/// Runs the command on the devices of the system. On a terminal output is written at once, so that
+/// each line is seen when it was found; elsewhere it is gathered.
 fn run(rt: &HostRuntime, words: &[String]) -> u8 {
-    match request_of(words) {
-        Some(request) => search(rt, request),
-        None => refuse_words(rt),
+    let alloc = rt.alloc();
+    let mut files = DiskFiles::new(rt);
+    let mut messages = Tally::new(rt.stderr());
+    if rt.stdout().is_terminal() {
+        let mut out = Tally::new(rt.stdout());
+        return run_grep(alloc, words, &mut files, &mut out, &mut messages);
+    }
+    match Buffered::new(alloc, Tally::new(rt.stdout())) {
+        Ok(mut out) => run_gathered(alloc, words, &mut files, &mut out, &mut messages),
+        Err(_) => refuse_memory(&mut messages),
     }
 }
 
@@ -85,8 +66,10 @@ fn command_words(rt: &HostRuntime) -> io::Result<Vec<String>> {
 fn main(rt: HostRuntime) -> ExitCode {
     let status = match command_words(&rt) {
         Ok(words) => run(&rt, &words),
-        Err(error) if error.kind() == ErrorKind::InvalidData => refuse_words(&rt),
-        Err(_) => FAULT,
+        Err(error) if error.kind() == ErrorKind::InvalidData => {
+            refuse_words(&mut Tally::new(rt.stderr()))
+        }
+        Err(_) => refuse_memory(&mut Tally::new(rt.stderr())),
     };
     ExitCode::from(status)
 }

@@ -1,6 +1,10 @@
-pub mod FixedLemmas
-pub mod SearchLemmas
-pub mod RunLemmas
 pub mod PieceLemmas
 pub mod WordLemmas
 pub mod UsageLemmas
+pub mod GatherLemmas
+pub mod SourceLemmas
+pub mod OperandLemmas
+pub mod MatcherLemmas
+pub mod TellingLemmas
+pub mod CommandLemmas
+pub mod CountLemmas

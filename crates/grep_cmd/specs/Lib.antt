@@ -7,9 +7,13 @@ pub use Rattle.re_syntax.specs.Spelled
 pub use Rattle.grep_core.specs.Files
 pub use Rattle.grep_core.specs.Meters
 pub use Rattle.grep_core.specs.Run
-pub mod FixedStrings
-pub mod FixedSearch
-pub mod FixedRun
 pub mod Words
 pub mod Texts
 pub mod Pieces
+pub mod Folder
+pub mod Memory
+pub mod Patterns
+pub mod Gathered
+pub mod Operands
+pub mod Matchers
+pub mod Command

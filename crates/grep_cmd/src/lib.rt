@@ -1,13 +1,22 @@
 //! Whole commands: what grep does for its words, from bytes to bytes.
 #![tactic(auto)]
 
-mod fixed;
-mod run;
+mod command;
+mod files;
+mod matchers;
+mod memory;
+mod operands;
+mod patterns;
+mod refusal;
+mod searching;
+mod telling;
 #[cfg(test)]
 mod tests;
 mod usage;
 mod words;
 
-pub use run::grep_fixed;
+pub use command::run_grep;
+pub use files::Files;
+pub use memory::{Content, MemoryFile, MemoryFiles, MemoryReader};
 pub use usage::write_usage_fault;
 pub use words::{PatternSource, Request, UsageFault, read_words};

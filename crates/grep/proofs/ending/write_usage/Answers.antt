@@ -1,0 +1,6 @@
+use Rattle.grep_cmd.specs.Texts.{usage}
+use Rattle.grep.proofs.ending.write_usage.Goals as goal
+
+pub returns : goal.returns
+unfolding usage
+returns g c = c.write_line.ensures

@@ -1,0 +1,12 @@
+use Rattle.grep_core.specs.Run.{writer}
+use Rattle.grep.proofs.run_gathered.Goals as goal
+
+pub returns : goal.returns
+returns g c = record {
+  found = c.run_grep-found.result;
+  out = c.run_grep-found.new.out;
+  messages = writer g.M.CountedWrite.contents g.M.CountedWrite.failures c.run_grep-found.new.messages;
+  steps = c.run_grep-found.ensures.0;
+  command = c.run_grep-found.ensures.1;
+  ends = c.finish.ensures;
+}

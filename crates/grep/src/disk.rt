@@ -1,0 +1,92 @@
+//! The files of the system, and standard input.
+ghost use Rattle.std.specs.Prelude.{◌≡◌, false};
+ghost use Rattle.grep_core.specs.Run.{count_more};
+ghost use Rattle.grep.specs.Disk.{known_bytes, folder_of};
+
+use grep_cmd::Files;
+use grep_core::{CountedRead, Tally};
+use std::fs::File;
+use std::io::{Read, Stdin};
+use std::{fs, io};
+
+/// What is read: standard input, a file, or nothing.
+#[derive(Drop)]
+pub enum Stream {
+    StandardInput(Stdin),
+    File(File),
+    /// No byte is left of it.
+    Empty,
+}
+
+impl Read for Stream {
+    ghost remaining = { known_bytes };
+
+    fn read(&mut self, buf: &mut [u8]) -> io::Result<usize> {
+        match self {
+            Stream::StandardInput(input) => input.read(buf),
+            Stream::File(file) => file.read(buf),
+            Stream::Empty => Ok(0),
+        }
+    }
+}
+
+/// The files of the system by their names, and standard input. A folder is opened as a file is,
+/// and its first read fails.
+#[derive(Drop)]
+pub struct DiskFiles<'a> {
+    rt: &'a HostRuntime,
+    /// Standard input was used.
+    input_used: bool,
+    /// How many attempts to open a file, and reads of streams that were given back, have failed.
+    failed: u64,
+}
+
+impl<'a> DiskFiles<'a> {
+    /// All files, of which none was opened, and standard input, which was not used.
+    pub fn new(rt: &'a HostRuntime) -> DiskFiles<'a>
+        ensures unused { result.input_used ≡ false }
+        ensures none_failed { result.failed ≡ 0 }
+    {
+        DiskFiles {
+            rt,
+            input_used: false,
+            failed: 0,
+        }
+    }
+}
+
+/// Nothing is known of a file's bytes, nor whether it can be opened; of standard input it is known
+/// that it is empty from its second use on.
+impl Files for DiskFiles<'_> {
+    type Reader = Tally<Stream>;
+
+    ghost folder = { λ d. folder_of d.input_used };
+
+    ghost failures = { λ d. d.failed };
+
+    fn standard(&mut self) -> Tally<Stream> {
+        if self.input_used {
+            return Tally::new(Stream::Empty);
+        }
+        self.input_used = true;
+        Tally::new(Stream::StandardInput(self.rt.stdin()))
+    }
+
+    fn open(&mut self, name: &str) -> Option<Tally<Stream>> {
+        match fs::open(self.rt, name) {
+            Ok(file) => Some(Tally::new(Stream::File(file))),
+            Err(_) => {
+                self.failed = self.failed.saturating_add(1);
+                None
+            }
+        }
+    }
+
+    fn close(&mut self, reader: Tally<Stream>) {
+        self.failed = self.failed.saturating_add(reader.failures());
+    }
+
+    fn failures(&self) -> u64 {
+        self.failed
+    }
+}

@@ -1,0 +1,86 @@
+//! How the program tells of its own faults, and how it ends.
+ghost use Rattle.std.specs.Prelude.{◌≡◌, [], ◌∷◌};
+ghost use Rattle.grep_core.specs.Output.{written};
+ghost use Rattle.grep_core.specs.Run.{writer};
+ghost use Rattle.grep_core.specs.Written.{Writes};
+ghost use Rattle.grep_cmd.specs.Command.{Tells};
+ghost use Rattle.grep_cmd.specs.Texts.{out_of_memory, usage};
+ghost use Rattle.grep.specs.Exit.{words_refused, TellsWriteError, EndsAs};
+
+use grep_core::{Buffered, CountedWrite, WriteFault, write_line};
+
+/// The exit status of a program that failed (XCU grep, EXIT STATUS).
+const FAILED: u8 = 2;
+
+/// How the program is used (XCU grep, SYNOPSIS).
+const USAGE: &[u8] = b"usage: grep [-E|-F] [-cilnoqsvx] [-e LIST]... [-f FILE]... [LIST] [FILE...]";
+
+/// Writes how the program is used.
+fn write_usage<M: CountedWrite>(messages: &mut M) -> Result<(), WriteFault>
+    ensures { Writes M.contents M.failures messages.old messages.new (written [] (usage ∷ [])) result }
+{
+    write_line(messages, USAGE)
+}
+
+/// Writes the lines on words that are not UTF-8.
+fn write_words_refused<M: CountedWrite>(messages: &mut M) -> Result<(), WriteFault>
+    ensures { Writes M.contents M.failures messages.old messages.new (written [] (words_refused ∷ usage ∷ [])) result }
+{
+    write_line(messages, b"grep: words must be UTF-8")?;
+    write_usage(messages)
+}
+
+/// Tells that a word is not UTF-8, and answers the exit status. A write that fails is not tried
+/// again.
+pub fn refuse_words<M: CountedWrite>(messages: &mut M) -> u8
+    ensures status { result ≡ 2 }
+    ensures told { Tells (writer M.contents M.failures messages.old) (writer M.contents M.failures messages.new)
+        (words_refused ∷ usage ∷ []) }
+{
+    let _ = write_words_refused(messages);
+    FAILED
+}
+
+/// Tells that memory was refused, and answers the exit status. A write that fails is not tried
+/// again.
+pub fn refuse_memory<M: CountedWrite>(messages: &mut M) -> u8
+    ensures status { result ≡ 2 }
+    ensures told { Tells (writer M.contents M.failures messages.old) (writer M.contents M.failures messages.new)
+        (out_of_memory ∷ []) }
+{
+    let _ = write_line(messages, b"grep: out of memory");
+    FAILED
+}
+
+/// Tells that the output could not be written, but not where a message could not be written before,
+/// and answers the exit status.
+fn tell_write_error<M: CountedWrite>(messages: &mut M) -> u8
+    ensures status { result ≡ 2 }
+    ensures told { TellsWriteError (writer M.contents M.failures messages.old) (writer M.contents M.failures messages.new) }
+{
+    if messages.failures() > 0 {
+        return FAILED;
+    }
+    let _ = write_line(messages, b"grep: write error");
+    FAILED
+}
+
+/// Sends the output that waits, and answers the exit status: the one that was found, or 2 where the
+/// output could not be sent, which is told. Where a write of the output failed before none is tried
+/// again.
+pub fn finish<W: CountedWrite, M: CountedWrite>(
+    out: &mut Buffered<W>,
+    messages: &mut M,
+    found: u8,
+) -> u8
+    ensures { EndsAs W.contents W.failures out.old out.new
+        (writer M.contents M.failures messages.old) (writer M.contents M.failures messages.new) found result }
+{
+    if out.failures() > 0 {
+        return found;
+    }
+    match out.flush() {
+        Ok(()) => found,
+        Err(WriteFault) => tell_write_error(messages),
+    }
+}

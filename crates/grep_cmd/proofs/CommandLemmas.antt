@@ -1,0 +1,108 @@
+-- How the whole command ends, from what its steps did.
+use Rattle.std.proofs.Common.{◌≡◌, ℕ, nat_lt, ◌<◌, ◌-◌, ◌^◌, Bool, true, false, List, [], ◌∷◌, Ok, Err, MatchBool, MatchResult, ◌⊎◌, inl, inr, length, map, refl, sym, ap, ◌∙◌, subst, arith}
+use Rattle.std.proofs.lemmas.Bool.{ltb-false, false≢true}
+use denote.Enum.Bare.{sameb}
+use Rattle.re_syntax.specs.contracts.fault.FaultKind.{the_type}
+use Rattle.re_syntax.specs.declared.fault.FaultKind.{FaultKind}
+use Rattle.re_syntax.specs.declared.fault.FaultKind.TheVariants.{Memory}
+use Rattle.re_syntax.specs.declared.syntax.Syntax.{Syntax}
+use Rattle.re_syntax.specs.declared.fault.PatternFault.{PatternFault}
+use Rattle.re_syntax.specs.Bytes.{Text}
+use Rattle.re_auto.specs.Meters.{Steps}
+use Rattle.re_search.specs.declared.matcher.Matcher.{Matcher}
+use Rattle.re_search.specs.Reading.{matched_expression, IsOutOfMemory}
+use Rattle.grep_core.specs.Run.{Writer, Devices}
+use Rattle.grep_cmd.specs.declared.patterns.PatternsFault.{PatternsFault}
+use Rattle.grep_cmd.specs.declared.patterns.PatternsFault.TheVariants as unread
+use Rattle.grep_cmd.specs.declared.words.UsageFault.{UsageFault}
+use Rattle.grep_cmd.specs.declared.words.UsageFault.TheVariants as usage
+use Rattle.grep_cmd.specs.Command.{Tells, GivesUp, SearchEnds, most_patterns, RefusesPattern, SearchesFiles, PatternsGive, DoesForRequest, RequestGives, CommandGives}
+use Rattle.grep_cmd.specs.Folder.{Folder, sources_named, searched}
+use Rattle.grep_cmd.specs.Gathered.{StopsFor, told_of}
+use Rattle.grep_cmd.specs.Matchers.{AreMatchers, IsFirstRefused}
+use Rattle.grep_cmd.specs.Patterns.{behind_all, GivePatterns, FirstUnread}
+use Rattle.grep_cmd.specs.Texts.{too_many_patterns, pattern_refused, fault_text, usage_texts}
+use Rattle.grep_cmd.specs.Words.{Asked, Source, read, OrMemory}
+
+-- a test that a kind of refusal is want of memory says that it isn't
+pub kind_differs : (kind : FaultKind) (test : Bool) → test ≡ sameb the_type kind Memory → test ≡ false → kind ≡ Memory → ⊥
+kind_differs kind test is fails same = false≢true (sym fails ∙ is ∙ ap (λ k. sameb the_type k Memory) same)
+
+-- what is refused but not for want of memory is the first that is refused
+pub not_memory : (syntax : Syntax) (fold : Bool) (texts : List Text) (place : ℕ) (fault : PatternFault) → (fault.kind ≡ Memory → ⊥) → IsOutOfMemory fault ⊎ IsFirstRefused syntax fold texts place fault
+    → IsFirstRefused syntax fold texts place fault
+not_memory syntax fold texts place fault differs (inl is) = absurd (differs (ap (λ (f : PatternFault). f.kind) is))
+not_memory syntax fold texts place fault differs (inr first) = first
+
+-- its place is a number of a pattern
+pub place_fits : (syntax : Syntax) (fold : Bool) (texts : List Text) (place : ℕ) (fault : PatternFault) → nat_lt most_patterns (length texts) ≡ false → IsFirstRefused syntax fold texts place fault → place < 2 ^ 64 - 1
+place_fits syntax fold texts place fault few first =
+    let within = ltb-false most_patterns (length texts) few in
+    let inside = first.in_texts in
+    omega arith
+
+module _ (asked : Asked) (folder : Folder) (texts : List Text) (old new : Devices) (status : ℕ) where
+  -- there are too many patterns
+  pub too_many : nat_lt most_patterns (length texts) ≡ true → GivesUp old new (too_many_patterns ∷ []) 0 status → PatternsGive asked folder texts old new status
+  too_many many h = inl (subst (λ b. MatchBool b (GivesUp old new (too_many_patterns ∷ []) 0 status) (RefusesPattern asked folder texts old new status ⊎ SearchesFiles asked folder texts old new status)) (sym many) h)
+
+  module _ (few : nat_lt most_patterns (length texts) ≡ false) where
+    -- a pattern is refused
+    pub refuses : (place : ℕ) (fault : PatternFault) → IsFirstRefused asked.syntax asked.options.ignore_case texts place fault → GivesUp old new (pattern_refused place fault ∷ []) 0 status
+        → PatternsGive asked folder texts old new status
+    refuses place fault first h = inl (subst (λ b. MatchBool b (GivesUp old new (too_many_patterns ∷ []) 0 status) (RefusesPattern asked folder texts old new status ⊎ SearchesFiles asked folder texts old new status)) (sym few)
+        (inl (record { place = place; fault = fault; is_first = first; gives_up = h })))
+
+    -- the files are searched
+    pub searches : (matchers searching : List Matcher) → AreMatchers asked.syntax asked.options texts matchers → searching ≡ matchers
+        → SearchEnds (map matched_expression searching) asked.options (sources_named folder (searched asked.files)) old new status → PatternsGive asked folder texts old new status
+    searches matchers searching m is h = inl (subst (λ b. MatchBool b (GivesUp old new (too_many_patterns ∷ []) 0 status) (RefusesPattern asked folder texts old new status ⊎ SearchesFiles asked folder texts old new status)) (sym few)
+        (inr (record { readable = m.readable; es = map matched_expression matchers; are_meant = m.meant; ends = subst (λ ms. SearchEnds (map matched_expression ms) asked.options (sources_named folder (searched asked.files)) old new status) is h })))
+
+module _ (asked : Asked) (folder : Folder) (old new : Devices) (status : ℕ) where
+  -- the patterns of the sources were read
+  sources_read : (texts : List Text) → GivePatterns folder asked.sources texts → PatternsGive asked (behind_all folder asked.sources) texts old new status → RequestGives folder old new status asked
+  sources_read texts given (inl does) = inl (inr (texts, given, does))
+  sources_read texts given (inr memory) = inr memory
+
+  -- the same, by what the calls said
+  pub patterns_read : (mid : Folder) (sources : List Source) (texts read_texts : List Text) (between : Devices) → sources ≡ asked.sources → read_texts ≡ texts → mid ≡ behind_all folder sources → between ≡ old
+      → GivePatterns folder sources texts → PatternsGive asked mid read_texts between new status → RequestGives folder old new status asked
+  patterns_read mid sources texts read_texts between is same used same_devices given gives =
+      let there = subst (λ f. PatternsGive asked f read_texts between new status) (used ∙ ap (behind_all folder) is) gives in
+      let of_texts = subst (λ t. PatternsGive asked (behind_all folder asked.sources) t between new status) same there in
+      sources_read texts (subst (λ s. GivePatterns folder s texts) is given) (subst (λ d. PatternsGive asked (behind_all folder asked.sources) texts d new status) same_devices of_texts)
+
+module _ (asked : Asked) (folder : Folder) (out old new : Writer) (before after : ℕ) (steps : Steps) where
+  -- they were not
+  sources_unread : (f : PatternsFault) → StopsFor (FirstUnread folder asked.sources) before after f → Tells old new (told_of f ∷ [])
+      → RequestGives folder (record { out = out; messages = old; source_failures = before; steps = steps }) (record { out = out; messages = new; source_failures = after; steps = steps }) 2 asked
+  sources_unread (unread.Missing word) h told = inl (inl (_, h.1, record { is_error = refl; none_written = refl; told = told; counted = h.2 }))
+  sources_unread (unread.Broken word) h told = inl (inl (_, h.1, record { is_error = refl; none_written = refl; told = told; counted = h.2 }))
+  sources_unread unread.Memory h told = inr (record { is_error = refl; none_written = refl; told = told; counted = h })
+
+  -- the same, by what the calls said
+  pub patterns_unread : (sources : List Source) → sources ≡ asked.sources → (f : PatternsFault) → StopsFor (FirstUnread folder sources) before after f → Tells old new (told_of f ∷ [])
+      → RequestGives folder (record { out = out; messages = old; source_failures = before; steps = steps }) (record { out = out; messages = new; source_failures = after; steps = steps }) 2 asked
+  patterns_unread sources is f h told = sources_unread f (subst (λ s. StopsFor (FirstUnread folder s) before after f) is h) told
+
+module _ (folder : Folder) (words : List Text) where
+  -- the words were read
+  pub words_read : (asked : Asked) (old new : Devices) (status : ℕ) → read words ≡ Ok asked → RequestGives folder old new status asked → CommandGives folder old new status words
+  words_read asked old new status is (inl does) =
+      inl (subst (λ r. MatchResult r (DoesForRequest folder old new status) (λ fault. GivesUp old new (usage_texts fault) 0 status)) (sym is) does)
+  words_read asked old new status is (inr memory) = inr memory
+
+  words_fault : (fault : UsageFault) (old new : Devices) (status : ℕ) → read words ≡ Err fault → GivesUp old new (usage_texts fault) 0 status → CommandGives folder old new status words
+  words_fault fault old new status is h =
+      inl (subst (λ r. MatchResult r (DoesForRequest folder old new status) (λ f. GivesUp old new (usage_texts f) 0 status)) (sym is) h)
+
+  -- they were not
+  pub words_refused : (fault : UsageFault) (old new : Devices) (status : ℕ) → OrMemory fault (read words ≡ Err fault) → GivesUp old new (usage_texts fault) 0 status
+      → CommandGives folder old new status words
+  unfolding fault_text
+  words_refused usage.Memory old new status is h = inr h
+  words_refused (usage.UnknownOption c) old new status is h = words_fault _ old new status is h
+  words_refused (usage.MissingArgument c) old new status is h = words_fault _ old new status is h
+  words_refused usage.TwoSyntaxes old new status is h = words_fault _ old new status is h
+  words_refused usage.NoPattern old new status is h = words_fault _ old new status is h

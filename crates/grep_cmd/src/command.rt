@@ -1,0 +1,195 @@
+//! The whole command (XCU grep).
+ghost use Rattle.std.specs.Prelude.{◌≡◌, ℕ, ◌<◌, nat_lt, map, length};
+ghost use Rattle.re_syntax.specs.Lines.{lines_of};
+ghost use Rattle.re_auto.specs.Meters.{Steps, fresh};
+ghost use Rattle.re_search.specs.Reading.{matched_expression, wants_whole};
+ghost use Rattle.re_search.specs.Searching.{AllAnswer};
+ghost use Rattle.grep_core.specs.Run.{writer};
+ghost use Rattle.grep_cmd.specs.Command.{SearchEnds, PatternsGive, RequestGives, CommandGives};
+ghost use Rattle.grep_cmd.specs.Folder.{searched, sources_named};
+ghost use Rattle.grep_cmd.specs.Words.{asked, texts_of};
+
+use crate::files::Files;
+use crate::matchers::matchers_of;
+use crate::patterns::read_patterns;
+use crate::refusal::tell_refused;
+use crate::searching::search_files;
+use crate::telling::{FAILED, end_search, tell, tell_unread, tell_usage};
+use crate::words::{Request, read_words};
+use grep_core::CountedWrite;
+use re_auto::fresh_meter;
+use re_search::Matcher;
+use re_syntax::{FaultKind, split_file};
+use std::alloc::Global;
+
+/// The greatest number of patterns.
+const MOST_PATTERNS: usize = 65535;
+
+/// Searches the files of a request, and answers the exit status.
+fn search_request<F: Files, W: CountedWrite, N: CountedWrite>(
+    alloc: Global,
+    request: &Request,
+    matchers: &mut [Matcher],
+    files: &mut F,
+    out: &mut W,
+    messages: &mut N,
+) -> u8
+    requires { AllAnswer request.now.options.line_regexp (map wants_whole matchers.old) }
+    ensures { (steps : Steps) × SearchEnds (map matched_expression matchers.old) request.now.options
+        (sources_named (F.folder files.old) (searched (texts_of request.now.files.items)))
+        record {
+          out = writer W.contents W.failures out.old;
+          messages = writer N.contents N.failures messages.old;
+          source_failures = F.failures files.old;
+          steps = fresh;
+        }
+        record {
+          out = writer W.contents W.failures out.new;
+          messages = writer N.contents N.failures messages.new;
+          source_failures = F.failures files.new;
+          steps = steps;
+        }
+        result }
+{
+    let words = &request.files;
+    let options = &request.options;
+    let mut meter = fresh_meter();
+    let found = search_files(
+        alloc, files, words, matchers, options, out, messages, &mut meter,
+    );
+    end_search(messages, found)
+}
+
+/// Whether there are more patterns than this, which are the lines of `texts`.
+fn has_more_than(most: usize, texts: &[u8]) -> bool
+    ensures { result ≡ nat_lt most (length (lines_of texts.now)) }
+{
+    split_file(texts).nth(most).is_some()
+}
+
+/// Reads the patterns, which are the lines of `texts`, and searches the files of a request for
+/// them; answers the exit status.
+fn run_patterns<F: Files, W: CountedWrite, N: CountedWrite>(
+    alloc: Global,
+    request: &Request,
+    texts: &[u8],
+    files: &mut F,
+    out: &mut W,
+    messages: &mut N,
+) -> u8
+    ensures { (steps : Steps) × PatternsGive (asked request.now) (F.folder files.old) (lines_of texts.now)
+        record {
+          out = writer W.contents W.failures out.old;
+          messages = writer N.contents N.failures messages.old;
+          source_failures = F.failures files.old;
+          steps = fresh;
+        }
+        record {
+          out = writer W.contents W.failures out.new;
+          messages = writer N.contents N.failures messages.new;
+          source_failures = F.failures files.new;
+          steps = steps;
+        }
+        result }
+{
+    if has_more_than(MOST_PATTERNS, texts) {
+        tell(messages, b"grep: too many patterns");
+        return FAILED;
+    }
+    match matchers_of(alloc, texts, request.syntax, &request.options) {
+        Ok(mut matchers) => search_request(alloc, request, &mut matchers, files, out, messages),
+        Err((place, fault)) => {
+            if fault.kind == FaultKind::Memory {
+                tell(messages, b"grep: out of memory");
+                return FAILED;
+            }
+            tell_refused(messages, place, fault);
+            FAILED
+        }
+    }
+}
+
+/// Reads the patterns of a request and searches its files for them; answers the exit status.
+fn run_request<F: Files, W: CountedWrite, N: CountedWrite>(
+    alloc: Global,
+    request: &Request,
+    files: &mut F,
+    out: &mut W,
+    messages: &mut N,
+) -> u8
+    ensures { (steps : Steps) × RequestGives (F.folder files.old)
+        record {
+          out = writer W.contents W.failures out.old;
+          messages = writer N.contents N.failures messages.old;
+          source_failures = F.failures files.old;
+          steps = fresh;
+        }
+        record {
+          out = writer W.contents W.failures out.new;
+          messages = writer N.contents N.failures messages.new;
+          source_failures = F.failures files.new;
+          steps = steps;
+        }
+        result (asked request.now) }
+{
+    match read_patterns(alloc, files, &request.sources) {
+        Ok(texts) => run_patterns(alloc, request, &texts, files, out, messages),
+        Err(fault) => {
+            tell_unread(messages, fault);
+            FAILED
+        }
+    }
+}
+
+/// The whole command (XCU grep), with the words that follow its name: what goes to standard output
+/// and to standard error, and the exit status.
+///
+/// The status is 0 where a line was selected, 1 where none was, and 2 on an error. It is 2, with
+/// nothing written to standard output, for the first of these reasons, of which a message tells:
+///
+/// 1. Words are refused, as [`read_words`] says: the fault and a line on how grep is used.
+/// 2. A pattern file can't be opened or read: `grep: NAME: cannot open` or `grep: NAME: read error`.
+///    `-s` doesn't silence these. Pattern files are read in the order of their options.
+/// 3. There are more than 65,535 patterns: `grep: too many patterns`.
+/// 4. A pattern is refused: `grep: pattern N: KIND at AT`, with N the number of the first such
+///    pattern over all lists and pattern files, from 1, and AT a place in it, counted in bytes from 0.
+///
+/// Else the files are searched in order, standard input where there is none. A file that can't be
+/// opened or read is told, but not under `-s`, and the search goes on behind it; the status is then
+/// 2, but 0 where a line was selected under `-q`. The word `-`, as a file or a pattern file, is
+/// standard input, which is empty from its second use on.
+///
+/// Where a write to standard output fails, a beginning of the output went out, `grep: write error`
+/// is told and the status is 2. Where a message can't be written the status is 2 and nothing more is
+/// told. Where a growth is refused `grep: out of memory` is told and the status is 2. No write is
+/// tried again, and neither device is flushed.
+pub fn run_grep<F: Files, W: CountedWrite, M: CountedWrite>(
+    alloc: Global,
+    words: &[String],
+    files: &mut F,
+    out: &mut W,
+    messages: &mut M,
+) -> u8
+    ensures { (steps : Steps) × CommandGives (F.folder files.old)
+        record {
+          out = writer W.contents W.failures out.old;
+          messages = writer M.contents M.failures messages.old;
+          source_failures = F.failures files.old;
+          steps = fresh;
+        }
+        record {
+          out = writer W.contents W.failures out.new;
+          messages = writer M.contents M.failures messages.new;
+          source_failures = F.failures files.new;
+          steps = steps;
+        }
+        result (texts_of words.now) }
+{
+    match read_words(alloc, words) {
+        Ok(request) => run_request(alloc, &request, files, out, messages),
+        Err(fault) => {
+            tell_usage(messages, fault);
+            FAILED
+        }
+    }
+}

@@ -1,0 +1,56 @@
+//! The matchers of a request's patterns.
+ghost use Rattle.std.specs.Prelude.{◌≡◌, ◌⊎◌, [], ◌∷◌, ◌++◌, IfOk, IfErr};
+ghost use Rattle.re_syntax.specs.Lines.{lines_of};
+ghost use Rattle.re_search.specs.Reading.{IsOutOfMemory};
+ghost use Rattle.grep_cmd.specs.Matchers.{AreMatchers, IsFirstRefused};
+
+use grep_core::Options;
+use re_search::Matcher;
+use re_syntax::{FaultKind, PatternFault, Syntax, split_file};
+use std::alloc::{AllocError, Global};
+
+/// How many states the cache of a matcher may keep.
+const STATES: usize = 256;
+
+/// Adds a matcher.
+fn add_matcher(matchers: &mut Vec<Matcher>, matcher: Matcher) -> Result<(), AllocError>
+    ensures { IfOk result (λ _. matchers.new.items ≡ matchers.old.items ++ matcher ∷ []) }
+{
+    matchers.push(matcher)?;
+    Ok(())
+}
+
+/// A matcher for each of the patterns, which are the lines of `texts`, in order.
+///
+/// # Errors
+///
+/// The place of the first pattern that is refused, counted from 0, and why; or `FaultKind::Memory`
+/// at 0 where a growth is refused.
+pub fn matchers_of(
+    alloc: Global,
+    texts: &[u8],
+    syntax: Syntax,
+    options: &Options,
+) -> Result<Vec<Matcher>, (usize, PatternFault)>
+    ensures ok { IfOk result (λ matchers. AreMatchers syntax options.now (lines_of texts.now) matchers.items) }
+    ensures err { IfErr result (λ refused. IsOutOfMemory refused.1
+        ⊎ IsFirstRefused syntax options.now.ignore_case (lines_of texts.now) refused.0 refused.1) }
+{
+    let fold = options.ignore_case;
+    let whole = options.line_regexp;
+    let mut matchers = Vec::new(alloc);
+    for text in split_file(texts) {
+        let matcher = match Matcher::new(alloc, text, syntax, fold, whole, STATES) {
+            Ok(matcher) => matcher,
+            Err(fault) => return Err((matchers.len(), fault)),
+        };
+        match add_matcher(&mut matchers, matcher) {
+            Ok(()) => {}
+            Err(_) => {
+                let kind = FaultKind::Memory;
+                return Err((matchers.len(), PatternFault { kind, at: 0 }));
+            }
+        }
+    }
+    Ok(matchers)
+}

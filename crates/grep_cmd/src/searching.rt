@@ -1,0 +1,59 @@
+//! The search of the files that words name.
+ghost use Rattle.std.specs.Prelude.{map};
+ghost use Rattle.re_search.specs.Searching.{AllAnswer};
+ghost use Rattle.grep_core.specs.Run.{writer, RunGives};
+ghost use Rattle.grep_cmd.specs.Folder.{searched, sources_named};
+ghost use Rattle.grep_cmd.specs.Words.{texts_of};
+
+use crate::files::Files;
+use crate::operands::Operands;
+use grep_core::{CountedWrite, Options, RunFault, Status, search_all};
+use re_auto::Meter;
+use re_search::LineMatch;
+use std::alloc::Global;
+
+/// One pass over the files that the words name, or over standard input where there is no word.
+///
+/// # Errors
+///
+/// Those of [`grep_core::search_all`].
+pub fn search_files<F: Files, L: LineMatch, W: CountedWrite, N: CountedWrite>(
+    alloc: Global,
+    files: &mut F,
+    words: &[String],
+    matchers: &mut [L],
+    options: &Options,
+    out: &mut W,
+    messages: &mut N,
+    meter: &mut Meter,
+) -> Result<Status, RunFault>
+    requires { AllAnswer options.now.line_regexp (map L.whole matchers.old) }
+    ensures { RunGives (map L.expression matchers.old) options.now
+        (sources_named (F.folder files.old) (searched (texts_of words.now)))
+        record {
+          out = writer W.contents W.failures out.old;
+          messages = writer N.contents N.failures messages.old;
+          source_failures = F.failures files.old;
+          steps = meter.old;
+        }
+        record {
+          out = writer W.contents W.failures out.new;
+          messages = writer N.contents N.failures messages.new;
+          source_failures = F.failures files.new;
+          steps = meter.new;
+        }
+        result }
+{
+    let mut operands = Operands::new(&mut *files, words);
+    let found = search_all(
+        alloc,
+        &mut operands,
+        matchers,
+        options,
+        out,
+        messages,
+        meter,
+    );
+    let _files = operands.into_files();
+    found
+}
