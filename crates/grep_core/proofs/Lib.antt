@@ -30,3 +30,4 @@ pub mod SummaryLemmas
 pub mod RunLaws
 pub mod CostLaws
 pub mod PartsLemmas
+pub mod WrittenLemmas

@@ -18,6 +18,7 @@ mod run;
 mod search;
 mod sources;
 mod status;
+mod summary;
 mod wanted;
 mod window;
 
@@ -32,8 +33,11 @@ pub use options::{Flag, Options};
 pub use pushing::{WriteFault, push_all};
 pub use rows::{write_decimal, write_line, write_row};
 pub use run::search_all;
+pub use search::{FileEnd, FileFound, count_found};
 pub use sources::Sources;
 pub use status::{RunFault, Status};
+pub use summary::{status_of, tell_fault, write_summary};
+pub use wanted::{Form, Wanted};
 
 #[cfg(test)]
 mod tests;

@@ -10,7 +10,6 @@ ghost use Rattle.grep_core.specs.OneLine.{WritesSelected, BreaksSelected, TakesL
 use crate::counted::CountedWrite;
 use crate::matching::{is_selected, next_part};
 use crate::pushing::WriteFault;
-use crate::rows::write_row;
 use crate::wanted::{Form, Wanted};
 use re_search::{LineMatch, Meter};
 
@@ -36,13 +35,7 @@ fn write_parts<M: LineMatch, W: CountedWrite>(
     let mut from = 0;
     while let Some(part) = next_part(matchers, wanted.options, line, from, meter) {
         let text = &line[part.start..part.end];
-        write_row(
-            out,
-            b"",
-            wanted.shown_name(),
-            wanted.shown_number(number),
-            text,
-        )?;
+        wanted.write_text(number, text, out, b"")?;
         from = part.end;
     }
     Ok(())
@@ -67,15 +60,7 @@ fn write_selected<M: LineMatch, W: CountedWrite>(
     ensures steps { AsksParts (map M.expression matchers.old) wanted.now.options (length matchers.old) line.now meter.old meter.new }
 {
     match wanted.options.form() {
-        Form::Lines => {
-            write_row(
-                out,
-                b"",
-                wanted.shown_name(),
-                wanted.shown_number(number),
-                line,
-            )
-        }
+        Form::Lines => wanted.write_text(number, line, out, b""),
         Form::Parts => write_parts(matchers, wanted, number, line, out, meter),
         Form::Nothing => Ok(()),
         Form::Names => Ok(()),

@@ -1,78 +1,20 @@
 //! The one pass over all sources.
-ghost use Rattle.std.specs.Prelude.{◌≡◌, ◌+◌, ◌<◌, map, length, IfOk, OnErr};
+ghost use Rattle.std.specs.Prelude.{◌≡◌, ◌+◌, ◌<◌, map, length};
 ghost use Rattle.re_search.specs.Searching.{AllAnswer};
-ghost use Rattle.grep_core.specs.Counted.{one_more};
-ghost use Rattle.grep_core.specs.Output.{form};
-ghost use Rattle.grep_core.specs.Run.{writer, TakesAll, TakesFront, RunGives};
+ghost use Rattle.grep_core.specs.Run.{writer, RunGives};
 ghost use Rattle.grep_core.specs.Sources.{source_at};
-ghost use Rattle.grep_core.specs.Searched.{summary_as, told_of, status_by, SourceGives};
+ghost use Rattle.grep_core.specs.Searched.{SourceGives};
 
 use crate::counted::CountedWrite;
-use crate::counts::{write_count, write_name};
-use crate::messages::{write_cannot_open, write_read_error};
 use crate::options::Options;
 use crate::pushing::WriteFault;
-use crate::search::{FileEnd, FileFound, SearchFault, search_source};
+use crate::search::{FileFound, SearchFault, search_source};
 use crate::sources::Sources;
 use crate::status::{RunFault, Status};
-use crate::wanted::{Form, Wanted};
+use crate::summary::{status_of, tell_fault, write_summary};
+use crate::wanted::Wanted;
 use re_search::{LineMatch, Meter};
 use std::alloc::Global;
-
-/// Writes what comes behind the rows of a file's lines: under `-l` the file's name, where a line
-/// is selected, and under `-c` the number of its selected lines, where it could be opened.
-fn write_summary<W: CountedWrite>(
-    wanted: &Wanted,
-    found: FileFound,
-    out: &mut W,
-) -> Result<(), WriteFault>
-    ensures ok { IfOk result (λ _. TakesAll (writer W.contents W.failures out.old) (writer W.contents W.failures out.new)
-        (summary_as (form wanted.now.options) wanted.now.many wanted.now.name.now found.end found.selected)) }
-    ensures err { OnErr result (TakesFront (writer W.contents W.failures out.old) (writer W.contents W.failures out.new)
-        (summary_as (form wanted.now.options) wanted.now.many wanted.now.name.now found.end found.selected)) }
-    ensures counted { OnErr result (W.failures out.new ≡ one_more (W.failures out.old)) }
-{
-    match wanted.options.form() {
-        Form::Names => {
-            if found.has_selected() {
-                return write_name(out, b"", wanted.name);
-            }
-            Ok(())
-        }
-        Form::Counts => {
-            if found.end.is_missing() {
-                return Ok(());
-            }
-            write_count(out, b"", wanted.shown_name(), found.selected)
-        }
-        Form::Nothing => Ok(()),
-        Form::Parts => Ok(()),
-        Form::Lines => Ok(()),
-    }
-}
-
-/// Writes the message on a file that could not be opened or read, and none under `-s`.
-fn tell_fault<N: CountedWrite>(
-    wanted: &Wanted,
-    end: FileEnd,
-    messages: &mut N,
-) -> Result<(), WriteFault>
-    ensures ok { IfOk result (λ _. TakesAll (writer N.contents N.failures messages.old) (writer N.contents N.failures messages.new)
-        (told_of wanted.now.options.no_messages end wanted.now.name.now)) }
-    ensures err { OnErr result (TakesFront (writer N.contents N.failures messages.old) (writer N.contents N.failures messages.new)
-        (told_of wanted.now.options.no_messages end wanted.now.name.now)) }
-    ensures counted { OnErr result (N.failures messages.new ≡ one_more (N.failures messages.old)) }
-{
-    if wanted.options.no_messages {
-        return Ok(());
-    }
-    match end {
-        FileEnd::Missing => write_cannot_open(messages, wanted.name),
-        FileEnd::Broken => write_read_error(messages, wanted.name),
-        FileEnd::Whole => Ok(()),
-        FileEnd::Left => Ok(()),
-    }
-}
 
 /// Writes the output and the message for the next source.
 fn run_source<S: Sources, M: LineMatch, W: CountedWrite, N: CountedWrite>(
@@ -119,27 +61,14 @@ fn run_source<S: Sources, M: LineMatch, W: CountedWrite, N: CountedWrite>(
         many,
         name: sources.name(k),
     };
-    match write_summary(&wanted, found, out) {
+    match write_summary(&wanted, found, out, b"") {
         Ok(()) => {}
         Err(WriteFault) => return Err(RunFault::Write),
     }
-    match tell_fault(&wanted, found.end, messages) {
+    match tell_fault(options.no_messages, wanted.name, found.end, messages, b"") {
         Ok(()) => Ok(found),
         Err(WriteFault) => Err(RunFault::MessageWrite),
     }
-}
-
-// The status of a run that did not stop on its way.
-fn status_of(some: bool, faulty: bool) -> Status
-    ensures { result ≡ status_by some faulty }
-{
-    if faulty {
-        return Status::Error;
-    }
-    if some {
-        return Status::Selected;
-    }
-    Status::NoneSelected
 }
 
 /// One pass over all sources, in order, each opened at most once and read once from front to back

@@ -92,8 +92,8 @@ impl From<WriteFault> for SearchFault {
     }
 }
 
-// One more, where a line was found.
-fn count_found(selected: u64, found: bool) -> u64
+/// One more, where a line was found.
+pub fn count_found(selected: u64, found: bool) -> u64
     requires { selected < 2 ^ 64 - 1 }
     ensures { result ≡ (if found then selected + 1 else selected) }
 {

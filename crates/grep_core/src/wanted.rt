@@ -1,10 +1,15 @@
 //! What is asked of one file.
-ghost use Rattle.std.specs.Prelude.{◌≡◌, ◌||◌};
+ghost use Rattle.std.specs.Prelude.{◌≡◌, ◌||◌, ◌++◌};
 ghost use Rattle.std.specs.Option.{option_copied};
 ghost use Rattle.grep_core.specs.Output.{form, shown_number};
+ghost use Rattle.grep_core.specs.Row.{head, output_line};
 ghost use Rattle.grep_core.specs.Wanted.{form_of, name_shown};
+ghost use Rattle.grep_core.specs.Written.{Writes};
 
+use crate::counted::CountedWrite;
 use crate::options::Options;
+use crate::pushing::WriteFault;
+use crate::rows::write_row;
 
 /// What the options ask for (XCU grep, STDOUT): `-q` goes before `-l`, `-l` before `-c`, and these
 /// before `-o`.
@@ -81,5 +86,27 @@ impl Wanted<'_> {
         } else {
             None
         }
+    }
+    /// Writes an output line for a line of the file: the margin, the file's name and the line's
+    /// number as far as they are shown, and the text, which is the line or a part of it.
+    ///
+    /// `WriteFault` comes where a write fails. It is not tried again.
+    pub fn write_text<W: CountedWrite>(
+        &self,
+        number: u64,
+        text: &[u8],
+        out: &mut W,
+        margin: &[u8],
+    ) -> Result<(), WriteFault>
+        ensures { Writes W.contents W.failures out.old out.new (output_line margin.now
+            (head (name_shown self.now.many self.now.name.now) (shown_number self.now.options number) ++ text.now)) result }
+    {
+        write_row(
+            out,
+            margin,
+            self.shown_name(),
+            self.shown_number(number),
+            text,
+        )
     }
 }

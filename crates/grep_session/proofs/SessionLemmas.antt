@@ -1,0 +1,31 @@
+-- What becomes of a session's inputs.
+use Rattle.std.proofs.Common.{◌≡◌, ℕ, suc, ◌<◌, List, [], ◌∷◌, ◌++◌, length, map, take, drop, refl, sym, ap, subst, ◌∙◌, All, get_or, arith}
+use Rattle.std.proofs.lemmas.List.{map-append, get_or-map, length-map}
+use Rattle.std.specs.Iterator.{Drains}
+use Rattle.std.specs.declared.vec.IntoIter.{IntoIter}
+use Rattle.std.specs.Vec.Iter.{into_iter_items, into_iter_len, into_iter_steps}
+use Rattle.std.proofs.lemmas.Iterator.{items_from_drains}
+use Rattle.std.proofs.lemmas.Iterator.Adapters.{YieldsList-from_vec}
+use Rattle.std.specs.List.{remove, splice, take-map, drop-map}
+
+-- f of what is left of a list
+pub map-remove : {X Y : Type 0} (f : X → Y) (xs new : List X) (k : ℕ) → new ≡ remove xs k → map f new ≡ remove (map f xs) k
+map-remove f xs new k e = ap (map f) e ∙ map-append f (take k xs) (drop (suc k) xs) ∙ (λ i. sym (take-map f k xs) i ++ sym (drop-map f (suc k) xs) i)
+
+-- f of a list of which a part gave way
+pub map-splice : {X Y : Type 0} (f : X → Y) (xs new ys : List X) (i j : ℕ) → new ≡ splice xs i j ys → map f new ≡ splice (map f xs) i j (map f ys)
+map-splice f xs new ys i j e =
+    ap (map f) e ∙ map-append f (take i xs) (ys ++ drop j xs) ∙ (λ n. sym (take-map f i xs) n ++ map-append f ys (drop j xs) n)
+    ∙ ap (λ l. take i (map f xs) ++ (map f ys ++ l)) (sym (drop-map f j xs))
+
+pub map-same : {X : Type 0} (xs : List X) → map (λ x. x) xs ≡ xs
+map-same [] = refl
+map-same (x ∷ xs) = ap (λ l. x ∷ l) (map-same xs)
+
+-- where P fails at one element it does not hold of all
+pub fails_at : {X Y : Type 0} (P : Y → Type 0) (f : X → Y) (xs : List X) (i : ℕ) (x : X) → i < length xs → x ≡ get_or xs i x → (P (f x) → ⊥) → All P (map f xs) → ⊥
+fails_at P f xs i x within is fails all = fails (subst P (get_or-map f xs i x (f x) within ∙ ap f (sym is)) (all i (f x) (omega (arith, length-map xs f))))
+
+-- the elements that a vector gave one after the other are its elements
+pub drained : {X Z : Type 0} (s : IntoIter X Z) (xs all : List X) → Drains (into_iter_steps {X = X} {Z = Z}) s xs → into_iter_items s ≡ all → into_iter_len s ≡ length all → xs ≡ all
+drained s xs all d items many = sym (map-same xs) ∙ items_from_drains xs (d.1.0, d.1.1, λ _. (d.0, d.1.2)) (YieldsList-from_vec {s = s} all items many)

@@ -1,0 +1,46 @@
+use Rattle.std.proofs.Common.{map, ◌∙◌, sym, refl, subst, []}
+use Rattle.std.specs.List.{AllZip}
+use Rattle.grep_core.proofs.CostLaws.{same_length}
+use Rattle.grep_session.specs.Changed.{ChangeCost, IsWithin}
+use Rattle.grep_session.specs.Found.{IsRight}
+use Rattle.grep_session.specs.Kept.{IsFileKept, kept_file}
+use Rattle.grep_session.proofs.ColumnLemmas.{files_next, files_parted, right_more}
+use Rattle.grep_session.proofs.ChangeLemmas.{ChangeCost-exists, each_none, each_both, each_front, kept_at}
+use Rattle.grep_session.proofs.changing.change_files.Goals as goal
+
+pub loop-file-init : goal.loop-file-init
+loop-file-init g c = record {
+  found = λ before changed h k. subst (AllZip (IsRight (map g.M.LineMatch.expression c.args.matchers.now) c.args.options.now) []) (sym c.new-found.ensures.items) tt;
+  same_expressions = refl;
+  same_wholes = refl;
+  steps = λ before changed h k. each_none _ _;
+}
+
+pub change_file-requires-clause-within : goal.change_file-requires-clause-within
+change_file-requires-clause-within g c = subst (IsWithin c.args.change) (sym (same_length g.M.LineMatch.expression _ _ c.loop-file.invariant.same_expressions)) c.requires.within
+
+pub returns-in_err-change_file-clause-steps : goal.returns-in_err-change_file-clause-steps
+returns-in_err-change_file-clause-steps g c = λ before changed h k.
+    let s = c.loop-file.invariant in
+    let x = c.file-item.result in
+    let spent = rw s.same_expressions at c.change_file.ensures.steps in
+    each_front (ChangeCost c.args.change changed (map g.M.LineMatch.expression c.args.matchers.now) c.args.options.now) (ChangeCost-exists c.args.change changed _ c.args.options.now) _ _ _ _ _
+    (files_parted kept_file c.args.files.now c.loop-file.file-index x c.loop-file-test.true c.file-item.is)
+    (each_both (ChangeCost c.args.change changed (map g.M.LineMatch.expression c.args.matchers.now) c.args.options.now) _ _ _ _ _ _ refl (s.steps before changed h k)
+    (spent before changed h (kept_at (IsFileKept before c.args.options.now) c.args.files.now c.loop-file.file-index x c.loop-file-test.true c.file-item.is k)))
+
+pub loop-file-preserved : goal.loop-file-preserved
+loop-file-preserved g c =
+    let s = c.loop-file.invariant in
+    let x = c.file-item.result in
+    let next = files_next kept_file c.args.files.now c.loop-file.file-index x c.loop-file-test.true c.file-item.is in
+    let spent = rw s.same_expressions at c.change_file.ensures.steps in
+    let right = rw s.same_expressions at c.in_ok-change_file.ensures.ok in
+    record {
+      found = λ before changed h k. right_more _ c.args.options.now _ _ _ _ _ next (s.found before changed h k)
+      (right before changed h (kept_at (IsFileKept before c.args.options.now) c.args.files.now c.loop-file.file-index x c.loop-file-test.true c.file-item.is k));
+      same_expressions = c.change_file.ensures.same_expressions ∙ s.same_expressions;
+      same_wholes = c.change_file.ensures.same_wholes ∙ s.same_wholes;
+      steps = λ before changed h k. each_both (ChangeCost c.args.change changed (map g.M.LineMatch.expression c.args.matchers.now) c.args.options.now) _ _ _ _ _ _ next (s.steps before changed h k)
+      (spent before changed h (kept_at (IsFileKept before c.args.options.now) c.args.files.now c.loop-file.file-index x c.loop-file-test.true c.file-item.is k));
+    }

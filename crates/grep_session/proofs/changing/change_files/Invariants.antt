@@ -1,0 +1,18 @@
+use Rattle.std.proofs.Common.{◌≡◌, map, take, All, List}
+use Rattle.std.specs.List.{AllZip}
+use Rattle.re_syntax.specs.Expression.{Expression}
+use Rattle.grep_session.specs.Changed.{HasChanged, ChangeCost, SearchesEach}
+use Rattle.grep_session.specs.Found.{IsRight, lines_of_files}
+use Rattle.grep_session.specs.Kept.{IsFileKept, kept_file}
+use Rattle.grep_session.proofs.changing.change_files.Given as goal
+
+-- the lines of the first files were searched
+abbrev pub invariant-loop-file : goal.invariant-loop-file
+invariant-loop-file g l = record {
+  found : (before changed : List Expression) → HasChanged l.change (map g.M.LineMatch.expression l.fn.matchers) before changed → All (IsFileKept before l.options) l.files
+      → AllZip (IsRight (map g.M.LineMatch.expression l.fn.matchers) l.options) (lines_of_files (map kept_file (take l.file-index l.files))) l.found.items;
+  same_expressions : map g.M.LineMatch.expression l.matchers ≡ map g.M.LineMatch.expression l.fn.matchers;
+  same_wholes : map g.M.LineMatch.whole l.matchers ≡ map g.M.LineMatch.whole l.fn.matchers;
+  steps : (before changed : List Expression) → HasChanged l.change (map g.M.LineMatch.expression l.fn.matchers) before changed → All (IsFileKept before l.options) l.files
+      → SearchesEach (ChangeCost l.change changed (map g.M.LineMatch.expression l.fn.matchers) l.options) (lines_of_files (map kept_file (take l.file-index l.files))) l.fn.meter l.meter;
+}

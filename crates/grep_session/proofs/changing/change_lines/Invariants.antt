@@ -1,0 +1,17 @@
+use Rattle.std.proofs.Common.{◌≡◌, map, take, All, List}
+use Rattle.re_syntax.specs.Expression.{Expression}
+use Rattle.grep_session.specs.Changed.{HasChanged, ChangeCost, SearchesEach}
+use Rattle.grep_session.specs.Found.{AddsRight}
+use Rattle.grep_session.specs.Kept.{IsKept, line_text}
+use Rattle.grep_session.proofs.changing.change_lines.Given as goal
+
+-- the first lines were searched
+abbrev pub invariant-loop-line : goal.invariant-loop-line
+invariant-loop-line g l = record {
+  found : (before changed : List Expression) → HasChanged l.change (map g.M.LineMatch.expression l.fn.matchers) before changed → All (IsKept before l.options) l.lines
+      → AddsRight (map g.M.LineMatch.expression l.fn.matchers) l.options (map line_text (take l.line-index l.lines)) l.fn.found.items l.found.items;
+  same_expressions : map g.M.LineMatch.expression l.matchers ≡ map g.M.LineMatch.expression l.fn.matchers;
+  same_wholes : map g.M.LineMatch.whole l.matchers ≡ map g.M.LineMatch.whole l.fn.matchers;
+  steps : (before changed : List Expression) → HasChanged l.change (map g.M.LineMatch.expression l.fn.matchers) before changed → All (IsKept before l.options) l.lines
+      → SearchesEach (ChangeCost l.change changed (map g.M.LineMatch.expression l.fn.matchers) l.options) (map line_text (take l.line-index l.lines)) l.fn.meter l.meter;
+}

@@ -1,0 +1,5 @@
+use Rattle.grep_session.proofs.ColumnLemmas.{searched_nothing}
+use Rattle.grep_session.proofs.columns.find_parts.Goals as goal
+
+pub returns-in_err-matched_by-clause-steps : goal.returns-in_err-matched_by-clause-steps
+returns-in_err-matched_by-clause-steps g c = searched_nothing _ _ _ _ _

@@ -1,0 +1,16 @@
+use Rattle.std.proofs.Common.{◌≡◌, ◌++◌, All, length, map}
+use Rattle.std.specs.Vec.Iter.{into_iter_items}
+use Rattle.grep_session.specs.Kept.{IsKept, SearchesAllKept, line_text}
+use Rattle.grep_session.proofs.finding.search_lines.Given as goal
+
+-- the lines that were taken were searched
+abbrev pub invariant-loop-text : goal.invariant-loop-text
+invariant-loop-text g l =
+    (goal.iterator-loop-text g).can_next l.text-iterator × (goal.iterator-loop-text g).is_finite l.text-iterator
+    × record {
+      left : map line_text l.lines.items ++ map (λ t. t.items) (into_iter_items l.text-iterator) ≡ map (λ t. t.items) l.fn.texts.items;
+      kept : All (IsKept (map g.M.LineMatch.expression l.fn.matchers) l.options) l.lines.items;
+      same_expressions : map g.M.LineMatch.expression l.matchers ≡ map g.M.LineMatch.expression l.fn.matchers;
+      same_wholes : map g.M.LineMatch.whole l.matchers ≡ map g.M.LineMatch.whole l.fn.matchers;
+      steps : SearchesAllKept (map g.M.LineMatch.expression l.fn.matchers) l.options (length l.fn.matchers) (map line_text l.lines.items) l.fn.meter l.meter;
+    }

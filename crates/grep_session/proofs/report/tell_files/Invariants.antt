@@ -1,0 +1,8 @@
+use Rattle.std.proofs.Common.{drop}
+use Rattle.grep_session.specs.Report.{told_from}
+use Rattle.grep_session.proofs.Writing.{WrittenUpTo}
+use Rattle.grep_session.proofs.report.tell_files.Given as goal
+
+-- the messages on the files up to here were written
+abbrev pub invariant-loop-file : goal.invariant-loop-file
+invariant-loop-file g l = WrittenUpTo g.W.CountedWrite.contents g.W.CountedWrite.failures l.margin l.fn.out l.out (told_from l.options l.files) (told_from l.options (drop l.file-index l.files))

@@ -1,0 +1,27 @@
+use Rattle.std.proofs.Common.{nat_le, length, map}
+use Rattle.grep_core.specs.Messages.{StatusOf}
+use Rattle.grep_session.specs.Kept.{kept_file}
+use Rattle.grep_session.specs.Report.{report_rows}
+use Rattle.grep_session.proofs.KeptLaws.{kept_output}
+use Rattle.grep_session.proofs.Writing.{writes_err, if_ok}
+use Rattle.grep_session.proofs.report.write_report.Goals as goal
+
+pub returns-in_err-write_files : goal.returns-in_err-write_files
+returns-in_err-write_files g c = λ es kept.
+    let options = c.args.options.now in
+    record {
+      out = report_rows options (nat_le 2 (length c.args.files.now)) c.args.files.now;
+      is_output = kept_output es options c.args.files.now kept;
+      wrote = writes_err g.W.CountedWrite.contents g.W.CountedWrite.failures c.args.margin.now _ _ _ c.from_residual.result c.from_residual.ensures.0 c.in_err-write_files.ensures;
+      is_status = if_ok (StatusOf es options (map kept_file c.args.files.now)) c.from_residual.result c.from_residual.ensures.0;
+    }
+
+pub returns : goal.returns
+returns g c = λ es kept.
+    let options = c.args.options.now in
+    record {
+      out = report_rows options (nat_le 2 (length c.args.files.now)) c.args.files.now;
+      is_output = kept_output es options c.args.files.now kept;
+      wrote = c.in_ok-write_files.ensures;
+      is_status = c.status.ensures es kept;
+    }

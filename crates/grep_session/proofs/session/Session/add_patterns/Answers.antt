@@ -1,0 +1,156 @@
+use Rattle.std.proofs.Common.{◌≡◌, ◌+◌, ◌≤◌, ◌<◌, ◌++◌, Ok, Err, length, map, inl, inr, sym, ap, subst, ◌∙◌, arith, All}
+use Rattle.std.proofs.lemmas.List.{length-map, length-append, map-append}
+use Rattle.std.specs.List.{AllZip}
+use Rattle.re_syntax.specs.Lines.{list_of}
+use Rattle.re_search.specs.Reading.{matched_expression, wants_whole, IsReadable}
+use Rattle.grep_core.specs.Files.{AreMeant}
+use Rattle.grep_core.proofs.CostLaws.{same_length}
+use Rattle.grep_session.specs.declared.change.Change.TheVariants.{Added}
+use Rattle.grep_session.specs.Changed.{HasChanged}
+use Rattle.grep_session.specs.Edits.{AddPatterns, EditGives, most_patterns}
+use Rattle.grep_session.specs.Found.{IsRight, lines_of_files}
+use Rattle.grep_session.specs.Kept.{AreMatchers, IsFileKept, kept_file}
+use Rattle.grep_session.specs.Reading.{RefusesFirst}
+use Rattle.grep_session.specs.Sessions.{inputs_of}
+use Rattle.grep_session.proofs.EditLemmas.{AreMatchers-same}
+use Rattle.grep_session.proofs.NewPatternLemmas.{were_there, have_come, taken_off, AreMatchers-append, refuses_new, takes_new}
+use Rattle.grep_session.proofs.session.Session.add_patterns.Goals as goal
+
+pub returns-in-Err-read_matchers-clause-gives : goal.returns-in-Err-read_matchers-clause-gives
+returns-in-Err-read_matchers-clause-gives c =
+    let s = c.self.inside in
+    let list = c.args.list.now in
+    let old = inputs_of s in
+    let counted : length s.matchers.items ≡ length s.texts.items = c.self.invariant.matchers.counted ∙ length-map s.texts.items (λ text. text.items) in
+    let texts = c.in-Ok.texts.items in
+    let is_list : map (λ text. text.items) texts ≡ list_of list = c.in-Ok.ensures in
+    let many : length (list_of list) ≡ length texts = sym (ap length is_list) ∙ length-map texts (λ text. text.items) in
+    let bound : length s.matchers.items + length texts ≤ most_patterns = omega (arith, c.if-too_many.ensures, c.len.ensures, c.len-2.ensures, s.matchers.ok.0, c.in-Ok.texts.ok.0) in
+    let few : most_patterns < length old.patterns + length (list_of list) → ⊥ = λ h. let false : ⊥ = omega (arith, h, bound, many, counted, length-map s.texts.items (λ text. text.items)) in false in
+    let refused = rw c.deref.ensures.value at c.in-Err-read_matchers.ensures.err in
+    let told = subst (λ ts. RefusesFirst s.syntax s.options.ignore_case ts c.in-Err-read_matchers.fault) is_list refused in
+    subst (λ old. EditGives {T = Unit {0}} (AddPatterns list) old old (Err c.in-Err-read_matchers.fault)) c.self.view_is (refuses_new list old few (Unit {0}) c.in-Err-read_matchers.fault told)
+
+pub invariant_of-self-in-Err-change_columns : goal.invariant_of-self-in-Err-change_columns
+invariant_of-self-in-Err-change_columns c =
+    let s = c.self.inside in
+    let before = map matched_expression s.matchers.items in
+    let more = c.in-Ok-read_matchers.matchers.items in
+    let all = c.add_matchers.new.matchers.items in
+    let made = rw c.deref.ensures.value at c.in-Ok-read_matchers.ensures.ok in
+    let both : all ≡ s.matchers.items ++ more = c.in-Ok-add_matchers.ensures.ok in
+    let at : c.len-first.result ≡ length s.matchers.items = omega (arith, c.len-first.ensures, s.matchers.ok.0) in
+    let now = c.change_columns.new.matchers.items in
+    let expressions = taken_off matched_expression s.matchers.items more all c.len-first.result both at now c.truncate.new.self.items c.change_columns.ensures.same_expressions c.truncate.ensures.items in
+    let wholes = taken_off wants_whole s.matchers.items more all c.len-first.result both at now c.truncate.new.self.items c.change_columns.ensures.same_wholes c.truncate.ensures.items in
+    record {
+      matchers = subst (λ ts. AreMatchers s.syntax s.options (map (λ text. text.items) ts) c.truncate.new.self.items) (sym c.reserve_texts.ensures.items) (AreMatchers-same s.syntax s.options _ s.matchers.items _ c.self.invariant.matchers expressions wholes);
+      few = subst (λ n. n ≤ most_patterns) (sym (same_length matched_expression _ _ expressions)) c.self.invariant.few;
+      kept = subst (λ es. All (IsFileKept es s.options) s.files.items) (sym expressions) c.self.invariant.kept;
+      some_states = c.self.invariant.some_states;
+      few_states = c.self.invariant.few_states;
+    }
+
+pub returns-in-Err-change_columns-clause-steps : goal.returns-in-Err-change_columns-clause-steps
+returns-in-Err-change_columns-clause-steps c =
+    let s = c.self.inside in
+    let list = c.args.list.now in
+    let old = inputs_of s in
+    let counted : length s.matchers.items ≡ length s.texts.items = c.self.invariant.matchers.counted ∙ length-map s.texts.items (λ text. text.items) in
+    let texts = c.in-Ok.texts.items in
+    let is_list : map (λ text. text.items) texts ≡ list_of list = c.in-Ok.ensures in
+    let many : length (list_of list) ≡ length texts = sym (ap length is_list) ∙ length-map texts (λ text. text.items) in
+    let bound : length s.matchers.items + length texts ≤ most_patterns = omega (arith, c.if-too_many.ensures, c.len.ensures, c.len-2.ensures, s.matchers.ok.0, c.in-Ok.texts.ok.0) in
+    let few : most_patterns < length old.patterns + length (list_of list) → ⊥ = λ h. let false : ⊥ = omega (arith, h, bound, many, counted, length-map s.texts.items (λ text. text.items)) in false in
+    let before = map matched_expression s.matchers.items in
+    let more = c.in-Ok-read_matchers.matchers.items in
+    let all = c.add_matchers.new.matchers.items in
+    let made = rw c.deref.ensures.value at c.in-Ok-read_matchers.ensures.ok in
+    let both : all ≡ s.matchers.items ++ more = c.in-Ok-add_matchers.ensures.ok in
+    let at : c.len-first.result ≡ length s.matchers.items = omega (arith, c.len-first.ensures, s.matchers.ok.0) in
+    let changed : HasChanged (Added c.len-first.result) (map matched_expression all) before (map matched_expression more) = (were_there matched_expression s.matchers.items more all c.len-first.result both at, have_come matched_expression s.matchers.items more all c.len-first.result both at) in
+    let joined = AreMatchers-append s.syntax s.options (map (λ text. text.items) s.texts.items) (map (λ text. text.items) texts) s.matchers.items more all both c.self.invariant.matchers made in
+    let spent = rw c.deref-2.ensures.value at c.change_columns.ensures.steps in
+    let readable = subst (All (IsReadable s.syntax s.options.ignore_case)) is_list made.readable in
+    let meant = subst (λ ts. AreMeant s.syntax s.options (map (λ text. text.items) s.texts.items ++ ts) (map matched_expression all)) is_list joined.meant in
+    let new = subst (λ ts. AreMeant s.syntax s.options ts (map matched_expression more)) is_list made.meant in
+    let as_many : length (map matched_expression more) ≡ length (list_of list) = length-map more matched_expression ∙ made.counted ∙ ap length is_list in
+    rw (← c.self.view_is) (takes_new list old few c.len-first.result (map matched_expression all) (map matched_expression more) _ _ readable meant new as_many (spent before (map matched_expression more) changed c.self.invariant.kept))
+
+pub returns-clause-steps : goal.returns-clause-steps
+returns-clause-steps c =
+    let s = c.self.inside in
+    let list = c.args.list.now in
+    let old = inputs_of s in
+    let counted : length s.matchers.items ≡ length s.texts.items = c.self.invariant.matchers.counted ∙ length-map s.texts.items (λ text. text.items) in
+    let texts = c.in-Ok.texts.items in
+    let is_list : map (λ text. text.items) texts ≡ list_of list = c.in-Ok.ensures in
+    let many : length (list_of list) ≡ length texts = sym (ap length is_list) ∙ length-map texts (λ text. text.items) in
+    let bound : length s.matchers.items + length texts ≤ most_patterns = omega (arith, c.if-too_many.ensures, c.len.ensures, c.len-2.ensures, s.matchers.ok.0, c.in-Ok.texts.ok.0) in
+    let few : most_patterns < length old.patterns + length (list_of list) → ⊥ = λ h. let false : ⊥ = omega (arith, h, bound, many, counted, length-map s.texts.items (λ text. text.items)) in false in
+    let before = map matched_expression s.matchers.items in
+    let more = c.in-Ok-read_matchers.matchers.items in
+    let all = c.add_matchers.new.matchers.items in
+    let made = rw c.deref.ensures.value at c.in-Ok-read_matchers.ensures.ok in
+    let both : all ≡ s.matchers.items ++ more = c.in-Ok-add_matchers.ensures.ok in
+    let at : c.len-first.result ≡ length s.matchers.items = omega (arith, c.len-first.ensures, s.matchers.ok.0) in
+    let changed : HasChanged (Added c.len-first.result) (map matched_expression all) before (map matched_expression more) = (were_there matched_expression s.matchers.items more all c.len-first.result both at, have_come matched_expression s.matchers.items more all c.len-first.result both at) in
+    let joined = AreMatchers-append s.syntax s.options (map (λ text. text.items) s.texts.items) (map (λ text. text.items) texts) s.matchers.items more all both c.self.invariant.matchers made in
+    let spent = rw c.deref-2.ensures.value at c.change_columns.ensures.steps in
+    let readable = subst (All (IsReadable s.syntax s.options.ignore_case)) is_list made.readable in
+    let meant = subst (λ ts. AreMeant s.syntax s.options (map (λ text. text.items) s.texts.items ++ ts) (map matched_expression all)) is_list joined.meant in
+    let new = subst (λ ts. AreMeant s.syntax s.options ts (map matched_expression more)) is_list made.meant in
+    let as_many : length (map matched_expression more) ≡ length (list_of list) = length-map more matched_expression ∙ made.counted ∙ ap length is_list in
+    rw (← c.self.view_is) (takes_new list old few c.len-first.result (map matched_expression all) (map matched_expression more) _ _ readable meant new as_many (spent before (map matched_expression more) changed c.self.invariant.kept))
+
+pub invariant_of-self-2 : goal.invariant_of-self-2
+invariant_of-self-2 c =
+    let s = c.self.inside in
+    let list = c.args.list.now in
+    let old = inputs_of s in
+    let counted : length s.matchers.items ≡ length s.texts.items = c.self.invariant.matchers.counted ∙ length-map s.texts.items (λ text. text.items) in
+    let texts = c.in-Ok.texts.items in
+    let is_list : map (λ text. text.items) texts ≡ list_of list = c.in-Ok.ensures in
+    let many : length (list_of list) ≡ length texts = sym (ap length is_list) ∙ length-map texts (λ text. text.items) in
+    let bound : length s.matchers.items + length texts ≤ most_patterns = omega (arith, c.if-too_many.ensures, c.len.ensures, c.len-2.ensures, s.matchers.ok.0, c.in-Ok.texts.ok.0) in
+    let few : most_patterns < length old.patterns + length (list_of list) → ⊥ = λ h. let false : ⊥ = omega (arith, h, bound, many, counted, length-map s.texts.items (λ text. text.items)) in false in
+    let before = map matched_expression s.matchers.items in
+    let more = c.in-Ok-read_matchers.matchers.items in
+    let all = c.add_matchers.new.matchers.items in
+    let made = rw c.deref.ensures.value at c.in-Ok-read_matchers.ensures.ok in
+    let both : all ≡ s.matchers.items ++ more = c.in-Ok-add_matchers.ensures.ok in
+    let at : c.len-first.result ≡ length s.matchers.items = omega (arith, c.len-first.ensures, s.matchers.ok.0) in
+    let changed : HasChanged (Added c.len-first.result) (map matched_expression all) before (map matched_expression more) = (were_there matched_expression s.matchers.items more all c.len-first.result both at, have_come matched_expression s.matchers.items more all c.len-first.result both at) in
+    let joined = AreMatchers-append s.syntax s.options (map (λ text. text.items) s.texts.items) (map (λ text. text.items) texts) s.matchers.items more all both c.self.invariant.matchers made in
+    let now = c.change_columns.new.matchers.items in
+    let same = c.change_columns.ensures.same_expressions in
+    let right = rw c.deref-2.ensures.value at c.in-Ok-change_columns.ensures.ok in
+    let all_texts : map (λ text. text.items) c.add_texts.new.texts.items ≡ map (λ text. text.items) s.texts.items ++ map (λ text. text.items) texts =
+    ap (map (λ text. text.items)) (c.add_texts.ensures ∙ ap (λ l. l ++ texts) c.reserve_texts.ensures.items) ∙ map-append (λ text. text.items) s.texts.items texts in
+    let as_many : length now ≡ length all = same_length matched_expression _ _ same in
+    let sum : length all ≡ length s.matchers.items + length more = ap length both ∙ length-append s.matchers.items more in
+    let came : length more ≡ length texts = made.counted ∙ length-map texts (λ text. text.items) in
+    record {
+      matchers = AreMatchers-same s.syntax s.options _ all now (subst (λ ts. AreMatchers s.syntax s.options ts all) (sym all_texts) joined) same c.change_columns.ensures.same_wholes;
+      few = (let less : length now ≤ most_patterns = omega (arith, as_many, sum, came, bound) in less);
+      kept = c.put_columns.ensures.right (map matched_expression now) s.options (subst (λ es. AllZip (IsRight es s.options) (lines_of_files (map kept_file s.files.items)) c.in-Ok-change_columns.found.items) (sym same) (right before (map matched_expression more) changed c.self.invariant.kept));
+      some_states = c.self.invariant.some_states;
+      few_states = c.self.invariant.few_states;
+    }
+
+pub returns-clause-gives : goal.returns-clause-gives
+returns-clause-gives c =
+    let s = c.self.inside in
+    let list = c.args.list.now in
+    let old = inputs_of s in
+    let counted : length s.matchers.items ≡ length s.texts.items = c.self.invariant.matchers.counted ∙ length-map s.texts.items (λ text. text.items) in
+    let texts = c.in-Ok.texts.items in
+    let is_list : map (λ text. text.items) texts ≡ list_of list = c.in-Ok.ensures in
+    let many : length (list_of list) ≡ length texts = sym (ap length is_list) ∙ length-map texts (λ text. text.items) in
+    let bound : length s.matchers.items + length texts ≤ most_patterns = omega (arith, c.if-too_many.ensures, c.len.ensures, c.len-2.ensures, s.matchers.ok.0, c.in-Ok.texts.ok.0) in
+    let few : most_patterns < length old.patterns + length (list_of list) → ⊥ = λ h. let false : ⊥ = omega (arith, h, bound, many, counted, length-map s.texts.items (λ text. text.items)) in false in
+    let made = rw c.deref.ensures.value at c.in-Ok-read_matchers.ensures.ok in
+    let readable = subst (All (IsReadable s.syntax s.options.ignore_case)) is_list made.readable in
+    let all_texts : map (λ text. text.items) c.add_texts.new.texts.items ≡ map (λ text. text.items) s.texts.items ++ list_of list =
+    ap (map (λ text. text.items)) (c.add_texts.ensures ∙ ap (λ l. l ++ texts) c.reserve_texts.ensures.items) ∙ map-append (λ text. text.items) s.texts.items texts ∙ ap (λ l. map (λ text. text.items) s.texts.items ++ l) is_list in
+    rw (← c.self.view_is) (inr (few, inl (readable, (λ i. Ok (record { syntax = s.syntax; options = s.options; patterns = all_texts i; files = c.put_columns.ensures.same i })))))

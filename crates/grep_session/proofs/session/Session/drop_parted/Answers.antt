@@ -1,0 +1,114 @@
+use Rattle.std.proofs.Common.{◌≡◌, ◌+◌, ◌≤◌, ◌<◌, [], ◌∷◌, Ok, length, map, inl, refl, sym, ap, subst, ◌∙◌, arith, All, get_or}
+use Rattle.std.proofs.lemmas.List.{length-map, get_or-map}
+use Rattle.std.specs.List.{AllZip}
+use Rattle.re_search.specs.Reading.{matched_expression, wants_whole}
+use Rattle.re_search.specs.Searching.{AllAnswer}
+use Rattle.grep_core.specs.Files.{Inputs}
+use Rattle.grep_core.proofs.CostLaws.{same_length}
+use Rattle.grep_session.specs.declared.change.Change.TheVariants.{Dropped}
+use Rattle.grep_session.specs.Changed.{HasChanged}
+use Rattle.grep_session.specs.Edits.{most_patterns}
+use Rattle.grep_session.specs.Found.{IsRight, lines_of_files}
+use Rattle.grep_session.specs.Kept.{IsFileKept, kept_file}
+use Rattle.grep_session.specs.Sessions.{inputs_of}
+use Rattle.grep_session.proofs.EditLemmas.{AreMatchers-same}
+use Rattle.grep_session.proofs.SessionLemmas.{map-remove}
+use Rattle.grep_session.proofs.DroppingLemmas.{AreMatchers-remove, All-remove}
+use Rattle.grep_session.proofs.PatternLemmas.{takes_drop, put_back_same}
+use Rattle.grep_session.proofs.session.Session.drop_parted.Goals as goal
+
+pub change_columns-requires-clause-whole : goal.change_columns-requires-clause-whole
+change_columns-requires-clause-whole c =
+    let s = c.self.inside in
+    subst (AllAnswer s.options.line_regexp) (sym (map-remove wants_whole s.matchers.items c.remove-gone.new.self.items c.args.p c.remove-gone.ensures.items)) (All-remove (λ w. w ≡ s.options.line_regexp) (map wants_whole s.matchers.items) c.args.p c.self.invariant.matchers.wholes)
+
+pub invariant_of-self : goal.invariant_of-self
+invariant_of-self c =
+    let s = c.self.inside in
+    let p = c.args.p in
+    let counted : length s.matchers.items ≡ length s.texts.items = c.self.invariant.matchers.counted ∙ length-map s.texts.items (λ text. text.items) in
+    let inside : p < length (map (λ text. text.items) s.texts.items) = subst (λ (i : Inputs). p < length i.patterns) (sym c.self.view_is) c.requires.within in
+    let within : p < length s.matchers.items = omega (arith, inside, counted, length-map s.texts.items (λ text. text.items)) in
+    let left = c.remove-gone.new.self.items in
+    let now = c.change_columns.new.matchers.items in
+    let expressions = put_back_same matched_expression s.matchers.items now c.put_back.new.matchers.items p c.remove-gone.result within c.remove-gone.ensures.value
+    (c.change_columns.ensures.same_expressions ∙ map-remove matched_expression s.matchers.items left p c.remove-gone.ensures.items) c.put_back.ensures in
+    let wholes = put_back_same wants_whole s.matchers.items now c.put_back.new.matchers.items p c.remove-gone.result within c.remove-gone.ensures.value
+    (c.change_columns.ensures.same_wholes ∙ map-remove wants_whole s.matchers.items left p c.remove-gone.ensures.items) c.put_back.ensures in
+    record {
+      matchers = AreMatchers-same s.syntax s.options _ s.matchers.items _ c.self.invariant.matchers expressions wholes;
+      few = subst (λ n. n ≤ most_patterns) (sym (same_length matched_expression _ _ expressions)) c.self.invariant.few;
+      kept = subst (λ es. All (IsFileKept es s.options) s.files.items) (sym expressions) c.self.invariant.kept;
+      some_states = c.self.invariant.some_states;
+      few_states = c.self.invariant.few_states;
+    }
+
+pub returns-in-Err-clause-steps : goal.returns-in-Err-clause-steps
+returns-in-Err-clause-steps c =
+    let s = c.self.inside in
+    let p = c.args.p in
+    let before = map matched_expression s.matchers.items in
+    let gone = c.remove-gone.result in
+    let left = c.remove-gone.new.self.items in
+    let counted : length s.matchers.items ≡ length s.texts.items = c.self.invariant.matchers.counted ∙ length-map s.texts.items (λ text. text.items) in
+    let inside : p < length (map (λ text. text.items) s.texts.items) = subst (λ (i : Inputs). p < length i.patterns) (sym c.self.view_is) c.requires.within in
+    let within : p < length s.matchers.items = omega (arith, inside, counted, length-map s.texts.items (λ text. text.items)) in
+    let among : p < length before = omega (arith, within, length-map s.matchers.items matched_expression) in
+    let at : matched_expression gone ≡ get_or before p (matched_expression gone) = ap matched_expression c.remove-gone.ensures.value ∙ sym (get_or-map matched_expression s.matchers.items p gone (matched_expression gone) within) in
+    let changed : HasChanged (Dropped p) (map matched_expression left) before (matched_expression gone ∷ []) = (matched_expression gone, among, at, map-remove matched_expression s.matchers.items left p c.remove-gone.ensures.items, refl) in
+    let spent = rw c.deref.ensures.value at c.change_columns.ensures.steps in
+    rw (← c.self.view_is) (takes_drop p (inputs_of s) (map matched_expression left) before (matched_expression gone) _ _ inside c.self.invariant.matchers.meant changed at (spent before (matched_expression gone ∷ []) changed c.self.invariant.kept))
+
+pub returns-clause-steps : goal.returns-clause-steps
+returns-clause-steps c =
+    let s = c.self.inside in
+    let p = c.args.p in
+    let before = map matched_expression s.matchers.items in
+    let gone = c.remove-gone.result in
+    let left = c.remove-gone.new.self.items in
+    let counted : length s.matchers.items ≡ length s.texts.items = c.self.invariant.matchers.counted ∙ length-map s.texts.items (λ text. text.items) in
+    let inside : p < length (map (λ text. text.items) s.texts.items) = subst (λ (i : Inputs). p < length i.patterns) (sym c.self.view_is) c.requires.within in
+    let within : p < length s.matchers.items = omega (arith, inside, counted, length-map s.texts.items (λ text. text.items)) in
+    let among : p < length before = omega (arith, within, length-map s.matchers.items matched_expression) in
+    let at : matched_expression gone ≡ get_or before p (matched_expression gone) = ap matched_expression c.remove-gone.ensures.value ∙ sym (get_or-map matched_expression s.matchers.items p gone (matched_expression gone) within) in
+    let changed : HasChanged (Dropped p) (map matched_expression left) before (matched_expression gone ∷ []) = (matched_expression gone, among, at, map-remove matched_expression s.matchers.items left p c.remove-gone.ensures.items, refl) in
+    let spent = rw c.deref.ensures.value at c.change_columns.ensures.steps in
+    rw (← c.self.view_is) (takes_drop p (inputs_of s) (map matched_expression left) before (matched_expression gone) _ _ inside c.self.invariant.matchers.meant changed at (spent before (matched_expression gone ∷ []) changed c.self.invariant.kept))
+
+pub invariant_of-self-2 : goal.invariant_of-self-2
+invariant_of-self-2 c =
+    let s = c.self.inside in
+    let p = c.args.p in
+    let before = map matched_expression s.matchers.items in
+    let gone = c.remove-gone.result in
+    let left = c.remove-gone.new.self in
+    let texts = c.remove.new.self in
+    let now = c.change_columns.new.matchers in
+    let counted : length s.matchers.items ≡ length s.texts.items = c.self.invariant.matchers.counted ∙ length-map s.texts.items (λ text. text.items) in
+    let inside : p < length (map (λ text. text.items) s.texts.items) = subst (λ (i : Inputs). p < length i.patterns) (sym c.self.view_is) c.requires.within in
+    let within : p < length s.matchers.items = omega (arith, inside, counted, length-map s.texts.items (λ text. text.items)) in
+    let among : p < length before = omega (arith, within, length-map s.matchers.items matched_expression) in
+    let at : matched_expression gone ≡ get_or before p (matched_expression gone) = ap matched_expression c.remove-gone.ensures.value ∙ sym (get_or-map matched_expression s.matchers.items p gone (matched_expression gone) within) in
+    let changed : HasChanged (Dropped p) (map matched_expression left.items) before (matched_expression gone ∷ []) = (matched_expression gone, among, at, map-remove matched_expression s.matchers.items left.items p c.remove-gone.ensures.items, refl) in
+    let fewer : length left.items + 1 ≡ length s.matchers.items = omega (arith, c.remove-gone.ensures.len, left.ok.0, s.matchers.ok.0) in
+    let fewer_texts : length texts.items + 1 ≡ length s.texts.items = omega (arith, c.remove.ensures.len, texts.ok.0, s.texts.ok.0) in
+    let many : length left.items ≡ length (map (λ text. text.items) texts.items) = omega (arith, fewer, fewer_texts, counted, length-map texts.items (λ text. text.items)) in
+    let same = c.change_columns.ensures.same_expressions in
+    let right = rw c.deref.ensures.value at c.in-Ok.ensures.ok in
+    let rest = AreMatchers-remove s.syntax s.options _ _ s.matchers.items left.items p (map-remove (λ text. text.items) s.texts.items texts.items p c.remove.ensures.items) c.remove-gone.ensures.items many c.self.invariant.matchers in
+    let fewer_now : length now.items ≡ length left.items = same_length matched_expression _ _ same in
+    record {
+      matchers = AreMatchers-same s.syntax s.options _ left.items now.items rest same c.change_columns.ensures.same_wholes;
+      few = (let less : length now.items ≤ most_patterns = omega (arith, fewer_now, fewer, c.self.invariant.few) in less);
+      kept = c.put_columns.ensures.right (map matched_expression now.items) s.options (subst (λ es. AllZip (IsRight es s.options) (lines_of_files (map kept_file s.files.items)) c.in-Ok.found.items) (sym same) (right before (matched_expression gone ∷ []) changed c.self.invariant.kept));
+      some_states = c.self.invariant.some_states;
+      few_states = c.self.invariant.few_states;
+    }
+
+pub returns-clause-gives : goal.returns-clause-gives
+returns-clause-gives c =
+    let s = c.self.inside in
+    let p = c.args.p in
+    let inside : p < length (map (λ text. text.items) s.texts.items) = subst (λ (i : Inputs). p < length i.patterns) (sym c.self.view_is) c.requires.within in
+    let texts = map-remove (λ text. text.items) s.texts.items c.remove.new.self.items p c.remove.ensures.items in
+    rw (← c.self.view_is) (inl (inside, (λ i. Ok (record { syntax = s.syntax; options = s.options; patterns = texts i; files = c.put_columns.ensures.same i }))))

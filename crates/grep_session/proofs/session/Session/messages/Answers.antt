@@ -1,0 +1,12 @@
+use Rattle.std.proofs.Common.{map, subst}
+use Rattle.re_search.specs.Reading.{matched_expression}
+use Rattle.grep_session.specs.Report.{TellsInputs}
+use Rattle.grep_session.proofs.session.Session.messages.Goals as goal
+
+pub returns : goal.returns
+returns g c =
+    let s = c.self.inside in
+    let es = map matched_expression s.matchers.items in
+    let tells = rw c.deref.ensures.value at c.write_messages.ensures in
+    subst (λ inputs. TellsInputs g.W.CountedWrite.contents g.W.CountedWrite.failures inputs c.args.margin.now c.args.out.now c.write_messages.new.out c.write_messages.result) c.self.view_is
+    (es, c.self.invariant.matchers.meant, tells es c.self.invariant.kept)

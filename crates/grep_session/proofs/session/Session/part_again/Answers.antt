@@ -1,0 +1,70 @@
+use Rattle.std.proofs.Common.{◌≡◌, ◌≤◌, Ok, map, inl, sym, ap, subst, ◌∙◌}
+use Rattle.std.specs.List.{AllZip}
+use Rattle.re_search.specs.Reading.{matched_expression, wants_whole}
+use Rattle.re_search.specs.Searching.{AllAnswer}
+use Rattle.grep_core.specs.Files.{Inputs}
+use Rattle.grep_core.proofs.CostLaws.{same_length}
+use Rattle.grep_session.specs.Again.{read_as}
+use Rattle.grep_session.specs.Edits.{most_patterns}
+use Rattle.grep_session.specs.Found.{IsRight, lines_of_files}
+use Rattle.grep_session.specs.Kept.{kept_file}
+use Rattle.grep_session.specs.Sessions.{inputs_of}
+use Rattle.grep_session.proofs.EditLemmas.{AreMatchers-same}
+use Rattle.grep_session.proofs.AgainLemmas.{takes_parts, ready_files, AreMatchers-options}
+use Rattle.grep_session.proofs.session.Session.part_again.Goals as goal
+
+pub find_columns-requires-clause-whole : goal.find_columns-requires-clause-whole
+find_columns-requires-clause-whole c =
+    let s = c.self.inside in
+    let whole : c.args.options.line_regexp ≡ s.options.line_regexp = c.requires.same_whole ∙ sym (ap (λ (i : Inputs). i.options.line_regexp) c.self.view_is) in
+    subst (λ w. AllAnswer w (map wants_whole s.matchers.items)) (sym whole) c.self.invariant.matchers.wholes
+
+pub find_columns-requires-clause-ready : goal.find_columns-requires-clause-ready
+find_columns-requires-clause-ready c =
+    let s = c.self.inside in
+    let whole : c.args.options.line_regexp ≡ s.options.line_regexp = c.requires.same_whole ∙ sym (ap (λ (i : Inputs). i.options.line_regexp) c.self.view_is) in
+    rw c.deref.ensures.value (ready_files (map matched_expression s.matchers.items) s.options c.args.options whole s.files.items c.self.invariant.kept)
+
+pub returns-in-Err-clause-steps : goal.returns-in-Err-clause-steps
+returns-in-Err-clause-steps c =
+    let s = c.self.inside in
+    let old = inputs_of s in
+    let whole : c.args.options.line_regexp ≡ s.options.line_regexp = c.requires.same_whole ∙ sym (ap (λ (i : Inputs). i.options.line_regexp) c.self.view_is) in
+    let case : c.args.options.ignore_case ≡ s.options.ignore_case = c.requires.same_case ∙ sym (ap (λ (i : Inputs). i.options.ignore_case) c.self.view_is) in
+    let made = AreMatchers-options s.syntax s.options c.args.options _ s.matchers.items whole case c.self.invariant.matchers in
+    let spent = rw c.deref.ensures.value at c.find_columns.ensures.steps in
+    rw (← c.self.view_is) (λ edit applies touches. takes_parts edit old (read_as old.syntax c.args.options old) (map matched_expression s.matchers.items) _ _ applies touches made.meant spent)
+
+pub returns-clause-steps : goal.returns-clause-steps
+returns-clause-steps c =
+    let s = c.self.inside in
+    let old = inputs_of s in
+    let whole : c.args.options.line_regexp ≡ s.options.line_regexp = c.requires.same_whole ∙ sym (ap (λ (i : Inputs). i.options.line_regexp) c.self.view_is) in
+    let case : c.args.options.ignore_case ≡ s.options.ignore_case = c.requires.same_case ∙ sym (ap (λ (i : Inputs). i.options.ignore_case) c.self.view_is) in
+    let made = AreMatchers-options s.syntax s.options c.args.options _ s.matchers.items whole case c.self.invariant.matchers in
+    let spent = rw c.deref.ensures.value at c.find_columns.ensures.steps in
+    rw (← c.self.view_is) (λ edit applies touches. takes_parts edit old (read_as old.syntax c.args.options old) (map matched_expression s.matchers.items) _ _ applies touches made.meant spent)
+
+pub invariant_of-self-2 : goal.invariant_of-self-2
+invariant_of-self-2 c =
+    let s = c.self.inside in
+    let whole : c.args.options.line_regexp ≡ s.options.line_regexp = c.requires.same_whole ∙ sym (ap (λ (i : Inputs). i.options.line_regexp) c.self.view_is) in
+    let case : c.args.options.ignore_case ≡ s.options.ignore_case = c.requires.same_case ∙ sym (ap (λ (i : Inputs). i.options.ignore_case) c.self.view_is) in
+    let made = AreMatchers-options s.syntax s.options c.args.options _ s.matchers.items whole case c.self.invariant.matchers in
+    let right = rw c.deref.ensures.value at c.in-Ok.ensures.ok in
+    let same = c.find_columns.ensures.same_expressions in
+    record {
+      matchers = AreMatchers-same s.syntax c.args.options _ s.matchers.items _ made same c.find_columns.ensures.same_wholes;
+      few = subst (λ n. n ≤ most_patterns) (sym (same_length matched_expression _ _ same)) c.self.invariant.few;
+      kept = c.put_columns.ensures.right (map matched_expression c.find_columns.new.matchers.items) c.args.options (subst (λ es. AllZip (IsRight es c.args.options) (lines_of_files (map kept_file s.files.items)) c.in-Ok.found.items) (sym same) right);
+      some_states = c.self.invariant.some_states;
+      few_states = c.self.invariant.few_states;
+    }
+
+pub returns-clause-gives : goal.returns-clause-gives
+returns-clause-gives c =
+    let s = c.self.inside in
+    let whole : c.args.options.line_regexp ≡ s.options.line_regexp = c.requires.same_whole ∙ sym (ap (λ (i : Inputs). i.options.line_regexp) c.self.view_is) in
+    let case : c.args.options.ignore_case ≡ s.options.ignore_case = c.requires.same_case ∙ sym (ap (λ (i : Inputs). i.options.ignore_case) c.self.view_is) in
+    let made = AreMatchers-options s.syntax s.options c.args.options _ s.matchers.items whole case c.self.invariant.matchers in
+    rw (← c.self.view_is) (inl (made.readable, ap (λ fs. Ok (record { syntax = s.syntax; options = c.args.options; patterns = map (λ text. text.items) s.texts.items; files = fs })) c.put_columns.ensures.same))

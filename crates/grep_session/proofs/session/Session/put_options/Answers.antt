@@ -1,0 +1,19 @@
+use Rattle.std.proofs.Common.{◌≡◌, IsTrue, map, sym, ap, subst, ◌∙◌}
+use Rattle.re_search.specs.Reading.{matched_expression}
+use Rattle.grep_core.specs.Files.{Inputs}
+use Rattle.grep_session.proofs.AgainLemmas.{kept_files, AreMatchers-options}
+use Rattle.grep_session.proofs.session.Session.put_options.Goals as goal
+
+pub invariant_of-self : goal.invariant_of-self
+invariant_of-self c =
+    let s = c.self.inside in
+    let whole : c.args.options.line_regexp ≡ s.options.line_regexp = c.requires.same_whole ∙ sym (ap (λ (i : Inputs). i.options.line_regexp) c.self.view_is) in
+    let case : c.args.options.ignore_case ≡ s.options.ignore_case = c.requires.same_case ∙ sym (ap (λ (i : Inputs). i.options.ignore_case) c.self.view_is) in
+    let less = subst (λ (i : Inputs). IsTrue c.args.options.only_matching → IsTrue i.options.only_matching) (sym c.self.view_is) c.requires.no_parts in
+    record {
+      matchers = AreMatchers-options s.syntax s.options c.args.options _ s.matchers.items whole case c.self.invariant.matchers;
+      few = c.self.invariant.few;
+      kept = kept_files (map matched_expression s.matchers.items) s.options c.args.options whole less s.files.items c.self.invariant.kept;
+      some_states = c.self.invariant.some_states;
+      few_states = c.self.invariant.few_states;
+    }

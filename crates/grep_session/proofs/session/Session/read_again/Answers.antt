@@ -1,0 +1,52 @@
+use Rattle.std.proofs.Common.{◌≡◌, ◌≤◌, Ok, Err, length, map, inl, sym, ap, subst, ◌∙◌}
+use Rattle.std.specs.List.{AllZip}
+use Rattle.re_search.specs.Reading.{matched_expression}
+use Rattle.grep_core.proofs.CostLaws.{same_length}
+use Rattle.grep_session.specs.Again.{ReadsAgain, read_as}
+use Rattle.grep_session.specs.Edits.{most_patterns}
+use Rattle.grep_session.specs.Found.{IsRight, lines_of_files}
+use Rattle.grep_session.specs.Kept.{kept_file}
+use Rattle.grep_session.specs.Sessions.{inputs_of}
+use Rattle.grep_session.proofs.EditLemmas.{AreMatchers-same}
+use Rattle.grep_session.proofs.AgainLemmas.{takes_all, refuses_again}
+use Rattle.grep_session.proofs.session.Session.read_again.Goals as goal
+
+pub returns-in-Err-clause-gives : goal.returns-in-Err-clause-gives
+returns-in-Err-clause-gives c =
+    let refused = rw c.deref.ensures.value at c.in-Err.ensures.err in
+    subst (λ old. ReadsAgain {T = Unit {0}} c.args.syntax c.args.options old old (Err c.in-Err.fault)) c.self.view_is (refuses_again (Unit {0}) c.args.syntax c.args.options (inputs_of c.self.inside) c.in-Err.fault refused)
+
+pub returns-in-Err-find_columns-clause-steps : goal.returns-in-Err-find_columns-clause-steps
+returns-in-Err-find_columns-clause-steps c =
+    let old = inputs_of c.self.inside in
+    let made = rw c.deref.ensures.value at c.in-Ok.ensures.ok in
+    let spent = rw c.deref-2.ensures.value at c.find_columns.ensures.steps in
+    rw (← c.self.view_is) (λ edit applies touches. takes_all edit old (read_as c.args.syntax c.args.options old) (map matched_expression c.in-Ok.matchers.items) _ _ _ (applies made.readable) touches made.meant made.counted spent)
+
+pub returns-clause-steps : goal.returns-clause-steps
+returns-clause-steps c =
+    let old = inputs_of c.self.inside in
+    let made = rw c.deref.ensures.value at c.in-Ok.ensures.ok in
+    let spent = rw c.deref-2.ensures.value at c.find_columns.ensures.steps in
+    rw (← c.self.view_is) (λ edit applies touches. takes_all edit old (read_as c.args.syntax c.args.options old) (map matched_expression c.in-Ok.matchers.items) _ _ _ (applies made.readable) touches made.meant made.counted spent)
+
+pub invariant_of-self : goal.invariant_of-self
+invariant_of-self c =
+    let s = c.self.inside in
+    let made = rw c.deref.ensures.value at c.in-Ok.ensures.ok in
+    let right = rw c.deref-2.ensures.value at c.in-Ok-find_columns.ensures.ok in
+    let same = c.find_columns.ensures.same_expressions in
+    let many : length c.find_columns.new.matchers.items ≡ length s.matchers.items = same_length matched_expression _ _ same ∙ made.counted ∙ sym c.self.invariant.matchers.counted in
+    record {
+      matchers = AreMatchers-same c.args.syntax c.args.options _ c.in-Ok.matchers.items _ made same c.find_columns.ensures.same_wholes;
+      few = subst (λ n. n ≤ most_patterns) (sym many) c.self.invariant.few;
+      kept = c.put_columns.ensures.right (map matched_expression c.find_columns.new.matchers.items) c.args.options (subst (λ es. AllZip (IsRight es c.args.options) (lines_of_files (map kept_file s.files.items)) c.in-Ok-find_columns.found.items) (sym same) right);
+      some_states = c.self.invariant.some_states;
+      few_states = c.self.invariant.few_states;
+    }
+
+pub returns-clause-gives : goal.returns-clause-gives
+returns-clause-gives c =
+    let s = c.self.inside in
+    let made = rw c.deref.ensures.value at c.in-Ok.ensures.ok in
+    rw (← c.self.view_is) (inl (made.readable, ap (λ fs. Ok (record { syntax = c.args.syntax; options = c.args.options; patterns = map (λ text. text.items) s.texts.items; files = fs })) c.put_columns.ensures.same))

@@ -1,0 +1,18 @@
+use Rattle.std.proofs.Common.{map, subst}
+use Rattle.re_search.specs.Reading.{matched_expression}
+use Rattle.grep_session.specs.Report.{ReportsInputs}
+use Rattle.grep_session.proofs.KeptLaws.{files_fit}
+use Rattle.grep_session.proofs.session.Session.report.Goals as goal
+
+pub write_report-requires : goal.write_report-requires
+write_report-requires g c =
+    let s = c.self.inside in
+    rw c.deref.ensures.value (files_fit (map matched_expression s.matchers.items) s.options s.files.items c.self.invariant.kept)
+
+pub returns : goal.returns
+returns g c =
+    let s = c.self.inside in
+    let es = map matched_expression s.matchers.items in
+    let reports = rw c.deref.ensures.value at c.write_report.ensures in
+    subst (λ inputs. ReportsInputs g.W.CountedWrite.contents g.W.CountedWrite.failures inputs c.args.margin.now c.args.out.now c.write_report.new.out c.write_report.result) c.self.view_is
+    (es, c.self.invariant.matchers.meant, reports es c.self.invariant.kept)

@@ -1,0 +1,29 @@
+use Rattle.std.proofs.Common.{◌≡◌, Ok, All, length, inl, inr, refl, sym, ap, subst, ◌∙◌}
+use Rattle.re_search.specs.Reading.{IsReadable}
+use Rattle.grep_core.specs.Files.{Inputs}
+use Rattle.grep_session.specs.Again.{ReadsAgain, AreReadable, read_as}
+use Rattle.grep_session.specs.Edits.{Edit, SetSyntax, Applies}
+use Rattle.grep_session.specs.Touched.{TakesSteps, Touches, searched_by, all_lines}
+use Rattle.grep_session.specs.Sessions.{inputs_of}
+use Rattle.grep_session.proofs.AgainLemmas.{sets_syntax}
+use Rattle.grep_session.proofs.session.Session.set_syntax.Goals as goal
+
+pub returns-then-is_same-clause-gives : goal.returns-then-is_same-clause-gives
+returns-then-is_same-clause-gives c =
+    let old = inputs_of c.self.inside in
+    let same : c.args.syntax ≡ old.syntax = c.if-is_same.ensures in
+    rw (← c.self.view_is) (inl (subst (λ syntax. All (IsReadable syntax old.options.ignore_case) old.patterns) (sym same) c.self.invariant.matchers.readable, ap (λ syntax. Ok (record old { syntax = syntax })) (sym same)))
+
+pub returns-clause-gives : goal.returns-clause-gives
+returns-clause-gives c =
+    let old = c.args.self.now in
+    let same : c.read_again.inside.options ≡ old.options = ap (λ (i : Inputs). i.options) c.read_again.view_is in
+    sets_syntax c.args.syntax old c.read_again-2.new.self c.read_again-2.result (subst (λ o. ReadsAgain c.args.syntax o old c.read_again-2.new.self c.read_again-2.result) same c.read_again-2.ensures.gives)
+
+pub returns-clause-steps : goal.returns-clause-steps
+returns-clause-steps c =
+    let old = c.args.self.now in
+    let same : c.read_again.inside.options ≡ old.options = ap (λ (i : Inputs). i.options) c.read_again.view_is in
+    let steps = subst (λ o. (edit : Edit) → (AreReadable c.args.syntax o old → Applies edit old (Ok (read_as c.args.syntax o old))) → Touches edit old (searched_by (length old.patterns) (all_lines old)) → TakesSteps edit old c.args.meter.now c.read_again-2.new.meter) same c.read_again-2.ensures.steps in
+    let other : c.args.syntax ≡ old.syntax → ⊥ = λ e. c.if-is_same.ensures (e ∙ sym (ap (λ (i : Inputs). i.syntax) c.self.view_is)) in
+    steps (SetSyntax c.args.syntax) (λ readable. inl (readable, refl)) (inr (other, refl))

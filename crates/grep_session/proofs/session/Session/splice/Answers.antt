@@ -1,0 +1,78 @@
+use Rattle.std.proofs.Common.{◌≡◌, ◌≤◌, Ok, IfSome, map, refl, sym, subst, ◌∙◌, ap, get_or, slice_set, All}
+use Rattle.re_search.specs.Reading.{matched_expression}
+use Rattle.grep_core.proofs.CostLaws.{same_length}
+use Rattle.grep_session.specs.declared.kept.KeptFile.{KeptFile}
+use Rattle.grep_session.specs.Edits.{Splice, Applies, most_patterns, spliced, with_files}
+use Rattle.grep_session.specs.Kept.{IsKept, IsFileKept, kept_lines}
+use Rattle.grep_session.specs.Sessions.{inputs_of}
+use Rattle.grep_session.proofs.EditLemmas.{AreMatchers-same, takes_lines, applies_splice, in_kept, put, kept_put, files_put, files_same, files_kept}
+use Rattle.grep_session.proofs.session.Session.splice.Goals as goal
+
+pub returns-in-Err-search_new-clause-steps : goal.returns-in-Err-search_new-clause-steps
+returns-in-Err-search_new-clause-steps c =
+    let s = c.self.inside in
+    let old = inputs_of s in
+    let lines = map (λ line. line.items) c.args.lines.items in
+    let none = rw c.deref-2.ensures.value at c.if-any_newline.ensures in
+    let place = rw c.deref.ensures.value at c.in-Ok.ensures.place in
+    rw (← c.self.view_is) (takes_lines (Splice c.args.k c.args.start c.args.count lines) old (spliced old.files c.args.k c.args.start c.args.count lines) (map matched_expression s.matchers.items) _ lines _ _ (applies_splice old _ _ _ lines place none) refl c.self.invariant.matchers.meant c.self.invariant.matchers.counted c.search_new.ensures.steps)
+
+pub returns-in-Err-put_in-clause-steps : goal.returns-in-Err-put_in-clause-steps
+returns-in-Err-put_in-clause-steps c =
+    let s = c.self.inside in
+    let old = inputs_of s in
+    let lines = map (λ line. line.items) c.args.lines.items in
+    let none = rw c.deref-2.ensures.value at c.if-any_newline.ensures in
+    let place = rw c.deref.ensures.value at c.in-Ok.ensures.place in
+    rw (← c.self.view_is) (takes_lines (Splice c.args.k c.args.start c.args.count lines) old (spliced old.files c.args.k c.args.start c.args.count lines) (map matched_expression s.matchers.items) _ lines _ _ (applies_splice old _ _ _ lines place none) refl c.self.invariant.matchers.meant c.self.invariant.matchers.counted c.search_new.ensures.steps)
+
+pub returns-clause-steps : goal.returns-clause-steps
+returns-clause-steps c =
+    let s = c.self.inside in
+    let old = inputs_of s in
+    let lines = map (λ line. line.items) c.args.lines.items in
+    let none = rw c.deref-2.ensures.value at c.if-any_newline.ensures in
+    let place = rw c.deref.ensures.value at c.in-Ok.ensures.place in
+    rw (← c.self.view_is) (takes_lines (Splice c.args.k c.args.start c.args.count lines) old (spliced old.files c.args.k c.args.start c.args.count lines) (map matched_expression s.matchers.items) _ lines _ _ (applies_splice old _ _ _ lines place none) refl c.self.invariant.matchers.meant c.self.invariant.matchers.counted c.search_new.ensures.steps)
+
+pub returns-in-Err-put_in-clause-gives : goal.returns-in-Err-put_in-clause-gives
+returns-in-Err-put_in-clause-gives c =
+    let s = c.self.inside in
+    let d = c.index_mut.result.now in
+    let at : d ≡ get_or s.files.items c.args.k d = c.index_mut.ensures.value in
+    let same = files_same s.files.items c.args.k d c.put_in.new.file (ap (λ n. n.items) c.put_in.ensures.name ∙ ap (λ (f : KeptFile). f.name.items) at) (c.in-Err-put_in.ensures.err ∙ ap kept_lines at) in
+    ap (λ fs. with_files fs (inputs_of s)) same ∙ c.self.view_is
+
+pub invariant_of-self-2 : goal.invariant_of-self-2
+invariant_of-self-2 c =
+    let s = c.self.inside in
+    let es = map matched_expression s.matchers.items in
+    let d = c.index_mut.result.now in
+    let at : d ≡ get_or s.files.items c.args.k d = c.index_mut.ensures.value in
+    let place = rw c.deref.ensures.value at c.in-Ok.ensures.place in
+    let within = in_kept s.files.items c.args.k place.in_files in
+    let before : IfSome (kept_lines d) (All (IsKept es s.options)) = subst (λ (f : KeptFile). IsFileKept es s.options f) (sym at) (c.self.invariant.kept c.args.k d within) in
+    let kept = files_kept es s.options s.files.items c.args.k c.put_in.new.file _ c.self.invariant.kept c.in-Ok-put_in.ensures.ok (kept_put c.args.start c.args.count c.in-Ok-search_new.kept.items es s.options (kept_lines d) before c.in-Ok-search_new.ensures.ok) in
+    let same = c.search_new.ensures.same_expressions in
+    record {
+      matchers = AreMatchers-same s.syntax s.options _ s.matchers.items _ c.self.invariant.matchers same c.search_new.ensures.same_wholes;
+      few = subst (λ n. n ≤ most_patterns) (sym (same_length matched_expression _ _ same)) c.self.invariant.few;
+      kept = subst (λ es. All (IsFileKept es s.options) (slice_set s.files.items c.args.k c.put_in.new.file)) (sym same) kept;
+      some_states = c.self.invariant.some_states;
+      few_states = c.self.invariant.few_states;
+    }
+
+pub returns-clause-gives : goal.returns-clause-gives
+returns-clause-gives c =
+    let s = c.self.inside in
+    let old = inputs_of s in
+    let lines = map (λ line. line.items) c.args.lines.items in
+    let none = rw c.deref-2.ensures.value at c.if-any_newline.ensures in
+    let place = rw c.deref.ensures.value at c.in-Ok.ensures.place in
+    let d = c.index_mut.result.now in
+    let at : d ≡ get_or s.files.items c.args.k d = c.index_mut.ensures.value in
+    let within = in_kept s.files.items c.args.k place.in_files in
+    let files = files_put c.args.start c.args.count c.in-Ok-search_new.kept.items s.files.items c.args.k d c.put_in.new.file within (ap (λ n. n.items) c.put_in.ensures.name ∙ ap (λ (f : KeptFile). f.name.items) at)
+    (c.in-Ok-put_in.ensures.ok ∙ ap (λ (f : KeptFile). put c.args.start c.args.count c.in-Ok-search_new.kept.items (kept_lines f)) at) place.opens in
+    let all = files ∙ ap (λ ls. spliced old.files c.args.k c.args.start c.args.count ls) c.in-Ok-search_new.ensures.texts in
+    rw (← c.self.view_is) (subst (λ fs. Applies (Splice c.args.k c.args.start c.args.count lines) old (Ok (with_files fs old))) (sym all) (applies_splice old _ _ _ lines place none))

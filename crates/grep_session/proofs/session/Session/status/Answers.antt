@@ -1,0 +1,11 @@
+use Rattle.std.proofs.Common.{map, subst}
+use Rattle.re_search.specs.Reading.{matched_expression}
+use Rattle.grep_session.specs.Report.{IsStatusOfInputs}
+use Rattle.grep_session.proofs.session.Session.status.Goals as goal
+
+pub returns : goal.returns
+returns c =
+    let s = c.self.inside in
+    let es = map matched_expression s.matchers.items in
+    let is = rw c.deref.ensures.value at c.status.ensures in
+    subst (λ inputs. IsStatusOfInputs inputs c.status.result) c.self.view_is (es, c.self.invariant.matchers.meant, is es c.self.invariant.kept)

@@ -1,0 +1,113 @@
+-- The edits of a session, and what each makes of its inputs.
+use Rattle.std.specs.Prelude.{◌≡◌, ℕ, ◌+◌, ◌<◌, ◌≤◌, Bool, List, [], ◌∷◌, ◌++◌, length, Result, Ok, Err, All, take, get_or, slice_set}
+use Rattle.std.specs.List.{splice, remove}
+use Rattle.re_syntax.specs.declared.fault.PatternFault.{PatternFault}
+use Rattle.re_syntax.specs.declared.syntax.Syntax.{Syntax}
+use Rattle.re_syntax.specs.Bytes.{Text}
+use Rattle.re_syntax.specs.Lines.{HasNoNewline, list_of}
+use Rattle.re_search.specs.Reading.{IsReadable, IsRefusedFor}
+use Rattle.grep_core.specs.declared.options.Flag.{Flag}
+use Rattle.grep_core.specs.declared.options.Flag.TheVariants.{Count, IgnoreCase, FilesWithMatches, LineNumber, OnlyMatching, Quiet, NoMessages, InvertMatch, LineRegexp}
+use Rattle.grep_core.specs.declared.options.Options.{Options}
+use Rattle.grep_core.specs.Choose.{IfHolds}
+use Rattle.grep_core.specs.Files.{File, Inputs, whole, missing}
+use Rattle.grep_core.specs.Run.{file_at}
+use Rattle.grep_session.specs.declared.fault.EditFault.{EditFault}
+use Rattle.grep_session.specs.declared.fault.EditFault.TheVariants.{NoSuchFile, FileIsMissing, OutOfRange, LineHasNewline, NoSuchPattern, Pattern, TooManyPatterns, Memory}
+
+-- the calls that change a session; files, lines and patterns are numbered from 0
+pub data Edit : Type 0 where
+  -- a file of this name and these lines goes last; one that cannot be opened does
+  AddFile : Text → List Text → Edit
+  AddMissing : Text → Edit
+  -- the file of this number goes
+  DropFile : ℕ → Edit
+  -- in the file of this number, from this line on, so many lines give way to these
+  Splice : ℕ → ℕ → ℕ → List Text → Edit
+  -- the patterns of this list go last; the pattern of this number goes
+  AddPatterns : Text → Edit
+  DropPattern : ℕ → Edit
+  SetFlag : Flag → Bool → Edit
+  SetSyntax : Syntax → Edit
+
+abbrev pub most_patterns : ℕ
+most_patterns = 65535
+
+-- an option's value
+abbrev pub option_of : Flag → Options → Bool
+option_of Count options = options.count
+option_of IgnoreCase options = options.ignore_case
+option_of FilesWithMatches options = options.files_with_matches
+option_of LineNumber options = options.line_number
+option_of OnlyMatching options = options.only_matching
+option_of Quiet options = options.quiet
+option_of NoMessages options = options.no_messages
+option_of InvertMatch options = options.invert_match
+option_of LineRegexp options = options.line_regexp
+
+-- the options with one of them set so
+abbrev pub with_option : Flag → Bool → Options → Options
+with_option Count on options = record options { count = on }
+with_option IgnoreCase on options = record options { ignore_case = on }
+with_option FilesWithMatches on options = record options { files_with_matches = on }
+with_option LineNumber on options = record options { line_number = on }
+with_option OnlyMatching on options = record options { only_matching = on }
+with_option Quiet on options = record options { quiet = on }
+with_option NoMessages on options = record options { no_messages = on }
+with_option InvertMatch on options = record options { invert_match = on }
+with_option LineRegexp on options = record options { line_regexp = on }
+
+abbrev pub whole_file : Text → List Text → File
+whole_file name lines = record { name = name; lines = lines; ending = whole }
+
+abbrev pub missing_file : Text → File
+missing_file name = record { name = name; lines = []; ending = missing }
+
+-- the inputs with these files; with these patterns
+abbrev pub with_files : List File → Inputs → Inputs
+with_files files old = record old { files = files }
+
+abbrev pub with_patterns : List Text → Inputs → Inputs
+with_patterns patterns old = record old { patterns = patterns }
+
+-- the files, in one of which so many lines from a first on gave way to others
+abbrev pub spliced : List File → ℕ → ℕ → ℕ → List Text → List File
+spliced files k start count lines = slice_set files k (record (file_at files k) { lines = splice (file_at files k).lines start (start + count) lines })
+
+-- the first text that is not readable, and what shows it
+pub record IsFirstRefused (syntax : Syntax) (fold : Bool) (texts : List Text) (place : ℕ) (fault : PatternFault) : Type 0 where
+  pub in_texts : place < length texts
+  pub readable_before : All (IsReadable syntax fold) (take place texts)
+  pub unreadable : IsReadable syntax fold (get_or texts place []) → ⊥
+  pub shown : IsRefusedFor syntax fold (get_or texts place []) fault
+
+-- the new inputs where all texts are readable; else the first that is not is told
+abbrev pub Reads : Syntax → Bool → List Text → Inputs → Result Inputs EditFault → Type 0
+Reads syntax fold texts new outcome =
+    IfHolds (All (IsReadable syntax fold) texts) (outcome ≡ Ok new)
+    ((place : ℕ) × (fault : PatternFault) × IsFirstRefused syntax fold texts place fault × (outcome ≡ Err (Pattern place fault)))
+
+-- what an edit makes of the inputs; where it is refused for several reasons, the first of them in this order is told
+abbrev pub Applies : Edit → Inputs → Result Inputs EditFault → Type 0
+Applies (AddFile name lines) old outcome =
+    IfHolds (All HasNoNewline lines) (outcome ≡ Ok (with_files (old.files ++ whole_file name lines ∷ []) old)) (outcome ≡ Err LineHasNewline)
+Applies (AddMissing name) old outcome = outcome ≡ Ok (with_files (old.files ++ missing_file name ∷ []) old)
+Applies (DropFile k) old outcome = IfHolds (k < length old.files) (outcome ≡ Ok (with_files (remove old.files k) old)) (outcome ≡ Err NoSuchFile)
+Applies (Splice k start count lines) old outcome =
+    IfHolds (length old.files ≤ k) (outcome ≡ Err NoSuchFile)
+    (IfHolds ((file_at old.files k).ending ≡ missing) (outcome ≡ Err FileIsMissing)
+    (IfHolds (length (file_at old.files k).lines < start + count) (outcome ≡ Err OutOfRange)
+    (IfHolds (All HasNoNewline lines) (outcome ≡ Ok (with_files (spliced old.files k start count lines) old)) (outcome ≡ Err LineHasNewline))))
+Applies (AddPatterns list) old outcome =
+    IfHolds (most_patterns < length old.patterns + length (list_of list)) (outcome ≡ Err TooManyPatterns)
+    (Reads old.syntax old.options.ignore_case (list_of list) (with_patterns (old.patterns ++ list_of list) old) outcome)
+Applies (DropPattern p) old outcome = IfHolds (p < length old.patterns) (outcome ≡ Ok (with_patterns (remove old.patterns p) old)) (outcome ≡ Err NoSuchPattern)
+Applies (SetFlag flag on) old outcome =
+    Reads old.syntax (with_option flag on old.options).ignore_case old.patterns (record old { options = with_option flag on old.options }) outcome
+Applies (SetSyntax syntax) old outcome = Reads syntax old.options.ignore_case old.patterns (record old { syntax = syntax }) outcome
+
+-- what an edit answers and leaves: the new inputs, or the old ones and why it was refused; want of memory may stand for any other answer
+abbrev pub EditGives : {T : Type 0} → Edit → Inputs → Inputs → Result T EditFault → Type 0
+EditGives edit old new (Ok done) = Applies edit old (Ok new)
+EditGives edit old new (Err Memory) = new ≡ old
+EditGives edit old new (Err fault) = Applies edit old (Err fault) × (new ≡ old)

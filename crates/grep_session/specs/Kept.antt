@@ -1,0 +1,86 @@
+-- What a session keeps of its patterns and files, and the inputs for which that stands.
+use Rattle.std.specs.Prelude.{◌≡◌, ℕ, suc, ◌+◌, Bool, List, [], ◌∷◌, ◌++◌, map, length, Option, None, Some, IfSome, MatchBool, All, ⊤}
+use Rattle.std.specs.Option.{option_map}
+use Rattle.re_syntax.specs.declared.syntax.Syntax.{Syntax}
+use Rattle.re_syntax.specs.Bytes.{Text}
+use Rattle.re_syntax.specs.Expression.{Expression}
+use Rattle.re_syntax.specs.Holds.{Matches}
+use Rattle.re_syntax.specs.Parts.{AreParts}
+use Rattle.re_search.specs.Reading.{matched_expression, wants_whole, IsReadable}
+use Rattle.re_search.specs.Searching.{AllAnswer, AddsAtMost}
+use Rattle.re_search.specs.declared.matcher.Matcher.{Matcher}
+use Rattle.re_search.specs.declared.span.Span.{Span}
+use Rattle.grep_core.specs.Meters.{Steps}
+use Rattle.grep_core.specs.declared.options.Options.{Options}
+use Rattle.grep_core.specs.Choose.{IfHolds}
+use Rattle.grep_core.specs.Cost.{search_cost}
+use Rattle.grep_core.specs.Files.{File, AreMeant, whole, missing}
+use Rattle.grep_session.specs.declared.kept.KeptLine.{KeptLine}
+use Rattle.grep_session.specs.declared.kept.KeptFile.{KeptFile}
+use Rattle.grep_session.specs.Touched.{PartsCostOf, PartsCost, pairs_cost}
+
+-- ---- what is found in a line
+
+-- the numbers, counted from `first` on, of the expressions that match the line
+abbrev pub AreMatching : Text → Bool → ℕ → List Expression → List ℕ → Type 0
+AreMatching line entire first [] numbers = numbers ≡ []
+AreMatching line entire first (e ∷ es) numbers =
+    (rest : List ℕ) × IfHolds (Matches e line entire) (numbers ≡ first ∷ rest) (numbers ≡ rest) × AreMatching line entire (suc first) es rest
+
+-- these numbers were added to others
+pub record AddsMatching (line : Text) (entire : Bool) (first : ℕ) (es : List Expression) (old new : List ℕ) : Type 0 where
+  pub found : List ℕ
+  pub are_found : AreMatching line entire first es found
+  pub added : new ≡ old ++ found
+
+-- a span as a pair of places
+abbrev pub span_places : Span → ℕ × ℕ
+span_places span = (span.start, span.end)
+
+abbrev pub line_text : KeptLine → Text
+line_text line = line.text.items
+
+-- the lines of a file that can be opened
+abbrev pub kept_lines : KeptFile → Option (List KeptLine)
+kept_lines file = option_map (λ lines. lines.items) file.lines
+
+module _ (es : List Expression) (options : Options) where
+  -- under `-o` the parts of a line are kept
+  abbrev pub ArePartsKept : Text → List Span → Type 0
+  ArePartsKept line spans = MatchBool options.only_matching (AreParts es line options.line_regexp (map span_places spans)) ⊤
+
+  -- what is kept of a line is what these expressions find in it
+  pub record IsKept (line : KeptLine) : Type 0 where
+    pub matching : AreMatching line.text.items options.line_regexp 0 es line.matched_by.items
+    pub parts : ArePartsKept line.text.items line.parts.items
+
+  abbrev pub IsFileKept : KeptFile → Type 0
+  IsFileKept file = IfSome (kept_lines file) (All IsKept)
+
+  -- the steps of a search of one line: by each of so many matchers, and for its parts
+  pub record SearchesKept (matchers : ℕ) (line : Text) (begun ended : Steps) : Type 0 where
+    pub own : ℕ
+    pub is_own : PartsCostOf es options line own
+    pub few : AddsAtMost (search_cost matchers line + own) begun ended
+
+  -- the steps of a search of lines
+  pub record SearchesAllKept (matchers : ℕ) (lines : List Text) (begun ended : Steps) : Type 0 where
+    pub parts : ℕ
+    pub are_parts : PartsCost es options lines parts
+    pub few : AddsAtMost (pairs_cost matchers lines + parts) begun ended
+
+-- ---- the inputs for which it stands
+
+abbrev pub file_with : Text → Option (List KeptLine) → File
+file_with name None = record { name = name; lines = []; ending = missing }
+file_with name (Some lines) = record { name = name; lines = map line_text lines; ending = whole }
+
+abbrev pub kept_file : KeptFile → File
+kept_file file = file_with file.name.items (kept_lines file)
+
+-- one matcher for each pattern, each of which is readable
+pub record AreMatchers (syntax : Syntax) (options : Options) (texts : List Text) (matchers : List Matcher) : Type 0 where
+  pub meant : AreMeant syntax options texts (map matched_expression matchers)
+  pub wholes : AllAnswer options.line_regexp (map wants_whole matchers)
+  pub readable : All (IsReadable syntax options.ignore_case) texts
+  pub counted : length matchers ≡ length texts

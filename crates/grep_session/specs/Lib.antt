@@ -1,0 +1,16 @@
+-- what the public clauses cite of the crates below
+pub use Rattle.grep_core.specs.Files
+pub mod Edits
+pub mod Touched
+pub mod Kept
+pub mod Sessions
+pub mod Splicing
+pub mod Found
+pub mod Reading
+pub mod Again
+pub mod Effects
+pub mod Dropping
+pub mod Laws
+pub mod Report
+pub mod Show
+pub mod Changed

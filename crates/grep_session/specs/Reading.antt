@@ -1,0 +1,22 @@
+-- Why patterns are not read.
+use Rattle.std.specs.Prelude.{◌≡◌, ℕ, ◌⊎◌, Bool, List}
+use Rattle.re_syntax.specs.declared.fault.FaultKind.{FaultKind}
+use Rattle.re_syntax.specs.declared.fault.FaultKind.TheVariants.{Memory as OutOfMemory}
+use Rattle.re_syntax.specs.declared.fault.PatternFault.{PatternFault}
+use Rattle.re_syntax.specs.declared.syntax.Syntax.{Syntax}
+use Rattle.re_syntax.specs.Bytes.{Text}
+use Rattle.grep_session.specs.declared.fault.EditFault.{EditFault}
+use Rattle.grep_session.specs.declared.fault.EditFault.TheVariants.{Pattern, Memory}
+use Rattle.grep_session.specs.Edits.{IsFirstRefused}
+
+-- what is told of a pattern's fault; want of memory is none of the pattern
+abbrev pub told_by : FaultKind → ℕ → PatternFault → EditFault
+told_by OutOfMemory place fault = Memory
+told_by _ place fault = Pattern place fault
+
+abbrev pub told_at : ℕ → PatternFault → EditFault
+told_at place fault = told_by fault.kind place fault
+
+-- memory ran out, or the first text that is not readable is told
+abbrev pub RefusesFirst : Syntax → Bool → List Text → EditFault → Type 0
+RefusesFirst syntax fold texts told = (told ≡ Memory) ⊎ ((place : ℕ) × (fault : PatternFault) × IsFirstRefused syntax fold texts place fault × (told ≡ Pattern place fault))

@@ -1,0 +1,27 @@
+-- A session as contracts see it: the inputs that its edits have left.
+use Rattle.std.specs.Prelude.{◌≤◌, false, [], map, length, All}
+use Rattle.re_syntax.specs.declared.syntax.Syntax.TheVariants.{Basic}
+use Rattle.re_search.specs.Reading.{matched_expression}
+use Rattle.grep_core.specs.declared.options.Options.{Options}
+use Rattle.grep_core.specs.Files.{Inputs}
+use Rattle.grep_session.specs.declared.session.Session.TheInside.{Inside}
+use Rattle.grep_session.specs.Edits.{most_patterns}
+use Rattle.grep_session.specs.Kept.{AreMatchers, IsFileKept, kept_file}
+
+abbrev pub inputs_of : Inside → Inputs
+inputs_of s = record { syntax = s.syntax; options = s.options; patterns = map (λ text. text.items) s.texts.items; files = map kept_file s.files.items }
+
+-- the matchers are those of the patterns, and what is kept of each line is what they find in it
+pub record IsSession (s : Inside) : Type 0 where
+  pub matchers : AreMatchers s.syntax s.options (map (λ text. text.items) s.texts.items) s.matchers.items
+  pub few : length s.matchers.items ≤ most_patterns
+  pub kept : All (IsFileKept (map matched_expression s.matchers.items) s.options) s.files.items
+  pub some_states : 1 ≤ s.states
+  pub few_states : s.states ≤ 65536
+
+abbrev pub no_options : Options
+no_options = record { count = false; ignore_case = false; files_with_matches = false; line_number = false; only_matching = false; quiet = false; no_messages = false; invert_match = false; line_regexp = false }
+
+-- no file, no pattern, basic syntax, and no option
+abbrev pub no_inputs : Inputs
+no_inputs = record { syntax = Basic; options = no_options; patterns = []; files = [] }

@@ -1,0 +1,18 @@
+-- Where lines give way to others.
+use Rattle.std.specs.Prelude.{◌≡◌, ◌≢◌, ℕ, ◌+◌, ◌<◌, ◌≤◌, List, length, Result, Ok, Err}
+use Rattle.re_syntax.specs.Bytes.{Text}
+use Rattle.grep_core.specs.Files.{File, Inputs, missing}
+use Rattle.grep_core.specs.Run.{file_at}
+use Rattle.grep_session.specs.declared.fault.EditFault.{EditFault}
+use Rattle.grep_session.specs.Edits.{Splice, Applies}
+
+-- the file of this number has so many lines from a first on
+pub record HasPlace (files : List File) (k start count : ℕ) : Type 0 where
+  pub in_files : k < length files
+  pub opens : (file_at files k).ending ≢ missing
+  pub in_file : start + count ≤ length (file_at files k).lines
+
+-- it has, or a splice there is refused for this, whatever the lines are
+abbrev pub PlaceGives : {T : Type 0} → List File → ℕ → ℕ → ℕ → Result T EditFault → Type 0
+PlaceGives files k start count (Ok done) = HasPlace files k start count
+PlaceGives files k start count (Err fault) = (old : Inputs) (lines : List Text) → old.files ≡ files → Applies (Splice k start count lines) old (Err fault)

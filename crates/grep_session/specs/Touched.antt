@@ -1,0 +1,123 @@
+-- How many steps an edit takes at most: only what it touches is searched.
+use Rattle.std.specs.Prelude.{◌≡◌, ℕ, ◌+◌, ◌*◌, false, List, [], ◌∷◌, ◌⊎◌, length, Result, Ok, Err, get_or, MatchBool, ⊤}
+use Rattle.std.specs.List.{flat_map}
+use Rattle.re_syntax.specs.Bytes.{Text}
+use Rattle.re_syntax.specs.Expression.{Expression}
+use Rattle.re_syntax.specs.Holds.{Matches}
+use Rattle.re_syntax.specs.Lines.{list_of}
+use Rattle.re_syntax.specs.Parts.{AreParts}
+use Rattle.re_syntax.specs.Spelled.{IsMeant}
+use Rattle.grep_core.specs.Meters.{Steps}
+use Rattle.re_search.specs.Searching.{AddsAtMost}
+use Rattle.grep_core.specs.declared.options.Flag.{Flag}
+use Rattle.grep_core.specs.declared.options.Flag.TheVariants.{IgnoreCase, OnlyMatching, LineRegexp}
+use Rattle.grep_core.specs.declared.options.Options.{Options}
+use Rattle.grep_core.specs.Choose.{IfHolds, Chosen}
+use Rattle.grep_core.specs.Cost.{search_cost}
+use Rattle.grep_core.specs.Files.{Inputs, AreMeant, Matched}
+use Rattle.grep_session.specs.declared.fault.EditFault.{EditFault}
+use Rattle.grep_session.specs.Edits.{Edit, AddFile, AddMissing, DropFile, Splice, AddPatterns, DropPattern, SetFlag, SetSyntax, option_of, Applies}
+
+-- what an edit has searched: each of some lines by so many patterns, and the parts of some lines
+pub record Touched : Type 0 where
+  pub patterns : ℕ
+  pub paired : List Text
+  pub lines : List Text
+
+abbrev pub nothing_touched : Touched
+nothing_touched = record { patterns = 0; paired = []; lines = [] }
+
+-- the lines by so many patterns, and their parts
+abbrev pub searched_by : ℕ → List Text → Touched
+searched_by patterns lines = record { patterns = patterns; paired = lines; lines = lines }
+
+-- their parts alone
+abbrev pub parts_alone : List Text → Touched
+parts_alone lines = record { patterns = 0; paired = []; lines = lines }
+
+abbrev pub all_lines : Inputs → List Text
+all_lines inputs = flat_map (λ file. file.lines) inputs.files
+
+-- what an option touches that is set to something else
+abbrev pub touched_by_flag : Flag → Inputs → Touched
+touched_by_flag IgnoreCase old = searched_by (length old.patterns) (all_lines old)
+touched_by_flag LineRegexp old = searched_by (length old.patterns) (all_lines old)
+touched_by_flag OnlyMatching old = parts_alone (all_lines old)
+touched_by_flag _ old = nothing_touched
+
+-- what an accepted edit touches
+abbrev pub Touches : Edit → Inputs → Touched → Type 0
+Touches (AddFile name lines) old touched = touched ≡ searched_by (length old.patterns) lines
+Touches (Splice k start count lines) old touched = touched ≡ searched_by (length old.patterns) lines
+Touches (AddPatterns list) old touched =
+    (added : List Expression) × AreMeant old.syntax old.options (list_of list) added
+    × (lines : List Text) × Chosen (Matched added old.options) (all_lines old) lines
+    × (touched ≡ record { patterns = length (list_of list); paired = all_lines old; lines = lines })
+Touches (DropPattern p) old touched =
+    (e : Expression) × IsMeant old.syntax old.options.ignore_case (get_or old.patterns p []) e
+    × (lines : List Text) × Chosen (λ line. Matches e line old.options.line_regexp) (all_lines old) lines
+    × (touched ≡ parts_alone lines)
+Touches (SetFlag flag on) old touched = IfHolds (option_of flag old.options ≡ on) (touched ≡ nothing_touched) (touched ≡ touched_by_flag flag old)
+Touches (SetSyntax syntax) old touched = IfHolds (syntax ≡ old.syntax) (touched ≡ nothing_touched) (touched ≡ searched_by (length old.patterns) (all_lines old))
+Touches (AddMissing name) old touched = touched ≡ nothing_touched
+Touches (DropFile k) old touched = touched ≡ nothing_touched
+
+-- each of the lines searched once by each of so many patterns
+abbrev pub pairs_cost : ℕ → List Text → ℕ
+pairs_cost patterns [] = 0
+pairs_cost patterns (line ∷ lines) = search_cost patterns line + pairs_cost patterns lines
+
+module _ (es : List Expression) (options : Options) where
+  -- under `-o` the parts of a line are searched by all patterns, once for each part and once more
+  abbrev pub PartsCostOf : Text → ℕ → Type 0
+  PartsCostOf line cost =
+      MatchBool options.only_matching
+      ((parts : List (ℕ × ℕ)) × AreParts es line options.line_regexp parts × (cost ≡ (length parts + 1) * search_cost (length es) line))
+      (cost ≡ 0)
+
+  abbrev pub PartsCost : List Text → ℕ → Type 0
+  PartsCost [] cost = cost ≡ 0
+  PartsCost (line ∷ lines) cost = (own : ℕ) × (rest : ℕ) × PartsCostOf line own × PartsCost lines rest × (cost ≡ own + rest)
+
+-- the cost of an accepted edit, with the patterns and the options that it leaves
+pub record CostsAccepted (edit : Edit) (old new : Inputs) (cost : ℕ) : Type 0 where
+  pub es : List Expression
+  pub are_meant : AreMeant new.syntax new.options new.patterns es
+  pub touched : Touched
+  pub are_touched : Touches edit old touched
+  pub parts : ℕ
+  pub are_parts : PartsCost es new.options touched.lines parts
+  pub is_sum : cost ≡ pairs_cost touched.patterns touched.paired + parts
+
+-- a refused edit costs nothing
+abbrev pub CostsAs : Edit → Inputs → Result Inputs EditFault → ℕ → Type 0
+CostsAs edit old (Ok new) cost = CostsAccepted edit old new cost
+CostsAs edit old (Err fault) cost = cost ≡ 0
+
+-- the cost of an edit of these inputs
+abbrev pub Costs : Edit → Inputs → ℕ → Type 0
+Costs edit old cost = (outcome : Result Inputs EditFault) × Applies edit old outcome × CostsAs edit old outcome cost
+
+-- the steps of an edit: none, or no more than its cost
+pub record TakesSteps (edit : Edit) (old : Inputs) (begun ended : Steps) : Type 0 where
+  pub most : ℕ
+  pub is_most : (most ≡ 0) ⊎ Costs edit old most
+  pub few : AddsAtMost most begun ended
+
+-- the options on which no verdict rests
+abbrev pub is_of_output : Flag → Type 0
+is_of_output IgnoreCase = ⊥
+is_of_output LineRegexp = ⊥
+is_of_output OnlyMatching = ⊥
+is_of_output _ = ⊤
+
+-- the edits that ask for no memory
+abbrev pub NeedsNoMemory : Edit → Inputs → Type 0
+NeedsNoMemory (AddFile name lines) old = ⊥
+NeedsNoMemory (AddMissing name) old = ⊥
+NeedsNoMemory (DropFile k) old = ⊤
+NeedsNoMemory (Splice k start count lines) old = lines ≡ []
+NeedsNoMemory (AddPatterns list) old = ⊥
+NeedsNoMemory (DropPattern p) old = old.options.only_matching ≡ false
+NeedsNoMemory (SetFlag flag on) old = is_of_output flag ⊎ ((option_of flag old.options ≡ on) ⊎ ((flag ≡ OnlyMatching) × (on ≡ false)))
+NeedsNoMemory (SetSyntax syntax) old = syntax ≡ old.syntax

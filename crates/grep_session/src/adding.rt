@@ -1,0 +1,31 @@
+//! Patterns that come behind others.
+ghost use Rattle.std.specs.Prelude.{◌≡◌, ◌-◌, ◌≤◌, length, map, drop, IfOk};
+ghost use Rattle.re_search.specs.Searching.{AllAnswer, AddsAtMost};
+ghost use Rattle.grep_core.specs.Cost.{search_cost};
+ghost use Rattle.grep_session.specs.Edits.{most_patterns};
+ghost use Rattle.grep_session.specs.Kept.{AddsMatching};
+
+use crate::finding::add_matching;
+use grep_core::Options;
+use re_search::{LineMatch, Meter};
+use std::alloc::AllocError;
+
+/// Adds the numbers of the matchers from `first` on that match the line.
+pub fn add_later<M: LineMatch>(
+    matchers: &mut [M],
+    first: usize,
+    options: &Options,
+    line: &[u8],
+    numbers: &mut Vec<usize>,
+    meter: &mut Meter,
+) -> Result<(), AllocError>
+    requires whole { AllAnswer options.now.line_regexp (map M.whole matchers.old) }
+    requires few { length matchers.old ≤ most_patterns }
+    requires within { first ≤ length matchers.old }
+    ensures ok { IfOk result (λ _. AddsMatching line.now options.now.line_regexp first (drop first (map M.expression matchers.old)) numbers.old.items numbers.new.items) }
+    ensures same_expressions { map M.expression matchers.new ≡ map M.expression matchers.old }
+    ensures same_wholes { map M.whole matchers.new ≡ map M.whole matchers.old }
+    ensures steps { AddsAtMost (search_cost (length matchers.old - first) line.now) meter.old meter.new }
+{
+    add_matching(&mut matchers[first..], first, options, line, numbers, meter)
+}

@@ -1,0 +1,236 @@
+//! What is found in all lines where patterns come or go: the patterns that came are searched for,
+//! and the parts of a line are searched where one of those that came or went matches it.
+ghost use Rattle.std.specs.Prelude.{◌≡◌, ℕ, ◌≤◌, ◌++◌, List, [], length, map, MatchBool, ◌∷◌, IfOk, All, IfSome, nat_eq, nat_lt, vec_capacity};
+ghost use Rattle.std.specs.List.{AllZip, list_any};
+ghost use Rattle.re_syntax.specs.Expression.{Expression};
+ghost use Rattle.re_search.specs.Reading.{matched_expression, wants_whole};
+ghost use Rattle.re_search.specs.Searching.{AllAnswer, AddsAtMost};
+ghost use Rattle.grep_session.specs.declared.change.Change.TheVariants.{Added, Dropped};
+ghost use Rattle.grep_session.specs.Changed.{HasChanged, IsWithin, ChangeCost, SearchesEach, SearchesOne};
+ghost use Rattle.grep_session.specs.Edits.{most_patterns};
+ghost use Rattle.grep_session.specs.Found.{IsRight, AddsRight, lines_of_files};
+ghost use Rattle.grep_session.specs.Kept.{IsKept, IsFileKept, ArePartsKept, kept_file, kept_lines, line_text};
+ghost use Rattle.grep_session.specs.Touched.{PartsCostOf};
+
+use crate::adding::add_later;
+use crate::change::Change;
+use crate::columns::push_found;
+use crate::dropping::drop_number;
+use crate::finding::parts_of;
+use crate::found::Found;
+use crate::kept::{KeptFile, KeptLine};
+use grep_core::Options;
+use re_search::{LineMatch, Matcher, Meter, Span};
+use std::alloc::{AllocError, Global};
+
+/// Whether a number is among others.
+fn has_number(numbers: &[usize], p: usize) -> bool
+    ensures { result ≡ list_any (λ n. nat_eq n p) numbers.now }
+{
+    numbers.iter().any(|number| *number == p)
+}
+
+/// Whether there are more numbers than before.
+fn has_grown(old: &[usize], new: &[usize]) -> bool
+    ensures { result ≡ nat_lt (length old.now) (length new.now) }
+{
+    old.len() < new.len()
+}
+
+/// The parts of a line: anew where that is asked, and else those that are kept.
+fn parts_again<M: LineMatch>(
+    alloc: Global,
+    matchers: &mut [M],
+    options: &Options,
+    anew: bool,
+    line: &KeptLine,
+    meter: &mut Meter,
+) -> Result<Vec<Span>, AllocError>
+    requires whole { AllAnswer options.now.line_regexp (map M.whole matchers.old) }
+    ensures ok { IfOk result (λ spans. MatchBool anew (ArePartsKept (map M.expression matchers.old) options.now line.now.text.items spans.items) (spans.items ≡ line.now.parts.items)) }
+    ensures same_expressions { map M.expression matchers.new ≡ map M.expression matchers.old }
+    ensures same_wholes { map M.whole matchers.new ≡ map M.whole matchers.old }
+    ensures steps { (own : ℕ) × MatchBool anew (PartsCostOf (map M.expression matchers.old) options.now line.now.text.items own) (own ≡ 0) × AddsAtMost own meter.old meter.new }
+{
+    if anew {
+        return parts_of(alloc, matchers, options, &line.text, meter);
+    }
+    Vec::from_slice(alloc, &line.parts)
+}
+
+/// What is found in a line without pattern `p`, which is gone.
+fn find_without<M: LineMatch>(
+    alloc: Global,
+    matchers: &mut [M],
+    options: &Options,
+    p: usize,
+    line: &KeptLine,
+    meter: &mut Meter,
+) -> Result<Found, AllocError>
+    requires whole { AllAnswer options.now.line_regexp (map M.whole matchers.old) }
+    ensures same_expressions { map M.expression matchers.new ≡ map M.expression matchers.old }
+    ensures same_wholes { map M.whole matchers.new ≡ map M.whole matchers.old }
+    ensures ok { IfOk result (λ found. (before changed : List Expression) → HasChanged (Dropped p) (map M.expression matchers.old) before changed → IsKept before options.now line.now
+        → IsRight (map M.expression matchers.old) options.now line.now.text.items found) }
+    ensures steps { (before changed : List Expression) → HasChanged (Dropped p) (map M.expression matchers.old) before changed → IsKept before options.now line.now
+        → SearchesOne (ChangeCost (Dropped p) changed (map M.expression matchers.old) options.now) line.now.text.items meter.old meter.new }
+{
+    let mut matched_by = Vec::from_slice(alloc, &line.matched_by)?;
+    drop_number(&mut matched_by, p);
+    let anew = has_number(&line.matched_by, p);
+    let parts = parts_again(alloc, matchers, options, anew, line, meter)?;
+    Ok(Found { matched_by, parts })
+}
+
+/// What is found in a line with the patterns from `first` on, which came.
+fn find_with<M: LineMatch>(
+    alloc: Global,
+    matchers: &mut [M],
+    options: &Options,
+    first: usize,
+    line: &KeptLine,
+    meter: &mut Meter,
+) -> Result<Found, AllocError>
+    requires whole { AllAnswer options.now.line_regexp (map M.whole matchers.old) }
+    requires few { length matchers.old ≤ most_patterns }
+    requires within { first ≤ length matchers.old }
+    ensures same_expressions { map M.expression matchers.new ≡ map M.expression matchers.old }
+    ensures same_wholes { map M.whole matchers.new ≡ map M.whole matchers.old }
+    ensures ok { IfOk result (λ found. (before changed : List Expression) → HasChanged (Added first) (map M.expression matchers.old) before changed → IsKept before options.now line.now
+        → IsRight (map M.expression matchers.old) options.now line.now.text.items found) }
+    ensures steps { (before changed : List Expression) → HasChanged (Added first) (map M.expression matchers.old) before changed → IsKept before options.now line.now
+        → SearchesOne (ChangeCost (Added first) changed (map M.expression matchers.old) options.now) line.now.text.items meter.old meter.new }
+{
+    let mut matched_by = Vec::from_slice(alloc, &line.matched_by)?;
+    add_later(matchers, first, options, &line.text, &mut matched_by, meter)?;
+    let anew = has_grown(&line.matched_by, &matched_by);
+    let parts = parts_again(alloc, matchers, options, anew, line, meter)?;
+    Ok(Found { matched_by, parts })
+}
+
+/// What is found in a line behind a change of the patterns.
+fn find_changed<M: LineMatch>(
+    alloc: Global,
+    matchers: &mut [M],
+    options: &Options,
+    change: Change,
+    line: &KeptLine,
+    meter: &mut Meter,
+) -> Result<Found, AllocError>
+    requires whole { AllAnswer options.now.line_regexp (map M.whole matchers.old) }
+    requires few { length matchers.old ≤ most_patterns }
+    requires within { IsWithin change (length matchers.old) }
+    ensures same_expressions { map M.expression matchers.new ≡ map M.expression matchers.old }
+    ensures same_wholes { map M.whole matchers.new ≡ map M.whole matchers.old }
+    ensures ok { IfOk result (λ found. (before changed : List Expression) → HasChanged change (map M.expression matchers.old) before changed → IsKept before options.now line.now
+        → IsRight (map M.expression matchers.old) options.now line.now.text.items found) }
+    ensures steps { (before changed : List Expression) → HasChanged change (map M.expression matchers.old) before changed → IsKept before options.now line.now
+        → SearchesOne (ChangeCost change changed (map M.expression matchers.old) options.now) line.now.text.items meter.old meter.new }
+{
+    match change {
+        Change::Added(first) => find_with(alloc, matchers, options, first, line, meter),
+        Change::Dropped(p) => find_without(alloc, matchers, options, p, line, meter),
+    }
+}
+
+/// Adds what is found in lines behind a change of the patterns.
+fn change_lines<M: LineMatch>(
+    alloc: Global,
+    matchers: &mut [M],
+    options: &Options,
+    change: Change,
+    lines: &[KeptLine],
+    found: &mut Vec<Found>,
+    meter: &mut Meter,
+) -> Result<(), AllocError>
+    requires whole { AllAnswer options.now.line_regexp (map M.whole matchers.old) }
+    requires few { length matchers.old ≤ most_patterns }
+    requires within { IsWithin change (length matchers.old) }
+    ensures same_expressions { map M.expression matchers.new ≡ map M.expression matchers.old }
+    ensures same_wholes { map M.whole matchers.new ≡ map M.whole matchers.old }
+    ensures ok { IfOk result (λ _. (before changed : List Expression) → HasChanged change (map M.expression matchers.old) before changed → All (IsKept before options.now) lines.now
+        → AddsRight (map M.expression matchers.old) options.now (map line_text lines.now) found.old.items found.new.items) }
+    ensures steps { (before changed : List Expression) → HasChanged change (map M.expression matchers.old) before changed → All (IsKept before options.now) lines.now
+        → SearchesEach (ChangeCost change changed (map M.expression matchers.old) options.now) (map line_text lines.now) meter.old meter.new }
+{
+    for line in lines {
+        let one = find_changed(alloc, matchers, options, change, line, meter)?;
+        push_found(found, one)?;
+    }
+    Ok(())
+}
+
+/// Adds what is found in the lines of a file behind a change of the patterns.
+fn change_file<M: LineMatch>(
+    alloc: Global,
+    matchers: &mut [M],
+    options: &Options,
+    change: Change,
+    file: &KeptFile,
+    found: &mut Vec<Found>,
+    meter: &mut Meter,
+) -> Result<(), AllocError>
+    requires whole { AllAnswer options.now.line_regexp (map M.whole matchers.old) }
+    requires few { length matchers.old ≤ most_patterns }
+    requires within { IsWithin change (length matchers.old) }
+    ensures same_expressions { map M.expression matchers.new ≡ map M.expression matchers.old }
+    ensures same_wholes { map M.whole matchers.new ≡ map M.whole matchers.old }
+    ensures ok { IfOk result (λ _. (before changed : List Expression) → HasChanged change (map M.expression matchers.old) before changed → IsFileKept before options.now file.now
+        → AddsRight (map M.expression matchers.old) options.now (kept_file file.now).lines found.old.items found.new.items) }
+    ensures steps { (before changed : List Expression) → HasChanged change (map M.expression matchers.old) before changed → IsFileKept before options.now file.now
+        → SearchesEach (ChangeCost change changed (map M.expression matchers.old) options.now) (kept_file file.now).lines meter.old meter.new }
+{
+    match &file.lines {
+        None => Ok(()),
+        Some(lines) => change_lines(alloc, matchers, options, change, lines, found, meter),
+    }
+}
+
+/// What is found in the lines of all files, in order, behind a change of the patterns.
+fn change_files<M: LineMatch>(
+    alloc: Global,
+    matchers: &mut [M],
+    options: &Options,
+    change: Change,
+    files: &[KeptFile],
+    meter: &mut Meter,
+) -> Result<Vec<Found>, AllocError>
+    requires whole { AllAnswer options.now.line_regexp (map M.whole matchers.old) }
+    requires few { length matchers.old ≤ most_patterns }
+    requires within { IsWithin change (length matchers.old) }
+    ensures same_expressions { map M.expression matchers.new ≡ map M.expression matchers.old }
+    ensures same_wholes { map M.whole matchers.new ≡ map M.whole matchers.old }
+    ensures ok { IfOk result (λ found. (before changed : List Expression) → HasChanged change (map M.expression matchers.old) before changed → All (IsFileKept before options.now) files.now
+        → AllZip (IsRight (map M.expression matchers.old) options.now) (lines_of_files (map kept_file files.now)) found.items) }
+    ensures steps { (before changed : List Expression) → HasChanged change (map M.expression matchers.old) before changed → All (IsFileKept before options.now) files.now
+        → SearchesEach (ChangeCost change changed (map M.expression matchers.old) options.now) (lines_of_files (map kept_file files.now)) meter.old meter.new }
+{
+    let mut found = Vec::new(alloc);
+    for file in files {
+        change_file(alloc, matchers, options, change, file, &mut found, meter)?;
+    }
+    Ok(found)
+}
+
+/// The same by the matchers of a session.
+pub fn change_columns(
+    alloc: Global,
+    matchers: &mut Vec<Matcher>,
+    options: &Options,
+    change: Change,
+    files: &[KeptFile],
+    meter: &mut Meter,
+) -> Result<Vec<Found>, AllocError>
+    requires whole { AllAnswer options.now.line_regexp (map wants_whole matchers.old.items) }
+    requires few { length matchers.old.items ≤ most_patterns }
+    requires within { IsWithin change (length matchers.old.items) }
+    ensures same_expressions { map matched_expression matchers.new.items ≡ map matched_expression matchers.old.items }
+    ensures same_wholes { map wants_whole matchers.new.items ≡ map wants_whole matchers.old.items }
+    ensures room { vec_capacity matchers.new ≡ vec_capacity matchers.old }
+    ensures ok { IfOk result (λ found. (before changed : List Expression) → HasChanged change (map matched_expression matchers.old.items) before changed → All (IsFileKept before options.now) files.now
+        → AllZip (IsRight (map matched_expression matchers.old.items) options.now) (lines_of_files (map kept_file files.now)) found.items) }
+    ensures steps { (before changed : List Expression) → HasChanged change (map matched_expression matchers.old.items) before changed → All (IsFileKept before options.now) files.now
+        → SearchesEach (ChangeCost change changed (map matched_expression matchers.old.items) options.now) (lines_of_files (map kept_file files.now)) meter.old meter.new }
+{
+    change_files(alloc, matchers, options, change, files, meter)
+}

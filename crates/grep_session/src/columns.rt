@@ -1,0 +1,180 @@
+//! What is found in all lines of all files anew.
+ghost use Rattle.std.specs.Prelude.{◌≡◌, ◌≤◌, ◌++◌, List, [], length, map, false, ◌∷◌, IfOk, All, IfSome, if◌then◌else◌};
+ghost use Rattle.std.specs.List.{AllZip};
+ghost use Rattle.re_search.specs.Reading.{matched_expression, wants_whole};
+ghost use Rattle.re_search.specs.Searching.{AllAnswer};
+ghost use Rattle.grep_session.specs.Edits.{most_patterns};
+ghost use Rattle.grep_session.specs.Found.{IsRight, IsReady, AddsRight, lines_of_files};
+ghost use Rattle.grep_session.specs.Kept.{SearchesKept, SearchesAllKept, kept_file, kept_lines, line_text};
+
+use crate::finding::{add_matching, parts_of};
+use crate::found::Found;
+use crate::kept::{KeptFile, KeptLine};
+use grep_core::Options;
+use re_search::{LineMatch, Matcher, Meter};
+use std::alloc::{AllocError, Global};
+
+/// All that the matchers find in a line.
+fn find_anew<M: LineMatch>(
+    alloc: Global,
+    matchers: &mut [M],
+    options: &Options,
+    line: &KeptLine,
+    meter: &mut Meter,
+) -> Result<Found, AllocError>
+    requires whole { AllAnswer options.now.line_regexp (map M.whole matchers.old) }
+    requires few { length matchers.old ≤ most_patterns }
+    ensures ok { IfOk result (IsRight (map M.expression matchers.old) options.now line.now.text.items) }
+    ensures same_expressions { map M.expression matchers.new ≡ map M.expression matchers.old }
+    ensures same_wholes { map M.whole matchers.new ≡ map M.whole matchers.old }
+    ensures steps { SearchesKept (map M.expression matchers.old) options.now (length matchers.old) line.now.text.items meter.old meter.new }
+{
+    let mut matched_by = Vec::new(alloc);
+    add_matching(matchers, 0, options, &line.text, &mut matched_by, meter)?;
+    let parts = parts_of(alloc, matchers, options, &line.text, meter)?;
+    Ok(Found { matched_by, parts })
+}
+
+/// The parts that the matchers find in a line of which it is known which of them match.
+fn find_parts<M: LineMatch>(
+    alloc: Global,
+    matchers: &mut [M],
+    options: &Options,
+    line: &KeptLine,
+    meter: &mut Meter,
+) -> Result<Found, AllocError>
+    requires whole { AllAnswer options.now.line_regexp (map M.whole matchers.old) }
+    requires ready { IsReady false (map M.expression matchers.old) options.now line.now }
+    ensures ok { IfOk result (IsRight (map M.expression matchers.old) options.now line.now.text.items) }
+    ensures same_expressions { map M.expression matchers.new ≡ map M.expression matchers.old }
+    ensures same_wholes { map M.whole matchers.new ≡ map M.whole matchers.old }
+    ensures steps { SearchesKept (map M.expression matchers.old) options.now 0 line.now.text.items meter.old meter.new }
+{
+    let matched_by = Vec::from_slice(alloc, &line.matched_by)?;
+    let parts = parts_of(alloc, matchers, options, &line.text, meter)?;
+    Ok(Found { matched_by, parts })
+}
+
+/// What the matchers find in a line: anew, or its parts alone.
+fn find_line<M: LineMatch>(
+    alloc: Global,
+    matchers: &mut [M],
+    options: &Options,
+    anew: bool,
+    line: &KeptLine,
+    meter: &mut Meter,
+) -> Result<Found, AllocError>
+    requires whole { AllAnswer options.now.line_regexp (map M.whole matchers.old) }
+    requires few { length matchers.old ≤ most_patterns }
+    requires ready { IsReady anew (map M.expression matchers.old) options.now line.now }
+    ensures ok { IfOk result (IsRight (map M.expression matchers.old) options.now line.now.text.items) }
+    ensures same_expressions { map M.expression matchers.new ≡ map M.expression matchers.old }
+    ensures same_wholes { map M.whole matchers.new ≡ map M.whole matchers.old }
+    ensures steps { SearchesKept (map M.expression matchers.old) options.now (if anew then length matchers.old else 0) line.now.text.items meter.old meter.new }
+{
+    if anew {
+        return find_anew(alloc, matchers, options, line, meter);
+    }
+    find_parts(alloc, matchers, options, line, meter)
+}
+
+/// Adds what was found in a line.
+pub fn push_found(found: &mut Vec<Found>, one: Found) -> Result<(), AllocError>
+    ensures { IfOk result (λ _. found.new.items ≡ found.old.items ++ one ∷ []) }
+{
+    found.push(one)?;
+    Ok(())
+}
+
+/// Adds what the matchers find in lines.
+fn find_lines<M: LineMatch>(
+    alloc: Global,
+    matchers: &mut [M],
+    options: &Options,
+    anew: bool,
+    lines: &[KeptLine],
+    found: &mut Vec<Found>,
+    meter: &mut Meter,
+) -> Result<(), AllocError>
+    requires whole { AllAnswer options.now.line_regexp (map M.whole matchers.old) }
+    requires few { length matchers.old ≤ most_patterns }
+    requires ready { All (IsReady anew (map M.expression matchers.old) options.now) lines.now }
+    ensures ok { IfOk result (λ _. AddsRight (map M.expression matchers.old) options.now (map line_text lines.now) found.old.items found.new.items) }
+    ensures same_expressions { map M.expression matchers.new ≡ map M.expression matchers.old }
+    ensures same_wholes { map M.whole matchers.new ≡ map M.whole matchers.old }
+    ensures steps { SearchesAllKept (map M.expression matchers.old) options.now (if anew then length matchers.old else 0) (map line_text lines.now) meter.old meter.new }
+{
+    for line in lines {
+        let one = find_line(alloc, matchers, options, anew, line, meter)?;
+        push_found(found, one)?;
+    }
+    Ok(())
+}
+
+/// Adds what the matchers find in the lines of a file.
+fn find_in_file<M: LineMatch>(
+    alloc: Global,
+    matchers: &mut [M],
+    options: &Options,
+    anew: bool,
+    file: &KeptFile,
+    found: &mut Vec<Found>,
+    meter: &mut Meter,
+) -> Result<(), AllocError>
+    requires whole { AllAnswer options.now.line_regexp (map M.whole matchers.old) }
+    requires few { length matchers.old ≤ most_patterns }
+    requires ready { IfSome (kept_lines file.now) (All (IsReady anew (map M.expression matchers.old) options.now)) }
+    ensures ok { IfOk result (λ _. AddsRight (map M.expression matchers.old) options.now (kept_file file.now).lines found.old.items found.new.items) }
+    ensures same_expressions { map M.expression matchers.new ≡ map M.expression matchers.old }
+    ensures same_wholes { map M.whole matchers.new ≡ map M.whole matchers.old }
+    ensures steps { SearchesAllKept (map M.expression matchers.old) options.now (if anew then length matchers.old else 0) (kept_file file.now).lines meter.old meter.new }
+{
+    match &file.lines {
+        None => Ok(()),
+        Some(lines) => find_lines(alloc, matchers, options, anew, lines, found, meter),
+    }
+}
+
+/// What the matchers find in the lines of all files, in order: anew, or the parts alone.
+pub fn find_all<M: LineMatch>(
+    alloc: Global,
+    matchers: &mut [M],
+    options: &Options,
+    anew: bool,
+    files: &[KeptFile],
+    meter: &mut Meter,
+) -> Result<Vec<Found>, AllocError>
+    requires whole { AllAnswer options.now.line_regexp (map M.whole matchers.old) }
+    requires few { length matchers.old ≤ most_patterns }
+    requires ready { All (λ file. IfSome (kept_lines file) (All (IsReady anew (map M.expression matchers.old) options.now))) files.now }
+    ensures ok { IfOk result (λ found. AllZip (IsRight (map M.expression matchers.old) options.now) (lines_of_files (map kept_file files.now)) found.items) }
+    ensures same_expressions { map M.expression matchers.new ≡ map M.expression matchers.old }
+    ensures same_wholes { map M.whole matchers.new ≡ map M.whole matchers.old }
+    ensures steps { SearchesAllKept (map M.expression matchers.old) options.now (if anew then length matchers.old else 0) (lines_of_files (map kept_file files.now)) meter.old meter.new }
+{
+    let mut found = Vec::new(alloc);
+    for file in files {
+        find_in_file(alloc, matchers, options, anew, file, &mut found, meter)?;
+    }
+    Ok(found)
+}
+
+/// The same by the matchers of a session.
+pub fn find_columns(
+    alloc: Global,
+    matchers: &mut Vec<Matcher>,
+    options: &Options,
+    anew: bool,
+    files: &[KeptFile],
+    meter: &mut Meter,
+) -> Result<Vec<Found>, AllocError>
+    requires whole { AllAnswer options.now.line_regexp (map wants_whole matchers.old.items) }
+    requires few { length matchers.old.items ≤ most_patterns }
+    requires ready { All (λ file. IfSome (kept_lines file) (All (IsReady anew (map matched_expression matchers.old.items) options.now))) files.now }
+    ensures ok { IfOk result (λ found. AllZip (IsRight (map matched_expression matchers.old.items) options.now) (lines_of_files (map kept_file files.now)) found.items) }
+    ensures same_expressions { map matched_expression matchers.new.items ≡ map matched_expression matchers.old.items }
+    ensures same_wholes { map wants_whole matchers.new.items ≡ map wants_whole matchers.old.items }
+    ensures steps { SearchesAllKept (map matched_expression matchers.old.items) options.now (if anew then length matchers.old.items else 0) (lines_of_files (map kept_file files.now)) meter.old meter.new }
+{
+    find_all(alloc, matchers, options, anew, files, meter)
+}

@@ -1,0 +1,97 @@
+//! A pattern goes, and the later ones move up.
+ghost use Rattle.std.specs.Prelude.{◌≡◌, ◌<◌, List, length, map, not, nat_eq, false, All, ◌≤◌, vec_len, vec_capacity};
+ghost use Rattle.re_syntax.specs.Expression.{Expression};
+ghost use Rattle.grep_core.specs.declared.options.Options.{Options};
+ghost use Rattle.grep_session.specs.Kept.{IsKept, IsFileKept, kept_file, line_text};
+ghost use Rattle.std.specs.List.{filter, remove, insert};
+ghost use Rattle.grep_session.specs.Dropping.{lowered, without};
+
+use crate::kept::{KeptFile, KeptLine};
+use re_search::Matcher;
+
+/// The number that a pattern has when pattern `p` is gone.
+fn lowered(p: usize, number: usize) -> usize
+    ensures { result ≡ lowered p number }
+{
+    if p < number { number - 1 } else { number }
+}
+
+/// Lowers the numbers above `p` by one.
+fn lower_all(numbers: &mut [usize], p: usize)
+    ensures { numbers.new ≡ map (lowered p) numbers.old }
+{
+    for number in numbers.iter_mut() {
+        *number = lowered(p, *number);
+    }
+}
+
+/// Takes `p` out of the numbers.
+fn take_out(numbers: &mut Vec<usize>, p: usize)
+    ensures { numbers.new.items ≡ filter (λ n. not (nat_eq n p)) numbers.old.items }
+{
+    numbers.retain(|number| *number != p);
+}
+
+/// Takes `p` out of the numbers, and lowers those above it by one.
+pub fn drop_number(numbers: &mut Vec<usize>, p: usize)
+    ensures { numbers.new.items ≡ without p numbers.old.items }
+{
+    take_out(numbers, p);
+    lower_all(numbers, p);
+}
+
+/// Takes pattern `p` out of what is kept of a line.
+fn drop_in_line(line: &mut KeptLine, p: usize)
+    ensures text { line.new.text ≡ line.old.text }
+    ensures matched { line.new.matched_by.items ≡ without p line.old.matched_by.items }
+{
+    drop_number(&mut line.matched_by, p);
+}
+
+/// Takes pattern `p` out of what is kept of lines.
+fn drop_in_lines(lines: &mut [KeptLine], p: usize)
+    ensures texts { map line_text lines.new ≡ map line_text lines.old }
+    ensures kept { (es : List Expression) (options : Options) → p < length es → options.only_matching ≡ false → All (IsKept es options) lines.old → All (IsKept (remove es p) options) lines.new }
+{
+    for line in lines.iter_mut() {
+        drop_in_line(line, p);
+    }
+}
+
+/// Takes pattern `p` out of what is kept of a file.
+fn drop_in_file(file: &mut KeptFile, p: usize)
+    ensures same { kept_file file.new ≡ kept_file file.old }
+    ensures kept { (es : List Expression) (options : Options) → p < length es → options.only_matching ≡ false → IsFileKept es options file.old → IsFileKept (remove es p) options file.new }
+{
+    match &mut file.lines {
+        None => {}
+        Some(lines) => drop_in_lines(lines, p),
+    }
+}
+
+/// Takes pattern `p` out of what is kept of files.
+fn drop_in_files(files: &mut [KeptFile], p: usize)
+    ensures same { map kept_file files.new ≡ map kept_file files.old }
+    ensures kept { (es : List Expression) (options : Options) → p < length es → options.only_matching ≡ false → All (IsFileKept es options) files.old → All (IsFileKept (remove es p) options) files.new }
+{
+    for file in files.iter_mut() {
+        drop_in_file(file, p);
+    }
+}
+
+/// The same in the files of a session.
+pub fn drop_column(files: &mut Vec<KeptFile>, p: usize)
+    ensures same { map kept_file files.new.items ≡ map kept_file files.old.items }
+    ensures kept { (es : List Expression) (options : Options) → p < length es → options.only_matching ≡ false → All (IsFileKept es options) files.old.items → All (IsFileKept (remove es p) options) files.new.items }
+{
+    drop_in_files(files, p);
+}
+
+/// Puts a matcher back in its place, for which there is room.
+pub fn put_back(matchers: &mut Vec<Matcher>, p: usize, gone: Matcher)
+    requires within { p ≤ length matchers.old.items }
+    requires room { vec_len matchers.old < vec_capacity matchers.old }
+    ensures { matchers.new.items ≡ insert matchers.old.items p gone }
+{
+    let _ = matchers.insert(p, gone);
+}

@@ -1,0 +1,205 @@
+//! What is found in lines, and kept.
+ghost use Rattle.std.specs.Prelude.{◌≡◌, ℕ, List, ◌+◌, ◌*◌, ◌≤◌, ◌<◌, ◌++◌, length, map, IfOk, IfErr, IfSome, true, [], ◌∷◌, All};
+ghost use Rattle.re_search.specs.Reading.{matched_expression, wants_whole};
+ghost use Rattle.re_search.specs.Searching.{AllAnswer, AddsAtMost, FindsPart};
+ghost use Rattle.re_syntax.specs.Parts.{AreParts};
+ghost use Rattle.grep_core.specs.Cost.{search_cost};
+ghost use Rattle.grep_session.specs.Edits.{most_patterns};
+ghost use Rattle.grep_session.specs.Kept.{AddsMatching, IsKept, SearchesKept, SearchesAllKept, span_places, line_text, ArePartsKept};
+ghost use Rattle.grep_session.specs.Touched.{PartsCostOf};
+
+use crate::kept::KeptLine;
+use grep_core::Options;
+use re_search::{LineMatch, Matcher, Meter, Span, parts};
+use std::alloc::{AllocError, Global};
+
+/// Adds the matcher's number where it matches the line.
+fn note_matching<M: LineMatch>(
+    matcher: &mut M,
+    number: usize,
+    options: &Options,
+    line: &[u8],
+    numbers: &mut Vec<usize>,
+    meter: &mut Meter,
+) -> Result<(), AllocError>
+    requires { M.whole matcher.old ≡ options.now.line_regexp }
+    ensures ok { IfOk result (λ _. AddsMatching line.now options.now.line_regexp number (M.expression matcher.old ∷ []) numbers.old.items numbers.new.items) }
+    ensures same_expression { M.expression matcher.new ≡ M.expression matcher.old }
+    ensures same_whole { M.whole matcher.new ≡ M.whole matcher.old }
+    ensures steps { AddsAtMost (length line.now + 1) meter.old meter.new }
+{
+    if !matcher.is_match(line, meter) {
+        return Ok(());
+    }
+    numbers.push(number)?;
+    Ok(())
+}
+
+/// Adds the numbers of the matchers that match the line, the first of which has the number
+/// `first`.
+pub fn add_matching<M: LineMatch>(
+    matchers: &mut [M],
+    first: usize,
+    options: &Options,
+    line: &[u8],
+    numbers: &mut Vec<usize>,
+    meter: &mut Meter,
+) -> Result<(), AllocError>
+    requires whole { AllAnswer options.now.line_regexp (map M.whole matchers.old) }
+    requires few { first + length matchers.old ≤ most_patterns }
+    ensures ok { IfOk result (λ _. AddsMatching line.now options.now.line_regexp first (map M.expression matchers.old) numbers.old.items numbers.new.items) }
+    ensures same_expressions { map M.expression matchers.new ≡ map M.expression matchers.old }
+    ensures same_wholes { map M.whole matchers.new ≡ map M.whole matchers.old }
+    ensures steps { AddsAtMost (search_cost (length matchers.old) line.now) meter.old meter.new }
+{
+    let mut number = first;
+    for matcher in matchers.iter_mut() {
+        note_matching(matcher, number, options, line, numbers, meter)?;
+        number += 1;
+    }
+    Ok(())
+}
+
+/// The next part of the line that begins at `from` or later.
+fn next_part<M: LineMatch>(
+    matchers: &mut [M],
+    options: &Options,
+    line: &[u8],
+    from: usize,
+    meter: &mut Meter,
+) -> Option<Span>
+    requires within { from ≤ length line.now }
+    requires whole { AllAnswer options.now.line_regexp (map M.whole matchers.old) }
+    ensures told { FindsPart (map M.expression matchers.old) line.now options.now.line_regexp from result }
+    ensures bounds { IfSome result (λ part. (part.start < part.end) × (part.end ≤ length line.now)) }
+    ensures ahead { IfSome result (λ part. from ≤ part.start) }
+    ensures same_expressions { map M.expression matchers.new ≡ map M.expression matchers.old }
+    ensures same_wholes { map M.whole matchers.new ≡ map M.whole matchers.old }
+    ensures steps { AddsAtMost (search_cost (length matchers.old) line.now) meter.old meter.new }
+{
+    parts(matchers, line, from, meter)
+}
+
+/// Adds the parts of the line.
+fn add_parts<M: LineMatch>(
+    matchers: &mut [M],
+    options: &Options,
+    line: &[u8],
+    spans: &mut Vec<Span>,
+    meter: &mut Meter,
+) -> Result<(), AllocError>
+    requires whole { AllAnswer options.now.line_regexp (map M.whole matchers.old) }
+    requires asked { options.now.only_matching ≡ true }
+    requires none { spans.old.items ≡ [] }
+    ensures ok { IfOk result (λ _. AreParts (map M.expression matchers.old) line.now options.now.line_regexp (map span_places spans.new.items)) }
+    ensures same_expressions { map M.expression matchers.new ≡ map M.expression matchers.old }
+    ensures same_wholes { map M.whole matchers.new ≡ map M.whole matchers.old }
+    ensures steps { (own : ℕ) × PartsCostOf (map M.expression matchers.old) options.now line.now own × AddsAtMost own meter.old meter.new }
+{
+    let mut from = 0;
+    while let Some(part) = next_part(matchers, options, line, from, meter) {
+        spans.push(part)?;
+        from = part.end;
+    }
+    Ok(())
+}
+
+/// The parts of the line under `-o`, and else none.
+pub fn parts_of<M: LineMatch>(
+    alloc: Global,
+    matchers: &mut [M],
+    options: &Options,
+    line: &[u8],
+    meter: &mut Meter,
+) -> Result<Vec<Span>, AllocError>
+    requires whole { AllAnswer options.now.line_regexp (map M.whole matchers.old) }
+    ensures ok { IfOk result (λ spans. ArePartsKept (map M.expression matchers.old) options.now line.now spans.items) }
+    ensures same_expressions { map M.expression matchers.new ≡ map M.expression matchers.old }
+    ensures same_wholes { map M.whole matchers.new ≡ map M.whole matchers.old }
+    ensures steps { (own : ℕ) × PartsCostOf (map M.expression matchers.old) options.now line.now own × AddsAtMost own meter.old meter.new }
+{
+    let mut spans = Vec::new(alloc);
+    if options.only_matching {
+        add_parts(matchers, options, line, &mut spans, meter)?;
+    }
+    Ok(spans)
+}
+
+/// The line with all that the matchers find in it.
+pub fn search_line<M: LineMatch>(
+    alloc: Global,
+    matchers: &mut [M],
+    options: &Options,
+    text: Vec<u8>,
+    meter: &mut Meter,
+) -> Result<KeptLine, AllocError>
+    requires whole { AllAnswer options.now.line_regexp (map M.whole matchers.old) }
+    requires few { length matchers.old ≤ most_patterns }
+    ensures ok { IfOk result (IsKept (map M.expression matchers.old) options.now) }
+    ensures text { IfOk result (λ line. line.text.items ≡ text.items) }
+    ensures same_expressions { map M.expression matchers.new ≡ map M.expression matchers.old }
+    ensures same_wholes { map M.whole matchers.new ≡ map M.whole matchers.old }
+    ensures steps { SearchesKept (map M.expression matchers.old) options.now (length matchers.old) text.items meter.old meter.new }
+{
+    let mut matched_by = Vec::new(alloc);
+    add_matching(matchers, 0, options, &text, &mut matched_by, meter)?;
+    let parts = parts_of(alloc, matchers, options, &text, meter)?;
+    Ok(KeptLine {
+        text,
+        matched_by,
+        parts,
+    })
+}
+
+/// Adds a line.
+fn push_line(lines: &mut Vec<KeptLine>, line: KeptLine) -> Result<(), AllocError>
+    ensures { IfOk result (λ _. lines.new.items ≡ lines.old.items ++ line ∷ []) }
+{
+    lines.push(line)?;
+    Ok(())
+}
+
+/// The lines with all that the matchers find in them.
+pub fn search_lines<M: LineMatch>(
+    alloc: Global,
+    matchers: &mut [M],
+    options: &Options,
+    texts: Vec<Vec<u8>>,
+    meter: &mut Meter,
+) -> Result<Vec<KeptLine>, AllocError>
+    requires whole { AllAnswer options.now.line_regexp (map M.whole matchers.old) }
+    requires few { length matchers.old ≤ most_patterns }
+    ensures ok { IfOk result (λ lines. All (IsKept (map M.expression matchers.old) options.now) lines.items) }
+    ensures texts { IfOk result (λ lines. map line_text lines.items ≡ map (λ text. text.items) texts.items) }
+    ensures same_expressions { map M.expression matchers.new ≡ map M.expression matchers.old }
+    ensures same_wholes { map M.whole matchers.new ≡ map M.whole matchers.old }
+    ensures memory { texts.items ≡ [] → IfErr result (λ _. ⊥) }
+    ensures steps { SearchesAllKept (map M.expression matchers.old) options.now (length matchers.old) (map (λ text. text.items) texts.items) meter.old meter.new }
+{
+    let mut lines = Vec::new(alloc);
+    for text in texts {
+        let line = search_line(alloc, matchers, options, text, meter)?;
+        push_line(&mut lines, line)?;
+    }
+    Ok(lines)
+}
+
+/// The lines with all that the matchers of a session find in them.
+pub fn search_new(
+    alloc: Global,
+    matchers: &mut Vec<Matcher>,
+    options: &Options,
+    texts: Vec<Vec<u8>>,
+    meter: &mut Meter,
+) -> Result<Vec<KeptLine>, AllocError>
+    requires whole { AllAnswer options.now.line_regexp (map wants_whole matchers.old.items) }
+    requires few { length matchers.old.items ≤ most_patterns }
+    ensures ok { IfOk result (λ lines. All (IsKept (map matched_expression matchers.old.items) options.now) lines.items) }
+    ensures texts { IfOk result (λ lines. map line_text lines.items ≡ map (λ text. text.items) texts.items) }
+    ensures same_expressions { map matched_expression matchers.new.items ≡ map matched_expression matchers.old.items }
+    ensures same_wholes { map wants_whole matchers.new.items ≡ map wants_whole matchers.old.items }
+    ensures memory { texts.items ≡ [] → IfErr result (λ _. ⊥) }
+    ensures steps { SearchesAllKept (map matched_expression matchers.old.items) options.now (length matchers.old.items) (map (λ text. text.items) texts.items) meter.old meter.new }
+{
+    search_lines(alloc, matchers, options, texts, meter)
+}

@@ -1,0 +1,75 @@
+//! What is found in all lines anew, and how it takes its place.
+ghost use Rattle.std.specs.Prelude.{◌≡◌, ◌≤◌, ◌++◌, List, [], map, length, drop, IfOk, IfErr, All};
+ghost use Rattle.std.specs.List.{AllZip};
+ghost use Rattle.re_syntax.specs.Expression.{Expression};
+ghost use Rattle.grep_core.specs.declared.options.Options.{Options};
+ghost use Rattle.std.specs.Vec.Iter.{into_iter_items};
+ghost use Rattle.std.specs.Option.{option_map, unwrap_or};
+ghost use Rattle.grep_session.specs.Kept.{IsFileKept, kept_file, kept_lines};
+ghost use Rattle.grep_session.specs.Found.{IsRight, lines_of_files, next_line, with_found};
+
+use crate::kept::{KeptFile, KeptLine};
+use re_search::Span;
+use std::vec::IntoIter;
+
+/// What was found in a line.
+#[derive(Drop)]
+pub struct Found {
+    /// The numbers of the patterns that match the line, in ascending order.
+    pub matched_by: Vec<usize>,
+    /// The parts of the line that the patterns match, under `-o`.
+    pub parts: Vec<Span>,
+}
+
+/// Puts the first of what was found in the place of what is kept of a line.
+fn put_next(line: &mut KeptLine, found: &mut IntoIter<Found>)
+    ensures line { line.new ≡ next_line line.old (into_iter_items found.old) }
+    ensures rest { into_iter_items found.new ≡ drop 1 (into_iter_items found.old) }
+{
+    let Some(new) = found.next() else {
+        return;
+    };
+    line.matched_by = new.matched_by;
+    line.parts = new.parts;
+}
+
+/// Puts the first of what was found in the place of what is kept of the lines.
+fn put_found(lines: &mut [KeptLine], found: &mut IntoIter<Found>)
+    ensures lines { lines.new ≡ with_found lines.old (into_iter_items found.old) }
+    ensures rest { into_iter_items found.new ≡ drop (length lines.old) (into_iter_items found.old) }
+{
+    for line in lines.iter_mut() {
+        put_next(line, found);
+    }
+}
+
+/// Puts the first of what was found in the place of what is kept of the lines of a file.
+fn put_found_in(file: &mut KeptFile, found: &mut IntoIter<Found>)
+    ensures name { file.new.name ≡ file.old.name }
+    ensures lines { kept_lines file.new ≡ option_map (λ lines. with_found lines (into_iter_items found.old)) (kept_lines file.old) }
+    ensures rest { into_iter_items found.new ≡ drop (length (unwrap_or (kept_lines file.old) [])) (into_iter_items found.old) }
+{
+    match &mut file.lines {
+        None => {}
+        Some(lines) => put_found(lines, found),
+    }
+}
+
+/// Puts what was found in all lines of the files, in order, in the place of what is kept of them.
+pub fn put_all(files: &mut [KeptFile], found: Vec<Found>)
+    ensures same { map kept_file files.new ≡ map kept_file files.old }
+    ensures right { (es : List Expression) (options : Options) → AllZip (IsRight es options) (lines_of_files (map kept_file files.old)) found.items → All (IsFileKept es options) files.new }
+{
+    let mut rest = found.into_iter();
+    for file in files.iter_mut() {
+        put_found_in(file, &mut rest);
+    }
+}
+
+/// The same in the files of a session.
+pub fn put_columns(files: &mut Vec<KeptFile>, found: Vec<Found>)
+    ensures same { map kept_file files.new.items ≡ map kept_file files.old.items }
+    ensures right { (es : List Expression) (options : Options) → AllZip (IsRight es options) (lines_of_files (map kept_file files.old.items)) found.items → All (IsFileKept es options) files.new.items }
+{
+    put_all(files, found);
+}

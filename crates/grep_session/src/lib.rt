@@ -1,0 +1,29 @@
+//! Files and patterns that are edited, and what grep writes of them after each edit, from verdicts
+//! that are kept.
+#![tactic(auto)]
+
+mod adding;
+mod change;
+mod changing;
+mod choosing;
+mod columns;
+mod dropping;
+mod fault;
+mod finding;
+mod found;
+mod kept;
+mod laws;
+mod lines;
+mod patterns;
+mod reading;
+mod report;
+mod session;
+mod showing;
+mod splicing;
+mod verdicts;
+
+pub use fault::EditFault;
+pub use laws::edits_are_determined;
+pub use re_search::Meter;
+pub use session::Session;
+pub use showing::show;

@@ -1,0 +1,62 @@
+//! The texts of a pattern list, and their place in a session.
+ghost use Rattle.std.specs.Prelude.{◌≡◌, ◌≤◌, ◌<◌, ◌+◌, ◌++◌, ◌∷◌, [], map, vec_len, vec_capacity, MatchBool, IfOk, OnErr};
+ghost use Rattle.re_syntax.specs.Lines.{list_of};
+ghost use Rattle.grep_session.specs.Edits.{most_patterns};
+
+use re_search::Matcher;
+use re_syntax::split_list;
+use std::alloc::{AllocError, Global};
+
+/// Adds a text.
+fn push_text(texts: &mut Vec<Vec<u8>>, text: Vec<u8>) -> Result<(), AllocError>
+    ensures { IfOk result (λ _. texts.new.items ≡ texts.old.items ++ text ∷ []) }
+{
+    texts.push(text)?;
+    Ok(())
+}
+
+/// The texts of a pattern list.
+pub fn texts_of(alloc: Global, list: &[u8]) -> Result<Vec<Vec<u8>>, AllocError>
+    ensures { IfOk result (λ texts. map (λ text. text.items) texts.items ≡ list_of list.now) }
+{
+    let mut texts = Vec::new(alloc);
+    for part in split_list(list) {
+        let text = Vec::from_slice(alloc, part)?;
+        push_text(&mut texts, text)?;
+    }
+    Ok(texts)
+}
+
+/// Whether there would be more patterns than a session may have.
+pub fn too_many(old: usize, more: usize) -> bool
+    requires { old ≤ most_patterns }
+    ensures { MatchBool result (most_patterns < old + more) (old + more ≤ most_patterns) }
+{
+    more > 65535 - old
+}
+
+/// Makes room for texts.
+pub fn reserve_texts(texts: &mut Vec<Vec<u8>>, more: usize) -> Result<(), AllocError>
+    ensures items { texts.new.items ≡ texts.old.items }
+    ensures room { IfOk result (λ _. vec_len texts.new + more ≤ vec_capacity texts.new) }
+{
+    texts.try_reserve(more)?;
+    Ok(())
+}
+
+/// Adds texts, for which there is room.
+pub fn add_texts(texts: &mut Vec<Vec<u8>>, mut more: Vec<Vec<u8>>)
+    requires { vec_len texts.old + vec_len more ≤ vec_capacity texts.old }
+    ensures { texts.new.items ≡ texts.old.items ++ more.items }
+{
+    let _ = texts.append(&mut more);
+}
+
+/// Adds matchers.
+pub fn add_matchers(matchers: &mut Vec<Matcher>, mut more: Vec<Matcher>) -> Result<(), AllocError>
+    ensures ok { IfOk result (λ _. matchers.new.items ≡ matchers.old.items ++ more.items) }
+    ensures err { OnErr result (matchers.new.items ≡ matchers.old.items) }
+{
+    matchers.append(&mut more)?;
+    Ok(())
+}

@@ -1,0 +1,62 @@
+//! The matchers of patterns.
+ghost use Rattle.std.specs.Prelude.{◌≡◌, ◌≤◌, ◌⊎◌, ◌++◌, ◌∷◌, [], map, IfOk, IfErr};
+ghost use Rattle.grep_session.specs.Kept.{AreMatchers};
+ghost use Rattle.grep_session.specs.Reading.{RefusesFirst, told_at};
+
+use crate::fault::EditFault;
+use grep_core::Options;
+use re_search::{Matcher, Syntax};
+use re_syntax::{FaultKind, PatternFault};
+use std::alloc::{AllocError, Global};
+
+/// Adds a matcher.
+fn push_matcher(matchers: &mut Vec<Matcher>, matcher: Matcher) -> Result<(), AllocError>
+    ensures { IfOk result (λ _. matchers.new.items ≡ matchers.old.items ++ matcher ∷ []) }
+{
+    matchers.push(matcher)?;
+    Ok(())
+}
+
+/// The fault of the pattern at a place; a want of memory is none of the pattern.
+fn fault_at(place: usize, fault: PatternFault) -> EditFault
+    ensures { result ≡ told_at place fault }
+{
+    match fault.kind {
+        FaultKind::Memory => EditFault::Memory,
+        _ => EditFault::Pattern(place, fault),
+    }
+}
+
+/// A matcher for each of the texts, in order.
+///
+/// # Errors
+///
+/// `EditFault::Pattern` with the place of the first text that is no pattern, and why; or
+/// `EditFault::Memory`.
+pub fn read_matchers(
+    alloc: Global,
+    texts: &[Vec<u8>],
+    syntax: Syntax,
+    options: &Options,
+    states: usize,
+) -> Result<Vec<Matcher>, EditFault>
+    requires some { 1 ≤ states }
+    requires few { states ≤ 65536 }
+    ensures ok { IfOk result (λ matchers. AreMatchers syntax options.now (map (λ text. text.items) texts.now) matchers.items) }
+    ensures err { IfErr result (RefusesFirst syntax options.now.ignore_case (map (λ text. text.items) texts.now)) }
+{
+    let mut matchers = Vec::new(alloc);
+    for text in texts {
+        let fold = options.ignore_case;
+        let whole = options.line_regexp;
+        let matcher = match Matcher::new(alloc, text, syntax, fold, whole, states) {
+            Ok(matcher) => matcher,
+            Err(fault) => return Err(fault_at(matchers.len(), fault)),
+        };
+        match push_matcher(&mut matchers, matcher) {
+            Ok(()) => {}
+            Err(_) => return Err(EditFault::Memory),
+        }
+    }
+    Ok(matchers)
+}

@@ -1,0 +1,144 @@
+//! What grep writes of files that are kept, and its status. No line is searched and no memory is
+//! taken: all comes from what is kept.
+ghost use Rattle.std.specs.Prelude.{◌≡◌, All, List, map, length, nat_le};
+ghost use Rattle.re_syntax.specs.Expression.{Expression};
+ghost use Rattle.grep_core.specs.Messages.{StatusOf};
+ghost use Rattle.grep_core.specs.Output.{written};
+ghost use Rattle.grep_core.specs.Written.{Writes};
+ghost use Rattle.grep_session.specs.Kept.{kept_lines, kept_file, IsFileKept};
+ghost use Rattle.grep_session.specs.Report.{FileFits, rows_with, report_rows, told_from, any_selected, any_missing, status_by_files, Reports, Tells};
+
+use crate::kept::KeptFile;
+use crate::lines::write_lines;
+use grep_core::{
+    CountedWrite, FileEnd, FileFound, Options, Status, Wanted, WriteFault, status_of, tell_fault,
+    write_summary,
+};
+
+/// Writes the output for one file.
+fn write_file<W: CountedWrite>(
+    wanted: &Wanted,
+    file: &KeptFile,
+    out: &mut W,
+    margin: &[u8],
+) -> Result<(), WriteFault>
+    requires { FileFits wanted.now.options file.now }
+    ensures { Writes W.contents W.failures out.old out.new (written margin.now
+        (rows_with wanted.now.options wanted.now.many wanted.now.name.now (kept_lines file.now))) result }
+{
+    let Some(lines) = &file.lines else {
+        let end = FileEnd::Missing;
+        return write_summary(wanted, FileFound { end, selected: 0 }, out, margin);
+    };
+    let selected = write_lines(wanted, lines, out, margin)?;
+    let end = FileEnd::Whole;
+    write_summary(wanted, FileFound { end, selected }, out, margin)
+}
+
+/// Writes the output for all files.
+fn write_files<W: CountedWrite>(
+    files: &[KeptFile],
+    options: &Options,
+    margin: &[u8],
+    out: &mut W,
+) -> Result<(), WriteFault>
+    requires { All (FileFits options.now) files.now }
+    ensures { Writes W.contents W.failures out.old out.new (written margin.now
+        (report_rows options.now (nat_le 2 (length files.now)) files.now)) result }
+{
+    let many = files.len() >= 2;
+    for file in files {
+        let wanted = Wanted {
+            options: *options,
+            many,
+            name: &file.name,
+        };
+        write_file(&wanted, file, out, margin)?;
+    }
+    Ok(())
+}
+
+/// Writes the messages on files, up to one at which a run stops under `-q`.
+fn tell_files<W: CountedWrite>(
+    files: &[KeptFile],
+    options: &Options,
+    margin: &[u8],
+    out: &mut W,
+) -> Result<(), WriteFault>
+    ensures { Writes W.contents W.failures out.old out.new (written margin.now (told_from options.now files.now)) result }
+{
+    for file in files {
+        tell_fault(options.no_messages, &file.name, file.end(), out, margin)?;
+        if options.quiet & file.has_selected(options) {
+            return Ok(());
+        }
+    }
+    Ok(())
+}
+
+/// Whether a line of some file is selected.
+fn any_selected(files: &[KeptFile], options: &Options) -> bool
+    ensures { result ≡ any_selected options.now files.now }
+{
+    files.iter().any(|file| file.has_selected(options))
+}
+
+/// Whether some file cannot be opened.
+fn any_missing(files: &[KeptFile]) -> bool
+    ensures { result ≡ any_missing files.now }
+{
+    files.iter().any(|file| file.end().is_fault())
+}
+
+/// The status by what is kept.
+#[tactic(auto, using(crate::proofs::KeptLaws::status_in_turn))]
+fn status_by_files(files: &[KeptFile], options: &Options) -> Status
+    ensures { result ≡ status_by_files options.now files.now }
+{
+    let some = any_selected(files, options);
+    if options.quiet & some {
+        return Status::Selected;
+    }
+    status_of(some, any_missing(files))
+}
+
+/// The status of grep for the files (XCU grep, EXIT STATUS), where what is kept of them is right.
+pub fn status(files: &[KeptFile], options: &Options) -> Status
+    ensures { (es : List Expression) → All (IsFileKept es options.now) files.now → StatusOf es options.now (map kept_file files.now) result }
+{
+    status_by_files(files, options)
+}
+
+/// Writes what grep writes to standard output for the files (XCU grep, STDOUT), each line behind
+/// the margin, and answers its status, where what is kept of the files is right.
+///
+/// `WriteFault` comes where a write fails; what went out is a beginning. It is not tried again.
+pub fn write_report<W: CountedWrite>(
+    files: &[KeptFile],
+    options: &Options,
+    margin: &[u8],
+    out: &mut W,
+) -> Result<Status, WriteFault>
+    requires { All (FileFits options.now) files.now }
+    ensures { (es : List Expression) → All (IsFileKept es options.now) files.now
+        → Reports W.contents W.failures es options.now (map kept_file files.now) margin.now out.old out.new result }
+{
+    write_files(files, options, margin, out)?;
+    Ok(status(files, options))
+}
+
+/// Writes what grep writes to standard error about the files (XCU grep, STDERR), each line behind
+/// the margin, where what is kept of them is right.
+///
+/// `WriteFault` comes where a write fails; what went out is a beginning. It is not tried again.
+pub fn write_messages<W: CountedWrite>(
+    files: &[KeptFile],
+    options: &Options,
+    margin: &[u8],
+    out: &mut W,
+) -> Result<(), WriteFault>
+    ensures { (es : List Expression) → All (IsFileKept es options.now) files.now
+        → Tells W.contents W.failures es options.now (map kept_file files.now) margin.now out.old out.new result }
+{
+    tell_files(files, options, margin, out)
+}

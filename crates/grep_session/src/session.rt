@@ -1,0 +1,388 @@
+//! A session.
+ghost use Rattle.std.specs.Prelude.{◌≡◌, ◌≢◌, ◌≤◌, ◌<◌, Ok, false, length, ◌++◌, ◌∷◌, [], map, IsTrue, IfOk, IfErr, OnErr};
+ghost use Rattle.grep_session.specs.declared.fault.EditFault.TheVariants.{Memory};
+ghost use Rattle.grep_session.specs.Edits.{Edit, AddFile, AddMissing, DropFile, Splice, AddPatterns, DropPattern, SetFlag, SetSyntax, EditGives, Applies, with_patterns};
+ghost use Rattle.std.specs.List.{remove};
+ghost use Rattle.grep_session.specs.Sessions.{no_inputs};
+ghost use Rattle.grep_session.specs.Touched.{TakesSteps, NeedsNoMemory, Touches, searched_by, parts_alone, all_lines};
+ghost use Rattle.grep_session.specs.Again.{ReadsAgain, AreReadable, read_as};
+
+mod reporting;
+
+use crate::change::Change;
+use crate::changing::change_columns;
+use crate::choosing::{Effect, effect_of, is_same, option_of, with_option};
+use crate::columns::find_columns;
+use crate::dropping::{drop_column, put_back};
+use crate::fault::EditFault;
+use crate::finding::search_new;
+use crate::found::put_columns;
+use crate::kept::KeptFile;
+use crate::patterns::{add_matchers, add_texts, reserve_texts, texts_of, too_many};
+use crate::reading::read_matchers;
+use crate::splicing::{any_newline, find_place, put_in};
+use grep_core::{Flag, Options};
+use re_search::{Matcher, Meter, Syntax};
+use std::alloc::{AllocError, Global};
+use std::marker::Model;
+
+/// Files and patterns, and what the patterns find in the lines of the files. A contract sees the
+/// inputs of grep: syntax, options, patterns and files.
+#[derive(Drop)]
+pub struct Session {
+    alloc: Global,
+    states: usize,
+    syntax: Syntax,
+    options: Options,
+    texts: Vec<Vec<u8>>,
+    matchers: Vec<Matcher>,
+    files: Vec<KeptFile>,
+}
+
+impl Model for Session {
+    ghost use Rattle.grep_core.specs.Files.{Inputs};
+
+    ghost Value = { Inputs };
+
+    ghost use Rattle.grep_session.specs.Sessions.{inputs_of, IsSession};
+
+    ghost view = { inputs_of };
+
+    ghost invariant = { IsSession };
+}
+
+impl Session {
+    /// No file, no pattern, basic syntax, and no option. Each pattern that is added may keep so
+    /// many states.
+    pub fn new(alloc: Global, states: usize) -> Session
+        requires some { 1 ≤ states }
+        requires few { states ≤ 65536 }
+        ensures { result ≡ no_inputs }
+    {
+        Session {
+            alloc,
+            states,
+            syntax: Syntax::Basic,
+            options: Options::default(),
+            texts: Vec::new(alloc),
+            matchers: Vec::new(alloc),
+            files: Vec::new(alloc),
+        }
+    }
+
+    /// Takes file `k` out; later files move up.
+    ///
+    /// # Errors
+    ///
+    /// `EditFault::NoSuchFile`.
+    pub fn drop_file(&mut self, k: usize) -> Result<(), EditFault>
+        ensures gives { EditGives (DropFile k) self.old self.new result }
+        ensures memory { IfErr result (λ fault. fault ≢ Memory) }
+    {
+        if k >= self.files.len() {
+            return Err(EditFault::NoSuchFile);
+        }
+        self.files.remove(k);
+        Ok(())
+    }
+
+    /// Puts a file that cannot be opened behind the others.
+    ///
+    /// # Errors
+    ///
+    /// `EditFault::Memory`.
+    pub fn add_missing(&mut self, name: Vec<u8>) -> Result<(), EditFault>
+        ensures gives { EditGives (AddMissing name.items) self.old self.new result }
+    {
+        let file = KeptFile { name, lines: None };
+        match push_file(&mut self.files, file) {
+            Ok(()) => {}
+            Err(_) => return Err(EditFault::Memory),
+        }
+        Ok(())
+    }
+
+    /// Puts a file behind the others.
+    ///
+    /// # Errors
+    ///
+    /// `EditFault::LineHasNewline`, or `EditFault::Memory`.
+    pub fn add_file(
+        &mut self,
+        name: Vec<u8>,
+        lines: Vec<Vec<u8>>,
+        meter: &mut Meter,
+    ) -> Result<(), EditFault>
+        ensures gives { EditGives (AddFile name.items (map (λ line. line.items) lines.items)) self.old self.new result }
+        ensures steps { TakesSteps (AddFile name.items (map (λ line. line.items) lines.items)) self.old meter.old meter.new }
+    {
+        if any_newline(&lines) {
+            return Err(EditFault::LineHasNewline);
+        }
+        let kept = match search_new(self.alloc, &mut self.matchers, &self.options, lines, meter) {
+            Ok(kept) => kept,
+            Err(_) => return Err(EditFault::Memory),
+        };
+        let file = KeptFile {
+            name,
+            lines: Some(kept),
+        };
+        match push_file(&mut self.files, file) {
+            Ok(()) => {}
+            Err(_) => return Err(EditFault::Memory),
+        }
+        Ok(())
+    }
+
+    /// In file `k`, puts lines in the place of `count` lines from line `start` on. The new lines
+    /// alone are searched, and without any no memory is asked for.
+    ///
+    /// # Errors
+    ///
+    /// `EditFault::NoSuchFile`, `EditFault::FileIsMissing`, `EditFault::OutOfRange`,
+    /// `EditFault::LineHasNewline`, or `EditFault::Memory`.
+    pub fn splice(
+        &mut self,
+        k: usize,
+        start: usize,
+        count: usize,
+        lines: Vec<Vec<u8>>,
+        meter: &mut Meter,
+    ) -> Result<(), EditFault>
+        ensures gives { EditGives (Splice k start count (map (λ line. line.items) lines.items)) self.old self.new result }
+        ensures steps { TakesSteps (Splice k start count (map (λ line. line.items) lines.items)) self.old meter.old meter.new }
+        ensures memory { lines.items ≡ [] → IfErr result (λ fault. fault ≢ Memory) }
+    {
+        match find_place(&self.files, k, start, count) {
+            Ok(()) => {}
+            Err(fault) => return Err(fault),
+        }
+        if any_newline(&lines) {
+            return Err(EditFault::LineHasNewline);
+        }
+        let kept = match search_new(self.alloc, &mut self.matchers, &self.options, lines, meter) {
+            Ok(kept) => kept,
+            Err(_) => return Err(EditFault::Memory),
+        };
+        match put_in(&mut self.files[k], start, count, kept) {
+            Ok(()) => {}
+            Err(_) => return Err(EditFault::Memory),
+        }
+        Ok(())
+    }
+
+    /// Reads all patterns again, with another syntax or other options, and searches all lines anew.
+    fn read_again(
+        &mut self,
+        syntax: Syntax,
+        options: Options,
+        meter: &mut Meter,
+    ) -> Result<(), EditFault>
+        ensures gives { ReadsAgain syntax options self.old self.new result }
+        ensures steps { (edit : Edit) → (AreReadable syntax options self.old → Applies edit self.old (Ok (read_as syntax options self.old)))
+            → Touches edit self.old (searched_by (length self.old.patterns) (all_lines self.old)) → TakesSteps edit self.old meter.old meter.new }
+    {
+        let mut matchers = match read_matchers(
+            self.alloc, &self.texts, syntax, &options, self.states,
+        ) {
+            Ok(matchers) => matchers,
+            Err(fault) => return Err(fault),
+        };
+        let found = match find_columns(
+            self.alloc, &mut matchers, &options, true, &self.files, meter,
+        ) {
+            Ok(found) => found,
+            Err(_) => return Err(EditFault::Memory),
+        };
+        put_columns(&mut self.files, found);
+        self.matchers = matchers;
+        self.syntax = syntax;
+        self.options = options;
+        Ok(())
+    }
+
+    /// Sets the syntax in which the patterns are read.
+    ///
+    /// # Errors
+    ///
+    /// `EditFault::Pattern` with the number of the first pattern that is none in this syntax, or
+    /// `EditFault::Memory`.
+    pub fn set_syntax(&mut self, syntax: Syntax, meter: &mut Meter) -> Result<(), EditFault>
+        ensures gives { EditGives (SetSyntax syntax) self.old self.new result }
+        ensures steps { TakesSteps (SetSyntax syntax) self.old meter.old meter.new }
+        ensures memory { syntax ≡ self.old.syntax → IfErr result (λ fault. fault ≢ Memory) }
+    {
+        if is_same(syntax, self.syntax) {
+            return Ok(());
+        }
+        self.read_again(syntax, self.options, meter)
+    }
+
+    /// Searches the parts of all lines, for other options under which the same lines are matched.
+    fn part_again(&mut self, options: Options, meter: &mut Meter) -> Result<(), EditFault>
+        requires same_whole { options.line_regexp ≡ self.old.options.line_regexp }
+        requires same_case { options.ignore_case ≡ self.old.options.ignore_case }
+        ensures gives { ReadsAgain self.old.syntax options self.old self.new result }
+        ensures steps { (edit : Edit) → Applies edit self.old (Ok (read_as self.old.syntax options self.old))
+            → Touches edit self.old (parts_alone (all_lines self.old)) → TakesSteps edit self.old meter.old meter.new }
+    {
+        let found = match find_columns(
+            self.alloc, &mut self.matchers, &options, false, &self.files, meter,
+        ) {
+            Ok(found) => found,
+            Err(_) => return Err(EditFault::Memory),
+        };
+        put_columns(&mut self.files, found);
+        self.options = options;
+        Ok(())
+    }
+
+    /// Sets other options under which the same is kept.
+    fn put_options(&mut self, options: Options)
+        requires same_whole { options.line_regexp ≡ self.old.options.line_regexp }
+        requires same_case { options.ignore_case ≡ self.old.options.ignore_case }
+        requires no_parts { IsTrue options.only_matching → IsTrue self.old.options.only_matching }
+        ensures { self.new ≡ read_as self.old.syntax options self.old }
+    {
+        self.options = options;
+    }
+
+    /// Sets an option.
+    ///
+    /// # Errors
+    ///
+    /// `EditFault::Pattern` with the number of the first pattern that is too large where both cases
+    /// of its letters are alike, by `-i` alone; or `EditFault::Memory`.
+    pub fn set_flag(&mut self, flag: Flag, on: bool, meter: &mut Meter) -> Result<(), EditFault>
+        ensures gives { EditGives (SetFlag flag on) self.old self.new result }
+        ensures steps { TakesSteps (SetFlag flag on) self.old meter.old meter.new }
+        ensures memory { NeedsNoMemory (SetFlag flag on) self.old → IfErr result (λ fault. fault ≢ Memory) }
+    {
+        if option_of(&self.options, flag) == on {
+            return Ok(());
+        }
+        let options = with_option(self.options, flag, on);
+        match effect_of(flag, on) {
+            Effect::Verdicts => {
+                let syntax = self.syntax;
+                self.read_again(syntax, options, meter)
+            }
+            Effect::Parts => self.part_again(options, meter),
+            Effect::Output => {
+                self.put_options(options);
+                Ok(())
+            }
+        }
+    }
+
+    /// Adds the patterns of a list behind the others. The new patterns alone are searched for, and
+    /// under `-o` the parts of the lines that one of them matches.
+    ///
+    /// # Errors
+    ///
+    /// `EditFault::TooManyPatterns`, `EditFault::Pattern` with the place in the list of the first
+    /// text that is no pattern, or `EditFault::Memory`.
+    pub fn add_patterns(&mut self, list: &[u8], meter: &mut Meter) -> Result<(), EditFault>
+        ensures gives { EditGives (AddPatterns list.now) self.old self.new result }
+        ensures steps { TakesSteps (AddPatterns list.now) self.old meter.old meter.new }
+    {
+        let texts = match texts_of(self.alloc, list) {
+            Ok(texts) => texts,
+            Err(_) => return Err(EditFault::Memory),
+        };
+        if too_many(self.matchers.len(), texts.len()) {
+            return Err(EditFault::TooManyPatterns);
+        }
+        let matchers = match read_matchers(
+            self.alloc, &texts, self.syntax, &self.options, self.states,
+        ) {
+            Ok(matchers) => matchers,
+            Err(fault) => return Err(fault),
+        };
+        match reserve_texts(&mut self.texts, texts.len()) {
+            Ok(()) => {}
+            Err(_) => return Err(EditFault::Memory),
+        }
+        let first = self.matchers.len();
+        match add_matchers(&mut self.matchers, matchers) {
+            Ok(()) => {}
+            Err(_) => return Err(EditFault::Memory),
+        }
+        let change = Change::Added(first);
+        let found = match change_columns(
+            self.alloc, &mut self.matchers, &self.options, change, &self.files, meter,
+        ) {
+            Ok(found) => found,
+            Err(_) => {
+                self.matchers.truncate(first);
+                return Err(EditFault::Memory);
+            }
+        };
+        put_columns(&mut self.files, found);
+        add_texts(&mut self.texts, texts);
+        Ok(())
+    }
+
+    /// Takes pattern `p` out; later patterns move up. Under `-o` the lines that it matched are
+    /// searched for their parts; else no memory is asked for.
+    ///
+    /// # Errors
+    ///
+    /// `EditFault::NoSuchPattern`, or `EditFault::Memory`.
+    pub fn drop_pattern(&mut self, p: usize, meter: &mut Meter) -> Result<(), EditFault>
+        ensures gives { EditGives (DropPattern p) self.old self.new result }
+        ensures steps { TakesSteps (DropPattern p) self.old meter.old meter.new }
+        ensures memory { NeedsNoMemory (DropPattern p) self.old → IfErr result (λ fault. fault ≢ Memory) }
+    {
+        if p >= self.texts.len() {
+            return Err(EditFault::NoSuchPattern);
+        }
+        if self.options.only_matching {
+            return self.drop_parted(p, meter);
+        }
+        self.drop_plain(p);
+        Ok(())
+    }
+
+    /// Takes pattern `p` out, and searches the parts of the lines that it matched.
+    fn drop_parted(&mut self, p: usize, meter: &mut Meter) -> Result<(), EditFault>
+        requires within { p < length self.old.patterns }
+        ensures gives { EditGives (DropPattern p) self.old self.new result }
+        ensures steps { TakesSteps (DropPattern p) self.old meter.old meter.new }
+    {
+        let gone = self.matchers.remove(p);
+        let change = Change::Dropped(p);
+        let found = match change_columns(
+            self.alloc, &mut self.matchers, &self.options, change, &self.files, meter,
+        ) {
+            Ok(found) => found,
+            Err(_) => {
+                put_back(&mut self.matchers, p, gone);
+                return Err(EditFault::Memory);
+            }
+        };
+        put_columns(&mut self.files, found);
+        self.texts.remove(p);
+        Ok(())
+    }
+
+    /// Takes pattern `p` out where no parts are kept; later patterns move up. No memory is asked for.
+    fn drop_plain(&mut self, p: usize)
+        requires within { p < length self.old.patterns }
+        requires no_parts { self.old.options.only_matching ≡ false }
+        ensures { self.new ≡ with_patterns (remove self.old.patterns p) self.old }
+    {
+        drop_column(&mut self.files, p);
+        self.matchers.remove(p);
+        self.texts.remove(p);
+    }
+}
+
+/// Puts a file behind the others.
+fn push_file(files: &mut Vec<KeptFile>, file: KeptFile) -> Result<(), AllocError>
+    ensures ok { IfOk result (λ _. files.new.items ≡ files.old.items ++ file ∷ []) }
+    ensures err { OnErr result (files.new.items ≡ files.old.items) }
+{
+    files.push(file)?;
+    Ok(())
+}

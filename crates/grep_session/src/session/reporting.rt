@@ -1,0 +1,43 @@
+//! What grep writes of a session, and its status. No line is searched and no memory is taken: all
+//! comes from what is kept.
+ghost use Rattle.grep_session.specs.Report.{ReportsInputs, TellsInputs, IsStatusOfInputs};
+
+use crate::report::{status, write_messages, write_report};
+use crate::session::Session;
+use grep_core::{CountedWrite, Status, WriteFault};
+
+impl Session {
+    /// Writes what grep writes to standard output for the files, patterns and options of the
+    /// session (XCU grep, STDOUT), each line behind the margin, and answers its status. No line is
+    /// searched and no memory is taken.
+    ///
+    /// # Errors
+    ///
+    /// `WriteFault` comes where a write fails, which the writer counts; what went out is a
+    /// beginning. It is not tried again.
+    pub fn report<W: CountedWrite>(&self, margin: &[u8], out: &mut W) -> Result<Status, WriteFault>
+        ensures { ReportsInputs W.contents W.failures self.now margin.now out.old out.new result }
+    {
+        write_report(&self.files, &self.options, margin, out)
+    }
+
+    /// Writes what grep writes to standard error about the files of the session (XCU grep,
+    /// STDERR), each line behind the margin. No line is searched and no memory is taken.
+    ///
+    /// # Errors
+    ///
+    /// `WriteFault` comes where a write fails, which the writer counts; what went out is a
+    /// beginning. It is not tried again.
+    pub fn messages<W: CountedWrite>(&self, margin: &[u8], out: &mut W) -> Result<(), WriteFault>
+        ensures { TellsInputs W.contents W.failures self.now margin.now out.old out.new result }
+    {
+        write_messages(&self.files, &self.options, margin, out)
+    }
+
+    /// The exit status of grep for the session (XCU grep, EXIT STATUS).
+    pub fn status(&self) -> Status
+        ensures { IsStatusOfInputs self.now result }
+    {
+        status(&self.files, &self.options)
+    }
+}

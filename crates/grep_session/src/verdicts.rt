@@ -1,0 +1,47 @@
+//! What is known of files and lines without a search, by what is kept of them.
+ghost use Rattle.std.specs.Prelude.{◌≡◌};
+ghost use Rattle.grep_session.specs.Report.{end_of, is_selected, some_selected, has_selected};
+
+use crate::kept::{KeptFile, KeptLine};
+use grep_core::{FileEnd, Options};
+
+impl KeptLine {
+    /// Whether grep selects the line: some pattern matches it, and under `-v` none does.
+    pub fn is_selected(&self, options: &Options) -> bool
+        ensures { result ≡ is_selected options.now self.now }
+    {
+        if options.invert_match {
+            return self.matched_by.is_empty();
+        }
+        !self.matched_by.is_empty()
+    }
+}
+
+/// Whether some line is selected.
+fn some_selected(lines: &[KeptLine], options: &Options) -> bool
+    ensures { result ≡ some_selected options.now lines.now }
+{
+    lines.iter().any(|line| line.is_selected(options))
+}
+
+impl KeptFile {
+    /// Whether the file could be opened.
+    pub fn end(&self) -> FileEnd
+        ensures { result ≡ end_of self.now }
+    {
+        match &self.lines {
+            Some(_) => FileEnd::Whole,
+            None => FileEnd::Missing,
+        }
+    }
+
+    /// Whether a line of the file is selected.
+    pub fn has_selected(&self, options: &Options) -> bool
+        ensures { result ≡ has_selected options.now self.now }
+    {
+        match &self.lines {
+            Some(lines) => some_selected(lines, options),
+            None => false,
+        }
+    }
+}
