@@ -16,10 +16,10 @@ use Rattle.grep_cmd.specs.declared.patterns.PatternsFault.{PatternsFault}
 use Rattle.grep_cmd.specs.declared.patterns.PatternsFault.TheVariants as unread
 use Rattle.grep_cmd.specs.declared.words.UsageFault.{UsageFault}
 use Rattle.grep_cmd.specs.declared.words.UsageFault.TheVariants as usage
-use Rattle.grep_cmd.specs.Command.{Tells, GivesUp, SearchEnds, most_patterns, RefusesPattern, SearchesFiles, PatternsGive, DoesForRequest, RequestGives, CommandGives}
+use Rattle.grep_cmd.specs.Command.{Tells, GivesUp, SearchEnds, RefusesPattern, SearchesFiles, PatternsGive, DoesForRequest, RequestGives, CommandGives}
 use Rattle.grep_cmd.specs.Folder.{Folder, sources_named, searched}
 use Rattle.grep_cmd.specs.Gathered.{StopsFor, told_of}
-use Rattle.grep_cmd.specs.Matchers.{AreMatchers, IsFirstRefused}
+use Rattle.grep_core.specs.Matchers.{AreMatchers, IsFirstRefused, most_patterns}
 use Rattle.grep_cmd.specs.Patterns.{behind_all, GivePatterns, FirstUnread}
 use Rattle.grep_cmd.specs.Texts.{too_many_patterns, pattern_refused, fault_text, usage_texts}
 use Rattle.grep_cmd.specs.Words.{Asked, Source, read, OrMemory}

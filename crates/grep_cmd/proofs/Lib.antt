@@ -4,7 +4,6 @@ pub mod UsageLemmas
 pub mod GatherLemmas
 pub mod SourceLemmas
 pub mod OperandLemmas
-pub mod MatcherLemmas
 pub mod TellingLemmas
 pub mod CommandLemmas
 pub mod CountLemmas

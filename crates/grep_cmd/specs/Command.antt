@@ -14,7 +14,7 @@ use Rattle.grep_core.specs.declared.status.RunFault.TheVariants.{Write, MessageW
 use Rattle.grep_core.specs.Counted.{one_more}
 use Rattle.grep_core.specs.Run.{Writer, Devices, TakesAll, TakesFront, count_more, RunGives}
 use Rattle.grep_cmd.specs.Folder.{Folder, sources_named, searched}
-use Rattle.grep_cmd.specs.Matchers.{IsFirstRefused}
+use Rattle.grep_core.specs.Matchers.{IsFirstRefused, most_patterns}
 use Rattle.grep_cmd.specs.Patterns.{Unread, behind_all, GivePatterns, FirstUnread}
 use Rattle.grep_cmd.specs.Texts.{usage_texts, out_of_memory, write_error, too_many_patterns, pattern_refused}
 use Rattle.grep_cmd.specs.Words.{Asked, read}
@@ -49,10 +49,6 @@ pub record SearchEnds (es : List Expression) (options : Options) (sources : List
   pub between : Devices
   pub runs : RunGives es options sources old between found
   pub ends : EndsAfter found between new status
-
--- the greatest number of patterns
-abbrev pub most_patterns : ℕ
-most_patterns = 65535
 
 module _ (asked : Asked) (folder : Folder) (texts : List Text) (old new : Devices) (status : ℕ) where
   -- the first pattern that isn't readable is told

@@ -15,5 +15,4 @@ pub mod Memory
 pub mod Patterns
 pub mod Gathered
 pub mod Operands
-pub mod Matchers
 pub mod Command

@@ -14,7 +14,7 @@ use Rattle.grep_core.specs.Output.{Form, nothing, names, counts, parts, lines, f
 use Rattle.grep_core.specs.Cost.{search_cost, PartsAsked, AsksParts, SearchesLine, LinesCost, FilesCost, SearchesLines, SearchesFiles}
 
 -- steps after steps
-adds_both : (first next : ℕ) (old mid new : Steps) → AddsAtMost first old mid → AddsAtMost next mid new → AddsAtMost (first + next) old new
+pub adds_both : (first next : ℕ) (old mid new : Steps) → AddsAtMost first old mid → AddsAtMost next mid new → AddsAtMost (first + next) old new
 adds_both first next old mid new a b = record { built = omega (arith, a.built, b.built); reused = omega (arith, a.reused, b.reused); sum = omega (arith, a.sum, b.sum) }
 
 -- what is at most a number is at most a greater one

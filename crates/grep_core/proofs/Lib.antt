@@ -31,3 +31,4 @@ pub mod RunLaws
 pub mod CostLaws
 pub mod PartsLemmas
 pub mod WrittenLemmas
+pub mod MatcherLemmas

@@ -28,3 +28,4 @@ pub mod Searched
 pub mod Cost
 pub mod Buffer
 pub mod Laws
+pub mod Matchers

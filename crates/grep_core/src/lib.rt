@@ -28,6 +28,7 @@ pub use counts::{write_count, write_name};
 pub use laws::{has_one_answer, means_one};
 pub use limited::Limited;
 pub use lines::{Lines, ReadFault, Stage};
+pub use matching::next_part;
 pub use messages::{write_cannot_open, write_read_error};
 pub use options::{Flag, Options};
 pub use pushing::{WriteFault, push_all};

@@ -26,7 +26,8 @@ use Rattle.grep_session.specs.declared.fault.EditFault.TheVariants.{NoSuchFile, 
 use Rattle.grep_session.specs.Again.{ReadsAgain, read_as}
 use Rattle.grep_session.specs.Edits.{Edit, SetFlag, SetSyntax, Applies, EditGives, option_of, with_option}
 use Rattle.grep_session.specs.Effects.{ChangesVerdicts}
-use Rattle.grep_session.specs.Kept.{AreMatching, AreMatchers, IsKept, IsFileKept, SearchesAllKept, kept_lines, span_places}
+use Rattle.grep_session.specs.Kept.{AreMatching, IsKept, IsFileKept, SearchesAllKept, kept_lines, span_places}
+use Rattle.grep_core.specs.Matchers.{AreMatchers}
 use Rattle.grep_session.specs.Reading.{RefusesFirst}
 use Rattle.grep_session.specs.Touched.{TakesSteps, Touches, searched_by, parts_alone, all_lines, pairs_cost, NeedsNoMemory, is_of_output}
 

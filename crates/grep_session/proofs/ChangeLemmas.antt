@@ -31,7 +31,8 @@ use Rattle.grep_session.proofs.ColumnLemmas.{front_and_rest}
 use Rattle.grep_session.specs.Changed.{HasChanged, searched_for, ChangeCost, CostOfEach, SearchesEach, SearchesOne}
 use Rattle.grep_session.specs.Kept.{AreMatching, AddsMatching, ArePartsKept, IsKept, span_places}
 use Rattle.grep_session.specs.Touched.{PartsCostOf, PartsCost, pairs_cost}
-use Rattle.grep_session.proofs.FindingLemmas.{adds_both, parts_cost_exists, AreMatching-append}
+use Rattle.grep_session.proofs.FindingLemmas.{parts_cost_exists, AreMatching-append}
+use Rattle.grep_core.proofs.CostLaws.{adds_both}
 use Rattle.grep_session.proofs.SurvivingLemmas.{same_parts, found_matches, none_match, parts_survive}
 
 -- ---- the numbers of those that match

@@ -10,11 +10,13 @@ use Rattle.grep_core.specs.Meters.{Steps}
 use Rattle.grep_core.specs.declared.options.Options.{Options}
 use Rattle.grep_core.specs.Files.{File}
 use Rattle.grep_core.proofs.CostLaws.{adds_none, adds_within, same_length}
+use Rattle.grep_core.proofs.MatcherLemmas.{AllZip-append}
 use Rattle.grep_session.specs.declared.found.Found.{Found}
 use Rattle.grep_session.specs.Kept.{SearchesKept, SearchesAllKept}
 use Rattle.grep_session.specs.Found.{IsRight, AddsRight, lines_of_files}
 use Rattle.grep_session.specs.Touched.{pairs_cost}
-use Rattle.grep_session.proofs.FindingLemmas.{adds_both, parts_cost_exists, PartsCost-append, pairs_cost-append}
+use Rattle.grep_session.proofs.FindingLemmas.{parts_cost_exists, PartsCost-append, pairs_cost-append}
+use Rattle.grep_core.proofs.CostLaws.{adds_both}
 
 -- ---- lists by their first elements and the rest
 
@@ -33,13 +35,6 @@ module _ {X Y : Type 0} (f : X → Y) (xs : List X) (i : ℕ) (x : X) (h : i < l
   pub map_parted : map f (take i xs) ++ (f x ∷ map f (drop (suc i) xs)) ≡ map f xs
   map_parted =
       ap (λ y. map f (take i xs) ++ (f y ∷ map f (drop (suc i) xs))) is ∙ sym (map-append f (take i xs) (get_or xs i x ∷ drop (suc i) xs)) ∙ ap (λ l. map f (take i xs ++ l)) (sym (drop-cons xs i x h)) ∙ ap (map f) (front_and_rest i xs)
-
--- two lists, element by element, joined
-pub AllZip-append : {X Y : Type 0} (P : X → Y → Type 0) (xs vs : List X) (ys ws : List Y) → AllZip P xs ys → AllZip P vs ws → AllZip P (xs ++ vs) (ys ++ ws)
-AllZip-append P [] vs [] ws h k = k
-AllZip-append P [] vs (y ∷ ys) ws h k = absurd h
-AllZip-append P (x ∷ xs) vs [] ws h k = absurd h
-AllZip-append P (x ∷ xs) vs (y ∷ ys) ws h k = (h.0, AllZip-append P xs vs ys ws h.1 k)
 
 module _ (es : List Expression) (options : Options) where
   -- one more line

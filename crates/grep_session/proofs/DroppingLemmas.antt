@@ -21,7 +21,8 @@ use Rattle.re_syntax.specs.Expression.{Expression}
 use Rattle.re_syntax.specs.Holds.{Matches}
 use Rattle.grep_core.specs.Choose.{IfHolds}
 use Rattle.grep_session.specs.Dropping.{lowered, without}
-use Rattle.grep_session.specs.Kept.{AreMatching, AreMatchers, IsKept, span_places}
+use Rattle.grep_session.specs.Kept.{AreMatching, IsKept, span_places}
+use Rattle.grep_core.specs.Matchers.{AreMatchers}
 
 pub eq_same : (n : ℕ) → nat_eq n n ≡ true
 eq_same n = grind (arith, nat_tests)

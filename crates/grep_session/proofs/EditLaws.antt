@@ -18,7 +18,8 @@ use Rattle.grep_core.proofs.ChooseLaws.{same_value, IfHolds-both, Chosen-determi
 use Rattle.grep_core.proofs.LawsHold.{means_one, IsMeant-determined}
 use Rattle.grep_session.specs.declared.fault.EditFault.{EditFault}
 use Rattle.grep_session.specs.declared.fault.EditFault.TheVariants.{NoSuchFile, FileIsMissing, OutOfRange, LineHasNewline, NoSuchPattern, Pattern, TooManyPatterns, Memory}
-use Rattle.grep_session.specs.Edits.{Edit, AddFile, AddMissing, DropFile, Splice, AddPatterns, DropPattern, SetFlag, SetSyntax, Applies, Reads, IsFirstRefused}
+use Rattle.grep_session.specs.Edits.{Edit, AddFile, AddMissing, DropFile, Splice, AddPatterns, DropPattern, SetFlag, SetSyntax, Applies, Reads}
+use Rattle.grep_core.specs.Matchers.{IsFirstRefused}
 use Rattle.grep_session.specs.Laws.{AreAlike, EditsAreDetermined}
 use Rattle.grep_session.specs.Touched.{Touched, Touches, PartsCostOf, PartsCost, Costs, CostsAs, CostsAccepted, pairs_cost, parts_alone, all_lines}
 

@@ -13,7 +13,7 @@ use Rattle.grep_core.specs.Meters.{Steps}
 use Rattle.grep_core.specs.declared.options.Options.{Options}
 use Rattle.grep_core.specs.Choose.{IfHolds}
 use Rattle.grep_core.specs.Cost.{search_cost}
-use Rattle.grep_core.proofs.CostLaws.{adds_none, adds_once_more, adds_for_more, adds_within, same_length}
+use Rattle.grep_core.proofs.CostLaws.{adds_both, adds_none, adds_once_more, adds_for_more, adds_within, same_length}
 use Rattle.grep_session.specs.Kept.{AreMatching, AddsMatching, span_places, SearchesKept, SearchesAllKept}
 use Rattle.grep_session.specs.Touched.{PartsCostOf, PartsCost, pairs_cost}
 
@@ -50,10 +50,6 @@ module _ (line : Text) (entire : Bool) where
     are_found = subst (λ l. AreMatching line entire first l (a.found ++ b.found)) (sym both) (AreMatching-append first es fs a.found b.found a.are_found (subst (λ n. AreMatching line entire n fs b.found) place b.are_found));
     added = b.added ∙ ap (λ l. l ++ b.found) a.added ∙ append_assoc old a.found b.found;
   }
-
--- steps after steps
-pub adds_both : (first next : ℕ) (old mid new : Steps) → AddsAtMost first old mid → AddsAtMost next mid new → AddsAtMost (first + next) old new
-adds_both first next old mid new a b = record { built = omega (arith, a.built, b.built); reused = omega (arith, a.reused, b.reused); sum = omega (arith, a.sum, b.sum) }
 
 -- ---- the parts of a line
 

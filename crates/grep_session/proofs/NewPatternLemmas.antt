@@ -16,12 +16,13 @@ use Rattle.grep_core.specs.Files.{Inputs, AreMeant}
 use Rattle.grep_session.specs.declared.change.Change.TheVariants.{Added}
 use Rattle.grep_session.specs.declared.fault.EditFault.{EditFault}
 use Rattle.grep_session.specs.Changed.{ChangeCost, SearchesEach}
-use Rattle.grep_session.specs.Edits.{AddPatterns, EditGives, most_patterns, with_patterns}
-use Rattle.grep_session.specs.Kept.{AreMatchers}
+use Rattle.grep_session.specs.Edits.{AddPatterns, EditGives, with_patterns}
+use Rattle.grep_core.specs.Matchers.{most_patterns}
+use Rattle.grep_core.specs.Matchers.{AreMatchers}
 use Rattle.grep_session.specs.Reading.{RefusesFirst}
 use Rattle.grep_session.specs.Touched.{TakesSteps, all_lines, pairs_cost}
 use Rattle.grep_session.proofs.ChangeLemmas.{CostOfEach-sum}
-use Rattle.grep_session.proofs.ColumnLemmas.{AllZip-append}
+use Rattle.grep_core.proofs.MatcherLemmas.{AllZip-append}
 
 -- the first elements of two lists joined, and the others
 take_front : {X : Type 0} (xs ys : List X) → take (length xs) (xs ++ ys) ≡ xs

@@ -1,85 +1,40 @@
--- The matchers of patterns, one more at a time.
-use Rattle.std.proofs.Common.{◌≡◌, ℕ, ◌+◌, ◌<◌, List, [], ◌∷◌, ◌++◌, All, ◌⊎◌, inl, inr, length, map, take, get_or, refl, sym, ap, ◌∙◌, subst, arith}
-use Rattle.std.proofs.lemmas.List.{length_push, map-append}
-use Rattle.std.proofs.lemmas.List.Elements.{All-push}
-use Rattle.std.specs.List.{AllZip}
+-- Why a pattern is not read.
+use Rattle.std.proofs.Common.{◌≡◌, ℕ, List, ◌⊎◌, inl, inr, refl, ap, ◌∙◌, Bool}
 use Rattle.re_syntax.specs.declared.fault.FaultKind.{FaultKind}
 use Rattle.re_syntax.specs.declared.fault.FaultKind.TheVariants.{UnclosedBracket, BadClass, BadCollatingSymbol, BadRange, UnclosedGroup, UnopenedGroup, BadInterval, IntervalTooLarge, NothingToRepeat, TrailingBackslash, UndefinedEscape, BackReference, TooDeep, TooLarge, Memory as OutOfMemory}
 use Rattle.re_syntax.specs.declared.fault.PatternFault.{PatternFault}
 use Rattle.re_syntax.specs.declared.syntax.Syntax.{Syntax}
 use Rattle.re_syntax.specs.Bytes.{Text}
-use Rattle.re_syntax.specs.Spelled.{IsMeant}
-use Rattle.re_search.specs.declared.matcher.Matcher.{Matcher}
-use Rattle.re_search.specs.Reading.{matched_expression, wants_whole, IsSmallFor, IsReadable, IsRefusedFor, IsOutOfMemory}
-use Rattle.grep_core.specs.declared.options.Options.{Options}
+use Rattle.re_search.specs.Reading.{IsOutOfMemory}
+use Rattle.grep_core.specs.Matchers.{IsFirstRefused}
 use Rattle.grep_session.specs.declared.fault.EditFault.{EditFault}
 use Rattle.grep_session.specs.declared.fault.EditFault.TheVariants.{Pattern, Memory}
-use Rattle.grep_session.specs.Edits.{IsFirstRefused}
-use Rattle.grep_session.specs.Kept.{AreMatchers}
 use Rattle.grep_session.specs.Reading.{RefusesFirst, told_by, told_at}
-use Rattle.grep_session.proofs.ColumnLemmas.{AllZip-append}
 
--- what stands behind the elements of a list
-at_end : (ts : List Text) (t : Text) (rest : List Text) → (take (length ts) (ts ++ t ∷ rest) ≡ ts) × (get_or (ts ++ t ∷ rest) (length ts) [] ≡ t) × (length ts < length (ts ++ t ∷ rest))
-at_end [] t rest = (refl, refl, omega arith)
-at_end (u ∷ ts) t rest = let h = at_end ts t rest in (ap (λ l. u ∷ l) h.0, h.1, omega (arith, h.2))
+-- a kind of fault is want of memory, or one of the pattern
+told_either : (kind : FaultKind) (place : ℕ) (fault : PatternFault) → (told_by kind place fault ≡ Memory) ⊎ (told_by kind place fault ≡ Pattern place fault)
+told_either UnclosedBracket place fault = inr refl
+told_either BadClass place fault = inr refl
+told_either BadCollatingSymbol place fault = inr refl
+told_either BadRange place fault = inr refl
+told_either UnclosedGroup place fault = inr refl
+told_either UnopenedGroup place fault = inr refl
+told_either BadInterval place fault = inr refl
+told_either IntervalTooLarge place fault = inr refl
+told_either NothingToRepeat place fault = inr refl
+told_either TrailingBackslash place fault = inr refl
+told_either UndefinedEscape place fault = inr refl
+told_either BackReference place fault = inr refl
+told_either TooDeep place fault = inr refl
+told_either TooLarge place fault = inr refl
+told_either OutOfMemory place fault = inl refl
 
-module _ (syntax : Syntax) (options : Options) where
-  -- no pattern was read yet
-  pub AreMatchers-none : (texts : List Text) (matchers : List Matcher) → texts ≡ [] → matchers ≡ [] → AreMatchers syntax options texts matchers
-  AreMatchers-none texts matchers e f =
-      subst (λ ts. AreMatchers syntax options ts matchers) (sym e) (subst (AreMatchers syntax options []) (sym f) (record { meant = tt; wholes = λ i d h. absurd (let false : ⊥ = omega (arith, h) in false); readable = λ i d h. absurd (let false : ⊥ = omega (arith, h) in false); counted = refl }))
-
-  module _ (texts : List Text) (matchers : List Matcher) (text : Text) (s : AreMatchers syntax options texts matchers) where
-    -- one more was read
-    pub AreMatchers-push : (all : List Text) (new : List Matcher) (m : Matcher) → all ≡ texts ++ text ∷ [] → new ≡ matchers ++ m ∷ [] → IsMeant syntax options.ignore_case text (matched_expression m) → wants_whole m ≡ options.line_regexp → IsSmallFor syntax options.ignore_case (matched_expression m)
-        → AreMatchers syntax options all new
-    AreMatchers-push all new m both pushed meant whole small =
-        subst (λ ts. AreMatchers syntax options ts new) (sym both) (subst (AreMatchers syntax options (texts ++ text ∷ [])) (sym pushed) (record {
-          meant =
-              subst (AllZip (λ t e. IsMeant syntax options.ignore_case t e) (texts ++ text ∷ [])) (sym (map-append matched_expression matchers (m ∷ [])))
-              (AllZip-append (λ t e. IsMeant syntax options.ignore_case t e) texts (text ∷ []) (map matched_expression matchers) (matched_expression m ∷ []) s.meant (meant, tt));
-          wholes = subst (All (λ w. w ≡ options.line_regexp)) (sym (map-append wants_whole matchers (m ∷ []))) (All-push (λ w. w ≡ options.line_regexp) (map wants_whole matchers) (wants_whole m) s.wholes whole);
-          readable = All-push (IsReadable syntax options.ignore_case) texts text s.readable (matched_expression m, meant, small);
-          counted = length_push matchers m ∙ ap (λ n. n + 1) s.counted ∙ sym (length_push texts text);
-        }))
-
-    -- the next is refused
-    refused_next : (rest all : List Text) → texts ++ (text ∷ rest) ≡ all → (fault : PatternFault) → IsRefusedFor syntax options.ignore_case text fault → (IsReadable syntax options.ignore_case text → ⊥)
-        → IsFirstRefused syntax options.ignore_case all (length matchers) fault
-    refused_next rest all is fault shown none =
-        let h = at_end texts text rest in
-        subst (λ l. IsFirstRefused syntax options.ignore_case l (length matchers) fault) is (subst (λ n. IsFirstRefused syntax options.ignore_case (texts ++ text ∷ rest) n fault) (sym s.counted) (record {
-          in_texts = h.2;
-          readable_before = subst (All (IsReadable syntax options.ignore_case)) (sym h.0) s.readable;
-          unreadable = λ r. none (subst (IsReadable syntax options.ignore_case) h.1 r);
-          shown = subst (λ t. IsRefusedFor syntax options.ignore_case t fault) (sym h.1) shown;
-        }))
-
-    told_either : (kind : FaultKind) (place : ℕ) (fault : PatternFault) → (told_by kind place fault ≡ Memory) ⊎ (told_by kind place fault ≡ Pattern place fault)
-    told_either UnclosedBracket place fault = inr refl
-    told_either BadClass place fault = inr refl
-    told_either BadCollatingSymbol place fault = inr refl
-    told_either BadRange place fault = inr refl
-    told_either UnclosedGroup place fault = inr refl
-    told_either UnopenedGroup place fault = inr refl
-    told_either BadInterval place fault = inr refl
-    told_either IntervalTooLarge place fault = inr refl
-    told_either NothingToRepeat place fault = inr refl
-    told_either TrailingBackslash place fault = inr refl
-    told_either UndefinedEscape place fault = inr refl
-    told_either BackReference place fault = inr refl
-    told_either TooDeep place fault = inr refl
-    told_either TooLarge place fault = inr refl
-    told_either OutOfMemory place fault = inl refl
-
-    -- the next is refused, or memory ran out
-    pub refused_or_memory : (rest all : List Text) → texts ++ (text ∷ rest) ≡ all → (fault : PatternFault) → IsOutOfMemory fault ⊎ IsRefusedFor syntax options.ignore_case text fault
-        → IsOutOfMemory fault ⊎ (IsReadable syntax options.ignore_case text → ⊥) → (place : ℕ) → length matchers ≡ place → (told : EditFault) → told ≡ told_at place fault → RefusesFirst syntax options.ignore_case all told
-    refused_or_memory rest all is fault (inl memory) none place at told e = inl (e ∙ ap (told_at place) memory)
-    refused_or_memory rest all is fault (inr shown) (inl memory) place at told e = inl (e ∙ ap (told_at place) memory)
-    refused_or_memory rest all is fault (inr shown) (inr none) place at told e =
-        elim (told_either fault.kind place fault) [
-          | inl memory ↦ inl (e ∙ memory)
-          | inr pattern ↦ inr (place, fault, subst (λ n. IsFirstRefused syntax options.ignore_case all n fault) at (refused_next rest all is fault shown none), e ∙ pattern)
-        ]
+-- the next is refused, or memory ran out
+pub told_refused : (syntax : Syntax) (fold : Bool) (texts : List Text) (place : ℕ) (fault : PatternFault) (told : EditFault) → told ≡ told_at place fault → IsOutOfMemory fault ⊎ IsFirstRefused syntax fold texts place fault
+    → RefusesFirst syntax fold texts told
+told_refused syntax fold texts place fault told e (inl memory) = inl (e ∙ ap (told_at place) memory)
+told_refused syntax fold texts place fault told e (inr first) =
+    elim (told_either fault.kind place fault) [
+      | inl memory ↦ inl (e ∙ memory)
+      | inr pattern ↦ inr (place, fault, first, e ∙ pattern)
+    ]

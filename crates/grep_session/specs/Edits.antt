@@ -11,6 +11,7 @@ use Rattle.grep_core.specs.declared.options.Flag.TheVariants.{Count, IgnoreCase,
 use Rattle.grep_core.specs.declared.options.Options.{Options}
 use Rattle.grep_core.specs.Choose.{IfHolds}
 use Rattle.grep_core.specs.Files.{File, Inputs, whole, missing}
+use Rattle.grep_core.specs.Matchers.{IsFirstRefused, most_patterns}
 use Rattle.grep_core.specs.Run.{file_at}
 use Rattle.grep_session.specs.declared.fault.EditFault.{EditFault}
 use Rattle.grep_session.specs.declared.fault.EditFault.TheVariants.{NoSuchFile, FileIsMissing, OutOfRange, LineHasNewline, NoSuchPattern, Pattern, TooManyPatterns, Memory}
@@ -29,9 +30,6 @@ pub data Edit : Type 0 where
   DropPattern : ℕ → Edit
   SetFlag : Flag → Bool → Edit
   SetSyntax : Syntax → Edit
-
-abbrev pub most_patterns : ℕ
-most_patterns = 65535
 
 -- an option's value
 abbrev pub option_of : Flag → Options → Bool
@@ -73,13 +71,6 @@ with_patterns patterns old = record old { patterns = patterns }
 -- the files, in one of which so many lines from a first on gave way to others
 abbrev pub spliced : List File → ℕ → ℕ → ℕ → List Text → List File
 spliced files k start count lines = slice_set files k (record (file_at files k) { lines = splice (file_at files k).lines start (start + count) lines })
-
--- the first text that is not readable, and what shows it
-pub record IsFirstRefused (syntax : Syntax) (fold : Bool) (texts : List Text) (place : ℕ) (fault : PatternFault) : Type 0 where
-  pub in_texts : place < length texts
-  pub readable_before : All (IsReadable syntax fold) (take place texts)
-  pub unreadable : IsReadable syntax fold (get_or texts place []) → ⊥
-  pub shown : IsRefusedFor syntax fold (get_or texts place []) fault
 
 -- the new inputs where all texts are readable; else the first that is not is told
 abbrev pub Reads : Syntax → Bool → List Text → Inputs → Result Inputs EditFault → Type 0

@@ -77,10 +77,3 @@ file_with name (Some lines) = record { name = name; lines = map line_text lines;
 
 abbrev pub kept_file : KeptFile → File
 kept_file file = file_with file.name.items (kept_lines file)
-
--- one matcher for each pattern, each of which is readable
-pub record AreMatchers (syntax : Syntax) (options : Options) (texts : List Text) (matchers : List Matcher) : Type 0 where
-  pub meant : AreMeant syntax options texts (map matched_expression matchers)
-  pub wholes : AllAnswer options.line_regexp (map wants_whole matchers)
-  pub readable : All (IsReadable syntax options.ignore_case) texts
-  pub counted : length matchers ≡ length texts

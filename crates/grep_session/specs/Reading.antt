@@ -7,7 +7,7 @@ use Rattle.re_syntax.specs.declared.syntax.Syntax.{Syntax}
 use Rattle.re_syntax.specs.Bytes.{Text}
 use Rattle.grep_session.specs.declared.fault.EditFault.{EditFault}
 use Rattle.grep_session.specs.declared.fault.EditFault.TheVariants.{Pattern, Memory}
-use Rattle.grep_session.specs.Edits.{IsFirstRefused}
+use Rattle.grep_core.specs.Matchers.{IsFirstRefused}
 
 -- what is told of a pattern's fault; want of memory is none of the pattern
 abbrev pub told_by : FaultKind → ℕ → PatternFault → EditFault

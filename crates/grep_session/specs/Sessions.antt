@@ -5,8 +5,9 @@ use Rattle.re_search.specs.Reading.{matched_expression}
 use Rattle.grep_core.specs.declared.options.Options.{Options}
 use Rattle.grep_core.specs.Files.{Inputs}
 use Rattle.grep_session.specs.declared.session.Session.TheInside.{Inside}
-use Rattle.grep_session.specs.Edits.{most_patterns}
-use Rattle.grep_session.specs.Kept.{AreMatchers, IsFileKept, kept_file}
+use Rattle.grep_core.specs.Matchers.{most_patterns}
+use Rattle.grep_session.specs.Kept.{IsFileKept, kept_file}
+use Rattle.grep_core.specs.Matchers.{AreMatchers}
 
 abbrev pub inputs_of : Inside → Inputs
 inputs_of s = record { syntax = s.syntax; options = s.options; patterns = map (λ text. text.items) s.texts.items; files = map kept_file s.files.items }

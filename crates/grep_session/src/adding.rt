@@ -2,7 +2,7 @@
 ghost use Rattle.std.specs.Prelude.{◌≡◌, ◌-◌, ◌≤◌, length, map, drop, IfOk};
 ghost use Rattle.re_search.specs.Searching.{AllAnswer, AddsAtMost};
 ghost use Rattle.grep_core.specs.Cost.{search_cost};
-ghost use Rattle.grep_session.specs.Edits.{most_patterns};
+ghost use Rattle.grep_core.specs.Matchers.{most_patterns};
 ghost use Rattle.grep_session.specs.Kept.{AddsMatching};
 
 use crate::finding::add_matching;

@@ -7,7 +7,7 @@ ghost use Rattle.re_search.specs.Reading.{matched_expression, wants_whole};
 ghost use Rattle.re_search.specs.Searching.{AllAnswer, AddsAtMost};
 ghost use Rattle.grep_session.specs.declared.change.Change.TheVariants.{Added, Dropped};
 ghost use Rattle.grep_session.specs.Changed.{HasChanged, IsWithin, ChangeCost, SearchesEach, SearchesOne};
-ghost use Rattle.grep_session.specs.Edits.{most_patterns};
+ghost use Rattle.grep_core.specs.Matchers.{most_patterns};
 ghost use Rattle.grep_session.specs.Found.{IsRight, AddsRight, lines_of_files};
 ghost use Rattle.grep_session.specs.Kept.{IsKept, IsFileKept, ArePartsKept, kept_file, kept_lines, line_text};
 ghost use Rattle.grep_session.specs.Touched.{PartsCostOf};

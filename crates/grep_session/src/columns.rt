@@ -3,7 +3,7 @@ ghost use Rattle.std.specs.Prelude.{◌≡◌, ◌≤◌, ◌++◌, List, [], le
 ghost use Rattle.std.specs.List.{AllZip};
 ghost use Rattle.re_search.specs.Reading.{matched_expression, wants_whole};
 ghost use Rattle.re_search.specs.Searching.{AllAnswer};
-ghost use Rattle.grep_session.specs.Edits.{most_patterns};
+ghost use Rattle.grep_core.specs.Matchers.{most_patterns};
 ghost use Rattle.grep_session.specs.Found.{IsRight, IsReady, AddsRight, lines_of_files};
 ghost use Rattle.grep_session.specs.Kept.{SearchesKept, SearchesAllKept, kept_file, kept_lines, line_text};
 

@@ -4,13 +4,13 @@ ghost use Rattle.re_search.specs.Reading.{matched_expression, wants_whole};
 ghost use Rattle.re_search.specs.Searching.{AllAnswer, AddsAtMost, FindsPart};
 ghost use Rattle.re_syntax.specs.Parts.{AreParts};
 ghost use Rattle.grep_core.specs.Cost.{search_cost};
-ghost use Rattle.grep_session.specs.Edits.{most_patterns};
+ghost use Rattle.grep_core.specs.Matchers.{most_patterns};
 ghost use Rattle.grep_session.specs.Kept.{AddsMatching, IsKept, SearchesKept, SearchesAllKept, span_places, line_text, ArePartsKept};
 ghost use Rattle.grep_session.specs.Touched.{PartsCostOf};
 
 use crate::kept::KeptLine;
-use grep_core::Options;
-use re_search::{LineMatch, Matcher, Meter, Span, parts};
+use grep_core::{Options, next_part};
+use re_search::{LineMatch, Matcher, Meter, Span};
 use std::alloc::{AllocError, Global};
 
 /// Adds the matcher's number where it matches the line.
@@ -60,26 +60,6 @@ pub fn add_matching<M: LineMatch>(
     Ok(())
 }
 
-/// The next part of the line that begins at `from` or later.
-fn next_part<M: LineMatch>(
-    matchers: &mut [M],
-    options: &Options,
-    line: &[u8],
-    from: usize,
-    meter: &mut Meter,
-) -> Option<Span>
-    requires within { from ≤ length line.now }
-    requires whole { AllAnswer options.now.line_regexp (map M.whole matchers.old) }
-    ensures told { FindsPart (map M.expression matchers.old) line.now options.now.line_regexp from result }
-    ensures bounds { IfSome result (λ part. (part.start < part.end) × (part.end ≤ length line.now)) }
-    ensures ahead { IfSome result (λ part. from ≤ part.start) }
-    ensures same_expressions { map M.expression matchers.new ≡ map M.expression matchers.old }
-    ensures same_wholes { map M.whole matchers.new ≡ map M.whole matchers.old }
-    ensures steps { AddsAtMost (search_cost (length matchers.old) line.now) meter.old meter.new }
-{
-    parts(matchers, line, from, meter)
-}
-
 /// Adds the parts of the line.
 fn add_parts<M: LineMatch>(
     matchers: &mut [M],
@@ -97,7 +77,7 @@ fn add_parts<M: LineMatch>(
     ensures steps { (own : ℕ) × PartsCostOf (map M.expression matchers.old) options.now line.now own × AddsAtMost own meter.old meter.new }
 {
     let mut from = 0;
-    while let Some(part) = next_part(matchers, options, line, from, meter) {
+    while let Some(part) = next_part(matchers, *options, line, from, meter) {
         spans.push(part)?;
         from = part.end;
     }

@@ -1,7 +1,7 @@
 //! The texts of a pattern list, and their place in a session.
-ghost use Rattle.std.specs.Prelude.{◌≡◌, ◌≤◌, ◌<◌, ◌+◌, ◌++◌, ◌∷◌, [], map, vec_len, vec_capacity, MatchBool, IfOk, OnErr};
+ghost use Rattle.std.specs.Prelude.{◌≡◌, ◌≤◌, ◌<◌, ◌+◌, ◌++◌, ◌∷◌, [], length, map, vec_len, vec_capacity, MatchBool, IfOk, OnErr};
 ghost use Rattle.re_syntax.specs.Lines.{list_of};
-ghost use Rattle.grep_session.specs.Edits.{most_patterns};
+ghost use Rattle.grep_core.specs.Matchers.{most_patterns};
 
 use re_search::Matcher;
 use re_syntax::split_list;
@@ -27,12 +27,16 @@ pub fn texts_of(alloc: Global, list: &[u8]) -> Result<Vec<Vec<u8>>, AllocError>
     Ok(texts)
 }
 
-/// Whether there would be more patterns than a session may have.
-pub fn too_many(old: usize, more: usize) -> bool
+/// How many patterns a session may have.
+const MOST_PATTERNS: usize = 65535;
+
+/// Whether a session of so many patterns would have too many with those of a list. No text is
+/// copied.
+pub fn too_many(old: usize, list: &[u8]) -> bool
     requires { old ≤ most_patterns }
-    ensures { MatchBool result (most_patterns < old + more) (old + more ≤ most_patterns) }
+    ensures { MatchBool result (most_patterns < old + length (list_of list.now)) (old + length (list_of list.now) ≤ most_patterns) }
 {
-    more > 65535 - old
+    split_list(list).nth(MOST_PATTERNS - old).is_some()
 }
 
 /// Makes room for texts.

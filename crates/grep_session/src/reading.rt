@@ -1,6 +1,6 @@
 //! The matchers of patterns.
 ghost use Rattle.std.specs.Prelude.{◌≡◌, ◌≤◌, ◌⊎◌, ◌++◌, ◌∷◌, [], map, IfOk, IfErr};
-ghost use Rattle.grep_session.specs.Kept.{AreMatchers};
+ghost use Rattle.grep_core.specs.Matchers.{AreMatchers};
 ghost use Rattle.grep_session.specs.Reading.{RefusesFirst, told_at};
 
 use crate::fault::EditFault;

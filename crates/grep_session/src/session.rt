@@ -77,7 +77,7 @@ impl Session {
     /// `EditFault::NoSuchFile`.
     pub fn drop_file(&mut self, k: usize) -> Result<(), EditFault>
         ensures gives { EditGives (DropFile k) self.old self.new result }
-        ensures memory { IfErr result (λ fault. fault ≢ Memory) }
+        ensures memory { NeedsNoMemory (DropFile k) self.old → IfErr result (λ fault. fault ≢ Memory) }
     {
         if k >= self.files.len() {
             return Err(EditFault::NoSuchFile);
@@ -93,6 +93,7 @@ impl Session {
     /// `EditFault::Memory`.
     pub fn add_missing(&mut self, name: Vec<u8>) -> Result<(), EditFault>
         ensures gives { EditGives (AddMissing name.items) self.old self.new result }
+        ensures memory { NeedsNoMemory (AddMissing name.items) self.old → IfErr result (λ fault. fault ≢ Memory) }
     {
         let file = KeptFile { name, lines: None };
         match push_file(&mut self.files, file) {
@@ -115,6 +116,7 @@ impl Session {
     ) -> Result<(), EditFault>
         ensures gives { EditGives (AddFile name.items (map (λ line. line.items) lines.items)) self.old self.new result }
         ensures steps { TakesSteps (AddFile name.items (map (λ line. line.items) lines.items)) self.old meter.old meter.new }
+        ensures memory { NeedsNoMemory (AddFile name.items (map (λ line. line.items) lines.items)) self.old → IfErr result (λ fault. fault ≢ Memory) }
     {
         if any_newline(&lines) {
             return Err(EditFault::LineHasNewline);
@@ -151,7 +153,7 @@ impl Session {
     ) -> Result<(), EditFault>
         ensures gives { EditGives (Splice k start count (map (λ line. line.items) lines.items)) self.old self.new result }
         ensures steps { TakesSteps (Splice k start count (map (λ line. line.items) lines.items)) self.old meter.old meter.new }
-        ensures memory { lines.items ≡ [] → IfErr result (λ fault. fault ≢ Memory) }
+        ensures memory { NeedsNoMemory (Splice k start count (map (λ line. line.items) lines.items)) self.old → IfErr result (λ fault. fault ≢ Memory) }
     {
         match find_place(&self.files, k, start, count) {
             Ok(()) => {}
@@ -210,7 +212,7 @@ impl Session {
     pub fn set_syntax(&mut self, syntax: Syntax, meter: &mut Meter) -> Result<(), EditFault>
         ensures gives { EditGives (SetSyntax syntax) self.old self.new result }
         ensures steps { TakesSteps (SetSyntax syntax) self.old meter.old meter.new }
-        ensures memory { syntax ≡ self.old.syntax → IfErr result (λ fault. fault ≢ Memory) }
+        ensures memory { NeedsNoMemory (SetSyntax syntax) self.old → IfErr result (λ fault. fault ≢ Memory) }
     {
         if is_same(syntax, self.syntax) {
             return Ok(());
@@ -285,14 +287,15 @@ impl Session {
     pub fn add_patterns(&mut self, list: &[u8], meter: &mut Meter) -> Result<(), EditFault>
         ensures gives { EditGives (AddPatterns list.now) self.old self.new result }
         ensures steps { TakesSteps (AddPatterns list.now) self.old meter.old meter.new }
+        ensures memory { NeedsNoMemory (AddPatterns list.now) self.old → IfErr result (λ fault. fault ≢ Memory) }
     {
+        if too_many(self.matchers.len(), list) {
+            return Err(EditFault::TooManyPatterns);
+        }
         let texts = match texts_of(self.alloc, list) {
             Ok(texts) => texts,
             Err(_) => return Err(EditFault::Memory),
         };
-        if too_many(self.matchers.len(), texts.len()) {
-            return Err(EditFault::TooManyPatterns);
-        }
         let matchers = match read_matchers(
             self.alloc, &texts, self.syntax, &self.options, self.states,
         ) {

@@ -1,7 +1,6 @@
-use Rattle.std.proofs.Common.{◌≡◌, rules, [], ◌∷◌, ◌++◌, length, sym, ap, ◌∙◌, subst, append_assoc}
+use Rattle.std.proofs.Common.{◌≡◌, rules, [], ◌∷◌, ◌++◌, length, refl, sym, ap, ◌∙◌, append_assoc}
 use Rattle.re_syntax.specs.Lines.{lines_of}
-use Rattle.grep_cmd.specs.Matchers.{AreMatchers}
-use Rattle.grep_cmd.proofs.MatcherLemmas.{AreMatchers-push, refused_or_memory}
+use Rattle.grep_core.proofs.MatcherLemmas.{AreMatchers-push, refused_or_memory}
 use Rattle.grep_cmd.proofs.matchers.matchers_of.Goals as goal
 
 pub returns-in-Err-clause-err : goal.returns-in-Err-clause-err
@@ -17,5 +16,6 @@ loop-text-preserved c =
     let s = c.loop-text.invariant in
     let text = c.in-Some.text.now in
     let left = append_assoc s.2 (text ∷ []) c.next.new.self ∙ ap (λ l. s.2 ++ l) (sym c.in-Some.ensures.steps) ∙ s.3 in
-    let more = AreMatchers-push c.args.syntax c.args.options.now s.2 c.loop-text.matchers.items text s.4 c.in-Ok.matcher c.in-Ok.ensures.meant c.in-Ok.ensures.whole c.in-Ok.ensures.small in
-    (tt, tt, s.2 ++ text ∷ [], left, subst (AreMatchers c.args.syntax c.args.options.now (s.2 ++ text ∷ [])) (sym c.in-Ok-add_matcher.ensures) more)
+    let all = s.2 ++ text ∷ [] in
+    let more = AreMatchers-push c.args.syntax c.args.options.now s.2 c.loop-text.matchers.items text s.4 all _ c.in-Ok.matcher refl c.in-Ok-add_matcher.ensures c.in-Ok.ensures.meant c.in-Ok.ensures.whole c.in-Ok.ensures.small in
+    (tt, tt, all, left, more)

@@ -1,7 +1,10 @@
 use Rattle.std.proofs.Common.{◌≡◌, length, map, take, refl, take_all, subst, arith}
-use Rattle.grep_session.specs.Kept.{AreMatchers}
+use Rattle.grep_core.specs.Matchers.{AreMatchers}
 use Rattle.grep_session.proofs.ColumnLemmas.{map_next, map_parted}
-use Rattle.grep_session.proofs.ReadingLemmas.{AreMatchers-none, AreMatchers-push, refused_or_memory}
+use Rattle.grep_core.proofs.MatcherLemmas.{refused_or_memory}
+use Rattle.grep_session.proofs.ReadingLemmas.{told_refused}
+use Rattle.grep_core.proofs.MatcherLemmas.{AreMatchers-push}
+use Rattle.grep_core.proofs.MatcherLemmas.{AreMatchers-none}
 use Rattle.grep_session.proofs.reading.read_matchers.Goals as goal
 
 pub loop-text-init : goal.loop-text-init
@@ -19,7 +22,8 @@ returns-in-Err-clause-err c =
     let refused = rw c.deref.ensures.value at c.in-Err.ensures.refused in
     let unreadable = rw c.deref.ensures.value at c.in-Err.ensures.unreadable in
     let place : length c.loop-text.matchers.items ≡ c.len.result = omega (arith, c.len.ensures, c.loop-text.matchers.ok.0) in
-    refused_or_memory c.args.syntax c.args.options.now _ c.loop-text.matchers.items c.text-item.result.items c.loop-text.invariant _ _ parted c.in-Err.fault refused unreadable c.len.result place c.fault_at.result c.fault_at.ensures
+    let first = refused_or_memory c.args.syntax c.args.options.now _ c.loop-text.matchers.items c.text-item.result.items c.loop-text.invariant _ _ parted c.in-Err.fault refused unreadable c.len.result place in
+    told_refused c.args.syntax c.args.options.now.ignore_case _ c.len.result c.in-Err.fault c.fault_at.result c.fault_at.ensures first
 
 pub returns-clause-ok : goal.returns-clause-ok
 returns-clause-ok c =

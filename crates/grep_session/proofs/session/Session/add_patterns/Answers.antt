@@ -7,9 +7,11 @@ use Rattle.grep_core.specs.Files.{AreMeant}
 use Rattle.grep_core.proofs.CostLaws.{same_length}
 use Rattle.grep_session.specs.declared.change.Change.TheVariants.{Added}
 use Rattle.grep_session.specs.Changed.{HasChanged}
-use Rattle.grep_session.specs.Edits.{AddPatterns, EditGives, most_patterns}
+use Rattle.grep_session.specs.Edits.{AddPatterns, EditGives}
+use Rattle.grep_core.specs.Matchers.{most_patterns}
 use Rattle.grep_session.specs.Found.{IsRight, lines_of_files}
-use Rattle.grep_session.specs.Kept.{AreMatchers, IsFileKept, kept_file}
+use Rattle.grep_session.specs.Kept.{IsFileKept, kept_file}
+use Rattle.grep_core.specs.Matchers.{AreMatchers}
 use Rattle.grep_session.specs.Reading.{RefusesFirst}
 use Rattle.grep_session.specs.Sessions.{inputs_of}
 use Rattle.grep_session.proofs.EditLemmas.{AreMatchers-same}
@@ -25,7 +27,7 @@ returns-in-Err-read_matchers-clause-gives c =
     let texts = c.in-Ok.texts.items in
     let is_list : map (λ text. text.items) texts ≡ list_of list = c.in-Ok.ensures in
     let many : length (list_of list) ≡ length texts = sym (ap length is_list) ∙ length-map texts (λ text. text.items) in
-    let bound : length s.matchers.items + length texts ≤ most_patterns = omega (arith, c.if-too_many.ensures, c.len.ensures, c.len-2.ensures, s.matchers.ok.0, c.in-Ok.texts.ok.0) in
+    let bound : length s.matchers.items + length texts ≤ most_patterns = omega (arith, c.if-too_many.ensures, c.len.ensures, s.matchers.ok.0, many) in
     let few : most_patterns < length old.patterns + length (list_of list) → ⊥ = λ h. let false : ⊥ = omega (arith, h, bound, many, counted, length-map s.texts.items (λ text. text.items)) in false in
     let refused = rw c.deref.ensures.value at c.in-Err-read_matchers.ensures.err in
     let told = subst (λ ts. RefusesFirst s.syntax s.options.ignore_case ts c.in-Err-read_matchers.fault) is_list refused in
@@ -60,7 +62,7 @@ returns-in-Err-change_columns-clause-steps c =
     let texts = c.in-Ok.texts.items in
     let is_list : map (λ text. text.items) texts ≡ list_of list = c.in-Ok.ensures in
     let many : length (list_of list) ≡ length texts = sym (ap length is_list) ∙ length-map texts (λ text. text.items) in
-    let bound : length s.matchers.items + length texts ≤ most_patterns = omega (arith, c.if-too_many.ensures, c.len.ensures, c.len-2.ensures, s.matchers.ok.0, c.in-Ok.texts.ok.0) in
+    let bound : length s.matchers.items + length texts ≤ most_patterns = omega (arith, c.if-too_many.ensures, c.len.ensures, s.matchers.ok.0, many) in
     let few : most_patterns < length old.patterns + length (list_of list) → ⊥ = λ h. let false : ⊥ = omega (arith, h, bound, many, counted, length-map s.texts.items (λ text. text.items)) in false in
     let before = map matched_expression s.matchers.items in
     let more = c.in-Ok-read_matchers.matchers.items in
@@ -86,7 +88,7 @@ returns-clause-steps c =
     let texts = c.in-Ok.texts.items in
     let is_list : map (λ text. text.items) texts ≡ list_of list = c.in-Ok.ensures in
     let many : length (list_of list) ≡ length texts = sym (ap length is_list) ∙ length-map texts (λ text. text.items) in
-    let bound : length s.matchers.items + length texts ≤ most_patterns = omega (arith, c.if-too_many.ensures, c.len.ensures, c.len-2.ensures, s.matchers.ok.0, c.in-Ok.texts.ok.0) in
+    let bound : length s.matchers.items + length texts ≤ most_patterns = omega (arith, c.if-too_many.ensures, c.len.ensures, s.matchers.ok.0, many) in
     let few : most_patterns < length old.patterns + length (list_of list) → ⊥ = λ h. let false : ⊥ = omega (arith, h, bound, many, counted, length-map s.texts.items (λ text. text.items)) in false in
     let before = map matched_expression s.matchers.items in
     let more = c.in-Ok-read_matchers.matchers.items in
@@ -112,7 +114,7 @@ invariant_of-self-2 c =
     let texts = c.in-Ok.texts.items in
     let is_list : map (λ text. text.items) texts ≡ list_of list = c.in-Ok.ensures in
     let many : length (list_of list) ≡ length texts = sym (ap length is_list) ∙ length-map texts (λ text. text.items) in
-    let bound : length s.matchers.items + length texts ≤ most_patterns = omega (arith, c.if-too_many.ensures, c.len.ensures, c.len-2.ensures, s.matchers.ok.0, c.in-Ok.texts.ok.0) in
+    let bound : length s.matchers.items + length texts ≤ most_patterns = omega (arith, c.if-too_many.ensures, c.len.ensures, s.matchers.ok.0, many) in
     let few : most_patterns < length old.patterns + length (list_of list) → ⊥ = λ h. let false : ⊥ = omega (arith, h, bound, many, counted, length-map s.texts.items (λ text. text.items)) in false in
     let before = map matched_expression s.matchers.items in
     let more = c.in-Ok-read_matchers.matchers.items in
@@ -147,7 +149,7 @@ returns-clause-gives c =
     let texts = c.in-Ok.texts.items in
     let is_list : map (λ text. text.items) texts ≡ list_of list = c.in-Ok.ensures in
     let many : length (list_of list) ≡ length texts = sym (ap length is_list) ∙ length-map texts (λ text. text.items) in
-    let bound : length s.matchers.items + length texts ≤ most_patterns = omega (arith, c.if-too_many.ensures, c.len.ensures, c.len-2.ensures, s.matchers.ok.0, c.in-Ok.texts.ok.0) in
+    let bound : length s.matchers.items + length texts ≤ most_patterns = omega (arith, c.if-too_many.ensures, c.len.ensures, s.matchers.ok.0, many) in
     let few : most_patterns < length old.patterns + length (list_of list) → ⊥ = λ h. let false : ⊥ = omega (arith, h, bound, many, counted, length-map s.texts.items (λ text. text.items)) in false in
     let made = rw c.deref.ensures.value at c.in-Ok-read_matchers.ensures.ok in
     let readable = subst (All (IsReadable s.syntax s.options.ignore_case)) is_list made.readable in

@@ -7,7 +7,7 @@ use Rattle.grep_core.specs.Files.{Inputs}
 use Rattle.grep_core.proofs.CostLaws.{same_length}
 use Rattle.grep_session.specs.declared.change.Change.TheVariants.{Dropped}
 use Rattle.grep_session.specs.Changed.{HasChanged}
-use Rattle.grep_session.specs.Edits.{most_patterns}
+use Rattle.grep_core.specs.Matchers.{most_patterns}
 use Rattle.grep_session.specs.Found.{IsRight, lines_of_files}
 use Rattle.grep_session.specs.Kept.{IsFileKept, kept_file}
 use Rattle.grep_session.specs.Sessions.{inputs_of}

@@ -2,7 +2,7 @@ use Rattle.std.proofs.Common.{◌≡◌, ◌+◌, ◌≤◌, ◌<◌, length, ma
 use Rattle.std.proofs.lemmas.List.{length-map}
 use Rattle.re_search.specs.Reading.{matched_expression}
 use Rattle.grep_core.specs.Files.{Inputs}
-use Rattle.grep_session.specs.Edits.{most_patterns}
+use Rattle.grep_core.specs.Matchers.{most_patterns}
 use Rattle.grep_session.specs.Kept.{IsFileKept}
 use Rattle.grep_session.proofs.SessionLemmas.{map-remove}
 use Rattle.grep_session.proofs.DroppingLemmas.{AreMatchers-remove}

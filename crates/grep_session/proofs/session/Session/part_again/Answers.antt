@@ -5,7 +5,7 @@ use Rattle.re_search.specs.Searching.{AllAnswer}
 use Rattle.grep_core.specs.Files.{Inputs}
 use Rattle.grep_core.proofs.CostLaws.{same_length}
 use Rattle.grep_session.specs.Again.{read_as}
-use Rattle.grep_session.specs.Edits.{most_patterns}
+use Rattle.grep_core.specs.Matchers.{most_patterns}
 use Rattle.grep_session.specs.Found.{IsRight, lines_of_files}
 use Rattle.grep_session.specs.Kept.{kept_file}
 use Rattle.grep_session.specs.Sessions.{inputs_of}

@@ -2,7 +2,8 @@ use Rattle.std.proofs.Common.{◌≡◌, ◌≤◌, Ok, IfSome, map, refl, sym, 
 use Rattle.re_search.specs.Reading.{matched_expression}
 use Rattle.grep_core.proofs.CostLaws.{same_length}
 use Rattle.grep_session.specs.declared.kept.KeptFile.{KeptFile}
-use Rattle.grep_session.specs.Edits.{Splice, Applies, most_patterns, spliced, with_files}
+use Rattle.grep_session.specs.Edits.{Splice, Applies, spliced, with_files}
+use Rattle.grep_core.specs.Matchers.{most_patterns}
 use Rattle.grep_session.specs.Kept.{IsKept, IsFileKept, kept_lines}
 use Rattle.grep_session.specs.Sessions.{inputs_of}
 use Rattle.grep_session.proofs.EditLemmas.{AreMatchers-same, takes_lines, applies_splice, in_kept, put, kept_put, files_put, files_same, files_kept}

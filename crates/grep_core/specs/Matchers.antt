@@ -1,4 +1,4 @@
--- The matchers of a request's patterns, and the first pattern that has none.
+-- The matchers of patterns, and the first pattern that has none.
 use Rattle.std.specs.Prelude.{◌≡◌, ℕ, ◌<◌, Bool, List, [], length, map, take, get_or, All}
 use Rattle.re_syntax.specs.declared.fault.PatternFault.{PatternFault}
 use Rattle.re_syntax.specs.declared.syntax.Syntax.{Syntax}
@@ -8,6 +8,10 @@ use Rattle.re_search.specs.Reading.{matched_expression, wants_whole, IsReadable,
 use Rattle.re_search.specs.Searching.{AllAnswer}
 use Rattle.grep_core.specs.declared.options.Options.{Options}
 use Rattle.grep_core.specs.Files.{AreMeant}
+
+-- how many patterns there may be
+abbrev pub most_patterns : ℕ
+most_patterns = 65535
 
 -- one matcher for each pattern, each of which is readable
 pub record AreMatchers (syntax : Syntax) (options : Options) (texts : List Text) (matchers : List Matcher) : Type 0 where

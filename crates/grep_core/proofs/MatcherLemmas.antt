@@ -10,14 +10,14 @@ use Rattle.re_syntax.specs.Spelled.{IsMeant}
 use Rattle.re_search.specs.declared.matcher.Matcher.{Matcher}
 use Rattle.re_search.specs.Reading.{matched_expression, wants_whole, IsSmallFor, IsReadable, IsRefusedFor, IsOutOfMemory}
 use Rattle.grep_core.specs.declared.options.Options.{Options}
-use Rattle.grep_cmd.specs.Matchers.{AreMatchers, IsFirstRefused}
+use Rattle.grep_core.specs.Matchers.{AreMatchers, IsFirstRefused}
 
--- two lists, element by element, and one more of each
-AllZip-push : {X Y : Type 0} (P : X → Y → Type 0) (xs : List X) (ys : List Y) (x : X) (y : Y) → AllZip P xs ys → P x y → AllZip P (xs ++ x ∷ []) (ys ++ y ∷ [])
-AllZip-push P [] [] x y h p = (p, tt)
-AllZip-push P [] (z ∷ ys) x y h p = absurd h
-AllZip-push P (z ∷ xs) [] x y h p = absurd h
-AllZip-push P (z ∷ xs) (w ∷ ys) x y h p = (h.0, AllZip-push P xs ys x y h.1 p)
+-- two lists, element by element, joined
+pub AllZip-append : {X Y : Type 0} (P : X → Y → Type 0) (xs vs : List X) (ys ws : List Y) → AllZip P xs ys → AllZip P vs ws → AllZip P (xs ++ vs) (ys ++ ws)
+AllZip-append P [] vs [] ws h k = k
+AllZip-append P [] vs (y ∷ ys) ws h k = absurd h
+AllZip-append P (x ∷ xs) vs [] ws h k = absurd h
+AllZip-append P (x ∷ xs) vs (y ∷ ys) ws h k = (h.0, AllZip-append P xs vs ys ws h.1 k)
 
 -- what stands behind the elements of a list
 at_end : (ts : List Text) (t : Text) (rest : List Text) → (take (length ts) (ts ++ t ∷ rest) ≡ ts) × (get_or (ts ++ t ∷ rest) (length ts) [] ≡ t) × (length ts < length (ts ++ t ∷ rest))
@@ -26,24 +26,26 @@ at_end (u ∷ ts) t rest = let h = at_end ts t rest in (ap (λ l. u ∷ l) h.0, 
 
 module _ (syntax : Syntax) (options : Options) where
   -- no pattern was read yet
-  pub AreMatchers-none : AreMatchers syntax options [] []
-  AreMatchers-none = record { meant = tt; wholes = λ i d h. absurd (let no : ⊥ = omega (arith, h) in no); readable = λ i d h. absurd (let no : ⊥ = omega (arith, h) in no); counted = refl }
+  pub AreMatchers-none : (texts : List Text) (matchers : List Matcher) → texts ≡ [] → matchers ≡ [] → AreMatchers syntax options texts matchers
+  AreMatchers-none texts matchers e f =
+      subst (λ ts. AreMatchers syntax options ts matchers) (sym e) (subst (AreMatchers syntax options []) (sym f) (record { meant = tt; wholes = λ i d h. absurd (let false : ⊥ = omega (arith, h) in false); readable = λ i d h. absurd (let false : ⊥ = omega (arith, h) in false); counted = refl }))
 
   module _ (texts : List Text) (matchers : List Matcher) (text : Text) (s : AreMatchers syntax options texts matchers) where
     -- one more was read
-    pub AreMatchers-push : (m : Matcher) → IsMeant syntax options.ignore_case text (matched_expression m) → wants_whole m ≡ options.line_regexp → IsSmallFor syntax options.ignore_case (matched_expression m)
-        → AreMatchers syntax options (texts ++ text ∷ []) (matchers ++ m ∷ [])
-    AreMatchers-push m meant whole small = record {
-      meant =
-          subst (AllZip (λ t e. IsMeant syntax options.ignore_case t e) (texts ++ text ∷ [])) (sym (map-append matched_expression matchers (m ∷ [])))
-          (AllZip-push (λ t e. IsMeant syntax options.ignore_case t e) texts (map matched_expression matchers) text (matched_expression m) s.meant meant);
-      wholes = subst (All (λ w. w ≡ options.line_regexp)) (sym (map-append wants_whole matchers (m ∷ []))) (All-push (λ w. w ≡ options.line_regexp) (map wants_whole matchers) (wants_whole m) s.wholes whole);
-      readable = All-push (IsReadable syntax options.ignore_case) texts text s.readable (matched_expression m, meant, small);
-      counted = length_push matchers m ∙ ap (λ n. n + 1) s.counted ∙ sym (length_push texts text);
-    }
+    pub AreMatchers-push : (all : List Text) (new : List Matcher) (m : Matcher) → all ≡ texts ++ text ∷ [] → new ≡ matchers ++ m ∷ [] → IsMeant syntax options.ignore_case text (matched_expression m) → wants_whole m ≡ options.line_regexp → IsSmallFor syntax options.ignore_case (matched_expression m)
+        → AreMatchers syntax options all new
+    AreMatchers-push all new m both pushed meant whole small =
+        subst (λ ts. AreMatchers syntax options ts new) (sym both) (subst (AreMatchers syntax options (texts ++ text ∷ [])) (sym pushed) (record {
+          meant =
+              subst (AllZip (λ t e. IsMeant syntax options.ignore_case t e) (texts ++ text ∷ [])) (sym (map-append matched_expression matchers (m ∷ [])))
+              (AllZip-append (λ t e. IsMeant syntax options.ignore_case t e) texts (text ∷ []) (map matched_expression matchers) (matched_expression m ∷ []) s.meant (meant, tt));
+          wholes = subst (All (λ w. w ≡ options.line_regexp)) (sym (map-append wants_whole matchers (m ∷ []))) (All-push (λ w. w ≡ options.line_regexp) (map wants_whole matchers) (wants_whole m) s.wholes whole);
+          readable = All-push (IsReadable syntax options.ignore_case) texts text s.readable (matched_expression m, meant, small);
+          counted = length_push matchers m ∙ ap (λ n. n + 1) s.counted ∙ sym (length_push texts text);
+        }))
 
     -- the next is refused
-    refused_next : (rest all : List Text) → texts ++ text ∷ rest ≡ all → (fault : PatternFault) → IsRefusedFor syntax options.ignore_case text fault → (IsReadable syntax options.ignore_case text → ⊥)
+    refused_next : (rest all : List Text) → texts ++ (text ∷ rest) ≡ all → (fault : PatternFault) → IsRefusedFor syntax options.ignore_case text fault → (IsReadable syntax options.ignore_case text → ⊥)
         → IsFirstRefused syntax options.ignore_case all (length matchers) fault
     refused_next rest all is fault shown none =
         let h = at_end texts text rest in
@@ -55,7 +57,7 @@ module _ (syntax : Syntax) (options : Options) where
         }))
 
     -- the next is refused, or memory ran out
-    pub refused_or_memory : (rest all : List Text) → texts ++ text ∷ rest ≡ all → (fault : PatternFault) → IsOutOfMemory fault ⊎ IsRefusedFor syntax options.ignore_case text fault
+    pub refused_or_memory : (rest all : List Text) → texts ++ (text ∷ rest) ≡ all → (fault : PatternFault) → IsOutOfMemory fault ⊎ IsRefusedFor syntax options.ignore_case text fault
         → IsOutOfMemory fault ⊎ (IsReadable syntax options.ignore_case text → ⊥) → (place : ℕ) → length matchers ≡ place → IsOutOfMemory fault ⊎ IsFirstRefused syntax options.ignore_case all place fault
     refused_or_memory rest all is fault (inl memory) none place at = inl memory
     refused_or_memory rest all is fault (inr shown) (inl memory) place at = inl memory
