@@ -16,4 +16,5 @@ pub mod Writing
 pub mod LineSteps
 pub mod FileSteps
 pub mod KeptLaws
+pub mod HeadlineLaws
 pub mod ShowLaws

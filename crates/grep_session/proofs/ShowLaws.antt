@@ -2,18 +2,16 @@
 use Rattle.std.proofs.Common.{◌≡◌, ℕ, List, [], ◌∷◌, ◌++◌, codes, Option, Result, refl, sym, ap, subst, ◌∙◌, append-nil}
 use Rattle.std.specs.Result.{IsErr}
 use Rattle.re_syntax.specs.Bytes.{Text}
-use Rattle.re_syntax.specs.Expression.{Expression}
 use Rattle.grep_core.specs.declared.status.Status.{Status}
-use Rattle.grep_core.specs.Files.{Inputs, AreMeant}
-use Rattle.grep_core.specs.Messages.{Messages, StatusOf}
-use Rattle.grep_core.specs.Output.{Out, written}
+use Rattle.grep_core.specs.Files.{Inputs}
+use Rattle.grep_core.specs.Output.{written}
 use Rattle.grep_core.specs.Row.{output_line}
 use Rattle.grep_core.specs.Written.{GoesOut, StopsWithin, Writes}
-use Rattle.grep_core.proofs.Exist.{Messages-exist, StatusOf-exist}
-use Rattle.grep_core.proofs.LawsHold.{means_one}
 use Rattle.grep_core.proofs.RowLemmas.{stops_early, stops_later, writes_last}
 use Rattle.grep_core.proofs.WriterLaws.{written-append}
+use Rattle.grep_session.specs.Headline.{GrepGives, TellsInputs}
 use Rattle.grep_session.specs.Show.{status_line, behind, Shows}
+use Rattle.grep_session.proofs.HeadlineLaws.{one_report}
 use Rattle.grep_session.proofs.Writing.{writes_err}
 
 -- a margin is as good as a beginning of each line
@@ -32,37 +30,35 @@ shown_bytes out told status =
     written-append [] (behind (codes "e ") told) (status_line status ∷ []) ∙ (λ i. behind-written (codes "e ") told i ++ line i) in
     written-append [] (behind (codes "o ") out) (behind (codes "e ") told ++ status_line status ∷ []) ∙ (λ i. behind-written (codes "o ") out i ++ rest i)
 
-module _ {W : Type 0} (contents : W → Option Text) (failures : W → ℕ) (inputs : Inputs) (es : List Expression) (are_meant : AreMeant inputs.syntax inputs.options inputs.patterns es) (out : List Text) (is_output : Out es inputs.options inputs.files out) where
-  shows_with : {T E : Type 0} (a d : W) (r : Result T E) (told : List Text) (status : Status) → Messages es inputs.options inputs.files told → StatusOf es inputs.options inputs.files status
-      → Writes contents failures a d (written (codes "o ") out ++ (written (codes "e ") told ++ output_line [] (status_line status))) r → Shows contents failures inputs a d r
-  shows_with a d r told status are_messages is_status w = (
+module _ {W : Type 0} (contents : W → Option Text) (failures : W → ℕ) (inputs : Inputs) (out told : List Text) (status : Status) (gives : GrepGives inputs out told status) where
+  -- what was written of the lines that are shown
+  shows_with : {T E : Type 0} (a d : W) (r : Result T E) → Writes contents failures a d (written (codes "o ") out ++ (written (codes "e ") told ++ output_line [] (status_line status))) r → Shows contents failures inputs a d r
+  shows_with a d r w = (
     shown_of out told status,
-    record { es = es; are_meant = are_meant; out = out; is_output = is_output; told = told; are_messages = are_messages; status = status; is_status = is_status; is = refl },
+    record { out = out; told = told; status = status; gives = gives; is = refl },
     subst (λ bytes. Writes contents failures a d bytes r) (sym (shown_bytes out told status)) w,
   )
+
+  -- the messages that were written are those that are shown
+  pub tells_same : {T E : Type 0} (b c : W) (r : Result T E) → TellsInputs contents failures inputs (codes "e ") b c r → Writes contents failures b c (written (codes "e ") told) r
+  tells_same b c r m = subst (λ text. Writes contents failures b c (written (codes "e ") text) r) (one_report inputs out m.out told m.told status m.status gives m.gives).1 m.wrote
 
   -- a write failed within the output
   pub shows_front : {T E : Type 0} (a b : W) (r : Result T E) → IsErr r → StopsWithin contents failures a b (written (codes "o ") out) → Shows contents failures inputs a b r
   shows_front a b r is s =
-      let told = Messages-exist es inputs.options inputs.files in
-      let status = StatusOf-exist es inputs.options inputs.files in
-      shows_with a b r told.0 status.0 told.1 status.1 (writes_err contents failures [] a b _ r is (stops_early contents failures a b (written (codes "o ") out) (written (codes "e ") told.0 ++ output_line [] (status_line status.0)) s))
+      shows_with a b r (writes_err contents failures [] a b _ r is (stops_early contents failures a b (written (codes "o ") out) (written (codes "e ") told ++ output_line [] (status_line status)) s))
 
-  module _ (a b : W) (went : GoesOut contents failures a b (written (codes "o ") out)) (status : Status) (is_status : StatusOf es inputs.options inputs.files status)
-      (ds : List Expression) (meant_too : AreMeant inputs.syntax inputs.options inputs.patterns ds) (told : List Text) (are_messages : Messages ds inputs.options inputs.files told) where
-    messages_here : Messages es inputs.options inputs.files told
-    messages_here = subst (λ xs. Messages xs inputs.options inputs.files told) (means_one inputs.syntax inputs.options inputs.patterns ds es meant_too are_meant) are_messages
-
+  module _ (a b : W) (went : GoesOut contents failures a b (written (codes "o ") out)) where
     -- a write failed within the messages
     pub shows_middle : {T E : Type 0} (c : W) (r : Result T E) → IsErr r → StopsWithin contents failures b c (written (codes "e ") told) → Shows contents failures inputs a c r
     shows_middle c r is s =
-        shows_with a c r told status messages_here is_status
+        shows_with a c r
         (writes_err contents failures [] a c _ r is (stops_later contents failures a b c (written (codes "o ") out) (written (codes "e ") told ++ output_line [] (status_line status)) went
         (stops_early contents failures b c (written (codes "e ") told) (output_line [] (status_line status)) s)))
 
     -- output and messages went out, and the status as the last call answers
     pub shows_all : {T E : Type 0} (c d : W) (r : Result T E) → GoesOut contents failures b c (written (codes "e ") told) → Writes contents failures c d (output_line [] (status_line status)) r → Shows contents failures inputs a d r
     shows_all c d r g w =
-        shows_with a d r told status messages_here is_status
+        shows_with a d r
         (writes_last contents failures a b d (written (codes "o ") out) (written (codes "e ") told ++ output_line [] (status_line status)) r went
         (writes_last contents failures b c d (written (codes "e ") told) (output_line [] (status_line status)) r g w))

@@ -1,8 +1,9 @@
 -- The edits of a session, and what each makes of its inputs.
-use Rattle.std.specs.Prelude.{◌≡◌, ℕ, ◌+◌, ◌<◌, ◌≤◌, Bool, List, [], ◌∷◌, ◌++◌, length, Result, Ok, Err, All, take, get_or, slice_set}
+use Rattle.std.specs.Prelude.{◌≡◌, ℕ, ◌+◌, ◌<◌, ◌≤◌, Bool, false, List, [], ◌∷◌, ◌++◌, length, Result, Ok, Err, All, take, get_or, slice_set}
 use Rattle.std.specs.List.{splice, remove}
 use Rattle.re_syntax.specs.declared.fault.PatternFault.{PatternFault}
 use Rattle.re_syntax.specs.declared.syntax.Syntax.{Syntax}
+use Rattle.re_syntax.specs.declared.syntax.Syntax.TheVariants.{Basic}
 use Rattle.re_syntax.specs.Bytes.{Text}
 use Rattle.re_syntax.specs.Lines.{HasNoNewline, list_of}
 use Rattle.re_search.specs.Reading.{IsReadable, IsRefusedFor}
@@ -54,6 +55,13 @@ with_option Quiet on options = record options { quiet = on }
 with_option NoMessages on options = record options { no_messages = on }
 with_option InvertMatch on options = record options { invert_match = on }
 with_option LineRegexp on options = record options { line_regexp = on }
+
+abbrev pub no_options : Options
+no_options = record { count = false; ignore_case = false; files_with_matches = false; line_number = false; only_matching = false; quiet = false; no_messages = false; invert_match = false; line_regexp = false }
+
+-- the inputs of a new session: no file, no pattern, basic syntax, and no option
+abbrev pub no_inputs : Inputs
+no_inputs = record { syntax = Basic; options = no_options; patterns = []; files = [] }
 
 abbrev pub whole_file : Text → List Text → File
 whole_file name lines = record { name = name; lines = lines; ending = whole }

@@ -12,5 +12,6 @@ pub mod Effects
 pub mod Dropping
 pub mod Laws
 pub mod Report
+pub mod Headline
 pub mod Show
 pub mod Changed

@@ -152,16 +152,3 @@ module _ {W : Type 0} (contents : W → Option Text) (failures : W → ℕ) (es 
     pub told : List Text
     pub are_messages : Messages es options files told
     pub wrote : Writes contents failures old new (written margin told) result
-
--- of the inputs of a session, whose patterns mean these expressions
-module _ {W : Type 0} (contents : W → Option Text) (failures : W → ℕ) (inputs : Inputs) (margin : Text) (old new : W) where
-  abbrev pub ReportsInputs : {E : Type 0} → Result Status E → Type 0
-  ReportsInputs result =
-      (es : List Expression) × AreMeant inputs.syntax inputs.options inputs.patterns es × Reports contents failures es inputs.options inputs.files margin old new result
-
-  abbrev pub TellsInputs : {T E : Type 0} → Result T E → Type 0
-  TellsInputs result =
-      (es : List Expression) × AreMeant inputs.syntax inputs.options inputs.patterns es × Tells contents failures es inputs.options inputs.files margin old new result
-
-abbrev pub IsStatusOfInputs : Inputs → Status → Type 0
-IsStatusOfInputs inputs status = (es : List Expression) × AreMeant inputs.syntax inputs.options inputs.patterns es × StatusOf es inputs.options inputs.files status

@@ -19,10 +19,3 @@ pub record IsSession (s : Inside) : Type 0 where
   pub kept : All (IsFileKept (map matched_expression s.matchers.items) s.options) s.files.items
   pub some_states : 1 ≤ s.states
   pub few_states : s.states ≤ 65536
-
-abbrev pub no_options : Options
-no_options = record { count = false; ignore_case = false; files_with_matches = false; line_number = false; only_matching = false; quiet = false; no_messages = false; invert_match = false; line_regexp = false }
-
--- no file, no pattern, basic syntax, and no option
-abbrev pub no_inputs : Inputs
-no_inputs = record { syntax = Basic; options = no_options; patterns = []; files = [] }

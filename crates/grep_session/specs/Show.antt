@@ -1,13 +1,12 @@
 -- What is shown of a session: its output, its messages and its status.
 use Rattle.std.specs.Prelude.{◌≡◌, ℕ, List, [], ◌∷◌, ◌++◌, map, codes, Option, Result}
 use Rattle.re_syntax.specs.Bytes.{Text}
-use Rattle.re_syntax.specs.Expression.{Expression}
 use Rattle.grep_core.specs.declared.status.Status.{Status}
 use Rattle.grep_core.specs.declared.status.Status.TheVariants.{Selected, NoneSelected, Error}
-use Rattle.grep_core.specs.Files.{Inputs, AreMeant}
-use Rattle.grep_core.specs.Messages.{Messages, StatusOf}
-use Rattle.grep_core.specs.Output.{Out, written}
+use Rattle.grep_core.specs.Files.{Inputs}
+use Rattle.grep_core.specs.Output.{written}
 use Rattle.grep_core.specs.Written.{Writes}
+use Rattle.grep_session.specs.Headline.{GrepGives}
 
 abbrev pub status_line : Status → Text
 status_line Selected = codes "status 0"
@@ -20,14 +19,10 @@ behind margin text = map (λ line. margin ++ line) text
 
 -- the lines that are shown of the inputs
 pub record AreShown (inputs : Inputs) (shown : List Text) : Type 0 where
-  pub es : List Expression
-  pub are_meant : AreMeant inputs.syntax inputs.options inputs.patterns es
   pub out : List Text
-  pub is_output : Out es inputs.options inputs.files out
   pub told : List Text
-  pub are_messages : Messages es inputs.options inputs.files told
   pub status : Status
-  pub is_status : StatusOf es inputs.options inputs.files status
+  pub gives : GrepGives inputs out told status
   pub is : shown ≡ behind (codes "o ") out ++ (behind (codes "e ") told ++ status_line status ∷ [])
 
 -- they were written, or a beginning of them

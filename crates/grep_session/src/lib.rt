@@ -23,7 +23,7 @@ mod splicing;
 mod verdicts;
 
 pub use fault::EditFault;
-pub use laws::edits_are_determined;
+pub use laws::{accepted_edits_decide, edits_are_determined};
 pub use re_search::Meter;
 pub use session::Session;
 pub use showing::show;

@@ -1,9 +1,8 @@
 //! A session.
 ghost use Rattle.std.specs.Prelude.{◌≡◌, ◌≢◌, ◌≤◌, ◌<◌, Ok, false, length, ◌++◌, ◌∷◌, [], map, IsTrue, IfOk, IfErr, OnErr};
 ghost use Rattle.grep_session.specs.declared.fault.EditFault.TheVariants.{Memory};
-ghost use Rattle.grep_session.specs.Edits.{Edit, AddFile, AddMissing, DropFile, Splice, AddPatterns, DropPattern, SetFlag, SetSyntax, EditGives, Applies, with_patterns};
+ghost use Rattle.grep_session.specs.Edits.{Edit, AddFile, AddMissing, DropFile, Splice, AddPatterns, DropPattern, SetFlag, SetSyntax, EditGives, Applies, no_inputs, with_patterns};
 ghost use Rattle.std.specs.List.{remove};
-ghost use Rattle.grep_session.specs.Sessions.{no_inputs};
 ghost use Rattle.grep_session.specs.Touched.{TakesSteps, NeedsNoMemory, Touches, searched_by, parts_alone, all_lines};
 ghost use Rattle.grep_session.specs.Again.{ReadsAgain, AreReadable, read_as};
 

@@ -1,6 +1,6 @@
 //! What grep writes of a session, and its status. No line is searched and no memory is taken: all
 //! comes from what is kept.
-ghost use Rattle.grep_session.specs.Report.{ReportsInputs, TellsInputs, IsStatusOfInputs};
+ghost use Rattle.grep_session.specs.Headline.{ReportsInputs, TellsInputs, IsStatusOfInputs};
 
 use crate::report::{status, write_messages, write_report};
 use crate::session::Session;

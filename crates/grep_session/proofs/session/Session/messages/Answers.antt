@@ -1,6 +1,8 @@
 use Rattle.std.proofs.Common.{map, subst}
 use Rattle.re_search.specs.Reading.{matched_expression}
-use Rattle.grep_session.specs.Report.{TellsInputs}
+use Rattle.grep_session.specs.Headline.{TellsInputs}
+use Rattle.grep_session.specs.Sessions.{inputs_of}
+use Rattle.grep_session.proofs.HeadlineLaws.{tells_inputs}
 use Rattle.grep_session.proofs.session.Session.messages.Goals as goal
 
 pub returns : goal.returns
@@ -9,4 +11,4 @@ returns g c =
     let es = map matched_expression s.matchers.items in
     let tells = rw c.deref.ensures.value at c.write_messages.ensures in
     subst (λ inputs. TellsInputs g.W.CountedWrite.contents g.W.CountedWrite.failures inputs c.args.margin.now c.args.out.now c.write_messages.new.out c.write_messages.result) c.self.view_is
-    (es, c.self.invariant.matchers.meant, tells es c.self.invariant.kept)
+    (tells_inputs (inputs_of s) es c.self.invariant.matchers.meant g.W.CountedWrite.contents g.W.CountedWrite.failures c.args.margin.now c.args.out.now c.write_messages.new.out c.write_messages.result (tells es c.self.invariant.kept))

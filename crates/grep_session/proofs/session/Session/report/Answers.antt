@@ -1,6 +1,8 @@
 use Rattle.std.proofs.Common.{map, subst}
 use Rattle.re_search.specs.Reading.{matched_expression}
-use Rattle.grep_session.specs.Report.{ReportsInputs}
+use Rattle.grep_session.specs.Headline.{ReportsInputs}
+use Rattle.grep_session.specs.Sessions.{inputs_of}
+use Rattle.grep_session.proofs.HeadlineLaws.{reports_inputs}
 use Rattle.grep_session.proofs.KeptLaws.{files_fit}
 use Rattle.grep_session.proofs.session.Session.report.Goals as goal
 
@@ -15,4 +17,4 @@ returns g c =
     let es = map matched_expression s.matchers.items in
     let reports = rw c.deref.ensures.value at c.write_report.ensures in
     subst (λ inputs. ReportsInputs g.W.CountedWrite.contents g.W.CountedWrite.failures inputs c.args.margin.now c.args.out.now c.write_report.new.out c.write_report.result) c.self.view_is
-    (es, c.self.invariant.matchers.meant, reports es c.self.invariant.kept)
+    (reports_inputs (inputs_of s) es c.self.invariant.matchers.meant g.W.CountedWrite.contents g.W.CountedWrite.failures c.args.margin.now c.args.out.now c.write_report.new.out c.write_report.result (reports es c.self.invariant.kept))

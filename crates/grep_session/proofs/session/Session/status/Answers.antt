@@ -1,6 +1,8 @@
 use Rattle.std.proofs.Common.{map, subst}
 use Rattle.re_search.specs.Reading.{matched_expression}
-use Rattle.grep_session.specs.Report.{IsStatusOfInputs}
+use Rattle.grep_session.specs.Headline.{IsStatusOfInputs}
+use Rattle.grep_session.specs.Sessions.{inputs_of}
+use Rattle.grep_session.proofs.HeadlineLaws.{status_of_inputs}
 use Rattle.grep_session.proofs.session.Session.status.Goals as goal
 
 pub returns : goal.returns
@@ -8,4 +10,4 @@ returns c =
     let s = c.self.inside in
     let es = map matched_expression s.matchers.items in
     let is = rw c.deref.ensures.value at c.status.ensures in
-    subst (λ inputs. IsStatusOfInputs inputs c.status.result) c.self.view_is (es, c.self.invariant.matchers.meant, is es c.self.invariant.kept)
+    subst (λ inputs. IsStatusOfInputs inputs c.status.result) c.self.view_is (status_of_inputs (inputs_of s) es c.self.invariant.matchers.meant c.status.result (is es c.self.invariant.kept))

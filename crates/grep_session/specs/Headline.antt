@@ -1,0 +1,84 @@
+-- The headline: after every list of edits, what is written of a session and the status that it gives are those that grep's definition gives from scratch for the files, patterns and options that the accepted edits leave;
+-- an edit is refused only for its named cause, and a refused edit changes nothing.
+use Rattle.std.specs.Prelude.{◌≡◌, ℕ, List, [], ◌∷◌, ◌++◌, Option, Result, Ok, Err, IfOk}
+use Rattle.re_syntax.specs.Bytes.{Text}
+use Rattle.re_syntax.specs.Expression.{Expression}
+use Rattle.grep_core.specs.declared.status.Status.{Status}
+use Rattle.grep_core.specs.Files.{Inputs, AreMeant}
+use Rattle.grep_core.specs.Messages.{Messages, StatusOf}
+use Rattle.grep_core.specs.Output.{Out, written}
+use Rattle.grep_core.specs.Written.{Writes}
+use Rattle.grep_session.specs.declared.fault.EditFault.{EditFault}
+use Rattle.grep_session.specs.Edits.{Edit, Applies, EditGives, no_inputs}
+
+-- ---- from scratch
+
+-- what grep writes to standard output and to standard error for these inputs, and its status (XCU grep, STDOUT, STDERR and EXIT STATUS)
+pub record GrepGives (inputs : Inputs) (out told : List Text) (status : Status) : Type 0 where
+  pub es : List Expression
+  pub are_meant : AreMeant inputs.syntax inputs.options inputs.patterns es
+  pub is_output : Out es inputs.options inputs.files out
+  pub are_messages : Messages es inputs.options inputs.files told
+  pub is_status : StatusOf es inputs.options inputs.files status
+
+-- ---- what is written of inputs
+
+module _ {W : Type 0} (contents : W → Option Text) (failures : W → ℕ) (inputs : Inputs) (margin : Text) (old new : W) where
+  -- the output was written, each line behind the margin, and the answer is the status; or a write failed, and a beginning of that went out
+  pub record ReportsInputs {E : Type 0} (result : Result Status E) : Type 0 where
+    pub out : List Text
+    pub told : List Text
+    pub status : Status
+    pub gives : GrepGives inputs out told status
+    pub wrote : Writes contents failures old new (written margin out) result
+    pub answered : IfOk result (λ answer. answer ≡ status)
+
+  -- the messages were written, each behind the margin; or a write failed, and a beginning of them went out
+  pub record TellsInputs {T E : Type 0} (result : Result T E) : Type 0 where
+    pub out : List Text
+    pub told : List Text
+    pub status : Status
+    pub gives : GrepGives inputs out told status
+    pub wrote : Writes contents failures old new (written margin told) result
+
+-- the status is the one for the inputs
+pub record IsStatusOfInputs (inputs : Inputs) (status : Status) : Type 0 where
+  pub out : List Text
+  pub told : List Text
+  pub gives : GrepGives inputs out told status
+
+-- ---- lists of edits
+
+-- an edit that was tried, and its answer
+pub record Attempt : Type 0 where
+  pub edit : Edit
+  pub answer : Result (Unit {0}) EditFault
+
+-- the attempts, one after the other, made this of the inputs, each as its edit promises
+abbrev pub ComesTo : List Attempt → Inputs → Inputs → Type 0
+ComesTo [] old new = new ≡ old
+ComesTo (attempt ∷ more) old new = (between : Inputs) × EditGives attempt.edit old between attempt.answer × ComesTo more between new
+
+-- the edits that were accepted
+abbrev pub with_accepted : Edit → Result (Unit {0}) EditFault → List Edit → List Edit
+with_accepted edit (Ok done) edits = edit ∷ edits
+with_accepted edit (Err fault) edits = edits
+
+abbrev pub accepted : List Attempt → List Edit
+accepted [] = []
+accepted (attempt ∷ more) = with_accepted attempt.edit attempt.answer (accepted more)
+
+-- the edits, one after the other, make this of the inputs
+abbrev pub Makes : List Edit → Inputs → Inputs → Type 0
+Makes [] old new = new ≡ old
+Makes (edit ∷ more) old new = (between : Inputs) × Applies edit old (Ok between) × Makes more between new
+
+-- whatever is tried on a new session, what it then holds are the inputs that the accepted edits alone leave, and no others;
+-- a further edit is answered for these inputs, by what it makes of them, by its cause, or for want of memory; and for inputs grep gives one thing
+pub record AcceptedEditsDecide : Type 0 where
+  pub leave : (tried : List Attempt) (left : Inputs) → ComesTo tried no_inputs left → Makes (accepted tried) no_inputs left
+  pub one_end : (edits : List Edit) (a b : Inputs) → Makes edits no_inputs a → Makes edits no_inputs b → a ≡ b
+  pub answers : (tried : List Attempt) (last : Attempt) (new : Inputs) → ComesTo (tried ++ last ∷ []) no_inputs new
+      → (left : Inputs) × Makes (accepted tried) no_inputs left × EditGives last.edit left new last.answer
+  pub one_report : (inputs : Inputs) (out more told tells : List Text) (status other : Status) → GrepGives inputs out told status → GrepGives inputs more tells other
+      → (more ≡ out) × (tells ≡ told) × (other ≡ status)
