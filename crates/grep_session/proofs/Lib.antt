@@ -16,4 +16,3 @@ pub mod Writing
 pub mod LineSteps
 pub mod FileSteps
 pub mod KeptLaws
-pub mod ShowLaws

@@ -12,5 +12,4 @@ pub mod Effects
 pub mod Dropping
 pub mod Laws
 pub mod Report
-pub mod Show
 pub mod Changed

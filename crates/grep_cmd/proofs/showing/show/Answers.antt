@@ -1,5 +1,5 @@
-use Rattle.grep_session.proofs.ShowLaws.{shows_front, shows_middle, shows_all}
-use Rattle.grep_session.proofs.showing.show.Goals as goal
+use Rattle.grep_cmd.proofs.ShowLaws.{shows_front, shows_middle, shows_all}
+use Rattle.grep_cmd.proofs.showing.show.Goals as goal
 
 pub returns-in_err-status : goal.returns-in_err-status
 returns-in_err-status g c =

@@ -13,7 +13,7 @@ use Rattle.grep_core.proofs.Exist.{Messages-exist, StatusOf-exist}
 use Rattle.grep_core.proofs.LawsHold.{means_one}
 use Rattle.grep_core.proofs.RowLemmas.{stops_early, stops_later, writes_last}
 use Rattle.grep_core.proofs.WriterLaws.{written-append}
-use Rattle.grep_session.specs.Show.{status_line, behind, Shows}
+use Rattle.grep_cmd.specs.Show.{status_line, behind, Shows}
 use Rattle.grep_session.proofs.Writing.{writes_err}
 
 -- a margin is as good as a beginning of each line
