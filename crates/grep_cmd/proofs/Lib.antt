@@ -7,3 +7,4 @@ pub mod OperandLemmas
 pub mod TellingLemmas
 pub mod CommandLemmas
 pub mod CountLemmas
+pub mod ShowLaws

@@ -16,3 +16,4 @@ pub mod Patterns
 pub mod Gathered
 pub mod Operands
 pub mod Command
+pub mod Show

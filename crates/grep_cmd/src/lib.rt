@@ -9,6 +9,7 @@ mod operands;
 mod patterns;
 mod refusal;
 mod searching;
+mod showing;
 mod telling;
 #[cfg(test)]
 mod tests;
@@ -18,5 +19,6 @@ mod words;
 pub use command::run_grep;
 pub use files::Files;
 pub use memory::{Content, MemoryFile, MemoryFiles, MemoryReader};
+pub use showing::show;
 pub use usage::write_usage_fault;
 pub use words::{PatternSource, Request, UsageFault, read_words};

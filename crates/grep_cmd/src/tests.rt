@@ -4,6 +4,7 @@ mod faults;
 mod harness;
 mod options;
 mod rows;
+mod sessions;
 
 use crate::memory::Content;
 use crate::tests::harness::{UNLIMITED, commanded};

@@ -17,4 +17,3 @@ pub mod LineSteps
 pub mod FileSteps
 pub mod KeptLaws
 pub mod HeadlineLaws
-pub mod ShowLaws

@@ -13,5 +13,4 @@ pub mod Dropping
 pub mod Laws
 pub mod Report
 pub mod Headline
-pub mod Show
 pub mod Changed

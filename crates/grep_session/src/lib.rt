@@ -18,7 +18,6 @@ mod patterns;
 mod reading;
 mod report;
 mod session;
-mod showing;
 mod splicing;
 mod verdicts;
 
@@ -26,4 +25,3 @@ pub use fault::EditFault;
 pub use laws::{accepted_edits_decide, edits_are_determined};
 pub use re_search::Meter;
 pub use session::Session;
-pub use showing::show;

@@ -36,6 +36,7 @@ pub struct Outcome<T> {
 }
 
 /// The output and the messages of a run.
+#[derive(Drop)]
 pub struct Devices {
     pub out: Tally<Limited<Vec<u8>>>,
     pub messages: Tally<Limited<Vec<u8>>>,

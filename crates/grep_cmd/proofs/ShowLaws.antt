@@ -10,7 +10,7 @@ use Rattle.grep_core.specs.Written.{GoesOut, StopsWithin, Writes}
 use Rattle.grep_core.proofs.RowLemmas.{stops_early, stops_later, writes_last}
 use Rattle.grep_core.proofs.WriterLaws.{written-append}
 use Rattle.grep_session.specs.Headline.{GrepGives, TellsInputs}
-use Rattle.grep_session.specs.Show.{status_line, behind, Shows}
+use Rattle.grep_cmd.specs.Show.{status_line, behind, Shows}
 use Rattle.grep_session.proofs.HeadlineLaws.{one_report}
 use Rattle.grep_session.proofs.Writing.{writes_err}
 

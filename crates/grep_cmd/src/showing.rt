@@ -2,10 +2,10 @@
 ghost use Rattle.grep_core.specs.Row.{output_line};
 ghost use Rattle.grep_core.specs.Written.{Writes};
 ghost use Rattle.std.specs.Prelude.{[]};
-ghost use Rattle.grep_session.specs.Show.{Shows, status_line};
+ghost use Rattle.grep_cmd.specs.Show.{Shows, status_line};
 
-use crate::session::Session;
 use grep_core::{CountedWrite, Status, WriteFault, write_line};
+use grep_session::Session;
 
 /// Writes the line of the status.
 fn write_status<W: CountedWrite>(status: Status, out: &mut W) -> Result<(), WriteFault>

@@ -1,9 +1,9 @@
 use Rattle.std.proofs.Common.{[], subst}
 use Rattle.grep_core.specs.Row.{output_line}
 use Rattle.grep_core.specs.Written.{Writes}
-use Rattle.grep_session.specs.Show.{status_line}
-use Rattle.grep_session.proofs.ShowLaws.{shows_front, shows_middle, shows_all, tells_same}
-use Rattle.grep_session.proofs.showing.show.Goals as goal
+use Rattle.grep_cmd.specs.Show.{status_line}
+use Rattle.grep_cmd.proofs.ShowLaws.{shows_front, shows_middle, shows_all, tells_same}
+use Rattle.grep_cmd.proofs.showing.show.Goals as goal
 
 pub returns-in_err-status : goal.returns-in_err-status
 returns-in_err-status g c =

@@ -1,0 +1,29 @@
+//! Sessions under edits: what they answer, report and tell, and in how many steps.
+mod edits;
+mod flags;
+mod harness;
+mod large;
+mod numbered;
+mod refused;
+mod shown;
+mod worked;
+
+use crate::tests::sessions::harness::assert_session;
+use std::test::Fail;
+
+#[test]
+fn sessions_give_their_rows(rt: HostRuntime) -> Result<(), Fail> {
+    for rows in worked::sessions() {
+        assert_session(&rt, rt.alloc(), rows)?;
+    }
+    for rows in refused::sessions() {
+        assert_session(&rt, rt.alloc(), rows)?;
+    }
+    for rows in flags::sessions() {
+        assert_session(&rt, rt.alloc(), rows)?;
+    }
+    for rows in numbered::sessions() {
+        assert_session(&rt, rt.alloc(), rows)?;
+    }
+    Ok(())
+}
