@@ -1,5 +1,5 @@
 -- A line that no expression matches has no part.
-use Rattle.std.proofs.Common.{◌≡◌, ℕ, Bool, true, false, List, [], ◌∷◌, map, MatchBool, Result, Ok, Err, IfOk, sym, subst}
+use Rattle.std.proofs.Common.{◌≡◌, ℕ, Bool, true, false, List, [], ◌∷◌, MatchBool, Result, Ok, Err, IfOk, sym, subst}
 use Rattle.std.specs.Bool.{⊤}
 use Rattle.re_syntax.specs.Bytes.{Text}
 use Rattle.re_syntax.specs.Expression.{Expression}
@@ -8,7 +8,7 @@ use Rattle.re_search.specs.declared.span.Span.{Span}
 use Rattle.grep_core.specs.declared.options.Options.{Options}
 use Rattle.grep_session.specs.Finds.{Finds, no_finds, finds_with}
 use Rattle.grep_session.specs.Found.{IsRight}
-use Rattle.grep_session.specs.Kept.{AreMatching, ArePartsKept, span_places}
+use Rattle.grep_session.specs.Kept.{AreMatching, ArePartsKept}
 use Rattle.grep_session.proofs.SurvivingLemmas.{none_match, some_match}
 
 -- no number, no part

@@ -1,4 +1,4 @@
-use Rattle.std.proofs.Common.{◌≡◌, [], length, map, sym, subst, arith}
+use Rattle.std.proofs.Common.{◌≡◌, length, map, sym, subst, arith}
 use Rattle.std.proofs.lemmas.Bool.Decides.{nat_tests}
 use Rattle.std.proofs.lemmas.List.{nil_from_length}
 use Rattle.grep_core.proofs.CostLaws.{adds_none}
