@@ -89,7 +89,7 @@ takes_parts edit old new es begun ended applies touches meant s = record {
 module _ (es : List Expression) (old new : Options) (same : new.line_regexp ≡ old.line_regexp) where
   -- what is kept of a line tells which expressions match it
   ready_line : (line : KeptLine) → IsKept es old line → IsReady false es new line
-  ready_line line k = subst (λ w. AreMatching line.text.items w 0 es line.matched_by.items) (sym same) k.matching
+  ready_line line k = subst (λ w. AreMatching line.text.items w 0 es line.found.numbers) (sym same) k.matching
 
   pub ready_files : (files : List KeptFile) → All (IsFileKept es old) files → All (λ file. IfSome (kept_lines file) (All (IsReady false es new))) files
   ready_files files all = All-weaker (IsFileKept es old) (λ file. IfSome (kept_lines file) (All (IsReady false es new))) (λ file. one (kept_lines file)) files all
@@ -104,7 +104,7 @@ module _ (es : List Expression) (old new : Options) (same : new.line_regexp ≡ 
     kept_line line k = record { matching = ready_line line k; parts = by_flags new.only_matching old.only_matching less k.parts }
       where
         Kept : Bool → Bool → Type 0
-        Kept asked whole = MatchBool asked (AreParts es line.text.items whole (map span_places line.parts.items)) ⊤
+        Kept asked whole = MatchBool asked (AreParts es line.text.items whole (map span_places line.found.spans)) ⊤
 
         by_flags : (n o : Bool) → (IsTrue n → IsTrue o) → Kept o old.line_regexp → Kept n new.line_regexp
         by_flags true true f h = subst (Kept true) (sym same) h

@@ -1,5 +1,5 @@
 -- Patterns come or go: what is found in a line, and the steps that its search takes.
-use Rattle.std.proofs.Common.{◌≡◌, ℕ, zero, suc, ◌+◌, ◌<◌, ◌≤◌, Bool, true, false, ◌||◌, List, [], ◌∷◌, ◌++◌, inl, inr, length, map, take, drop, length-take, length-drop, ◌-◌, nat_eq, nat_lt, get_or, MatchBool, Decides, Any, refl, sym, ap, subst, ◌∙◌, append_assoc, append-nil, All, arith}
+use Rattle.std.proofs.Common.{◌≡◌, ℕ, zero, suc, ◌+◌, ◌<◌, ◌≤◌, Bool, true, false, ◌||◌, List, [], ◌∷◌, ◌++◌, inl, inr, length, map, take, drop, length-take, length-drop, ◌-◌, nat_eq, nat_lt, get_or, MatchBool, Decides, Any, refl, sym, ap, subst, ◌∙◌, append_assoc, append-nil, All, Result, Ok, Err, IfOk, arith}
 use Rattle.std.specs.Bool.{⊤}
 use Rattle.std.specs.List.{remove, list_any}
 use Rattle.std.proofs.lemmas.List.{length-append, length-map}
@@ -9,7 +9,6 @@ use Rattle.re_syntax.specs.Expression.{Expression}
 use Rattle.re_syntax.specs.Holds.{Holds, Matches}
 use Rattle.re_syntax.specs.Parts.{IsFound, ArePartsFrom, AreParts}
 use Rattle.re_syntax.proofs.Decisions.{Any-first, Any-later, Any-cases, Any-none}
-use Rattle.re_search.specs.declared.span.Span.{Span}
 use Rattle.re_search.specs.Searching.{AddsAtMost}
 use Rattle.grep_core.specs.Meters.{Steps}
 use Rattle.grep_core.specs.declared.options.Options.{Options}
@@ -22,16 +21,17 @@ use Rattle.grep_core.proofs.Decided.{dec_matched}
 use Rattle.grep_core.proofs.Verdicts.{decided_yes, decided_no}
 use Rattle.grep_session.specs.declared.change.Change.{Change}
 use Rattle.grep_session.specs.declared.change.Change.TheVariants.{Added, Dropped}
-use Rattle.grep_session.specs.declared.found.Found.{Found}
+use Rattle.grep_session.specs.Finds.{Finds}
 use Rattle.grep_session.specs.declared.kept.KeptLine.{KeptLine}
 use Rattle.grep_session.specs.Dropping.{without}
-use Rattle.grep_session.specs.Found.{IsRight, AddsRight}
+use Rattle.grep_session.specs.Found.{IsRight, IsFoundAgain, AddsRight}
 use Rattle.grep_session.proofs.DroppingLemmas.{AreMatching-drop, eq_same, eq_other, lt_yes, lt_no}
 use Rattle.grep_session.proofs.ColumnLemmas.{front_and_rest}
 use Rattle.grep_session.specs.Changed.{HasChanged, searched_for, ChangeCost, CostOfEach, SearchesEach, SearchesOne}
 use Rattle.grep_session.specs.Kept.{AreMatching, AddsMatching, ArePartsKept, IsKept, span_places}
 use Rattle.grep_session.specs.Touched.{PartsCostOf, PartsCost, pairs_cost}
 use Rattle.grep_session.proofs.FindingLemmas.{parts_cost_exists, AreMatching-append}
+use Rattle.grep_session.proofs.FindsLemmas.{finds_right_as}
 use Rattle.grep_core.proofs.CostLaws.{adds_both}
 use Rattle.grep_session.proofs.SurvivingLemmas.{same_parts, found_matches, none_match, parts_survive}
 
@@ -99,15 +99,16 @@ module _ (line : Text) (entire : Bool) (es : List Expression) (k : ℕ) (d : Exp
 
 -- ---- parts that are searched anew, or stay
 
-module _ (options : Options) (line : Text) where
-  -- the parts are right where they were searched anew, and where they stay what they are
-  pub parts_kept : (es fs : List Expression) (old new : List Span) (anew : Bool) → (anew ≡ false → (ps : List (ℕ × ℕ)) → AreParts es line options.line_regexp ps → AreParts fs line options.line_regexp ps)
-      → ArePartsKept es options line old → MatchBool anew (ArePartsKept fs options line new) (new ≡ old) → ArePartsKept fs options line new
-  parts_kept es fs old new true stay kept h = h
-  parts_kept es fs old new false stay kept h = subst (ArePartsKept fs options line) (sym h) (by_flag options.only_matching kept)
+module _ (options : Options) where
+  -- what is found is right where the parts were searched anew, and where they stay what they are
+  pub right_again : (es fs : List Expression) (line : KeptLine) (numbers : List ℕ) (found : Finds) (anew : Bool)
+      → (anew ≡ false → (ps : List (ℕ × ℕ)) → AreParts es line.text.items options.line_regexp ps → AreParts fs line.text.items options.line_regexp ps)
+      → ArePartsKept es options line.text.items line.found.spans → AreMatching line.text.items options.line_regexp 0 fs numbers → IsFoundAgain anew fs options line numbers found → IsRight fs options line.text.items found
+  right_again es fs line numbers found true stay kept matching h = h matching
+  right_again es fs line numbers found false stay kept matching h = finds_right_as fs options line.text.items numbers line.found.spans found h (by_flag options.only_matching kept) matching
     where
-      by_flag : (asked : Bool) → MatchBool asked (AreParts es line options.line_regexp (map span_places old)) ⊤ → MatchBool asked (AreParts fs line options.line_regexp (map span_places old)) ⊤
-      by_flag true p = stay refl (map span_places old) p
+      by_flag : (asked : Bool) → MatchBool asked (AreParts es line.text.items options.line_regexp (map span_places line.found.spans)) ⊤ → MatchBool asked (AreParts fs line.text.items options.line_regexp (map span_places line.found.spans)) ⊤
+      by_flag true p = stay refl (map span_places line.found.spans) p
       by_flag false p = tt
 
 -- a decided question
@@ -198,31 +199,27 @@ decided_single P x verdict d = ((λ t. Any-first P x [] (d.0 t)), (λ a. d.1 (An
 
 module _ (p : ℕ) (es before changed : List Expression) (options : Options) (line : KeptLine) (h : HasChanged (Dropped p) es before changed) (k : IsKept before options line) where
   -- whether the one that went matched it
-  pub went_verdict : Decides (list_any (λ n. nat_eq n p) line.matched_by.items) (Matched changed options line.text.items)
+  pub went_verdict : Decides (list_any (λ n. nat_eq n p) line.found.numbers) (Matched changed options line.text.items)
   went_verdict =
       let text = line.text.items in
       let place : 0 + p ≡ p = omega arith in
-      let told = number_tells text options.line_regexp 0 p before line.matched_by.items h.0 h.1 k.matching in
-      let here = subst (λ q. Decides (list_any (λ n. nat_eq n q) line.matched_by.items) (Matches (get_or before p h.0) text options.line_regexp)) place told in
-      let one = subst (λ e. Decides (list_any (λ n. nat_eq n p) line.matched_by.items) (Matches e text options.line_regexp)) (sym h.2) here in
-      subst (λ c. Decides (list_any (λ n. nat_eq n p) line.matched_by.items) (Matched c options text)) (sym h.4) (decided_single (λ e. Matches e text options.line_regexp) h.0 _ one)
+      let told = number_tells text options.line_regexp 0 p before line.found.numbers h.0 h.1 k.matching in
+      let here = subst (λ q. Decides (list_any (λ n. nat_eq n q) line.found.numbers) (Matches (get_or before p h.0) text options.line_regexp)) place told in
+      let one = subst (λ e. Decides (list_any (λ n. nat_eq n p) line.found.numbers) (Matches e text options.line_regexp)) (sym h.2) here in
+      subst (λ c. Decides (list_any (λ n. nat_eq n p) line.found.numbers) (Matched c options text)) (sym h.4) (decided_single (λ e. Matches e text options.line_regexp) h.0 _ one)
 
   -- what is found in it then
-  pub went_right : (found : Found) → found.matched_by.items ≡ without p line.matched_by.items
-      → MatchBool (list_any (λ n. nat_eq n p) line.matched_by.items) (ArePartsKept es options line.text.items found.parts.items) (found.parts.items ≡ line.parts.items) → IsRight es options line.text.items found
-  went_right found matched parts =
+  pub went_right : (found : Finds) → IsFoundAgain (list_any (λ n. nat_eq n p) line.found.numbers) es options line (without p line.found.numbers) found → IsRight es options line.text.items found
+  went_right found again =
       let text = line.text.items in
       let place : 0 + p ≡ p = omega arith in
-      let fewer = AreMatching-drop text options.line_regexp 0 p before line.matched_by.items h.1 k.matching in
-      let numbers = subst (λ q. AreMatching text options.line_regexp 0 (remove before p) (without q line.matched_by.items)) place fewer in
-      let told = number_tells text options.line_regexp 0 p before line.matched_by.items h.0 h.1 k.matching in
-      let here = subst (λ q. Decides (list_any (λ n. nat_eq n q) line.matched_by.items) (Matches (get_or before p h.0) text options.line_regexp)) place told in
-      let stay : list_any (λ n. nat_eq n p) line.matched_by.items ≡ false → (ps : List (ℕ × ℕ)) → AreParts before text options.line_regexp ps → AreParts es text options.line_regexp ps =
+      let fewer = AreMatching-drop text options.line_regexp 0 p before line.found.numbers h.1 k.matching in
+      let numbers = subst (λ q. AreMatching text options.line_regexp 0 (remove before p) (without q line.found.numbers)) place fewer in
+      let told = number_tells text options.line_regexp 0 p before line.found.numbers h.0 h.1 k.matching in
+      let here = subst (λ q. Decides (list_any (λ n. nat_eq n q) line.found.numbers) (Matches (get_or before p h.0) text options.line_regexp)) place told in
+      let stay : list_any (λ n. nat_eq n p) line.found.numbers ≡ false → (ps : List (ℕ × ℕ)) → AreParts before text options.line_regexp ps → AreParts es text options.line_regexp ps =
       λ off ps are. subst (λ l. AreParts l text options.line_regexp ps) (sym h.3) (parts_without text options.line_regexp before p h.0 h.1 (λ m. false≢true (sym off ∙ here.1 m)) 0 ps are) in
-      record {
-        matching = subst (λ ns. AreMatching text options.line_regexp 0 es ns) (sym matched) (subst (λ l. AreMatching text options.line_regexp 0 l (without p line.matched_by.items)) (sym h.3) numbers);
-        parts = parts_kept options text before es line.parts.items found.parts.items _ stay k.parts parts;
-      }
+      right_again options before es line (without p line.found.numbers) found _ stay k.parts (subst (λ l. AreMatching text options.line_regexp 0 l (without p line.found.numbers)) (sym h.3) numbers) again
 
 -- ---- a line with more expressions
 
@@ -246,33 +243,43 @@ module _ (line : Text) (entire : Bool) where
       subst (λ b. Decides b (Any (λ e. Matches e line entire) es)) (sym (lt_yes (length old) (length (old ++ (n ∷ ns))) (omega (arith, many)))) (decided_yes (some_at first es n ns a))
 
 module _ (first : ℕ) (es before changed : List Expression) (options : Options) (line : KeptLine) (h : HasChanged (Added first) es before changed) (k : IsKept before options line) (new : List ℕ)
-    (a : AddsMatching line.text.items options.line_regexp first (drop first es) line.matched_by.items new) where
+    (a : AddsMatching line.text.items options.line_regexp first (drop first es) line.found.numbers new) where
   -- whether one of those that came matches it
-  pub came_verdict : Decides (nat_lt (length line.matched_by.items) (length new)) (Matched changed options line.text.items)
+  pub came_verdict : Decides (nat_lt (length line.found.numbers) (length new)) (Matched changed options line.text.items)
   came_verdict =
-      let told = grown_tells line.text.items options.line_regexp first (drop first es) line.matched_by.items a.found a.are_found in
-      subst (λ c. Decides (nat_lt (length line.matched_by.items) (length new)) (Matched c options line.text.items)) (sym h.1)
-      (subst (λ ns. Decides (nat_lt (length line.matched_by.items) (length ns)) (Matched (drop first es) options line.text.items)) (sym a.added) told)
+      let told = grown_tells line.text.items options.line_regexp first (drop first es) line.found.numbers a.found a.are_found in
+      subst (λ c. Decides (nat_lt (length line.found.numbers) (length new)) (Matched c options line.text.items)) (sym h.1)
+      (subst (λ ns. Decides (nat_lt (length line.found.numbers) (length ns)) (Matched (drop first es) options line.text.items)) (sym a.added) told)
 
   -- what is found in it then
-  pub came_right : first ≤ length es → (found : Found) → found.matched_by.items ≡ new
-      → MatchBool (nat_lt (length line.matched_by.items) (length new)) (ArePartsKept es options line.text.items found.parts.items) (found.parts.items ≡ line.parts.items) → IsRight es options line.text.items found
-  came_right within found matched parts =
+  pub came_right : first ≤ length es → (found : Finds) → IsFoundAgain (nat_lt (length line.found.numbers) (length new)) es options line new found → IsRight es options line.text.items found
+  came_right within found again =
       let text = line.text.items in
       let both : before ++ drop first es ≡ es = ap (λ l. l ++ drop first es) h.0 ∙ front_and_rest first es in
       let many : length before ≡ length (take first es) = ap length h.0 in
       let place : first ≡ 0 + length before = omega (arith, many, within, length-take first es) in
-      let numbers = AreMatching-append text options.line_regexp 0 before (drop first es) line.matched_by.items a.found k.matching (subst (λ n. AreMatching text options.line_regexp n (drop first es) a.found) place a.are_found) in
-      let told = grown_tells text options.line_regexp first (drop first es) line.matched_by.items a.found a.are_found in
-      let here = subst (λ ns. Decides (nat_lt (length line.matched_by.items) (length ns)) (Matched (drop first es) options text)) (sym a.added) told in
-      let stay : nat_lt (length line.matched_by.items) (length new) ≡ false → (ps : List (ℕ × ℕ)) → AreParts before text options.line_regexp ps → AreParts es text options.line_regexp ps =
+      let numbers = AreMatching-append text options.line_regexp 0 before (drop first es) line.found.numbers a.found k.matching (subst (λ n. AreMatching text options.line_regexp n (drop first es) a.found) place a.are_found) in
+      let told = grown_tells text options.line_regexp first (drop first es) line.found.numbers a.found a.are_found in
+      let here = subst (λ ns. Decides (nat_lt (length line.found.numbers) (length ns)) (Matched (drop first es) options text)) (sym a.added) told in
+      let stay : nat_lt (length line.found.numbers) (length new) ≡ false → (ps : List (ℕ × ℕ)) → AreParts before text options.line_regexp ps → AreParts es text options.line_regexp ps =
       λ off ps are. subst (λ l. AreParts l text options.line_regexp ps) both (parts_survive text options.line_regexp before (drop first es) (λ m. false≢true (sym off ∙ here.1 m)) 0 ps are) in
-      record {
-        matching =
-            subst (λ ns. AreMatching text options.line_regexp 0 es ns) (sym matched)
-            (subst (λ ns. AreMatching text options.line_regexp 0 es ns) (sym a.added) (subst (λ l. AreMatching text options.line_regexp 0 l (line.matched_by.items ++ a.found)) both numbers));
-        parts = parts_kept options text before es line.parts.items found.parts.items _ stay k.parts parts;
-      }
+      right_again options before es line new found _ stay k.parts
+      (subst (λ ns. AreMatching text options.line_regexp 0 es ns) (sym a.added) (subst (λ l. AreMatching text options.line_regexp 0 l (line.found.numbers ++ a.found)) both numbers)) again
+
+-- ---- what a search answers
+
+-- a line without an expression
+pub goes_right : {E : Type 0} (p : ℕ) (es : List Expression) (options : Options) (line : KeptLine) (r : Result Finds E) → IfOk r (IsFoundAgain (list_any (λ n. nat_eq n p) line.found.numbers) es options line (without p line.found.numbers))
+    → IfOk r (λ found. (before changed : List Expression) → HasChanged (Dropped p) es before changed → IsKept before options line → IsRight es options line.text.items found)
+goes_right p es options line (Ok found) again = λ before changed h k. went_right p es before changed options line h k found again
+goes_right p es options line (Err fault) again = tt
+
+-- a line with more expressions
+pub comes_right : {E : Type 0} (first : ℕ) (es : List Expression) (options : Options) (line : KeptLine) (new : List ℕ) (r : Result Finds E) → first ≤ length es
+    → AddsMatching line.text.items options.line_regexp first (drop first es) line.found.numbers new → IfOk r (IsFoundAgain (nat_lt (length line.found.numbers) (length new)) es options line new)
+    → IfOk r (λ found. (before changed : List Expression) → HasChanged (Added first) es before changed → IsKept before options line → IsRight es options line.text.items found)
+comes_right first es options line new (Ok found) within a again = λ before changed h k. came_right first es before changed options line h k new a within found again
+comes_right first es options line new (Err fault) within a again = tt
 
 -- ---- lines and files
 
@@ -281,7 +288,7 @@ pub kept_at : {X : Type 0} (P : X → Type 0) (xs : List X) (i : ℕ) (x : X) �
 kept_at P xs i x within is all = subst P (sym is) (all i x within)
 
 -- nothing was added
-pub adds_right_none : (es : List Expression) (options : Options) (old : List Found) → AddsRight es options [] old old
+pub adds_right_none : (es : List Expression) (options : Options) (old : List Finds) → AddsRight es options [] old old
 adds_right_none es options old = record { found = []; are_right = tt; added = sym (append-nil old) }
 
 -- as many steps as matchers came

@@ -11,7 +11,7 @@ use Rattle.grep_core.specs.declared.options.Options.{Options}
 use Rattle.grep_core.specs.Files.{File}
 use Rattle.grep_core.proofs.CostLaws.{adds_none, adds_within, same_length}
 use Rattle.grep_core.proofs.MatcherLemmas.{AllZip-append}
-use Rattle.grep_session.specs.declared.found.Found.{Found}
+use Rattle.grep_session.specs.Finds.{Finds}
 use Rattle.grep_session.specs.Kept.{SearchesKept, SearchesAllKept}
 use Rattle.grep_session.specs.Found.{IsRight, AddsRight, lines_of_files}
 use Rattle.grep_session.specs.Touched.{pairs_cost}
@@ -38,7 +38,7 @@ module _ {X Y : Type 0} (f : X → Y) (xs : List X) (i : ℕ) (x : X) (h : i < l
 
 module _ (es : List Expression) (options : Options) where
   -- one more line
-  pub adds_right_next : (lines : List Text) (line : Text) (all : List Text) (old mid new : List Found) (one : Found) → all ≡ lines ++ line ∷ [] → new ≡ mid ++ one ∷ [] → AddsRight es options lines old mid → IsRight es options line one
+  pub adds_right_next : (lines : List Text) (line : Text) (all : List Text) (old mid new : List Finds) (one : Finds) → all ≡ lines ++ line ∷ [] → new ≡ mid ++ one ∷ [] → AddsRight es options lines old mid → IsRight es options line one
       → AddsRight es options all old new
   adds_right_next lines line all old mid new one both pushed s r = record {
     found = s.found ++ one ∷ [];
@@ -47,7 +47,7 @@ module _ (es : List Expression) (options : Options) where
   }
 
   -- the lines of one more file
-  pub right_more : (lines more all : List Text) (old new : List Found) → all ≡ lines ++ more → AllZip (IsRight es options) lines old → AddsRight es options more old new → AllZip (IsRight es options) all new
+  pub right_more : (lines more all : List Text) (old new : List Finds) → all ≡ lines ++ more → AllZip (IsRight es options) lines old → AddsRight es options more old new → AllZip (IsRight es options) all new
   right_more lines more all old new both s r =
       subst (λ l. AllZip (IsRight es options) l new) (sym both) (subst (AllZip (IsRight es options) (lines ++ more)) (sym r.added) (AllZip-append (IsRight es options) lines more old r.found s r.are_right))
 

@@ -94,15 +94,15 @@ map_done f (x ∷ xs) (suc n) h = ap (λ l. f x ∷ l) (map_done f xs n (let les
 -- ---- lines and files without an expression
 
 module _ (es : List Expression) (options : Options) (p : ℕ) (h : p < length es) (no_parts : options.only_matching ≡ false) where
-  pub dropped_line : (old new : KeptLine) → new.text ≡ old.text → new.matched_by.items ≡ without p old.matched_by.items → IsKept es options old → IsKept (remove es p) options new
+  pub dropped_line : (old new : KeptLine) → new.text ≡ old.text → new.found.numbers ≡ without p old.found.numbers → IsKept es options old → IsKept (remove es p) options new
   dropped_line old new text matched k =
-      let fewer = AreMatching-drop old.text.items options.line_regexp 0 p es old.matched_by.items h k.matching in
+      let fewer = AreMatching-drop old.text.items options.line_regexp 0 p es old.found.numbers h k.matching in
       let place : 0 + p ≡ p = omega arith in
       record {
         matching =
             subst (AreMatching new.text.items options.line_regexp 0 (remove es p)) (sym matched)
-            (subst (λ t. AreMatching t.items options.line_regexp 0 (remove es p) (without p old.matched_by.items)) (sym text) (subst (λ q. AreMatching old.text.items options.line_regexp 0 (remove es p) (without q old.matched_by.items)) place fewer));
-        parts = subst (λ b. MatchBool b (AreParts (remove es p) new.text.items options.line_regexp (map span_places new.parts.items)) ⊤) (sym no_parts) tt;
+            (subst (λ t. AreMatching t.items options.line_regexp 0 (remove es p) (without p old.found.numbers)) (sym text) (subst (λ q. AreMatching old.text.items options.line_regexp 0 (remove es p) (without q old.found.numbers)) place fewer));
+        parts = subst (λ b. MatchBool b (AreParts (remove es p) new.text.items options.line_regexp (map span_places new.found.spans)) ⊤) (sym no_parts) tt;
       }
 
 -- an element gave way to another: what holds of those behind it still does

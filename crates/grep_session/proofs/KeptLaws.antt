@@ -71,7 +71,7 @@ matching_tells line entire first (e ∷ es) numbers (rest, inr (fails, is), h) =
     )
 
 module _ (es : List Expression) (options : Options) where
-  parts_asked : (line : KeptLine) → IsTrue options.only_matching → IsKept es options line → AreParts es (line_text line) options.line_regexp (map span_places line.parts.items)
+  parts_asked : (line : KeptLine) → IsTrue options.only_matching → IsKept es options line → AreParts es (line_text line) options.line_regexp (map span_places line.found.spans)
   parts_asked line asked k = by_flag options.only_matching asked k.parts
     where
       by_flag : {P : Type 0} (asks : Bool) → IsTrue asks → MatchBool asks P ⊤ → P
@@ -81,7 +81,7 @@ module _ (es : List Expression) (options : Options) where
   -- ---- verdicts
 
   selected_told : (line : KeptLine) → IsKept es options line → Decides (is_selected options line) (Selected es options (line_text line))
-  selected_told line k = by_flag options.invert_match (matches_none line) (matching_tells (line_text line) options.line_regexp 0 es line.matched_by.items k.matching)
+  selected_told line k = by_flag options.invert_match (matches_none line) (matching_tells (line_text line) options.line_regexp 0 es line.found.numbers k.matching)
     where
       by_flag : {M : Type 0} (inverted none : Bool) → IsTrue (not none) ↔ M → Decides (if inverted then none else not none) (MatchBool inverted (M → ⊥) M)
       by_flag false none m = m
@@ -115,7 +115,7 @@ module _ (es : List Expression) (options : Options) where
   lines_fit : (text : List KeptLine) → All (IsKept es options) text → All (PartsFit options) text
   lines_fit [] k = All-nil (PartsFit options)
   lines_fit (line ∷ text) k =
-      All-cons (PartsFit options) line text (λ asked. parts_fit (line_text line) 0 line.parts.items (parts_asked line asked (All-head (IsKept es options) line text k))) (lines_fit text (All-tail (IsKept es options) line text k))
+      All-cons (PartsFit options) line text (λ asked. parts_fit (line_text line) 0 line.found.spans (parts_asked line asked (All-head (IsKept es options) line text k))) (lines_fit text (All-tail (IsKept es options) line text k))
 
   file_fits : (kept : Option (List KeptLine)) → IfSome kept (All (IsKept es options)) → LinesFit options kept
   file_fits None k = tt
@@ -173,7 +173,7 @@ module _ (es : List Expression) (options : Options) where
     part_rows_are asked number [] k = refl
     part_rows_are asked number (line ∷ text) k =
         by_verdict (is_selected options line) (selected_rows options many name parts number line) (rows_as options many name parts (number + 1) text) (picked_from (number + 1) text)
-        (map span_places line.parts.items, parts_asked line asked (All-head (IsKept es options) line text k), places_rows number (line_text line) line.parts.items)
+        (map span_places line.found.spans, parts_asked line asked (All-head (IsKept es options) line text k), places_rows number (line_text line) line.found.spans)
         (part_rows_are asked (number + 1) text (All-tail (IsKept es options) line text k))
       where
         by_verdict : (b : Bool) (rows more : List Text) (ls : List (ℕ × Text)) → PartsOfLine es options many (file_so_far name []) (number, line_text line) rows → EachGives (PartsOfLine es options many (file_so_far name [])) ls more

@@ -9,6 +9,7 @@ pub mod AgainLemmas
 pub mod DroppingLemmas
 pub mod AddingLemmas
 pub mod SurvivingLemmas
+pub mod FindsLemmas
 pub mod ChangeLemmas
 pub mod PatternLemmas
 pub mod NewPatternLemmas

@@ -47,7 +47,7 @@ module _ (line : Text) (entire : Bool) where
       ]
 
   -- some of them hold on a part that was found, and so match
-  some_match : (fs : List Expression) (i j : ℕ) → i < j → j ≤ length line → OnTrue entire ((i ≡ 0) × (j ≡ length line)) → Any (λ e. Holds line e i j) fs → Any (λ e. Matches e line entire) fs
+  pub some_match : (fs : List Expression) (i j : ℕ) → i < j → j ≤ length line → OnTrue entire ((i ≡ 0) × (j ≡ length line)) → Any (λ e. Holds line e i j) fs → Any (λ e. Matches e line entire) fs
   some_match fs i j apart on_line is_whole some = (some.0, some.1, some.2, some.3, found_matches some.1 i j apart on_line is_whole some.4)
 
   module _ (es fs : List Expression) (none : Any (λ e. Matches e line entire) fs → ⊥) where

@@ -51,8 +51,8 @@ module _ (es : List Expression) (options : Options) where
 
   -- what is kept of a line is what these expressions find in it
   pub record IsKept (line : KeptLine) : Type 0 where
-    pub matching : AreMatching line.text.items options.line_regexp 0 es line.matched_by.items
-    pub parts : ArePartsKept line.text.items line.parts.items
+    pub matching : AreMatching line.text.items options.line_regexp 0 es line.found.numbers
+    pub parts : ArePartsKept line.text.items line.found.spans
 
   abbrev pub IsFileKept : KeptFile → Type 0
   IsFileKept file = IfSome (kept_lines file) (All IsKept)

@@ -2,6 +2,8 @@
 pub use Rattle.grep_core.specs.Files
 pub mod Edits
 pub mod Touched
+pub mod Finds
+pub mod Boxed
 pub mod Kept
 pub mod Sessions
 pub mod Splicing

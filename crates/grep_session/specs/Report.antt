@@ -24,7 +24,7 @@ use Rattle.grep_session.specs.Kept.{line_text, kept_lines}
 
 -- no pattern matches the line
 abbrev pub matches_none : KeptLine → Bool
-matches_none line = length line.matched_by.items == 0
+matches_none line = length line.found.numbers == 0
 
 -- grep selects the lines that are matched, and under `-v` the others
 abbrev pub is_selected : Options → KeptLine → Bool
@@ -60,7 +60,7 @@ OnLine text span = (span.start ≤ span.end) × (span.end ≤ length text)
 
 -- under `-o` the parts that are kept of a line are stretches of it
 abbrev pub PartsFit : Options → KeptLine → Type 0
-PartsFit options line = IsTrue options.only_matching → All (OnLine (line_text line)) line.parts.items
+PartsFit options line = IsTrue options.only_matching → All (OnLine (line_text line)) line.found.spans
 
 abbrev pub LinesFit : Options → Option (List KeptLine) → Type 0
 LinesFit options None = Unit {0}
@@ -81,7 +81,7 @@ module _ (options : Options) (many : Bool) (name : Text) where
   -- the rows of a selected line, by what is asked for
   abbrev pub selected_rows : Form → ℕ → KeptLine → List Text
   selected_rows lines number line = row number (line_text line) ∷ []
-  selected_rows parts number line = part_rows number (line_text line) line.parts.items
+  selected_rows parts number line = part_rows number (line_text line) line.found.spans
   selected_rows _ number line = []
 
   module _ (shape : Form) where

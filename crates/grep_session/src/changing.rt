@@ -8,19 +8,19 @@ ghost use Rattle.re_search.specs.Searching.{AllAnswer, AddsAtMost};
 ghost use Rattle.grep_session.specs.declared.change.Change.TheVariants.{Added, Dropped};
 ghost use Rattle.grep_session.specs.Changed.{HasChanged, IsWithin, ChangeCost, SearchesEach, SearchesOne};
 ghost use Rattle.grep_core.specs.Matchers.{most_patterns};
-ghost use Rattle.grep_session.specs.Found.{IsRight, AddsRight, lines_of_files};
-ghost use Rattle.grep_session.specs.Kept.{IsKept, IsFileKept, ArePartsKept, kept_file, kept_lines, line_text};
+ghost use Rattle.grep_session.specs.Found.{IsRight, IsFoundAgain, AddsRight, lines_of_files};
+ghost use Rattle.grep_session.specs.Kept.{IsKept, IsFileKept, kept_file, kept_lines, line_text};
 ghost use Rattle.grep_session.specs.Touched.{PartsCostOf};
 
 use crate::adding::add_later;
 use crate::change::Change;
 use crate::columns::push_found;
-use crate::dropping::drop_number;
-use crate::finding::parts_of;
-use crate::found::Found;
+use crate::finding::find_with_parts;
+use crate::findings::Findings;
 use crate::kept::{KeptFile, KeptLine};
+use crate::numbers::drop_number;
 use grep_core::Options;
-use re_search::{LineMatch, Matcher, Meter, Span};
+use re_search::{LineMatch, Matcher, Meter};
 use std::alloc::{AllocError, Global};
 
 /// Whether a number is among others.
@@ -37,25 +37,28 @@ fn has_grown(old: &[usize], new: &[usize]) -> bool
     old.len() < new.len()
 }
 
-/// The parts of a line: anew where that is asked, and else those that are kept.
-fn parts_again<M: LineMatch>(
+/// What is found in a line, where the matchers of these numbers match it: its parts anew where
+/// that is asked, and else those that are kept.
+fn find_again<M: LineMatch>(
     alloc: Global,
     matchers: &mut [M],
     options: &Options,
     anew: bool,
     line: &KeptLine,
+    numbers: Vec<usize>,
     meter: &mut Meter,
-) -> Result<Vec<Span>, AllocError>
+) -> Result<Findings, AllocError>
     requires whole { AllAnswer options.now.line_regexp (map M.whole matchers.old) }
-    ensures ok { IfOk result (λ spans. MatchBool anew (ArePartsKept (map M.expression matchers.old) options.now line.now.text.items spans.items) (spans.items ≡ line.now.parts.items)) }
+    ensures ok { IfOk result (IsFoundAgain anew (map M.expression matchers.old) options.now line.now numbers.items) }
     ensures same_expressions { map M.expression matchers.new ≡ map M.expression matchers.old }
     ensures same_wholes { map M.whole matchers.new ≡ map M.whole matchers.old }
     ensures steps { (own : ℕ) × MatchBool anew (PartsCostOf (map M.expression matchers.old) options.now line.now.text.items own) (own ≡ 0) × AddsAtMost own meter.old meter.new }
 {
     if anew {
-        return parts_of(alloc, matchers, options, &line.text, meter);
+        return find_with_parts(alloc, matchers, options, &line.text, numbers, meter);
     }
-    Vec::from_slice(alloc, &line.parts)
+    let spans = Vec::from_slice(alloc, line.found.spans())?;
+    Findings::new(alloc, numbers, spans)
 }
 
 /// What is found in a line without pattern `p`, which is gone.
@@ -66,7 +69,7 @@ fn find_without<M: LineMatch>(
     p: usize,
     line: &KeptLine,
     meter: &mut Meter,
-) -> Result<Found, AllocError>
+) -> Result<Findings, AllocError>
     requires whole { AllAnswer options.now.line_regexp (map M.whole matchers.old) }
     ensures same_expressions { map M.expression matchers.new ≡ map M.expression matchers.old }
     ensures same_wholes { map M.whole matchers.new ≡ map M.whole matchers.old }
@@ -75,11 +78,10 @@ fn find_without<M: LineMatch>(
     ensures steps { (before changed : List Expression) → HasChanged (Dropped p) (map M.expression matchers.old) before changed → IsKept before options.now line.now
         → SearchesOne (ChangeCost (Dropped p) changed (map M.expression matchers.old) options.now) line.now.text.items meter.old meter.new }
 {
-    let mut matched_by = Vec::from_slice(alloc, &line.matched_by)?;
-    drop_number(&mut matched_by, p);
-    let anew = has_number(&line.matched_by, p);
-    let parts = parts_again(alloc, matchers, options, anew, line, meter)?;
-    Ok(Found { matched_by, parts })
+    let mut numbers = Vec::from_slice(alloc, line.found.numbers())?;
+    drop_number(&mut numbers, p);
+    let anew = has_number(line.found.numbers(), p);
+    find_again(alloc, matchers, options, anew, line, numbers, meter)
 }
 
 /// What is found in a line with the patterns from `first` on, which came.
@@ -90,7 +92,7 @@ fn find_with<M: LineMatch>(
     first: usize,
     line: &KeptLine,
     meter: &mut Meter,
-) -> Result<Found, AllocError>
+) -> Result<Findings, AllocError>
     requires whole { AllAnswer options.now.line_regexp (map M.whole matchers.old) }
     requires few { length matchers.old ≤ most_patterns }
     requires within { first ≤ length matchers.old }
@@ -101,11 +103,10 @@ fn find_with<M: LineMatch>(
     ensures steps { (before changed : List Expression) → HasChanged (Added first) (map M.expression matchers.old) before changed → IsKept before options.now line.now
         → SearchesOne (ChangeCost (Added first) changed (map M.expression matchers.old) options.now) line.now.text.items meter.old meter.new }
 {
-    let mut matched_by = Vec::from_slice(alloc, &line.matched_by)?;
-    add_later(matchers, first, options, &line.text, &mut matched_by, meter)?;
-    let anew = has_grown(&line.matched_by, &matched_by);
-    let parts = parts_again(alloc, matchers, options, anew, line, meter)?;
-    Ok(Found { matched_by, parts })
+    let mut numbers = Vec::from_slice(alloc, line.found.numbers())?;
+    add_later(matchers, first, options, &line.text, &mut numbers, meter)?;
+    let anew = has_grown(line.found.numbers(), &numbers);
+    find_again(alloc, matchers, options, anew, line, numbers, meter)
 }
 
 /// What is found in a line behind a change of the patterns.
@@ -116,7 +117,7 @@ fn find_changed<M: LineMatch>(
     change: Change,
     line: &KeptLine,
     meter: &mut Meter,
-) -> Result<Found, AllocError>
+) -> Result<Findings, AllocError>
     requires whole { AllAnswer options.now.line_regexp (map M.whole matchers.old) }
     requires few { length matchers.old ≤ most_patterns }
     requires within { IsWithin change (length matchers.old) }
@@ -140,7 +141,7 @@ fn change_lines<M: LineMatch>(
     options: &Options,
     change: Change,
     lines: &[KeptLine],
-    found: &mut Vec<Found>,
+    found: &mut Vec<Findings>,
     meter: &mut Meter,
 ) -> Result<(), AllocError>
     requires whole { AllAnswer options.now.line_regexp (map M.whole matchers.old) }
@@ -167,7 +168,7 @@ fn change_file<M: LineMatch>(
     options: &Options,
     change: Change,
     file: &KeptFile,
-    found: &mut Vec<Found>,
+    found: &mut Vec<Findings>,
     meter: &mut Meter,
 ) -> Result<(), AllocError>
     requires whole { AllAnswer options.now.line_regexp (map M.whole matchers.old) }
@@ -194,7 +195,7 @@ fn change_files<M: LineMatch>(
     change: Change,
     files: &[KeptFile],
     meter: &mut Meter,
-) -> Result<Vec<Found>, AllocError>
+) -> Result<Vec<Findings>, AllocError>
     requires whole { AllAnswer options.now.line_regexp (map M.whole matchers.old) }
     requires few { length matchers.old ≤ most_patterns }
     requires within { IsWithin change (length matchers.old) }
@@ -220,7 +221,7 @@ pub fn change_columns(
     change: Change,
     files: &[KeptFile],
     meter: &mut Meter,
-) -> Result<Vec<Found>, AllocError>
+) -> Result<Vec<Findings>, AllocError>
     requires whole { AllAnswer options.now.line_regexp (map wants_whole matchers.old.items) }
     requires few { length matchers.old.items ≤ most_patterns }
     requires within { IsWithin change (length matchers.old.items) }

@@ -7,33 +7,12 @@ ghost use Rattle.grep_core.specs.Matchers.{most_patterns};
 ghost use Rattle.grep_session.specs.Found.{IsRight, IsReady, AddsRight, lines_of_files};
 ghost use Rattle.grep_session.specs.Kept.{SearchesKept, SearchesAllKept, kept_file, kept_lines, line_text};
 
-use crate::finding::{add_matching, parts_of};
-use crate::found::Found;
+use crate::finding::{find_anew, find_with_parts};
+use crate::findings::Findings;
 use crate::kept::{KeptFile, KeptLine};
 use grep_core::Options;
 use re_search::{LineMatch, Matcher, Meter};
 use std::alloc::{AllocError, Global};
-
-/// All that the matchers find in a line.
-fn find_anew<M: LineMatch>(
-    alloc: Global,
-    matchers: &mut [M],
-    options: &Options,
-    line: &KeptLine,
-    meter: &mut Meter,
-) -> Result<Found, AllocError>
-    requires whole { AllAnswer options.now.line_regexp (map M.whole matchers.old) }
-    requires few { length matchers.old ≤ most_patterns }
-    ensures ok { IfOk result (IsRight (map M.expression matchers.old) options.now line.now.text.items) }
-    ensures same_expressions { map M.expression matchers.new ≡ map M.expression matchers.old }
-    ensures same_wholes { map M.whole matchers.new ≡ map M.whole matchers.old }
-    ensures steps { SearchesKept (map M.expression matchers.old) options.now (length matchers.old) line.now.text.items meter.old meter.new }
-{
-    let mut matched_by = Vec::new(alloc);
-    add_matching(matchers, 0, options, &line.text, &mut matched_by, meter)?;
-    let parts = parts_of(alloc, matchers, options, &line.text, meter)?;
-    Ok(Found { matched_by, parts })
-}
 
 /// The parts that the matchers find in a line of which it is known which of them match.
 fn find_parts<M: LineMatch>(
@@ -42,7 +21,7 @@ fn find_parts<M: LineMatch>(
     options: &Options,
     line: &KeptLine,
     meter: &mut Meter,
-) -> Result<Found, AllocError>
+) -> Result<Findings, AllocError>
     requires whole { AllAnswer options.now.line_regexp (map M.whole matchers.old) }
     requires ready { IsReady false (map M.expression matchers.old) options.now line.now }
     ensures ok { IfOk result (IsRight (map M.expression matchers.old) options.now line.now.text.items) }
@@ -50,9 +29,8 @@ fn find_parts<M: LineMatch>(
     ensures same_wholes { map M.whole matchers.new ≡ map M.whole matchers.old }
     ensures steps { SearchesKept (map M.expression matchers.old) options.now 0 line.now.text.items meter.old meter.new }
 {
-    let matched_by = Vec::from_slice(alloc, &line.matched_by)?;
-    let parts = parts_of(alloc, matchers, options, &line.text, meter)?;
-    Ok(Found { matched_by, parts })
+    let numbers = Vec::from_slice(alloc, line.found.numbers())?;
+    find_with_parts(alloc, matchers, options, &line.text, numbers, meter)
 }
 
 /// What the matchers find in a line: anew, or its parts alone.
@@ -63,7 +41,7 @@ fn find_line<M: LineMatch>(
     anew: bool,
     line: &KeptLine,
     meter: &mut Meter,
-) -> Result<Found, AllocError>
+) -> Result<Findings, AllocError>
     requires whole { AllAnswer options.now.line_regexp (map M.whole matchers.old) }
     requires few { length matchers.old ≤ most_patterns }
     requires ready { IsReady anew (map M.expression matchers.old) options.now line.now }
@@ -73,13 +51,13 @@ fn find_line<M: LineMatch>(
     ensures steps { SearchesKept (map M.expression matchers.old) options.now (if anew then length matchers.old else 0) line.now.text.items meter.old meter.new }
 {
     if anew {
-        return find_anew(alloc, matchers, options, line, meter);
+        return find_anew(alloc, matchers, options, &line.text, meter);
     }
     find_parts(alloc, matchers, options, line, meter)
 }
 
 /// Adds what was found in a line.
-pub fn push_found(found: &mut Vec<Found>, one: Found) -> Result<(), AllocError>
+pub fn push_found(found: &mut Vec<Findings>, one: Findings) -> Result<(), AllocError>
     ensures { IfOk result (λ _. found.new.items ≡ found.old.items ++ one ∷ []) }
 {
     found.push(one)?;
@@ -93,7 +71,7 @@ fn find_lines<M: LineMatch>(
     options: &Options,
     anew: bool,
     lines: &[KeptLine],
-    found: &mut Vec<Found>,
+    found: &mut Vec<Findings>,
     meter: &mut Meter,
 ) -> Result<(), AllocError>
     requires whole { AllAnswer options.now.line_regexp (map M.whole matchers.old) }
@@ -118,7 +96,7 @@ fn find_in_file<M: LineMatch>(
     options: &Options,
     anew: bool,
     file: &KeptFile,
-    found: &mut Vec<Found>,
+    found: &mut Vec<Findings>,
     meter: &mut Meter,
 ) -> Result<(), AllocError>
     requires whole { AllAnswer options.now.line_regexp (map M.whole matchers.old) }
@@ -143,7 +121,7 @@ pub fn find_all<M: LineMatch>(
     anew: bool,
     files: &[KeptFile],
     meter: &mut Meter,
-) -> Result<Vec<Found>, AllocError>
+) -> Result<Vec<Findings>, AllocError>
     requires whole { AllAnswer options.now.line_regexp (map M.whole matchers.old) }
     requires few { length matchers.old ≤ most_patterns }
     requires ready { All (λ file. IfSome (kept_lines file) (All (IsReady anew (map M.expression matchers.old) options.now))) files.now }
@@ -167,7 +145,7 @@ pub fn find_columns(
     anew: bool,
     files: &[KeptFile],
     meter: &mut Meter,
-) -> Result<Vec<Found>, AllocError>
+) -> Result<Vec<Findings>, AllocError>
     requires whole { AllAnswer options.now.line_regexp (map wants_whole matchers.old.items) }
     requires few { length matchers.old.items ≤ most_patterns }
     requires ready { All (λ file. IfSome (kept_lines file) (All (IsReady anew (map matched_expression matchers.old.items) options.now))) files.now }

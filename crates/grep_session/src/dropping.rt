@@ -1,51 +1,20 @@
 //! A pattern goes, and the later ones move up.
-ghost use Rattle.std.specs.Prelude.{◌≡◌, ◌<◌, List, length, map, not, nat_eq, false, All, ◌≤◌, vec_len, vec_capacity};
+ghost use Rattle.std.specs.Prelude.{◌≡◌, ◌<◌, List, length, map, false, All, ◌≤◌, vec_len, vec_capacity};
 ghost use Rattle.re_syntax.specs.Expression.{Expression};
 ghost use Rattle.grep_core.specs.declared.options.Options.{Options};
 ghost use Rattle.grep_session.specs.Kept.{IsKept, IsFileKept, kept_file, line_text};
-ghost use Rattle.std.specs.List.{filter, remove, insert};
-ghost use Rattle.grep_session.specs.Dropping.{lowered, without};
+ghost use Rattle.std.specs.List.{remove, insert};
+ghost use Rattle.grep_session.specs.Dropping.{without};
 
 use crate::kept::{KeptFile, KeptLine};
 use re_search::Matcher;
 
-/// The number that a pattern has when pattern `p` is gone.
-fn lowered(p: usize, number: usize) -> usize
-    ensures { result ≡ lowered p number }
-{
-    if p < number { number - 1 } else { number }
-}
-
-/// Lowers the numbers above `p` by one.
-fn lower_all(numbers: &mut [usize], p: usize)
-    ensures { numbers.new ≡ map (lowered p) numbers.old }
-{
-    for number in numbers.iter_mut() {
-        *number = lowered(p, *number);
-    }
-}
-
-/// Takes `p` out of the numbers.
-fn take_out(numbers: &mut Vec<usize>, p: usize)
-    ensures { numbers.new.items ≡ filter (λ n. not (nat_eq n p)) numbers.old.items }
-{
-    numbers.retain(|number| *number != p);
-}
-
-/// Takes `p` out of the numbers, and lowers those above it by one.
-pub fn drop_number(numbers: &mut Vec<usize>, p: usize)
-    ensures { numbers.new.items ≡ without p numbers.old.items }
-{
-    take_out(numbers, p);
-    lower_all(numbers, p);
-}
-
 /// Takes pattern `p` out of what is kept of a line.
 fn drop_in_line(line: &mut KeptLine, p: usize)
     ensures text { line.new.text ≡ line.old.text }
-    ensures matched { line.new.matched_by.items ≡ without p line.old.matched_by.items }
+    ensures matched { line.new.found.numbers ≡ without p line.old.found.numbers }
 {
-    drop_number(&mut line.matched_by, p);
+    line.found.drop_number(p);
 }
 
 /// Takes pattern `p` out of what is kept of lines.

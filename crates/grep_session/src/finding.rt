@@ -5,9 +5,11 @@ ghost use Rattle.re_search.specs.Searching.{AllAnswer, AddsAtMost, FindsPart};
 ghost use Rattle.re_syntax.specs.Parts.{AreParts};
 ghost use Rattle.grep_core.specs.Cost.{search_cost};
 ghost use Rattle.grep_core.specs.Matchers.{most_patterns};
-ghost use Rattle.grep_session.specs.Kept.{AddsMatching, IsKept, SearchesKept, SearchesAllKept, span_places, line_text, ArePartsKept};
+ghost use Rattle.grep_session.specs.Found.{IsRight};
+ghost use Rattle.grep_session.specs.Kept.{AreMatching, AddsMatching, IsKept, SearchesKept, SearchesAllKept, span_places, line_text, ArePartsKept};
 ghost use Rattle.grep_session.specs.Touched.{PartsCostOf};
 
+use crate::findings::Findings;
 use crate::kept::KeptLine;
 use grep_core::{Options, next_part};
 use re_search::{LineMatch, Matcher, Meter, Span};
@@ -85,7 +87,7 @@ fn add_parts<M: LineMatch>(
 }
 
 /// The parts of the line under `-o`, and else none.
-pub fn parts_of<M: LineMatch>(
+fn parts_of<M: LineMatch>(
     alloc: Global,
     matchers: &mut [M],
     options: &Options,
@@ -105,6 +107,50 @@ pub fn parts_of<M: LineMatch>(
     Ok(spans)
 }
 
+/// What is found in the line, where the matchers of these numbers match it: under `-o` its parts
+/// are searched where there is a number.
+pub fn find_with_parts<M: LineMatch>(
+    alloc: Global,
+    matchers: &mut [M],
+    options: &Options,
+    line: &[u8],
+    numbers: Vec<usize>,
+    meter: &mut Meter,
+) -> Result<Findings, AllocError>
+    requires whole { AllAnswer options.now.line_regexp (map M.whole matchers.old) }
+    ensures ok { IfOk result (λ found. AreMatching line.now options.now.line_regexp 0 (map M.expression matchers.old) numbers.items
+        → IsRight (map M.expression matchers.old) options.now line.now found) }
+    ensures same_expressions { map M.expression matchers.new ≡ map M.expression matchers.old }
+    ensures same_wholes { map M.whole matchers.new ≡ map M.whole matchers.old }
+    ensures steps { (own : ℕ) × PartsCostOf (map M.expression matchers.old) options.now line.now own × AddsAtMost own meter.old meter.new }
+{
+    if numbers.is_empty() {
+        return Ok(Findings::none());
+    }
+    let spans = parts_of(alloc, matchers, options, line, meter)?;
+    Findings::new(alloc, numbers, spans)
+}
+
+/// All that the matchers find in the line.
+pub fn find_anew<M: LineMatch>(
+    alloc: Global,
+    matchers: &mut [M],
+    options: &Options,
+    line: &[u8],
+    meter: &mut Meter,
+) -> Result<Findings, AllocError>
+    requires whole { AllAnswer options.now.line_regexp (map M.whole matchers.old) }
+    requires few { length matchers.old ≤ most_patterns }
+    ensures ok { IfOk result (IsRight (map M.expression matchers.old) options.now line.now) }
+    ensures same_expressions { map M.expression matchers.new ≡ map M.expression matchers.old }
+    ensures same_wholes { map M.whole matchers.new ≡ map M.whole matchers.old }
+    ensures steps { SearchesKept (map M.expression matchers.old) options.now (length matchers.old) line.now meter.old meter.new }
+{
+    let mut numbers = Vec::new(alloc);
+    add_matching(matchers, 0, options, line, &mut numbers, meter)?;
+    find_with_parts(alloc, matchers, options, line, numbers, meter)
+}
+
 /// The line with all that the matchers find in it.
 pub fn search_line<M: LineMatch>(
     alloc: Global,
@@ -121,14 +167,8 @@ pub fn search_line<M: LineMatch>(
     ensures same_wholes { map M.whole matchers.new ≡ map M.whole matchers.old }
     ensures steps { SearchesKept (map M.expression matchers.old) options.now (length matchers.old) text.items meter.old meter.new }
 {
-    let mut matched_by = Vec::new(alloc);
-    add_matching(matchers, 0, options, &text, &mut matched_by, meter)?;
-    let parts = parts_of(alloc, matchers, options, &text, meter)?;
-    Ok(KeptLine {
-        text,
-        matched_by,
-        parts,
-    })
+    let found = find_anew(alloc, matchers, options, &text, meter)?;
+    Ok(KeptLine { text, found })
 }
 
 /// Adds a line.

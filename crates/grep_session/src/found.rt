@@ -8,33 +8,23 @@ ghost use Rattle.std.specs.Option.{option_map, unwrap_or};
 ghost use Rattle.grep_session.specs.Kept.{IsFileKept, kept_file, kept_lines};
 ghost use Rattle.grep_session.specs.Found.{IsRight, lines_of_files, next_line, with_found};
 
+use crate::findings::Findings;
 use crate::kept::{KeptFile, KeptLine};
-use re_search::Span;
 use std::vec::IntoIter;
 
-/// What was found in a line.
-#[derive(Drop)]
-pub struct Found {
-    /// The numbers of the patterns that match the line, in ascending order.
-    pub matched_by: Vec<usize>,
-    /// The parts of the line that the patterns match, under `-o`.
-    pub parts: Vec<Span>,
-}
-
 /// Puts the first of what was found in the place of what is kept of a line.
-fn put_next(line: &mut KeptLine, found: &mut IntoIter<Found>)
+fn put_next(line: &mut KeptLine, found: &mut IntoIter<Findings>)
     ensures line { line.new ≡ next_line line.old (into_iter_items found.old) }
     ensures rest { into_iter_items found.new ≡ drop 1 (into_iter_items found.old) }
 {
     let Some(new) = found.next() else {
         return;
     };
-    line.matched_by = new.matched_by;
-    line.parts = new.parts;
+    line.found = new;
 }
 
 /// Puts the first of what was found in the place of what is kept of the lines.
-fn put_found(lines: &mut [KeptLine], found: &mut IntoIter<Found>)
+fn put_found(lines: &mut [KeptLine], found: &mut IntoIter<Findings>)
     ensures lines { lines.new ≡ with_found lines.old (into_iter_items found.old) }
     ensures rest { into_iter_items found.new ≡ drop (length lines.old) (into_iter_items found.old) }
 {
@@ -44,7 +34,7 @@ fn put_found(lines: &mut [KeptLine], found: &mut IntoIter<Found>)
 }
 
 /// Puts the first of what was found in the place of what is kept of the lines of a file.
-fn put_found_in(file: &mut KeptFile, found: &mut IntoIter<Found>)
+fn put_found_in(file: &mut KeptFile, found: &mut IntoIter<Findings>)
     ensures name { file.new.name ≡ file.old.name }
     ensures lines { kept_lines file.new ≡ option_map (λ lines. with_found lines (into_iter_items found.old)) (kept_lines file.old) }
     ensures rest { into_iter_items found.new ≡ drop (length (unwrap_or (kept_lines file.old) [])) (into_iter_items found.old) }
@@ -56,7 +46,7 @@ fn put_found_in(file: &mut KeptFile, found: &mut IntoIter<Found>)
 }
 
 /// Puts what was found in all lines of the files, in order, in the place of what is kept of them.
-pub fn put_all(files: &mut [KeptFile], found: Vec<Found>)
+pub fn put_all(files: &mut [KeptFile], found: Vec<Findings>)
     ensures same { map kept_file files.new ≡ map kept_file files.old }
     ensures right { (es : List Expression) (options : Options) → AllZip (IsRight es options) (lines_of_files (map kept_file files.old)) found.items → All (IsFileKept es options) files.new }
 {
@@ -67,7 +57,7 @@ pub fn put_all(files: &mut [KeptFile], found: Vec<Found>)
 }
 
 /// The same in the files of a session.
-pub fn put_columns(files: &mut Vec<KeptFile>, found: Vec<Found>)
+pub fn put_columns(files: &mut Vec<KeptFile>, found: Vec<Findings>)
     ensures same { map kept_file files.new.items ≡ map kept_file files.old.items }
     ensures right { (es : List Expression) (options : Options) → AllZip (IsRight es options) (lines_of_files (map kept_file files.old.items)) found.items → All (IsFileKept es options) files.new.items }
 {

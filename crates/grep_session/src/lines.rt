@@ -15,11 +15,11 @@ fn write_parts<W: CountedWrite>(
     out: &mut W,
     margin: &[u8],
 ) -> Result<(), WriteFault>
-    requires { All (OnLine line.now.text.items) line.now.parts.items }
+    requires { All (OnLine line.now.text.items) line.now.found.spans }
     ensures { Writes W.contents W.failures out.old out.new (written margin.now
-        (part_rows wanted.now.options wanted.now.many wanted.now.name.now number line.now.text.items line.now.parts.items)) result }
+        (part_rows wanted.now.options wanted.now.many wanted.now.name.now number line.now.text.items line.now.found.spans)) result }
 {
-    for part in &line.parts {
+    for part in line.found.spans() {
         let text = &line.text[part.start..part.end];
         wanted.write_text(number, text, out, margin)?;
     }

@@ -11,9 +11,9 @@ impl KeptLine {
         ensures { result ≡ is_selected options.now self.now }
     {
         if options.invert_match {
-            return self.matched_by.is_empty();
+            return self.found.numbers().is_empty();
         }
-        !self.matched_by.is_empty()
+        !self.found.numbers().is_empty()
     }
 }
 

@@ -1,36 +1,28 @@
-use Rattle.std.proofs.Common.{map, refl, arith}
+use Rattle.std.proofs.Common.{map, arith}
 use Rattle.std.proofs.lemmas.List.{length-map}
 use Rattle.grep_core.proofs.CostLaws.{adds_none}
 use Rattle.grep_session.specs.declared.change.Change.TheVariants.{Added}
-use Rattle.grep_session.proofs.ChangeLemmas.{changed_before_parts, changed_with_parts, came_verdict, came_right, came_steps}
+use Rattle.grep_session.proofs.ChangeLemmas.{changed_before_parts, changed_with_parts, came_verdict, comes_right, came_steps}
 use Rattle.grep_session.proofs.changing.find_with.Goals as goal
 
-pub returns-in_err-matched_by-clause-steps : goal.returns-in_err-matched_by-clause-steps
-returns-in_err-matched_by-clause-steps g c = λ before changed h k. changed_before_parts (Added c.args.first) changed _ c.args.options.now _ _ _ (adds_none _ _)
+pub returns-in_err-numbers-clause-steps : goal.returns-in_err-numbers-clause-steps
+returns-in_err-numbers-clause-steps g c = λ before changed h k. changed_before_parts (Added c.args.first) changed _ c.args.options.now _ _ _ (adds_none _ _)
 
 pub returns-in_err-add_later-clause-steps : goal.returns-in_err-add_later-clause-steps
 returns-in_err-add_later-clause-steps g c = λ before changed h k.
-    changed_before_parts (Added c.args.first) changed _ c.args.options.now _ _ _ (came_steps g.M.LineMatch.expression c.args.matchers.now c.args.first changed c.args.line.now.text.items _ _ h.1 (rw c.deref-2.ensures.value at c.add_later.ensures.steps))
-
-pub returns-in_err-parts-clause-steps : goal.returns-in_err-parts-clause-steps
-returns-in_err-parts-clause-steps g c = λ before changed h k.
-    let few = came_steps g.M.LineMatch.expression c.args.matchers.now c.args.first changed c.args.line.now.text.items _ _ h.1 (rw c.deref-2.ensures.value at c.add_later.ensures.steps) in
-    let came = rw (c.deref-2.ensures.value, c.in_ok-matched_by.ensures.items, c.deref.ensures.value) at c.in_ok-add_later.ensures.ok in
-    let parts = rw (c.has_grown-anew.ensures, c.deref-3.ensures.value, c.deref-4.ensures.value, c.add_later.ensures.same_expressions) at c.parts_again.ensures.steps in
-    changed_with_parts (Added c.args.first) changed (map g.M.LineMatch.expression c.args.matchers.now) c.args.options.now c.args.line.now.text.items _ _ _ _
-    (came_verdict c.args.first (map g.M.LineMatch.expression c.args.matchers.now) before changed c.args.options.now c.args.line.now h k _ came) few parts
+    changed_before_parts (Added c.args.first) changed _ c.args.options.now _ _ _ (came_steps g.M.LineMatch.expression c.args.matchers.now c.args.first changed c.args.line.now.text.items _ _ h.1 (rw c.deref.ensures.value at c.add_later.ensures.steps))
 
 pub returns-clause-steps : goal.returns-clause-steps
 returns-clause-steps g c = λ before changed h k.
-    let few = came_steps g.M.LineMatch.expression c.args.matchers.now c.args.first changed c.args.line.now.text.items _ _ h.1 (rw c.deref-2.ensures.value at c.add_later.ensures.steps) in
-    let came = rw (c.deref-2.ensures.value, c.in_ok-matched_by.ensures.items, c.deref.ensures.value) at c.in_ok-add_later.ensures.ok in
-    let parts = rw (c.has_grown-anew.ensures, c.deref-3.ensures.value, c.deref-4.ensures.value, c.add_later.ensures.same_expressions) at c.parts_again.ensures.steps in
+    let few = came_steps g.M.LineMatch.expression c.args.matchers.now c.args.first changed c.args.line.now.text.items _ _ h.1 (rw c.deref.ensures.value at c.add_later.ensures.steps) in
+    let came = rw (c.deref.ensures.value, c.in_ok-numbers.ensures.items, c.numbers.ensures) at c.in_ok-add_later.ensures.ok in
+    let parts = rw (c.has_grown-anew.ensures, c.numbers-2.ensures, c.deref-2.ensures.value, c.add_later.ensures.same_expressions) at c.find_again.ensures.steps in
     changed_with_parts (Added c.args.first) changed (map g.M.LineMatch.expression c.args.matchers.now) c.args.options.now c.args.line.now.text.items _ _ _ _
     (came_verdict c.args.first (map g.M.LineMatch.expression c.args.matchers.now) before changed c.args.options.now c.args.line.now h k _ came) few parts
 
 pub returns-clause-ok : goal.returns-clause-ok
-returns-clause-ok g c = λ before changed h k.
-    let came = rw (c.deref-2.ensures.value, c.in_ok-matched_by.ensures.items, c.deref.ensures.value) at c.in_ok-add_later.ensures.ok in
-    let parts = rw (c.has_grown-anew.ensures, c.deref-3.ensures.value, c.deref-4.ensures.value, c.add_later.ensures.same_expressions) at c.in_ok-parts.ensures.ok in
-    came_right c.args.first (map g.M.LineMatch.expression c.args.matchers.now) before changed c.args.options.now c.args.line.now h k c.add_later.new.numbers.items came
-    (omega (arith, c.requires.within, length-map c.args.matchers.now g.M.LineMatch.expression)) (record { matched_by = c.add_later.new.numbers; parts = c.in_ok-parts.parts }) refl parts
+returns-clause-ok g c =
+    let came = rw (c.deref.ensures.value, c.in_ok-numbers.ensures.items, c.numbers.ensures) at c.in_ok-add_later.ensures.ok in
+    comes_right c.args.first (map g.M.LineMatch.expression c.args.matchers.now) c.args.options.now c.args.line.now c.add_later.new.numbers.items c.find_again.result
+    (omega (arith, c.requires.within, length-map c.args.matchers.now g.M.LineMatch.expression)) came
+    (rw (c.has_grown-anew.ensures, c.numbers-2.ensures, c.deref-2.ensures.value, c.add_later.ensures.same_expressions) at c.find_again.ensures.ok)

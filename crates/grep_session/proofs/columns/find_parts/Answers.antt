@@ -1,5 +1,5 @@
 use Rattle.grep_session.proofs.ColumnLemmas.{searched_nothing}
 use Rattle.grep_session.proofs.columns.find_parts.Goals as goal
 
-pub returns-in_err-matched_by-clause-steps : goal.returns-in_err-matched_by-clause-steps
-returns-in_err-matched_by-clause-steps g c = searched_nothing _ _ _ _ _
+pub returns-in_err-numbers-clause-steps : goal.returns-in_err-numbers-clause-steps
+returns-in_err-numbers-clause-steps g c = searched_nothing _ _ _ _ _

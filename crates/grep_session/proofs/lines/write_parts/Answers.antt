@@ -10,7 +10,7 @@ returns-in_err-write_text g c =
     let f = λ (span : Span). row w.options w.many w.name.now c.args.number (slice_range c.args.line.now.text.items span.start span.end) in
     let stops = rw c.deref.ensures.value at c.in_err-write_text.ensures in
     writes_err g.W.CountedWrite.contents g.W.CountedWrite.failures c.args.margin.now _ _ _ c.from_residual.result c.from_residual.ensures.0
-    (row_stops g.W.CountedWrite.contents g.W.CountedWrite.failures c.args.margin.now f c.args.line.now.parts.items c.deref-part-items.result.now c.loop-part.part-index (record { start = 0; end = 0 }) c.loop-part-test.true
+    (row_stops g.W.CountedWrite.contents g.W.CountedWrite.failures c.args.margin.now f c.args.line.now.found.spans c.spans-part-items.result.now c.loop-part.part-index (record { start = 0; end = 0 }) c.loop-part-test.true
     c.args.out.now c.loop-part.out c.write_text.new.out c.loop-part.invariant stops)
 
 pub loop-part-preserved : goal.loop-part-preserved
@@ -18,5 +18,5 @@ loop-part-preserved g c =
     let w = c.args.wanted.now in
     let f = λ (span : Span). row w.options w.many w.name.now c.args.number (slice_range c.args.line.now.text.items span.start span.end) in
     let went = rw c.deref.ensures.value at c.in_ok-write_text.ensures in
-    row_on g.W.CountedWrite.contents g.W.CountedWrite.failures c.args.margin.now f c.args.line.now.parts.items c.deref-part-items.result.now c.loop-part.part-index (record { start = 0; end = 0 }) c.loop-part-test.true
+    row_on g.W.CountedWrite.contents g.W.CountedWrite.failures c.args.margin.now f c.args.line.now.found.spans c.spans-part-items.result.now c.loop-part.part-index (record { start = 0; end = 0 }) c.loop-part-test.true
     c.args.out.now c.loop-part.out c.write_text.new.out c.loop-part.invariant went

@@ -1,6 +1,6 @@
 use Rattle.std.proofs.Common.{◌≡◌, ◌++◌, map, take, drop}
 use Rattle.grep_session.specs.Dropping.{lowered}
-use Rattle.grep_session.proofs.dropping.lower_all.Given as goal
+use Rattle.grep_session.proofs.numbers.lower_all.Given as goal
 
 abbrev pub invariant-loop-number : goal.invariant-loop-number
 invariant-loop-number l = l.numbers ≡ map (lowered l.p) (take l.number-index l.fn.numbers) ++ drop l.number-index l.fn.numbers

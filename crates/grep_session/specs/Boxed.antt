@@ -1,0 +1,12 @@
+-- What is found in a line, as it lies in memory.
+use Rattle.std.specs.Prelude.{ℕ, List, Option, None, Some, Box}
+use Rattle.std.specs.declared.alloc.Global.{Global}
+use Rattle.grep_session.specs.declared.findings.Found.{Found}
+use Rattle.grep_session.specs.Finds.{Finds, no_finds}
+
+abbrev pub finds_in : Option (Box Found Global) → Finds
+finds_in None = no_finds
+finds_in (Some found) = record { numbers = found.value.numbers.items; spans = found.value.spans.items }
+
+abbrev pub numbers_in : Option (Box Found Global) → List ℕ
+numbers_in found = (finds_in found).numbers

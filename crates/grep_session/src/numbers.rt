@@ -1,0 +1,35 @@
+//! The numbers of patterns where one of these goes.
+ghost use Rattle.std.specs.Prelude.{◌≡◌, map, not, nat_eq};
+ghost use Rattle.std.specs.List.{filter};
+ghost use Rattle.grep_session.specs.Dropping.{lowered, without};
+
+/// The number that a pattern has when pattern `p` is gone.
+fn lowered(p: usize, number: usize) -> usize
+    ensures { result ≡ lowered p number }
+{
+    if p < number { number - 1 } else { number }
+}
+
+/// Lowers the numbers above `p` by one.
+fn lower_all(numbers: &mut [usize], p: usize)
+    ensures { numbers.new ≡ map (lowered p) numbers.old }
+{
+    for number in numbers.iter_mut() {
+        *number = lowered(p, *number);
+    }
+}
+
+/// Takes `p` out of the numbers.
+fn take_out(numbers: &mut Vec<usize>, p: usize)
+    ensures { numbers.new.items ≡ filter (λ n. not (nat_eq n p)) numbers.old.items }
+{
+    numbers.retain(|number| *number != p);
+}
+
+/// Takes `p` out of the numbers, and lowers those above it by one.
+pub fn drop_number(numbers: &mut Vec<usize>, p: usize)
+    ensures { numbers.new.items ≡ without p numbers.old.items }
+{
+    take_out(numbers, p);
+    lower_all(numbers, p);
+}
