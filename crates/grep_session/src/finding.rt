@@ -196,7 +196,7 @@ pub fn search_lines<M: LineMatch>(
     ensures memory { texts.items ≡ [] → IfErr result (λ _. ⊥) }
     ensures steps { SearchesAllKept (map M.expression matchers.old) options.now (length matchers.old) (map (λ text. text.items) texts.items) meter.old meter.new }
 {
-    let mut lines = Vec::new(alloc);
+    let mut lines = Vec::with_capacity(alloc, texts.len())?;
     for text in texts {
         let line = search_line(alloc, matchers, options, text, meter)?;
         push_line(&mut lines, line)?;

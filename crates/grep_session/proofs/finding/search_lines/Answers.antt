@@ -3,7 +3,8 @@ use Rattle.std.proofs.lemmas.List.Elements.{All-push}
 use Rattle.std.proofs.lemmas.List.{map-append}
 use Rattle.std.specs.Vec.Iter.{into_iter_items}
 use Rattle.grep_session.specs.Kept.{IsKept, line_text}
-use Rattle.grep_session.proofs.FindingLemmas.{searched_one, searched_next, steps_as, one_taken, taken_first, none_taken}
+use Rattle.grep_core.proofs.CostLaws.{adds_none}
+use Rattle.grep_session.proofs.FindingLemmas.{PartsCost-exists, searched_one, searched_next, steps_as, one_taken, taken_first, none_taken}
 use Rattle.grep_session.proofs.finding.search_lines.Goals as goal
 
 pub returns-in_err-line-clause-steps : goal.returns-in_err-line-clause-steps
@@ -54,3 +55,8 @@ returns-in_err-push_line-clause-memory g c = λ none.
     let s = c.loop-text.invariant.2 in
     let next = c.in-Some.ensures.steps.0 in
     absurd (none_taken (λ t. t.items) _ _ _ c.args.texts.items (taken_first (λ t. t.items) c.in-Some.text _ (into_iter_items c.next.new.self) (map line_text c.loop-text.lines.items) _ s.left next) none)
+
+pub returns-in_err-lines-clause-steps : goal.returns-in_err-lines-clause-steps
+returns-in_err-lines-clause-steps g c =
+    let parts = PartsCost-exists (map g.M.LineMatch.expression c.args.matchers.now) c.args.options.now (map (λ t. t.items) c.args.texts.items) in
+    record { parts = parts.0; are_parts = parts.1; few = adds_none _ _ }
