@@ -2,8 +2,10 @@
 mod edits;
 mod flags;
 mod harness;
+mod inputs;
 mod large;
 mod numbered;
+mod random;
 mod refused;
 mod shown;
 mod worked;
