@@ -190,6 +190,14 @@ impl Inputs {
         }
     }
 
+    /// Whether the edit may ask for memory.
+    pub fn may_grow(&self, edit: Edit) -> bool {
+        match edit {
+            Edit::AddMissing(_) => true,
+            _ => !self.is_free(edit),
+        }
+    }
+
     /// Makes a splice that is accepted.
     fn splice(
         &mut self,
