@@ -1,9 +1,13 @@
 //! Sessions under edits: what they answer, report and tell, and in how many steps.
 mod edits;
 mod flags;
+mod game;
 mod harness;
+mod inputs;
 mod large;
+mod memory;
 mod numbered;
+mod random;
 mod refused;
 mod shown;
 mod worked;

@@ -84,21 +84,6 @@ pub fn make_edit(session: &mut Session, edit: Edit, handed: Handed, meter: &mut 
     }
 }
 
-/// An option's value.
-pub fn option_of(options: &Options, flag: Flag) -> bool {
-    match flag {
-        Flag::Count => options.count,
-        Flag::IgnoreCase => options.ignore_case,
-        Flag::FilesWithMatches => options.files_with_matches,
-        Flag::LineNumber => options.line_number,
-        Flag::OnlyMatching => options.only_matching,
-        Flag::Quiet => options.quiet,
-        Flag::NoMessages => options.no_messages,
-        Flag::InvertMatch => options.invert_match,
-        Flag::LineRegexp => options.line_regexp,
-    }
-}
-
 /// The options with one of them set so.
 pub fn with_option(options: Options, flag: Flag, on: bool) -> Options {
     let mut options = options;
