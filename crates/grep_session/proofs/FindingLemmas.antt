@@ -102,7 +102,7 @@ module _ (es : List Expression) (options : Options) (line : Text) where
         own,
         subst (λ b. MatchBool b ((parts : List (ℕ × ℕ)) × AreParts es line options.line_regexp parts × (own ≡ (length parts + 1) * search_cost (length es) line)) (own ≡ 0)) (sym asked) cost,
         subst (λ n. AddsAtMost ((length all + 1) * search_cost n line) begun after) many
-        (adds_for_more (length spans + 1) (length all + 1) (search_cost matchers line) begun after enough (adds_once_more (length spans) (search_cost matchers line) begun spent after few more)),
+            (adds_for_more (length spans + 1) (length all + 1) (search_cost matchers line) begun after enough (adds_once_more (length spans) (search_cost matchers line) begun spent after few more)),
       )
 
   -- one part more costs one search more

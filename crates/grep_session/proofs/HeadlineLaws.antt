@@ -83,8 +83,7 @@ last_from (attempt ∷ more) last old new c =
 -- grep gives one thing for inputs
 pub one_report : (inputs : Inputs) (out more told tells : List Text) (status other : Status) → GrepGives inputs out told status → GrepGives inputs more tells other → (more ≡ out) × (tells ≡ told) × (other ≡ status)
 one_report inputs out more told tells status other g h =
-    let same : h.es ≡ g.es = means_one inputs.syntax inputs.options inputs.patterns h.es g.es h.are_meant g.are_meant in
-    (
+    let same : h.es ≡ g.es = means_one inputs.syntax inputs.options inputs.patterns h.es g.es h.are_meant g.are_meant in (
       Out-determined g.es inputs.options inputs.files more out (subst (λ es. Out es inputs.options inputs.files more) same h.is_output) g.is_output,
       Messages-determined g.es inputs.options inputs.files tells told (subst (λ es. Messages es inputs.options inputs.files tells) same h.are_messages) g.are_messages,
       StatusOf-determined g.es inputs.options inputs.files other status (subst (λ es. StatusOf es inputs.options inputs.files other) same h.is_status) g.is_status,

@@ -29,15 +29,42 @@ pub fn with_option(options: Options, flag: Flag, on: bool) -> Options
     ensures { result ≡ with_option flag on options }
 {
     match flag {
-        Flag::Count => Options { count: on, ..options },
-        Flag::IgnoreCase => Options { ignore_case: on, ..options },
-        Flag::FilesWithMatches => Options { files_with_matches: on, ..options },
-        Flag::LineNumber => Options { line_number: on, ..options },
-        Flag::OnlyMatching => Options { only_matching: on, ..options },
-        Flag::Quiet => Options { quiet: on, ..options },
-        Flag::NoMessages => Options { no_messages: on, ..options },
-        Flag::InvertMatch => Options { invert_match: on, ..options },
-        Flag::LineRegexp => Options { line_regexp: on, ..options },
+        Flag::Count => Options {
+            count: on,
+            ..options
+        },
+        Flag::IgnoreCase => Options {
+            ignore_case: on,
+            ..options
+        },
+        Flag::FilesWithMatches => Options {
+            files_with_matches: on,
+            ..options
+        },
+        Flag::LineNumber => Options {
+            line_number: on,
+            ..options
+        },
+        Flag::OnlyMatching => Options {
+            only_matching: on,
+            ..options
+        },
+        Flag::Quiet => Options {
+            quiet: on,
+            ..options
+        },
+        Flag::NoMessages => Options {
+            no_messages: on,
+            ..options
+        },
+        Flag::InvertMatch => Options {
+            invert_match: on,
+            ..options
+        },
+        Flag::LineRegexp => Options {
+            line_regexp: on,
+            ..options
+        },
     }
 }
 

@@ -6,13 +6,11 @@ ghost use Rattle.grep_session.specs.Laws.{EditsAreDetermined};
 #[tactic(auto, using(crate::proofs::EditLaws::edits_are_determined))]
 pub fn edits_are_determined()
     ensures { EditsAreDetermined }
-{
-}
+{}
 
 /// Whatever is tried on a new session, it then holds what the accepted edits alone leave, each edit
 /// is answered for that, and what grep gives for it is one thing.
 #[tactic(auto, using(crate::proofs::HeadlineLaws::accepted_edits_decide))]
 pub fn accepted_edits_decide()
     ensures { AcceptedEditsDecide }
-{
-}
+{}

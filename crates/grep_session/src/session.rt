@@ -184,13 +184,22 @@ impl Session {
             → Touches edit self.old (searched_by (length self.old.patterns) (all_lines self.old)) → TakesSteps edit self.old meter.old meter.new }
     {
         let mut matchers = match read_matchers(
-            self.alloc, &self.texts, syntax, &options, self.states,
+            self.alloc,
+            &self.texts,
+            syntax,
+            &options,
+            self.states,
         ) {
             Ok(matchers) => matchers,
             Err(fault) => return Err(fault),
         };
         let found = match find_columns(
-            self.alloc, &mut matchers, &options, true, &self.files, meter,
+            self.alloc,
+            &mut matchers,
+            &options,
+            true,
+            &self.files,
+            meter,
         ) {
             Ok(found) => found,
             Err(_) => return Err(EditFault::Memory),
@@ -228,7 +237,12 @@ impl Session {
             → Touches edit self.old (parts_alone (all_lines self.old)) → TakesSteps edit self.old meter.old meter.new }
     {
         let found = match find_columns(
-            self.alloc, &mut self.matchers, &options, false, &self.files, meter,
+            self.alloc,
+            &mut self.matchers,
+            &options,
+            false,
+            &self.files,
+            meter,
         ) {
             Ok(found) => found,
             Err(_) => return Err(EditFault::Memory),
@@ -296,7 +310,11 @@ impl Session {
             Err(_) => return Err(EditFault::Memory),
         };
         let matchers = match read_matchers(
-            self.alloc, &texts, self.syntax, &self.options, self.states,
+            self.alloc,
+            &texts,
+            self.syntax,
+            &self.options,
+            self.states,
         ) {
             Ok(matchers) => matchers,
             Err(fault) => return Err(fault),
@@ -312,7 +330,12 @@ impl Session {
         }
         let change = Change::Added(first);
         let found = match change_columns(
-            self.alloc, &mut self.matchers, &self.options, change, &self.files, meter,
+            self.alloc,
+            &mut self.matchers,
+            &self.options,
+            change,
+            &self.files,
+            meter,
         ) {
             Ok(found) => found,
             Err(_) => {
@@ -355,7 +378,12 @@ impl Session {
         let gone = self.matchers.remove(p);
         let change = Change::Dropped(p);
         let found = match change_columns(
-            self.alloc, &mut self.matchers, &self.options, change, &self.files, meter,
+            self.alloc,
+            &mut self.matchers,
+            &self.options,
+            change,
+            &self.files,
+            meter,
         ) {
             Ok(found) => found,
             Err(_) => {

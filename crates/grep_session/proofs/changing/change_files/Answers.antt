@@ -38,9 +38,9 @@ loop-file-preserved g c =
     let right = rw s.same_expressions at c.in_ok-change_file.ensures.ok in
     record {
       found = λ before changed h k. right_more _ c.args.options.now _ _ _ _ _ next (s.found before changed h k)
-      (right before changed h (kept_at (IsFileKept before c.args.options.now) c.args.files.now c.loop-file.file-index x c.loop-file-test.true c.file-item.is k));
+          (right before changed h (kept_at (IsFileKept before c.args.options.now) c.args.files.now c.loop-file.file-index x c.loop-file-test.true c.file-item.is k));
       same_expressions = c.change_file.ensures.same_expressions ∙ s.same_expressions;
       same_wholes = c.change_file.ensures.same_wholes ∙ s.same_wholes;
       steps = λ before changed h k. each_both (ChangeCost c.args.change changed (map g.M.LineMatch.expression c.args.matchers.now) c.args.options.now) _ _ _ _ _ _ next (s.steps before changed h k)
-      (spent before changed h (kept_at (IsFileKept before c.args.options.now) c.args.files.now c.loop-file.file-index x c.loop-file-test.true c.file-item.is k));
+          (spent before changed h (kept_at (IsFileKept before c.args.options.now) c.args.files.now c.loop-file.file-index x c.loop-file-test.true c.file-item.is k));
     }

@@ -44,9 +44,9 @@ loop-line-preserved g c =
     let right = rw s.same_expressions at c.in_ok-one.ensures.ok in
     record {
       found = λ before changed h k. adds_right_next _ c.args.options.now _ _ _ _ _ _ _ next c.in_ok-push_found.ensures (s.found before changed h k)
-      (right before changed h (kept_at (IsKept before c.args.options.now) c.args.lines.now c.loop-line.line-index x c.loop-line-test.true c.line-item.is k));
+          (right before changed h (kept_at (IsKept before c.args.options.now) c.args.lines.now c.loop-line.line-index x c.loop-line-test.true c.line-item.is k));
       same_expressions = c.find_changed.ensures.same_expressions ∙ s.same_expressions;
       same_wholes = c.find_changed.ensures.same_wholes ∙ s.same_wholes;
       steps = λ before changed h k. each_one (ChangeCost c.args.change changed (map g.M.LineMatch.expression c.args.matchers.now) c.args.options.now) _ _ _ _ _ _ next (s.steps before changed h k)
-      (spent before changed h (kept_at (IsKept before c.args.options.now) c.args.lines.now c.loop-line.line-index x c.loop-line-test.true c.line-item.is k));
+          (spent before changed h (kept_at (IsKept before c.args.options.now) c.args.lines.now c.loop-line.line-index x c.loop-line-test.true c.line-item.is k));
     }

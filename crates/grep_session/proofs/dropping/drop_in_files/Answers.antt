@@ -22,9 +22,9 @@ loop-file-preserved c =
     record {
       same = map-set_same kept_file files i new d c.drop_in_file.ensures.same ∙ c.loop-file.invariant.same;
       kept = λ es options h no_parts all.
-      let before = c.loop-file.invariant.kept es options h no_parts all in
-      let one = c.drop_in_file.ensures.kept es options h no_parts (before.1 i d (omega arith) c.loop-file-test.true) in
-      (AllWithin-more_set files i new here (IsFileKept (remove es c.args.p) options) before.0 one, subst (λ n. AllWithin (IsFileKept es options) (slice_set files i new) n (length c.args.files.now)) (sym (add-one i)) (behind_set (IsFileKept es options) files i (length c.args.files.now) new before.1));
+          let before = c.loop-file.invariant.kept es options h no_parts all in
+          let one = c.drop_in_file.ensures.kept es options h no_parts (before.1 i d (omega arith) c.loop-file-test.true) in
+          (AllWithin-more_set files i new here (IsFileKept (remove es c.args.p) options) before.0 one, subst (λ n. AllWithin (IsFileKept es options) (slice_set files i new) n (length c.args.files.now)) (sym (add-one i)) (behind_set (IsFileKept es options) files i (length c.args.files.now) new before.1));
     }
 
 pub returns-clause-kept : goal.returns-clause-kept

@@ -22,9 +22,9 @@ loop-line-preserved c =
     record {
       texts = map-set_same line_text lines i new d (ap (λ t. t.items) c.drop_in_line.ensures.text) ∙ c.loop-line.invariant.texts;
       kept = λ es options h no_parts all.
-      let before = c.loop-line.invariant.kept es options h no_parts all in
-      let one = dropped_line es options c.args.p h no_parts (get_or lines i d) new c.drop_in_line.ensures.text c.drop_in_line.ensures.matched (before.1 i d (omega arith) c.loop-line-test.true) in
-      (AllWithin-more_set lines i new here (IsKept (remove es c.args.p) options) before.0 one, subst (λ n. AllWithin (IsKept es options) (slice_set lines i new) n (length c.args.lines.now)) (sym (add-one i)) (behind_set (IsKept es options) lines i (length c.args.lines.now) new before.1));
+          let before = c.loop-line.invariant.kept es options h no_parts all in
+          let one = dropped_line es options c.args.p h no_parts (get_or lines i d) new c.drop_in_line.ensures.text c.drop_in_line.ensures.matched (before.1 i d (omega arith) c.loop-line-test.true) in
+          (AllWithin-more_set lines i new here (IsKept (remove es c.args.p) options) before.0 one, subst (λ n. AllWithin (IsKept es options) (slice_set lines i new) n (length c.args.lines.now)) (sym (add-one i)) (behind_set (IsKept es options) lines i (length c.args.lines.now) new before.1));
     }
 
 pub returns-clause-kept : goal.returns-clause-kept

@@ -29,7 +29,7 @@ loop-part-preserved g c =
     record {
       parts = subst (SpansSoFar es c.args.options.now c.args.line.now c.in-Some.part.end) (sym pushed) (spans_next es c.args.options.now c.args.line.now c.loop-part.from c.loop-part.spans.items c.in-Some.part c.loop-part.invariant.parts told);
       steps = subst (λ s. AddsAtMost (length s * search_cost (length c.args.matchers.now) c.args.line.now) c.args.meter.now c.next_part.new.meter) (sym pushed)
-      (spans_more_cost es c.args.options.now c.args.line.now c.loop-part.spans.items c.in-Some.part (search_cost (length c.args.matchers.now) c.args.line.now) _ _ _ c.loop-part.invariant.steps steps);
+          (spans_more_cost es c.args.options.now c.args.line.now c.loop-part.spans.items c.in-Some.part (search_cost (length c.args.matchers.now) c.args.line.now) _ _ _ c.loop-part.invariant.steps steps);
       same_expressions = c.next_part.ensures.same_expressions ∙ c.loop-part.invariant.same_expressions;
       same_wholes = c.next_part.ensures.same_wholes ∙ c.loop-part.invariant.same_wholes;
     }

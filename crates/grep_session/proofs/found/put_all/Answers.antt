@@ -23,9 +23,9 @@ loop-file-preserved c =
     record {
       same = map-set_same kept_file files i new c.file-item.result (same_file old new (into_iter_items c.loop-file.rest) c.put_found_in.ensures.name c.put_found_in.ensures.lines) ∙ c.loop-file.invariant.same;
       right = λ es options all.
-      let before = c.loop-file.invariant.right es options all in
-      let next = right_next es options listed i old new (into_iter_items c.loop-file.rest) (into_iter_items c.put_found_in.new.found) within at c.put_found_in.ensures.lines c.put_found_in.ensures.rest before.1 in
-      (AllWithin-more_set files i new here (IsFileKept es options) before.0 next.0, subst (λ n. AllZip (IsRight es options) (lines_of_files (drop n listed)) (into_iter_items c.put_found_in.new.found)) (sym (add-one i)) next.1);
+          let before = c.loop-file.invariant.right es options all in
+          let next = right_next es options listed i old new (into_iter_items c.loop-file.rest) (into_iter_items c.put_found_in.new.found) within at c.put_found_in.ensures.lines c.put_found_in.ensures.rest before.1 in
+          (AllWithin-more_set files i new here (IsFileKept es options) before.0 next.0, subst (λ n. AllZip (IsRight es options) (lines_of_files (drop n listed)) (into_iter_items c.put_found_in.new.found)) (sym (add-one i)) next.1);
     }
 
 pub returns-clause-right : goal.returns-clause-right
