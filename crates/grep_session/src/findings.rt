@@ -58,11 +58,7 @@ impl Findings {
     }
 
     /// The patterns of these numbers match the line, and these parts of it.
-    pub fn new(
-        alloc: Global,
-        numbers: Vec<usize>,
-        spans: Vec<Span>,
-    ) -> Result<Findings, AllocError>
+    pub fn new(alloc: Global, numbers: Vec<usize>, spans: Vec<Span>) -> Result<Findings, AllocError>
         ensures { IfOk result (λ findings. findings ≡ finds_with numbers.items spans.items) }
     {
         if numbers.is_empty() {
