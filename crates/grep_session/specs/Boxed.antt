@@ -1,5 +1,5 @@
 -- What is found in a line, as it lies in memory.
-use Rattle.std.specs.Prelude.{ℕ, List, Option, None, Some, Box}
+use Rattle.std.specs.Prelude.{ℕ, ◌<◌, List, length, Option, None, Some, IfSome, Box}
 use Rattle.std.specs.declared.alloc.Global.{Global}
 use Rattle.grep_session.specs.declared.findings.Found.{Found}
 use Rattle.grep_session.specs.Finds.{Finds, no_finds}
@@ -10,3 +10,7 @@ finds_in (Some found) = record { numbers = found.value.numbers.items; spans = fo
 
 abbrev pub numbers_in : Option (Box Found Global) → List ℕ
 numbers_in found = (finds_in found).numbers
+
+-- there is nothing of it where no pattern matches the line
+abbrev pub IsSmall : Option (Box Found Global) → Type 0
+IsSmall found = IfSome found (λ some. 0 < length some.value.numbers.items)

@@ -1,7 +1,7 @@
 //! What the patterns find in a line, in as little memory as that takes.
 ghost use Rattle.std.specs.Prelude.{◌≡◌, IfOk};
 ghost use Rattle.grep_session.specs.Dropping.{without};
-ghost use Rattle.grep_session.specs.Boxed.{numbers_in};
+ghost use Rattle.grep_session.specs.Boxed.{numbers_in, IsSmall};
 ghost use Rattle.grep_session.specs.Finds.{no_finds, finds_with};
 
 use crate::numbers::drop_number;
@@ -24,17 +24,20 @@ pub struct Findings {
 }
 
 impl Model for Findings {
-    ghost use Rattle.grep_session.specs.Boxed.{finds_in};
+    ghost use Rattle.grep_session.specs.Boxed.{finds_in, IsSmall};
     ghost use Rattle.grep_session.specs.Finds.{Finds};
 
     ghost Value = { Finds };
 
     ghost view = { λ findings. finds_in findings.found };
+
+    ghost invariant = { λ findings. IsSmall findings.found };
 }
 
 /// What is left without pattern `p`.
 fn without(found: Option<Box<Found>>, p: usize) -> Option<Box<Found>>
-    ensures { numbers_in result ≡ without p (numbers_in found) }
+    ensures numbers { numbers_in result ≡ without p (numbers_in found) }
+    ensures small { IsSmall result }
 {
     let Some(mut found) = found else {
         return None;
