@@ -1,5 +1,5 @@
 -- What the report, the messages and the status of a session are, from scratch; and that the accepted edits decide.
-use Rattle.std.proofs.Common.{◌≡◌, ℕ, List, [], ◌∷◌, ◌++◌, Option, Result, Ok, Err, refl, sym, ap, subst, ◌∙◌}
+use Rattle.std.proofs.Common.{◌≡◌, ℕ, List, [], ◌∷◌, ◌++◌, Option, Result, Ok, Err, refl, sym, subst, ◌∙◌}
 use Rattle.re_syntax.specs.Bytes.{Text}
 use Rattle.re_syntax.specs.Expression.{Expression}
 use Rattle.grep_core.specs.declared.status.Status.{Status}
@@ -11,7 +11,7 @@ use Rattle.grep_core.proofs.Exist.{Out-exist, Messages-exist, StatusOf-exist}
 use Rattle.grep_core.proofs.LawsHold.{means_one}
 use Rattle.grep_session.specs.declared.fault.EditFault.{EditFault}
 use Rattle.grep_session.specs.declared.fault.EditFault.TheVariants.{NoSuchFile, FileIsMissing, OutOfRange, LineHasNewline, NoSuchPattern, Pattern, TooManyPatterns, Memory}
-use Rattle.grep_session.specs.Edits.{Edit, Applies, EditGives, no_inputs}
+use Rattle.grep_session.specs.Edits.{Edit, EditGives, no_inputs}
 use Rattle.grep_session.specs.Headline.{GrepGives, ReportsInputs, TellsInputs, IsStatusOfInputs, Attempt, ComesTo, with_accepted, accepted, Makes, AcceptedEditsDecide}
 use Rattle.grep_session.specs.Report.{Reports, Tells}
 use Rattle.grep_session.proofs.EditLaws.{Applies-once}

@@ -1,20 +1,17 @@
 -- What a session keeps of its patterns and files, and the inputs for which that stands.
-use Rattle.std.specs.Prelude.{◌≡◌, ℕ, suc, ◌+◌, Bool, List, [], ◌∷◌, ◌++◌, map, length, Option, None, Some, IfSome, MatchBool, All, ⊤}
+use Rattle.std.specs.Prelude.{◌≡◌, ℕ, suc, ◌+◌, Bool, List, [], ◌∷◌, ◌++◌, map, Option, None, Some, IfSome, MatchBool, All, ⊤}
 use Rattle.std.specs.Option.{option_map}
-use Rattle.re_syntax.specs.declared.syntax.Syntax.{Syntax}
 use Rattle.re_syntax.specs.Bytes.{Text}
 use Rattle.re_syntax.specs.Expression.{Expression}
 use Rattle.re_syntax.specs.Holds.{Matches}
 use Rattle.re_syntax.specs.Parts.{AreParts}
-use Rattle.re_search.specs.Reading.{matched_expression, wants_whole, IsReadable}
-use Rattle.re_search.specs.Searching.{AllAnswer, AddsAtMost}
-use Rattle.re_search.specs.declared.matcher.Matcher.{Matcher}
+use Rattle.re_search.specs.Searching.{AddsAtMost}
 use Rattle.re_search.specs.declared.span.Span.{Span}
 use Rattle.grep_core.specs.Meters.{Steps}
 use Rattle.grep_core.specs.declared.options.Options.{Options}
 use Rattle.grep_core.specs.Choose.{IfHolds}
 use Rattle.grep_core.specs.Cost.{search_cost}
-use Rattle.grep_core.specs.Files.{File, AreMeant, whole, missing}
+use Rattle.grep_core.specs.Files.{File, whole, missing}
 use Rattle.grep_session.specs.declared.kept.KeptLine.{KeptLine}
 use Rattle.grep_session.specs.declared.kept.KeptFile.{KeptFile}
 use Rattle.grep_session.specs.Touched.{PartsCostOf, PartsCost, pairs_cost}

@@ -10,7 +10,7 @@ use Rattle.grep_core.specs.declared.search.FileEnd.TheVariants.{Missing, Whole}
 use Rattle.grep_core.specs.declared.status.Status.{Status}
 use Rattle.grep_core.specs.declared.status.Status.TheVariants.{Selected as selected}
 use Rattle.grep_core.specs.Row.{head}
-use Rattle.grep_core.specs.Files.{File, Inputs, AreMeant}
+use Rattle.grep_core.specs.Files.{File}
 use Rattle.grep_core.specs.Output.{Form, parts, lines, form, shown_number, Out, written}
 use Rattle.grep_core.specs.Messages.{Messages, StatusOf}
 use Rattle.grep_core.specs.Searched.{is_fault, summary_as, told_of, status_by}

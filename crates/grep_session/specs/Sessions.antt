@@ -1,8 +1,6 @@
 -- A session as contracts see it: the inputs that its edits have left.
-use Rattle.std.specs.Prelude.{◌≤◌, false, [], map, length, All}
-use Rattle.re_syntax.specs.declared.syntax.Syntax.TheVariants.{Basic}
+use Rattle.std.specs.Prelude.{◌≤◌, map, length, All}
 use Rattle.re_search.specs.Reading.{matched_expression}
-use Rattle.grep_core.specs.declared.options.Options.{Options}
 use Rattle.grep_core.specs.Files.{Inputs}
 use Rattle.grep_session.specs.declared.session.Session.TheInside.{Inside}
 use Rattle.grep_core.specs.Matchers.{most_patterns}
