@@ -95,12 +95,17 @@ fn assert_refusal(
         assert!(rt; refused, "{edit:?}");
         let now = observed(rt, alloc, &game.session)?;
         assert_same(rt, &now, &before, edit);
-        assert_row(rt, alloc, &mut game.session, &mut game.meter, row)?;
+        assert_granted(rt, alloc, game, row)?;
     } else {
         assert_eq!(rt; given, answer, "{edit:?}");
     }
     assert_seen_without_memory(rt, alloc, &game.session, row)?;
     Ok(refused)
+}
+
+/// Makes the edit of a row while each request for memory is granted.
+fn assert_granted(rt: &impl Abort, alloc: Global, game: &mut Game, row: Row) -> Result<(), Fail> {
+    assert_row(rt, alloc, &mut game.session, &mut game.meter, row)
 }
 
 /// Makes the edits of the rows in a new session, while the N-th request for memory of the one at
@@ -123,7 +128,7 @@ fn assert_refused_at(
         if at == place {
             refused = assert_refusal(rt, alloc, &mut game, row, n)?;
         } else {
-            assert_row(rt, alloc, &mut game.session, &mut game.meter, row)?;
+            assert_granted(rt, alloc, &mut game, row)?;
         }
         game.note(alloc, row)?;
     }
