@@ -1,7 +1,11 @@
 -- what the public clauses cite of the crates below
 pub use Rattle.grep_core.specs.Files
+-- what they cite here
 pub mod Edits
 pub mod Touched
+pub mod Headline
+pub mod Laws
+-- what is worked with: what a session keeps, and the clauses of private functions
 pub mod Finds
 pub mod Boxed
 pub mod Kept
@@ -12,7 +16,5 @@ pub mod Reading
 pub mod Again
 pub mod Effects
 pub mod Dropping
-pub mod Laws
 pub mod Report
-pub mod Headline
 pub mod Changed

@@ -1,3 +1,4 @@
+//! Why an edit is refused.
 use re_syntax::PatternFault;
 
 /// Why an edit of a session is refused. The session is then as it was.
