@@ -23,7 +23,7 @@ use Rattle.grep_session.specs.declared.kept.KeptLine.{KeptLine}
 use Rattle.grep_session.specs.Edits.{Edit, Splice, Applies, with_files, spliced}
 use Rattle.grep_session.specs.Kept.{IsKept, IsFileKept, SearchesAllKept, kept_file, kept_lines, file_with, line_text}
 use Rattle.grep_core.specs.Matchers.{AreMatchers}
-use Rattle.grep_session.specs.Splicing.{HasPlace}
+use Rattle.grep_session.specs.Edits.{HasPlace}
 use Rattle.grep_session.specs.Touched.{TakesSteps, Touches, searched_by, pairs_cost}
 use Rattle.grep_session.proofs.SessionLemmas.{map-splice}
 

@@ -1,5 +1,5 @@
 -- The edits of a session, and what each makes of its inputs.
-use Rattle.std.specs.Prelude.{◌≡◌, ℕ, ◌+◌, ◌<◌, ◌≤◌, Bool, false, List, [], ◌∷◌, ◌++◌, length, Result, Ok, Err, All, slice_set}
+use Rattle.std.specs.Prelude.{◌≡◌, ◌≢◌, ℕ, ◌+◌, ◌<◌, ◌≤◌, Bool, false, List, [], ◌∷◌, ◌++◌, length, Result, Ok, Err, All, slice_set}
 use Rattle.std.specs.List.{splice, remove}
 use Rattle.re_syntax.specs.declared.fault.PatternFault.{PatternFault}
 use Rattle.re_syntax.specs.declared.syntax.Syntax.{Syntax}
@@ -75,6 +75,12 @@ with_files files old = record old { files = files }
 
 abbrev pub with_patterns : List Text → Inputs → Inputs
 with_patterns patterns old = record old { patterns = patterns }
+
+-- the file of this number has so many lines from a first on
+pub record HasPlace (files : List File) (k start count : ℕ) : Type 0 where
+  pub in_files : k < length files
+  pub opens : (file_at files k).ending ≢ missing
+  pub in_file : start + count ≤ length (file_at files k).lines
 
 -- the files, in one of which so many lines from a first on gave way to others
 abbrev pub spliced : List File → ℕ → ℕ → ℕ → List Text → List File

@@ -4,13 +4,7 @@ use Rattle.re_syntax.specs.Bytes.{Text}
 use Rattle.grep_core.specs.Files.{File, Inputs, missing}
 use Rattle.grep_core.specs.Run.{file_at}
 use Rattle.grep_session.specs.declared.fault.EditFault.{EditFault}
-use Rattle.grep_session.specs.Edits.{Splice, Applies}
-
--- the file of this number has so many lines from a first on
-pub record HasPlace (files : List File) (k start count : ℕ) : Type 0 where
-  pub in_files : k < length files
-  pub opens : (file_at files k).ending ≢ missing
-  pub in_file : start + count ≤ length (file_at files k).lines
+use Rattle.grep_session.specs.Edits.{Splice, Applies, HasPlace}
 
 -- it has, or a splice there is refused for this, whatever the lines are
 abbrev pub PlaceGives : {T : Type 0} → List File → ℕ → ℕ → ℕ → Result T EditFault → Type 0

@@ -1,10 +1,10 @@
 -- How many steps an edit takes at most: only what it touches is searched.
-use Rattle.std.specs.Prelude.{◌≡◌, ℕ, ◌+◌, ◌*◌, false, List, [], ◌∷◌, ◌⊎◌, length, Result, Ok, Err, get_or, MatchBool, ⊤}
+use Rattle.std.specs.Prelude.{◌≡◌, ℕ, ◌+◌, ◌*◌, ◌<◌, ◌≤◌, false, List, [], All, ◌∷◌, ◌⊎◌, length, Result, Ok, Err, get_or, MatchBool, ⊤}
 use Rattle.std.specs.List.{flat_map}
 use Rattle.re_syntax.specs.Bytes.{Text}
 use Rattle.re_syntax.specs.Expression.{Expression}
 use Rattle.re_syntax.specs.Holds.{Matches}
-use Rattle.re_syntax.specs.Lines.{list_of}
+use Rattle.re_syntax.specs.Lines.{HasNoNewline, list_of}
 use Rattle.re_syntax.specs.Parts.{AreParts}
 use Rattle.re_syntax.specs.Spelled.{IsMeant}
 use Rattle.grep_core.specs.Meters.{Steps}
@@ -15,8 +15,9 @@ use Rattle.grep_core.specs.declared.options.Options.{Options}
 use Rattle.grep_core.specs.Choose.{IfHolds, Chosen}
 use Rattle.grep_core.specs.Cost.{search_cost}
 use Rattle.grep_core.specs.Files.{Inputs, AreMeant, Matched}
+use Rattle.grep_core.specs.Matchers.{most_patterns}
 use Rattle.grep_session.specs.declared.fault.EditFault.{EditFault}
-use Rattle.grep_session.specs.Edits.{Edit, AddFile, AddMissing, DropFile, Splice, AddPatterns, DropPattern, SetFlag, SetSyntax, option_of, Applies}
+use Rattle.grep_session.specs.Edits.{Edit, AddFile, AddMissing, DropFile, Splice, AddPatterns, DropPattern, SetFlag, SetSyntax, option_of, HasPlace, Applies}
 
 -- what an edit has searched: each of some lines by so many patterns, and the parts of some lines
 pub record Touched : Type 0 where
@@ -111,13 +112,13 @@ is_of_output LineRegexp = ⊥
 is_of_output OnlyMatching = ⊥
 is_of_output _ = ⊤
 
--- the edits that ask for no memory
+-- the edits that ask for no memory: what only leaves something out, changes what is written alone, or sets what is set already; and what is refused for a file, a line or the number of patterns
 abbrev pub NeedsNoMemory : Edit → Inputs → Type 0
-NeedsNoMemory (AddFile name lines) old = ⊥
+NeedsNoMemory (AddFile name lines) old = All HasNoNewline lines → ⊥
 NeedsNoMemory (AddMissing name) old = ⊥
 NeedsNoMemory (DropFile k) old = ⊤
-NeedsNoMemory (Splice k start count lines) old = lines ≡ []
-NeedsNoMemory (AddPatterns list) old = ⊥
-NeedsNoMemory (DropPattern p) old = old.options.only_matching ≡ false
+NeedsNoMemory (Splice k start count lines) old = (lines ≡ []) ⊎ ((HasPlace old.files k start count → ⊥) ⊎ (All HasNoNewline lines → ⊥))
+NeedsNoMemory (AddPatterns list) old = most_patterns < length old.patterns + length (list_of list)
+NeedsNoMemory (DropPattern p) old = (old.options.only_matching ≡ false) ⊎ (length old.patterns ≤ p)
 NeedsNoMemory (SetFlag flag on) old = is_of_output flag ⊎ ((option_of flag old.options ≡ on) ⊎ ((flag ≡ OnlyMatching) × (on ≡ false)))
 NeedsNoMemory (SetSyntax syntax) old = syntax ≡ old.syntax
