@@ -1,5 +1,5 @@
 -- How the whole command ends, from what its steps did.
-use Rattle.std.proofs.Common.{◌≡◌, ℕ, nat_lt, ◌<◌, ◌-◌, ◌^◌, Bool, true, false, List, [], ◌∷◌, Ok, Err, MatchBool, MatchResult, ◌⊎◌, inl, inr, length, map, refl, sym, ap, ◌∙◌, subst, arith}
+use Rattle.std.proofs.Common.{◌≡◌, ℕ, nat_lt, ◌<◌, ◌≤◌, ◌-◌, ◌^◌, Bool, true, false, List, [], ◌∷◌, Ok, Err, MatchBool, MatchResult, ◌⊎◌, inl, inr, length, map, refl, sym, ap, ◌∙◌, subst, arith}
 use Rattle.std.proofs.lemmas.Bool.{ltb-false, false≢true}
 use denote.Enum.Bare.{sameb}
 use Rattle.re_syntax.specs.contracts.fault.FaultKind.{the_type}
@@ -11,6 +11,11 @@ use Rattle.re_syntax.specs.Bytes.{Text}
 use Rattle.re_auto.specs.Meters.{Steps}
 use Rattle.re_search.specs.declared.matcher.Matcher.{Matcher}
 use Rattle.re_search.specs.Reading.{matched_expression, IsOutOfMemory}
+use Rattle.re_syntax.specs.Expression.{Expression}
+use Rattle.grep_core.specs.declared.options.Options.{Options}
+use Rattle.grep_core.specs.Reading.{Source as FileSource}
+use Rattle.grep_core.specs.SameChoice.{IsSameChoice}
+use Rattle.grep_core.proofs.SameChoice.{serves_for_others}
 use Rattle.grep_core.specs.Run.{Writer, Devices}
 use Rattle.grep_cmd.specs.declared.patterns.PatternsFault.{PatternsFault}
 use Rattle.grep_cmd.specs.declared.patterns.PatternsFault.TheVariants as unread
@@ -19,7 +24,8 @@ use Rattle.grep_cmd.specs.declared.words.UsageFault.TheVariants as usage
 use Rattle.grep_cmd.specs.Command.{Tells, GivesUp, SearchEnds, RefusesPattern, SearchesFiles, PatternsGive, DoesForRequest, RequestGives, CommandGives}
 use Rattle.grep_cmd.specs.Folder.{Folder, sources_named, searched}
 use Rattle.grep_cmd.specs.Gathered.{StopsFor, told_of}
-use Rattle.grep_core.specs.Matchers.{AreMatchers, IsFirstRefused, most_patterns}
+use Rattle.grep_core.specs.Matchers.{IsFirstRefused, most_patterns}
+use Rattle.grep_cmd.specs.Serving.{ServeFor}
 use Rattle.grep_cmd.specs.Patterns.{behind_all, GivePatterns, FirstUnread}
 use Rattle.grep_cmd.specs.Texts.{too_many_patterns, pattern_refused, fault_text, usage_texts}
 use Rattle.grep_cmd.specs.Words.{Asked, Source, read, OrMemory}
@@ -41,6 +47,10 @@ place_fits syntax fold texts place fault few first =
     let inside = first.in_texts in
     omega arith
 
+-- a search for expressions that are the same choice as others, and no more, is one for these
+served : (options : Options) (sources : List FileSource) (old new : Devices) (status : ℕ) (ds es : List Expression) → IsSameChoice ds es → length ds ≤ length es → SearchEnds ds options sources old new status → SearchEnds es options sources old new status
+served options sources old new status ds es same fewer s = record { found = s.found; between = s.between; runs = serves_for_others options ds es same fewer sources old s.between s.found s.runs; ends = s.ends }
+
 module _ (asked : Asked) (folder : Folder) (texts : List Text) (old new : Devices) (status : ℕ) where
   -- there are too many patterns
   pub too_many : nat_lt most_patterns (length texts) ≡ true → GivesUp old new (too_many_patterns ∷ []) 0 status → PatternsGive asked folder texts old new status
@@ -54,10 +64,10 @@ module _ (asked : Asked) (folder : Folder) (texts : List Text) (old new : Device
         (inl (record { place = place; fault = fault; is_first = first; gives_up = h })))
 
     -- the files are searched
-    pub searches : (matchers searching : List Matcher) → AreMatchers asked.syntax asked.options texts matchers → searching ≡ matchers
+    pub searches : (matchers searching : List Matcher) → ServeFor asked.syntax asked.options texts matchers → searching ≡ matchers
         → SearchEnds (map matched_expression searching) asked.options (sources_named folder (searched asked.files)) old new status → PatternsGive asked folder texts old new status
     searches matchers searching m is h = inl (subst (λ b. MatchBool b (GivesUp old new (too_many_patterns ∷ []) 0 status) (RefusesPattern asked folder texts old new status ⊎ SearchesFiles asked folder texts old new status)) (sym few)
-        (inr (record { readable = m.readable; es = map matched_expression matchers; are_meant = m.meant; ends = subst (λ ms. SearchEnds (map matched_expression ms) asked.options (sources_named folder (searched asked.files)) old new status) is h })))
+        (inr (record { readable = m.readable; es = m.es; are_meant = m.meant; ends = served asked.options (sources_named folder (searched asked.files)) old new status (map matched_expression matchers) m.es m.same m.fewer (subst (λ ms. SearchEnds (map matched_expression ms) asked.options (sources_named folder (searched asked.files)) old new status) is h) })))
 
 module _ (asked : Asked) (folder : Folder) (old new : Devices) (status : ℕ) where
   -- the patterns of the sources were read

@@ -17,3 +17,4 @@ pub mod Gathered
 pub mod Operands
 pub mod Command
 pub mod Show
+pub mod Serving

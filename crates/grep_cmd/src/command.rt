@@ -10,7 +10,7 @@ ghost use Rattle.grep_cmd.specs.Folder.{searched, sources_named};
 ghost use Rattle.grep_cmd.specs.Words.{asked, texts_of};
 
 use crate::files::Files;
-use crate::matchers::matchers_of;
+use crate::joined::searchers_of;
 use crate::patterns::read_patterns;
 use crate::refusal::tell_refused;
 use crate::searching::search_files;
@@ -96,7 +96,7 @@ fn run_patterns<F: Files, W: CountedWrite, N: CountedWrite>(
         tell(messages, b"grep: too many patterns");
         return FAILED;
     }
-    match matchers_of(alloc, texts, request.syntax, &request.options) {
+    match searchers_of(alloc, texts, request.syntax, &request.options) {
         Ok(mut matchers) => search_request(alloc, request, &mut matchers, files, out, messages),
         Err((place, fault)) => {
             if fault.kind == FaultKind::Memory {

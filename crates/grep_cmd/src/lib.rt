@@ -3,6 +3,7 @@
 
 mod command;
 mod files;
+mod joined;
 mod matchers;
 mod memory;
 mod operands;

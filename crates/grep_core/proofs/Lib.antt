@@ -32,3 +32,4 @@ pub mod CostLaws
 pub mod PartsLemmas
 pub mod WrittenLemmas
 pub mod MatcherLemmas
+pub mod SameChoice

@@ -29,3 +29,4 @@ pub mod Cost
 pub mod Buffer
 pub mod Laws
 pub mod Matchers
+pub mod SameChoice

@@ -7,3 +7,11 @@ pub mod Passing
 pub mod ReadingLaws
 pub mod TwoLists
 pub mod Turns
+pub mod SetSteps
+pub mod SetTries
+pub mod SetSearch
+pub mod SetBranches
+pub mod SetLinks
+pub mod SetTable
+pub mod SetMatches
+pub mod SetSorted

@@ -4,3 +4,5 @@ pub mod Needles
 pub mod Reading
 pub mod Simulated
 pub mod Simulations
+pub mod FixedSets
+pub mod Branches

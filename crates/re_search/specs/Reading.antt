@@ -12,21 +12,24 @@ use Rattle.re_syntax.specs.Holds.{positions, most_positions}
 use Rattle.re_syntax.specs.Spelled.{IsMeant, has_limit}
 use Rattle.re_search.specs.declared.matcher.Matcher.{Matcher}
 use Rattle.re_search.specs.declared.matcher.Matcher.TheVariants as m
-use Rattle.re_search.specs.Literals.{literal_expression}
+use Rattle.re_search.specs.Literals.{literal_expression, any_literal}
 
 -- the expression that a matcher stands for
 abbrev pub matched_expression : Matcher → Expression
 matched_expression (m.Fixed literal) = literal_expression literal
+matched_expression (m.FixedSet literals) = any_literal literals
 matched_expression (m.Simulated matcher) = expression_of matcher.tree
 
 -- whether it wants the whole line
 abbrev pub wants_whole : Matcher → Bool
 wants_whole (m.Fixed literal) = literal.whole
+wants_whole (m.FixedSet literals) = literals.whole
 wants_whole (m.Simulated matcher) = matcher.whole
 
 -- whether it looks for a string
 abbrev pub is_fixed : Matcher → Bool
 is_fixed (m.Fixed literal) = true
+is_fixed (m.FixedSet literals) = true
 is_fixed (m.Simulated matcher) = false
 
 -- the expression is small enough, where it has to be

@@ -3,6 +3,7 @@
 #![tactic(auto)]
 
 mod fixed;
+mod fixed_set;
 mod line_match;
 mod matcher;
 mod needle;
@@ -11,6 +12,7 @@ mod simulated;
 mod span;
 
 pub use fixed::Fixed;
+pub use fixed_set::FixedSet;
 pub use line_match::LineMatch;
 pub use matcher::Matcher;
 pub use re_auto::Meter;

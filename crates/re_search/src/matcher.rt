@@ -7,6 +7,7 @@ ghost use Rattle.re_search.specs.Reading.{matched_expression, wants_whole, is_fi
 ghost use Rattle.re_search.specs.Searching.{FindsPart, AddsAtMost};
 
 use crate::fixed::Fixed;
+use crate::fixed_set::FixedSet;
 use crate::line_match::LineMatch;
 use crate::simulated::Simulated;
 use crate::span::Span;
@@ -19,6 +20,8 @@ use std::alloc::Global;
 pub enum Matcher {
     /// Looks for a string.
     Fixed(Fixed),
+    /// Looks for many strings at once.
+    FixedSet(FixedSet),
     /// Steps an automaton.
     Simulated(Simulated),
 }
@@ -73,6 +76,7 @@ impl LineMatch for Matcher {
     {
         match self {
             Matcher::Fixed(fixed) => fixed.is_match(line, meter),
+            Matcher::FixedSet(set) => set.is_match(line, meter),
             Matcher::Simulated(simulated) => simulated.is_match(line, meter),
         }
     }
@@ -86,6 +90,7 @@ impl LineMatch for Matcher {
     {
         match self {
             Matcher::Fixed(fixed) => fixed.find(line, from, meter),
+            Matcher::FixedSet(set) => set.find(line, from, meter),
             Matcher::Simulated(simulated) => simulated.find(line, from, meter),
         }
     }

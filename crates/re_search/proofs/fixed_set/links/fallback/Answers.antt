@@ -1,0 +1,14 @@
+use Rattle.std.proofs.Common.{◌≡◌, ℕ, ◌+◌, ◌-◌, ◌<◌, ◌≤◌, length, slice_index, sym, ap, subst, arith}
+use Rattle.re_search.proofs.SetTries.{ascends}
+use Rattle.re_search.proofs.fixed_set.links.fallback.Goals as goal
+
+pub returns-clause-before : goal.returns-clause-before
+returns-clause-before c =
+    let first = c.args.trie.now.first.items in
+    let inside : 0 < c.args.node = omega arith in
+    let earlier = c.requires.fails c.args.node inside c.requires.within in
+    let up = ascends first c.args.trie.now.bytes.items c.requires.trie (slice_index c.args.fails.now c.args.node) (c.args.node - 1) (omega (arith, earlier)) (let a = c.requires.within in let b = c.requires.few in omega (arith, a, b)) in
+    let same : c.args.node - 1 + 1 ≡ c.args.node = omega (arith, inside) in
+    let top = subst (λ n. slice_index first (slice_index c.args.fails.now c.args.node + 1) ≤ slice_index first n) same up in
+    let near = c.step.ensures.near in
+    omega (arith, near, top)

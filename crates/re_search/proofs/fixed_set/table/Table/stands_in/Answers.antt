@@ -1,0 +1,40 @@
+use Rattle.std.proofs.Common.{◌≡◌, ℕ, ◌+◌, ◌-◌, ◌<◌, ◌≤◌, length, slice_index, refl, sym, ap, subst, ◌∙◌, arith}
+use Rattle.std.proofs.lemmas.Bool.{false≢true}
+use Rattle.re_search.specs.FixedSets.{Labels, StandsAtNode, IsTableOf}
+use Rattle.re_search.proofs.SetSearch.{row_read, some_ends, none_up_to}
+use Rattle.re_search.proofs.fixed_set.table.Table.stands_in.Goals as goal
+
+pub returns-then-index-gt0 : goal.returns-then-index-gt0
+returns-then-index-gt0 c = λ all t.
+    let in_rows : c.pass-behind.result.1 < length c.args.self.now.ends.items = let r = c.requires.ends in let w = c.pass-behind.ensures.in_trie in omega (arith, r, w) in
+    let read = row_read c.args.self.now.ends.items c.pass-behind.result.1 c.index.result.now in_rows c.index.ensures in (
+      (λ _. some_ends all 0 c.args.line.now c.pass-behind.result.0 c.pass-behind.result.1 (slice_index c.args.self.now.ends.items c.pass-behind.result.1)
+          c.pass-behind.ensures.on.1
+          (c.pass-behind.ensures.stands all t 0 (omega arith) (c.places.invariant.stands all t))
+          (t.ends c.pass-behind.result.1 c.pass-behind.ensures.in_trie)
+          (omega (arith, read, c.if-index-gt0.true))),
+      (λ _. refl),
+    )
+
+pub places-preserved : goal.places-preserved
+places-preserved c =
+    let in_rows : c.pass-behind.result.1 < length c.args.self.now.ends.items = let r = c.requires.ends in let w = c.pass-behind.ensures.in_trie in omega (arith, r, w) in
+    let read = row_read c.args.self.now.ends.items c.pass-behind.result.1 c.index.result.now in_rows c.index.ensures in
+    record {
+      within = c.pass-behind.ensures.on.1;
+      in_trie = c.pass-behind.ensures.in_trie;
+      stands = λ all t. c.pass-behind.ensures.stands all t 0 (omega arith) (c.places.invariant.stands all t);
+      none = λ all t.
+          none_up_to all 0 c.args.line.now c.places.place c.pass-behind.result.0 c.pass-behind.result.1 (slice_index c.args.self.now.ends.items c.pass-behind.result.1)
+          c.pass-behind.ensures.on.1 (c.places.invariant.none all t)
+          (c.pass-behind.ensures.between all t 0 (omega arith) (c.places.invariant.stands all t))
+          (c.pass-behind.ensures.stands all t 0 (omega arith) (c.places.invariant.stands all t))
+          (t.ends c.pass-behind.result.1 c.pass-behind.ensures.in_trie)
+          (omega (arith, read, c.if-index-gt0.false));
+    }
+
+pub returns : goal.returns
+returns c = λ all t. (
+  (λ h. absurd (false≢true h)),
+  (λ o. let within = c.places.invariant.within in absurd (c.places.invariant.none all t o.0 o.1 (let on_line = o.2.2 in omega (arith, within, on_line)) o.2)),
+)

@@ -1,0 +1,175 @@
+//! Search for many fixed strings at once (XCU grep, option `-F`).
+ghost use Rattle.std.specs.Prelude.{◌≡◌, ℕ, ◌+◌, ◌-◌, ◌≤◌, ◌↔◌, [], ◌∷◌, true, false, IsTrue, IfOk, length, map};
+ghost use Rattle.re_search.specs.Branches.{AreAscending, HaveSame};
+ghost use Rattle.re_search.specs.FixedSets.{IsString};
+ghost use Rattle.re_syntax.specs.Holds.{Matches};
+ghost use Rattle.re_syntax.specs.Lines.{lines_of};
+ghost use Rattle.re_auto.specs.Meters.{many_built};
+ghost use Rattle.re_search.specs.Literals.{any_literal};
+ghost use Rattle.re_search.specs.Searching.{FindsPart, AddsAtMost};
+
+mod growth;
+mod links;
+mod making;
+mod table;
+mod trie;
+
+use crate::line_match::LineMatch;
+use crate::span::Span;
+use making::table_of;
+use re_auto::Meter;
+use re_syntax::split_file;
+use std::alloc::{AllocError, Global};
+use std::marker::Model;
+use table::Table;
+
+/// A matcher for many fixed strings, which takes one step a byte however many they are. Contracts
+/// see it as the strings and whether the whole line has to be one of them.
+#[derive(Drop)]
+pub struct FixedSet {
+    texts: Vec<u8>,
+    table: Table,
+    has_empty: bool,
+    whole: bool,
+}
+
+impl Model for FixedSet {
+    ghost use Rattle.std.specs.Prelude.{◌↔◌, IsTrue, [], ℕ};
+    ghost use Rattle.re_syntax.specs.Bytes.{Text};
+    ghost use Rattle.re_syntax.specs.Lines.{lines_of};
+    ghost use Rattle.re_search.specs.Literals.{Literals};
+    ghost use Rattle.re_search.specs.FixedSets.{IsTable, IsTableOf, IsString};
+
+    ghost Value = { Literals };
+
+    ghost view = { λ f. record { texts = lines_of f.texts.items; whole = f.whole } };
+
+    ghost invariant = { λ f. IsTable f.table × ((label : ℕ → Text) × IsTableOf (record { strings = lines_of f.texts.items; label = label }) f.table)
+        × (IsTrue f.has_empty ↔ IsString (lines_of f.texts.items) []) };
+}
+
+impl FixedSet {
+    /// A matcher for the texts, the lines of `texts`, of which no byte is special. The one error
+    /// is that memory was refused.
+    pub fn new(alloc: Global, texts: &[u8], whole: bool) -> Result<FixedSet, AllocError>
+        ensures { IfOk result (λ f. f ≡ record { texts = lines_of texts.now; whole = whole }) }
+    {
+        let strings = strings_of(alloc, texts)?;
+        let has_empty = has_empty(&strings);
+        let table = table_of(alloc, &strings)?;
+        let mut kept = Vec::new(alloc);
+        kept.extend_from_slice(texts)?;
+        Ok(FixedSet {
+            texts: kept,
+            table,
+            has_empty,
+            whole,
+        })
+    }
+
+    // Whether the line is one of the strings.
+    fn is_line(&self, line: &[u8]) -> bool
+        ensures { IsTrue result ↔ Matches (any_literal self.now) line.now true }
+    {
+        if line.is_empty() {
+            return self.has_empty;
+        }
+        self.table.is_line(line)
+    }
+
+    // Whether some string stands at some place of the line.
+    fn stands_in(&self, line: &[u8]) -> bool
+        ensures { IsTrue result ↔ Matches (any_literal self.now) line.now false }
+    {
+        if self.has_empty {
+            return true;
+        }
+        self.table.stands_in(line)
+    }
+
+    // The part where the whole line has to be one of the strings.
+    fn whole_line(&self, line: &[u8], from: usize) -> Option<Span>
+        ensures { FindsPart (any_literal self.now ∷ []) line.now true from result }
+    {
+        if from > 0 || line.is_empty() || !self.is_line(line) {
+            return None;
+        }
+        Some(Span {
+            start: 0,
+            end: line.len(),
+        })
+    }
+
+    // The first string from a place on, and of those that begin there the longest. An empty string
+    // makes no part.
+    fn occurrence(&self, line: &[u8], from: usize) -> Option<Span>
+        requires { from ≤ length line.now }
+        ensures { FindsPart (any_literal self.now ∷ []) line.now false from result }
+    {
+        self.table.find(line, from)
+    }
+}
+
+// The lines of a text, in order.
+fn strings_of(alloc: Global, texts: &[u8]) -> Result<Vec<&[u8]>, AllocError>
+    ensures ordered { IfOk result (λ strings. AreAscending (map (λ s. s.now) strings.items)) }
+    ensures same { IfOk result (λ strings. HaveSame (map (λ s. s.now) strings.items) (lines_of texts.now)) }
+{
+    let mut strings = Vec::new(alloc);
+    'lines: for text in split_file(texts) {
+        strings.push(text)?;
+    }
+    strings.sort()?;
+    Ok(strings)
+}
+
+// Whether one of the strings is empty.
+fn has_empty(strings: &[&[u8]]) -> bool
+    ensures { IsTrue result ↔ IsString (map (λ s. s.now) strings.now) [] }
+{
+    'places: for place in 0..strings.len() {
+        if strings[place].is_empty() {
+            return true;
+        }
+    }
+    false
+}
+
+impl LineMatch for FixedSet {
+    ghost use Rattle.re_search.specs.Literals.{any_literal};
+
+    ghost expression = { λ f. any_literal f };
+
+    ghost whole = { λ f. f.whole };
+
+    fn is_match(&mut self, line: &[u8], meter: &mut Meter) -> bool
+        ensures told { IsTrue result ↔ Matches (any_literal self.old) line.now self.old.whole }
+        ensures same_expression { any_literal self.new ≡ any_literal self.old }
+        ensures same_whole { self.new.whole ≡ self.old.whole }
+        ensures steps { AddsAtMost (length line.now + 1) meter.old meter.new }
+        ensures same { self.new ≡ self.old }
+        ensures counted { meter.new ≡ many_built (length line.now + 1) meter.old }
+    {
+        meter.add_built(line.len() as u64 + 1);
+        if self.whole {
+            return self.is_line(line);
+        }
+        self.stands_in(line)
+    }
+
+    fn find(&mut self, line: &[u8], from: usize, meter: &mut Meter) -> Option<Span>
+        requires { from ≤ length line.now }
+        ensures told { FindsPart (any_literal self.old ∷ []) line.now self.old.whole from result }
+        ensures same_expression { any_literal self.new ≡ any_literal self.old }
+        ensures same_whole { self.new.whole ≡ self.old.whole }
+        ensures steps { AddsAtMost (length line.now - from + 1) meter.old meter.new }
+        ensures same { self.new ≡ self.old }
+        ensures counted { meter.new ≡ many_built (length line.now - from + 1) meter.old }
+    {
+        meter.add_built((line.len() - from) as u64 + 1);
+        if self.whole {
+            return self.whole_line(line, from);
+        }
+        self.occurrence(line, from)
+    }
+}

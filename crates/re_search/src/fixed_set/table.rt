@@ -1,0 +1,168 @@
+//! The steps over a line for many fixed strings.
+ghost use Rattle.std.specs.Prelude.{◌≡◌, ℕ, ◌+◌, ◌<◌, ◌≤◌, ◌↔◌, [], ◌∷◌, ◌++◌, IsTrue, Some, length, slice_index};
+ghost use Rattle.re_syntax.specs.Bytes.{Text};
+ghost use Rattle.re_search.specs.FixedSets.{IsTrie, IsTrieOf, IsTable, IsTableOf, IsString, AreFallbacks, AreFallbacksOf, AreStarts, AreStartsOf, Labels, Steps, Occurs, NoneBetween, StandsAtNode, IsBestOccurrence, better_ending};
+ghost use Rattle.re_search.specs.declared.span.Span.{Span};
+
+use crate::fixed_set::trie::Trie;
+use crate::span::Span;
+
+/// What is known of each node of a tree of beginnings.
+#[derive(Drop)]
+pub struct Table {
+    /// The nodes.
+    pub trie: Trie,
+    /// The child of the root for each byte, the root where there is none.
+    pub starts: Vec<u32>,
+    /// For each node the longest other one that it ends with; any for the root.
+    pub fails: Vec<u32>,
+    /// The length of each node.
+    pub depths: Vec<u32>,
+    /// The length of the longest string that each node ends with, 0 where there is none.
+    pub ends: Vec<u32>,
+}
+
+impl Table {
+    /// Whether some string stands on the line.
+    pub fn stands_in(&self, line: &[u8]) -> bool
+        requires { IsTable self.now }
+        ensures { (all : Labels) → IsTableOf all self.now → IsTrue result ↔ ((i j : ℕ) × Occurs all.strings 0 line.now i j) }
+    {
+        let mut place = 0;
+        let mut node = 0;
+        'places: while place < line.len() {
+            let (behind, into) = self.pass(line, place, node);
+            place = behind;
+            node = into;
+            if self.ends[node] > 0 {
+                return true;
+            }
+        }
+        false
+    }
+
+    /// Of the strings that stand on the line, from `from` on, the one that begins earliest, and of
+    /// those that begin there the longest.
+    pub fn find(&self, line: &[u8], from: usize) -> Option<Span>
+        requires table { IsTable self.now }
+        requires within { from ≤ length line.now }
+        ensures { (all : Labels) → IsTableOf all self.now → IsBestOccurrence all.strings from line.now (length line.now) result }
+    {
+        let mut place = from;
+        let mut node = 0;
+        let mut best = None;
+        'places: while place < line.len() {
+            let (behind, into) = self.pass(line, place, node);
+            place = behind;
+            node = into;
+            if begins_before(best, place.saturating_sub(self.depths[node] as usize)) {
+                return best;
+            }
+            best = better(best, place, self.ends[node] as usize);
+        }
+        best
+    }
+
+    /// Whether the line, which is not empty, is one of the strings.
+    pub fn is_line(&self, line: &[u8]) -> bool
+        requires table { IsTable self.now }
+        requires some { 0 < length line.now }
+        ensures { (all : Labels) → IsTableOf all self.now → IsTrue result ↔ IsString all.strings line.now }
+    {
+        let mut node = 0;
+        'places: for place in 0..line.len() {
+            let Some(child) = self.trie.child(node, line[place]) else {
+                return false;
+            };
+            node = child;
+        }
+        self.ends[node] as usize == line.len()
+    }
+
+    // Goes over the byte at `place`, or, where no string is on its way, over those that none begins
+    // with; gives the place behind and the node there.
+    #[inline]
+    fn pass(&self, line: &[u8], place: usize, node: usize) -> (usize, usize)
+        requires table { IsTable self.now }
+        requires within { place < length line.now }
+        requires in_trie { node < length self.now.trie.bytes.items }
+        ensures on { (place < result.0) × (result.0 ≤ length line.now) }
+        ensures in_trie { result.1 < length self.now.trie.bytes.items }
+        ensures stands { (all : Labels) → IsTableOf all self.now → (from : ℕ) → from ≤ place → StandsAtNode all from line.now place node → StandsAtNode all from line.now result.0 result.1 }
+        ensures between { (all : Labels) → IsTableOf all self.now → (from : ℕ) → from ≤ place → StandsAtNode all from line.now place node
+            → NoneBetween all.strings from line.now place result.0 }
+    {
+        if node == 0 {
+            let behind = next_start(&self.starts, line, place);
+            if behind > place {
+                return (behind, 0);
+            }
+        }
+        let into = step(&self.trie, &self.starts, &self.fails, node, line[place]);
+        (place + 1, into)
+    }
+}
+
+// The node that the longest end of what was read is, with this byte behind it.
+#[inline]
+pub fn step(trie: &Trie, starts: &[u32], fails: &[u32], node: usize, byte: u8) -> usize
+    requires trie { IsTrie trie.now.first.items trie.now.bytes.items }
+    requires starts { AreStarts trie.now.first.items starts.now }
+    requires fails { AreFallbacks fails.now }
+    requires few { length fails.now ≤ length trie.now.bytes.items }
+    requires within { node < length fails.now }
+    ensures within { result < length trie.now.bytes.items }
+    ensures near { result < slice_index trie.now.first.items (node + 1) }
+    ensures step { (all : Labels) → IsTrieOf all trie.now.first.items trie.now.bytes.items → AreStartsOf all starts.now → AreFallbacksOf all fails.now
+        → Steps all node byte result }
+{
+    let mut at = node;
+    'nodes: while at > 0 {
+        if let Some(child) = trie.child(at, byte) {
+            return child;
+        }
+        at = fails[at] as usize;
+    }
+    starts[byte as usize] as usize
+}
+
+// The first place, `place` or later, whose byte a string begins with; the line's end where there
+// is none.
+fn next_start(starts: &[u32], line: &[u8], place: usize) -> usize
+    requires full { length starts.now ≡ 256 }
+    requires within { place ≤ length line.now }
+    ensures within { (place ≤ result) × (result ≤ length line.now) }
+    ensures passed { (k : ℕ) → place ≤ k → k < result → (slice_index line.now k < 256) × (slice_index starts.now (slice_index line.now k) ≡ 0) }
+{
+    'places: for next in place..line.len() {
+        if starts[line[next] as usize] > 0 {
+            return next;
+        }
+    }
+    line.len()
+}
+
+// Whether the best so far begins before this place.
+fn begins_before(best: Option<Span>, place: usize) -> bool
+    ensures { IsTrue result ↔ ((known : Span) × (best ≡ Some known) × (known.start < place)) }
+{
+    match best {
+        Some(known) => known.start < place,
+        None => false,
+    }
+}
+
+// The best so far, where a string of this length ends at a place behind it, or none where the
+// length is 0.
+fn better(best: Option<Span>, end: usize, length: usize) -> Option<Span>
+    ensures { result ≡ better_ending best end length }
+{
+    if length == 0 {
+        return best;
+    }
+    let start = end.saturating_sub(length);
+    match best {
+        Some(known) if known.start < start => best,
+        _ => Some(Span { start, end }),
+    }
+}
