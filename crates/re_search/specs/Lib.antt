@@ -6,3 +6,4 @@ pub mod Simulated
 pub mod Simulations
 pub mod FixedSets
 pub mod Branches
+pub mod Filters

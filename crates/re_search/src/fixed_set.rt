@@ -77,8 +77,9 @@ impl FixedSet {
         self.table.is_line(line)
     }
 
-    // Whether some string stands at some place of the line.
-    fn stands_in(&self, line: &[u8]) -> bool
+    /// Whether some string stands at some place of the line, whether or not the whole line has to be
+    /// one. No step is counted.
+    pub fn stands_in(&self, line: &[u8]) -> bool
         ensures { IsTrue result ↔ Matches (any_literal self.now) line.now false }
     {
         if self.has_empty {
