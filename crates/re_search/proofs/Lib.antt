@@ -15,3 +15,4 @@ pub mod SetLinks
 pub mod SetTable
 pub mod SetMatches
 pub mod SetSorted
+pub mod PlainLaws

@@ -170,7 +170,7 @@ fn meant_tree(alloc: Global, text: &[u8], syntax: Syntax, fold: bool) -> Result<
 }
 
 // The tree of what the text spells.
-fn spelled_tree(alloc: Global, text: &[u8], syntax: Syntax) -> Result<Tree, PatternFault>
+pub(crate) fn spelled_tree(alloc: Global, text: &[u8], syntax: Syntax) -> Result<Tree, PatternFault>
     ensures read { IfOk result (λ tree. IsSpelled syntax text.now (expression_of tree)) }
     ensures refused { IfErr result (λ fault. IsOutOfMemory fault ⊎ IsNotSpelled syntax text.now fault) }
 {

@@ -94,7 +94,7 @@ fn leading_bytes(alloc: Global, parts: &[Tree]) -> Result<Vec<u8>, AllocError>
 }
 
 // The byte that the tree takes, where it takes one byte and no other.
-fn one_byte(tree: &Tree) -> Option<u8>
+pub(crate) fn one_byte(tree: &Tree) -> Option<u8>
     ensures { IfSome result (λ b. expression_of tree.now ≡ byte b) }
 {
     match tree {
