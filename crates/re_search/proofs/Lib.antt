@@ -16,3 +16,4 @@ pub mod SetTable
 pub mod SetMatches
 pub mod SetSorted
 pub mod PlainLaws
+pub mod FilterLaws

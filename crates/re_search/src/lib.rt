@@ -2,6 +2,7 @@
 //! counted steps.
 #![tactic(auto)]
 
+mod filter;
 mod fixed;
 mod fixed_set;
 mod line_match;
@@ -12,6 +13,7 @@ mod several;
 mod simulated;
 mod span;
 
+pub use filter::needed_strings;
 pub use fixed::Fixed;
 pub use fixed_set::FixedSet;
 pub use line_match::LineMatch;

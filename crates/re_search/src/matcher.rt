@@ -1,8 +1,9 @@
 //! Matchers made from the texts of patterns.
-ghost use Rattle.std.specs.Prelude.{◌≡◌, ◌+◌, ◌-◌, ◌≤◌, ◌↔◌, ◌⊎◌, [], ◌∷◌, not, false, IsTrue, IfOk, IfErr, length};
+ghost use Rattle.std.specs.Prelude.{◌≡◌, ◌+◌, ◌-◌, ◌≤◌, ◌↔◌, ◌⊎◌, [], ◌∷◌, not, false, IsTrue, IfOk, IfErr, IfSome, length};
 ghost use Rattle.re_syntax.specs.Expression.{expression_of};
 ghost use Rattle.re_syntax.specs.Holds.{Matches, most_positions, positions};
 ghost use Rattle.re_syntax.specs.Spelled.{IsSpelled, IsMeant, has_limit};
+ghost use Rattle.re_search.specs.Needles.{IsNeeded};
 ghost use Rattle.re_search.specs.Reading.{matched_expression, wants_whole, is_fixed, IsSmallFor, IsReadable, IsOutOfMemory, IsBuildFault, IsNotSpelled, IsRefusedFor};
 ghost use Rattle.re_search.specs.Searching.{FindsPart, AddsAtMost};
 
@@ -58,6 +59,17 @@ impl Matcher {
             return simulated_matcher(alloc, text, syntax, fold, whole);
         }
         fixed_matcher(alloc, text, whole)
+    }
+
+    /// A string that stands on each stretch that is matched, where one is known of a matcher that
+    /// steps an automaton.
+    pub(crate) fn needed(&self) -> Option<&[u8]>
+        ensures { IfSome result (λ text. IsNeeded text.now (matched_expression self.now)) }
+    {
+        match self {
+            Matcher::Simulated(simulated) => simulated.needed(),
+            _ => None,
+        }
     }
 }
 

@@ -1,8 +1,9 @@
 //! Search by stepping an automaton over the line.
-ghost use Rattle.std.specs.Prelude.{◌≡◌, ◌+◌, ◌-◌, ◌≤◌, ◌↔◌, [], ◌∷◌, true, false, IsTrue, IfOk, IfErr, length};
+ghost use Rattle.std.specs.Prelude.{◌≡◌, ◌+◌, ◌-◌, ◌≤◌, ◌↔◌, [], ◌∷◌, true, false, IsTrue, IfOk, IfErr, IfSome, length};
 ghost use Rattle.re_syntax.specs.Expression.{expression_of};
 ghost use Rattle.re_syntax.specs.Holds.{Matches, most_positions, positions};
 ghost use Rattle.re_auto.specs.Tables.{IsRefused};
+ghost use Rattle.re_search.specs.Needles.{IsNeeded};
 ghost use Rattle.re_search.specs.Searching.{FindsPart, AddsAtMost};
 
 mod least;
@@ -71,6 +72,16 @@ impl Simulated {
             sets,
             starts,
         })
+    }
+
+    /// The string that stands on each stretch that is matched, where one is known.
+    pub(crate) fn needed(&self) -> Option<&[u8]>
+        ensures { IfSome result (λ text. IsNeeded text.now (expression_of self.now.tree)) }
+    {
+        match &self.needle {
+            Some(needle) => Some(needle.finder.needle()),
+            None => None,
+        }
     }
 
     // Whether some stretch of the line is matched.

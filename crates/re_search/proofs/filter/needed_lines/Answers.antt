@@ -1,0 +1,25 @@
+use Rattle.std.proofs.Common.{◌≡◌, arith, length, map, ◌<◌, ◌≤◌, ◌++◌, [], ◌∷◌, get_or, sym, ap, ◌∙◌, subst, All}
+use Rattle.std.proofs.lemmas.List.Elements.{All-push, All-map}
+use Rattle.re_syntax.specs.Lines.{HasNoNewline, lines_of}
+use Rattle.re_syntax.proofs.LinesLaws.{lines_of-terminated}
+use Rattle.re_search.specs.Filters.{NeedsOneOf}
+use Rattle.re_search.specs.Reading.{matched_expression}
+use Rattle.re_search.proofs.FilterLaws.{terminated-push, needed_more}
+use Rattle.re_search.proofs.filter.needed_lines.Goals as goal
+
+pub matchers-preserved : goal.matchers-preserved
+matchers-preserved c =
+    let strings = c.matchers.invariant.0 in
+    (
+      strings ++ c.in-Some.text.now ∷ [],
+      c.in_ok-add_line.ensures ∙ ap (λ bytes. bytes ++ (c.in-Some.text.now ++ 10 ∷ [])) c.matchers.invariant.1 ∙ terminated-push strings c.in-Some.text.now,
+      All-push HasNoNewline strings c.in-Some.text.now c.matchers.invariant.2 c.in-Some.ensures.1,
+      needed_more strings c.in-Some.text.now c.args.matchers.now c.matchers.place c.index-matchers-place.result c.matchers-test.true c.index-matchers-place.is c.in-Some.ensures.0 c.matchers.invariant.3,
+    )
+
+pub returns : goal.returns
+returns c =
+    let strings = c.matchers.invariant.0 in
+    let lines : lines_of c.matchers.texts.items ≡ strings = ap lines_of c.matchers.invariant.1 ∙ lines_of-terminated strings c.matchers.invariant.2 in
+    subst (λ ts. All (NeedsOneOf ts) (map matched_expression c.args.matchers.now)) (sym lines)
+    (All-map (NeedsOneOf strings) matched_expression c.args.matchers.now (λ k d lt. c.matchers.invariant.3 k d (omega (arith, lt, c.matchers-test.false))))

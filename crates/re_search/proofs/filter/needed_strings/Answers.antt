@@ -1,0 +1,8 @@
+use Rattle.std.proofs.Common.{length, map}
+use Rattle.re_syntax.specs.Lines.{lines_of}
+use Rattle.re_search.specs.Reading.{matched_expression}
+use Rattle.re_search.proofs.FilterLaws.{texts_are_needed}
+use Rattle.re_search.proofs.filter.needed_strings.Goals as goal
+
+pub returns : goal.returns
+returns c = rw (c.in_ok-strings.ensures, c.deref.ensures.value) (texts_are_needed (lines_of c.in-Some.texts.items) (map matched_expression c.args.matchers.now) (rw c.in-Some.is at c.in_ok-texts.ensures))
