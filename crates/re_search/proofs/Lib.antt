@@ -15,3 +15,5 @@ pub mod SetLinks
 pub mod SetTable
 pub mod SetMatches
 pub mod SetSorted
+pub mod SetFolded
+pub mod LiteralLaws
