@@ -59,9 +59,9 @@ fn are_several(texts: &[u8]) -> bool
 
 // The one matcher for all strings.
 fn joined(alloc: Global, texts: &[u8], whole: bool) -> Result<Vec<Matcher>, AllocError>
-    ensures { IfOk result (λ matchers. matchers.items ≡ m.FixedSet (record { texts = lines_of texts.now; whole = whole }) ∷ []) }
+    ensures { IfOk result (λ matchers. matchers.items ≡ m.FixedSet (record { texts = lines_of texts.now; fold = false; whole = whole }) ∷ []) }
 {
-    let set = FixedSet::new(alloc, texts, whole)?;
+    let set = FixedSet::new(alloc, texts, false, whole)?;
     let mut matchers = Vec::new(alloc);
     matchers.push(Matcher::FixedSet(set))?;
     Ok(matchers)

@@ -17,3 +17,5 @@ pub mod SetMatches
 pub mod SetSorted
 pub mod PlainLaws
 pub mod FilterLaws
+pub mod SetFolded
+pub mod LiteralLaws

@@ -18,7 +18,7 @@ string_means Basic fold text free = absurd (true≢false free)
 string_means Extended fold text free = absurd (true≢false free)
 
 -- a text means one expression
-means_one : (syntax : Syntax) (fold : Bool) (text : Text) (d e : Expression) → IsMeant syntax fold text d → IsMeant syntax fold text e → d ≡ e
+pub means_one : (syntax : Syntax) (fold : Bool) (text : Text) (d e : Expression) → IsMeant syntax fold text d → IsMeant syntax fold text e → d ≡ e
 means_one syntax fold text d e m n = m.2 ∙ ap (λ s. if fold then folded s else s) (spells_one text syntax m.0 n.0 m.1 n.1) ∙ sym n.2
 
 -- a text that is not spelled means nothing

@@ -1,7 +1,7 @@
--- What is matched by a choice of fixed strings: where one of them stands.
+-- What is matched by a choice of fixed strings: where one of them stands, as strings are compared.
 use Rattle.std.proofs.Common.{◌≡◌, ◌↔◌, ℕ, zero, suc, ◌+◌, ◌-◌, ◌<◌, ◌≤◌, ◌⊎◌, inl, inr, Bool, true, false, IsTrue, List, [], ◌∷◌, ◌++◌, Any, length, map, take, drop, Option, Some, None, refl, sym, ap, subst, ◌∙◌, arith, length-append, length-drop}
 use Rattle.std.proofs.lemmas.Bool.{false≢true}
-use Rattle.std.proofs.lemmas.List.{drop-append-le, append-nil, take-append-drop, length-take-le}
+use Rattle.std.proofs.lemmas.List.{drop-append-le, append-nil, take-append-drop, length-take-le, length-map}
 use Rattle.std.proofs.Math.ListN.{drop_of_length-le}
 use Rattle.re_syntax.specs.Bytes.{Text}
 use Rattle.re_syntax.specs.Expression.{Expression, alt, byte, sequence}
@@ -12,10 +12,11 @@ use Rattle.re_syntax.proofs.FixedStrings.{stands-holds, holds-stands}
 use Rattle.re_syntax.proofs.HoldsDecided.{Holds-le}
 use Rattle.re_search.specs.declared.span.Span.{Span}
 use Rattle.re_search.specs.FixedSets.{IsString, Occurs, IsBestOccurrence}
-use Rattle.re_search.specs.Literals.{Literals, any_literal}
+use Rattle.re_search.specs.Literals.{Literals, any_literal, key, keys}
 use Rattle.re_search.specs.Searching.{FindsPart}
 use Rattle.re_search.proofs.AnyLaws.{Any-single}
 use Rattle.re_search.proofs.SetBranches.{begins_take}
+use Rattle.re_search.proofs.SetFolded.{choice_keys}
 use Rattle.re_search.proofs.SetSearch.{all_read}
 
 -- a number is below another, or not
@@ -62,50 +63,66 @@ nothing_between : (line : Text) (i j : ℕ) → j ≤ i → j ≤ length line �
 nothing_between line i j le within = drop_of_length-le (take j line) (let r = length-take-le j line within in omega (arith, r, le))
 
 module _ (l : Literals) (line : Text) where
+  -- the line is as long as it is compared
+  size : length (keys l.fold line) ≡ length line
+  size = length-map line (key l.fold)
+
+  -- where the choice holds a string stands on the line as it is compared
+  any_stands : (i j : ℕ) → i ≤ j → j ≤ length line → Holds line (any_literal l) i j → IsString (map (keys l.fold) l.texts) (drop i (take j (keys l.fold line)))
+  any_stands i j le within h = choice_stands (keys l.fold line) i j (map (keys l.fold) l.texts) le (omega (arith, within, size)) ((choice_keys line l.fold l.texts i j).0 h)
+
+  stands_any : (i j : ℕ) → i ≤ j → j ≤ length line → IsString (map (keys l.fold) l.texts) (drop i (take j (keys l.fold line))) → Holds line (any_literal l) i j
+  stands_any i j le within s = (choice_keys line l.fold l.texts i j).1 (stands_choice (keys l.fold line) i j (map (keys l.fold) l.texts) le (omega (arith, within, size)) s)
+
   -- where the empty string is one of them each line is matched
-  pub empty_matches : IsString l.texts [] → Matches (any_literal l) line false
-  empty_matches s = (0, 0, omega arith, stands_choice line 0 0 l.texts (omega arith) (omega arith) (subst (IsString l.texts) (sym (nothing_between line 0 0 (omega arith) (omega arith))) s))
+  pub empty_matches : IsString (map (keys l.fold) l.texts) [] → Matches (any_literal l) line false
+  empty_matches s = (0, 0, omega arith, stands_any 0 0 (omega arith) (omega arith) (subst (IsString (map (keys l.fold) l.texts)) (sym (nothing_between (keys l.fold line) 0 0 (omega arith) (omega arith))) s))
 
   -- where it is not the line is matched where a string stands on it
-  pub occurs_decides : (r : Bool) → (IsString l.texts [] → ⊥) → IsTrue r ↔ ((i j : ℕ) × Occurs l.texts 0 line i j) → IsTrue r ↔ Matches (any_literal l) line false
+  pub occurs_decides : (r : Bool) → (IsString (map (keys l.fold) l.texts) [] → ⊥) → IsTrue r ↔ ((i j : ℕ) × Occurs (map (keys l.fold) l.texts) 0 (keys l.fold line) i j) → IsTrue r ↔ Matches (any_literal l) line false
   occurs_decides r none told = ((λ h. matched (told.0 h)), (λ m. told.1 (stands m)))
     where
-      matched : (i j : ℕ) × Occurs l.texts 0 line i j → Matches (any_literal l) line false
-      matched (i, j, o) = (i, j, o.2, stands_choice line i j l.texts (let h = o.1 in omega (arith, h)) o.2 o.3)
+      matched : (i j : ℕ) × Occurs (map (keys l.fold) l.texts) 0 (keys l.fold line) i j → Matches (any_literal l) line false
+      matched (i, j, o) =
+          let within : j ≤ length line = let w = o.2 in omega (arith, w, size) in
+          (i, j, within, stands_any i j (let h = o.1 in omega (arith, h)) within o.3)
 
-      stands : Matches (any_literal l) line false → (i j : ℕ) × Occurs l.texts 0 line i j
+      stands : Matches (any_literal l) line false → (i j : ℕ) × Occurs (map (keys l.fold) l.texts) 0 (keys l.fold line) i j
       stands (i, j, within, h) =
           let le : i ≤ j = Holds-le line (any_literal l) i j h in
-          let s = choice_stands line i j l.texts le within h in
+          let s = any_stands i j le within h in
+          let on_line : j ≤ length (keys l.fold line) = omega (arith, within, size) in
           elim (split i j) [
-            | inl some ↦ (i, j, (omega arith, some, within, s))
-            | inr empty ↦ absurd (none (subst (IsString l.texts) (nothing_between line i j empty within) s))
+            | inl some ↦ (i, j, (omega arith, some, on_line, s))
+            | inr empty ↦ absurd (none (subst (IsString (map (keys l.fold) l.texts)) (nothing_between (keys l.fold line) i j empty on_line) s))
           ]
 
   -- the line is matched as a whole where it is one of them
-  pub line_decides : (r : Bool) → IsTrue r ↔ IsString l.texts line → IsTrue r ↔ Matches (any_literal l) line true
+  pub line_decides : (r : Bool) → IsTrue r ↔ IsString (map (keys l.fold) l.texts) (keys l.fold line) → IsTrue r ↔ Matches (any_literal l) line true
   line_decides r told =
-      let whole : drop 0 (take (length line) line) ≡ line = all_read line (length line) (omega arith) in (
-        (λ h. stands_choice line 0 (length line) l.texts (omega arith) (omega arith) (subst (IsString l.texts) (sym whole) (told.0 h))),
-        (λ m. told.1 (subst (IsString l.texts) whole (choice_stands line 0 (length line) l.texts (omega arith) (omega arith) m))),
+      let whole : drop 0 (take (length line) (keys l.fold line)) ≡ keys l.fold line = all_read (keys l.fold line) (length line) (omega (arith, size)) in (
+        (λ h. stands_any 0 (length line) (omega arith) (omega arith) (subst (IsString (map (keys l.fold) l.texts)) (sym whole) (told.0 h))),
+        (λ m. told.1 (subst (IsString (map (keys l.fold) l.texts)) whole (any_stands 0 (length line) (omega arith) (omega arith) m))),
       )
 
   -- the best of the strings that stand on the line is the part
-  pub best_is_part : (from : ℕ) (best : Option Span) → IsBestOccurrence l.texts from line (length line) best → FindsPart (any_literal l ∷ []) line false from best
+  pub best_is_part : (from : ℕ) (best : Option Span) → IsBestOccurrence (map (keys l.fold) l.texts) from (keys l.fold line) (length line) best → FindsPart (any_literal l ∷ []) line false from best
   unfolding IsBestOccurrence
   best_is_part from best b = go best b
     where
-      occurs : (i j : ℕ) → IsFound (any_literal l ∷ []) line false from i j → Occurs l.texts from line i j
+      occurs : (i j : ℕ) → IsFound (any_literal l ∷ []) line false from i j → Occurs (map (keys l.fold) l.texts) from (keys l.fold line) i j
       occurs i j f =
           let some = f.not_empty in
-          (f.begins, some, f.on_line, choice_stands line i j l.texts (omega (arith, some)) f.on_line (Any-single (λ e. Holds line e i j) (any_literal l) f.holds))
+          let within = f.on_line in
+          (f.begins, some, omega (arith, within, size), any_stands i j (omega (arith, some)) within (Any-single (λ e. Holds line e i j) (any_literal l) f.holds))
 
-      found : (i j : ℕ) → Occurs l.texts from line i j → IsFound (any_literal l ∷ []) line false from i j
+      found : (i j : ℕ) → Occurs (map (keys l.fold) l.texts) from (keys l.fold line) i j → IsFound (any_literal l ∷ []) line false from i j
       found i j o =
           let some = o.1 in
-          record { begins = o.0; not_empty = some; on_line = o.2; is_whole = tt; holds = Any-first (λ e. Holds line e i j) (any_literal l) [] (stands_choice line i j l.texts (omega (arith, some)) o.2 o.3) }
+          let within : j ≤ length line = let w = o.2 in omega (arith, w, size) in
+          record { begins = o.0; not_empty = some; on_line = within; is_whole = tt; holds = Any-first (λ e. Holds line e i j) (any_literal l) [] (stands_any i j (omega (arith, some)) within o.3) }
 
-      go : (best : Option Span) → IsBestOccurrence l.texts from line (length line) best → FindsPart (any_literal l ∷ []) line false from best
+      go : (best : Option Span) → IsBestOccurrence (map (keys l.fold) l.texts) from (keys l.fold line) (length line) best → FindsPart (any_literal l ∷ []) line false from best
       go None none = λ i j f. none i j f.on_line (occurs i j f)
       go (Some span) (o, within, early, long) = record {
         found = found span.start span.end o;

@@ -10,7 +10,7 @@ use Rattle.re_auto.specs.Starts.{IsBest, Least, better}
 use Rattle.re_search.specs.declared.span.Span.{Span}
 use Rattle.re_search.specs.declared.fixed_set.table.Table.{Table}
 use Rattle.re_search.specs.Simulations.{places, better_span}
-use Rattle.re_search.specs.FixedSets.{IsFront, IsString, StandsFor, MayStandFor, EndsIn, Labels, IsTableOf, Steps, StepsOn, AreStartsOf, Occurs, NoneBetween, StandsAtNode, IsBestOccurrence, better_ending}
+use Rattle.re_search.specs.FixedSets.{IsFront, IsString, StandsFor, MayStandFor, EndsIn, Labels, IsTableOf, Steps, StepsOn, Occurs, NoneBetween, StandsAtNode, IsBestOccurrence, better_ending}
 use Rattle.re_search.proofs.BestSpans.{better_places}
 use Rattle.re_search.proofs.SetSteps.{any_map, front_shorter, string_front, empty_end, may_at_first}
 
@@ -65,27 +65,24 @@ module _ (all : Labels) (from : ℕ) (line : Text) where
   byte_read place n m lt s step = subst (λ w. StandsFor all.strings (all.label m) w from) (sym (one_more_byte line place lt)) (step (take place line) from s)
 
   -- bytes are passed that no string begins with
-  pub bytes_passed : (starts : List ℕ) → AreStartsOf all starts → (count place : ℕ) → place + count ≤ length line
-      → ((k : ℕ) → place ≤ k → k < place + count → (slice_index line k < 256) × (slice_index starts (slice_index line k) ≡ 0))
+  pub bytes_passed : (count place : ℕ) → place + count ≤ length line → ((k : ℕ) → place ≤ k → k < place + count → StepsOn all 0 (slice_index line k) 0)
       → StandsAtNode all from line place 0 → StandsAtNode all from line (place + count) 0
-  bytes_passed starts are zero place within passed s = let same : place ≡ place + 0 = omega arith in subst (λ n. StandsAtNode all from line n 0) same s
-  bytes_passed starts are (suc count) place within passed s =
+  bytes_passed zero place within passed s = let same : place ≡ place + 0 = omega arith in subst (λ n. StandsAtNode all from line n 0) same s
+  bytes_passed (suc count) place within passed s =
       let here = passed place (omega arith) (omega arith) in
       let on : StandsAtNode all from line (place + 1) 0 =
-      byte_read place 0 0 (omega (arith, within)) s (λ w f stands. subst (λ m. StandsFor all.strings (all.label m) (w ++ slice_index line place ∷ []) f) here.1
-      (are (slice_index line place) here.0 w f (may_at_first all.strings (slice_index line place) (all.label 0) w f stands))) in
+      byte_read place 0 0 (omega (arith, within)) s (λ w f stands. here w f (may_at_first all.strings (slice_index line place) (all.label 0) w f stands)) in
       let end : place + 1 + count ≡ place + suc count = omega arith in
       subst (λ n. StandsAtNode all from line n 0) end
-      (bytes_passed starts are count (place + 1) (omega (arith, within)) (λ k low high. passed k (omega (arith, low)) (omega (arith, high))) on)
+      (bytes_passed count (place + 1) (omega (arith, within)) (λ k low high. passed k (omega (arith, low)) (omega (arith, high))) on)
 
   -- the root stays up to each of these places
-  pub root_stays : (starts : List ℕ) → AreStartsOf all starts → (place next node : ℕ) → node ≡ 0 → next ≤ length line
-      → ((k : ℕ) → place ≤ k → k < next → (slice_index line k < 256) × (slice_index starts (slice_index line k) ≡ 0))
+  pub root_stays : (place next node : ℕ) → node ≡ 0 → next ≤ length line → ((k : ℕ) → place ≤ k → k < next → StepsOn all 0 (slice_index line k) 0)
       → StandsAtNode all from line place node → (k : ℕ) → place ≤ k → k ≤ next → StandsAtNode all from line k 0
-  root_stays starts are place next node root within passed s k low high =
+  root_stays place next node root within passed s k low high =
       let at : place + (k - place) ≡ k = omega (arith, low) in
       subst (λ n. StandsAtNode all from line n 0) at
-      (bytes_passed starts are (k - place) place (omega (arith, low, high, within)) (λ j a b. passed j a (omega (arith, b, at, high))) (subst (StandsAtNode all from line place) root s))
+      (bytes_passed (k - place) place (omega (arith, low, high, within)) (λ j a b. passed j a (omega (arith, b, at, high))) (subst (StandsAtNode all from line place) root s))
 
   -- a string that ends at a place begins where the node does or later
   pub begins_with_node : (place n : ℕ) (s : StandsAtNode all from line place n) → (i : ℕ) → from ≤ i → IsFront all.strings (drop i (take place line)) → s.start ≤ i

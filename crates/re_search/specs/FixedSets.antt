@@ -1,9 +1,10 @@
 -- Many fixed strings at once: the tree of their beginnings, each with the longest end of it that is such a beginning too (Aho and Corasick, 1975).
-use Rattle.std.specs.Prelude.{◌≡◌, ℕ, ◌+◌, ◌-◌, ◌<◌, ◌≤◌, List, [], ◌∷◌, ◌++◌, length, take, drop, Any, slice_index, MatchOption, Option, nat_eq, nat_lt, if◌then◌else◌}
+use Rattle.std.specs.Prelude.{◌≡◌, ℕ, ◌+◌, ◌-◌, ◌<◌, ◌≤◌, Bool, List, [], ◌∷◌, ◌++◌, length, take, drop, Any, slice_index, MatchOption, Option, nat_eq, nat_lt, if◌then◌else◌}
 use Rattle.re_syntax.specs.Bytes.{Text, Begins}
 use Rattle.re_auto.specs.Starts.{IsBest}
 use Rattle.re_search.specs.declared.span.Span.{Span}
 use Rattle.re_search.specs.declared.fixed_set.table.Table.{Table}
+use Rattle.re_search.specs.Literals.{key}
 use Rattle.re_search.specs.Simulations.{places, better_span}
 
 -- some string begins with the text
@@ -82,8 +83,9 @@ pub record AreStarts (first starts : List ℕ) : Type 0 where
   pub full : length starts ≡ 256
   pub nodes : (b : ℕ) → b < 256 → slice_index starts b < slice_index first 1
 
-abbrev pub AreStartsOf : Labels → List ℕ → Type 0
-AreStartsOf all starts = (b : ℕ) → b < 256 → StepsOn all 0 b (slice_index starts b)
+-- each is right for its byte as strings are compared
+abbrev pub AreStartsOf : Bool → Labels → List ℕ → Type 0
+AreStartsOf fold all starts = (b : ℕ) → b < 256 → StepsOn all 0 (key fold b) (slice_index starts b)
 
 -- a string, not the empty one, stands from place i, `from` or later, to place j
 abbrev pub Occurs : List Text → ℕ → Text → ℕ → ℕ → Type 0
@@ -105,7 +107,7 @@ pub record IsTable (t : Table) : Type 0 where
 -- the rows are right for the strings
 pub record IsTableOf (all : Labels) (t : Table) : Type 0 where
   pub trie : IsTrieOf all t.trie.first.items t.trie.bytes.items
-  pub starts : AreStartsOf all t.starts.items
+  pub starts : AreStartsOf t.fold all t.starts.items
   pub fails : AreFallbacksOf all t.fails.items
   pub depths : (n : ℕ) → n < length t.trie.bytes.items → slice_index t.depths.items n ≡ length (all.label n)
   pub ends : (n : ℕ) → n < length t.trie.bytes.items → EndsIn all.strings (all.label n) (slice_index t.ends.items n)

@@ -1,7 +1,9 @@
--- Fixed strings as matchers (XCU grep, option -F).
-use Rattle.std.specs.Prelude.{Bool, List, map}
-use Rattle.re_syntax.specs.Bytes.{Text}
+-- Fixed strings as matchers (XCU grep, options -F and -i).
+use Rattle.std.specs.Prelude.{ℕ, ◌+◌, Bool, true, false, List, map, if◌then◌else◌}
+use Rattle.re_syntax.specs.declared.class.Class.TheVariants.{Upper}
+use Rattle.re_syntax.specs.Bytes.{Text, in_class}
 use Rattle.re_syntax.specs.Expression.{Expression, byte, sequence, alt}
+use Rattle.re_syntax.specs.Holds.{folded}
 
 -- the string that is looked for, and whether the whole line has to be it
 pub record Literal : Type 0 where
@@ -12,11 +14,25 @@ pub record Literal : Type 0 where
 abbrev pub literal_expression : Literal → Expression
 literal_expression literal = sequence (map byte literal.text)
 
--- the strings that are looked for, and whether the whole line has to be one of them
+-- the strings that are looked for, whether both cases of each letter are alike, and whether the whole line has to be one of them
 pub record Literals : Type 0 where
   pub texts : List Text
+  pub fold : Bool
   pub whole : Bool
 
--- a choice of the sequences of their bytes
+-- the sequence of a string's bytes, with both cases of each letter where `fold` is set
+abbrev pub literal_meaning : Bool → Text → Expression
+literal_meaning fold text = if fold then folded (sequence (map byte text)) else sequence (map byte text)
+
+-- a choice of what the strings mean
 abbrev pub any_literal : Literals → Expression
-any_literal literals = alt (map (λ text. sequence (map byte text)) literals.texts)
+any_literal literals = alt (map (literal_meaning literals.fold) literals.texts)
+
+-- a byte as strings are compared: an upper-case letter by its lower case where `fold` is set
+unfoldable pub key : Bool → ℕ → ℕ
+key false b = b
+key true b = if in_class Upper b then b + 32 else b
+
+-- a text as strings are compared
+abbrev pub keys : Bool → Text → Text
+keys fold text = map (key fold) text

@@ -5,10 +5,11 @@ ghost use Rattle.re_search.specs.FixedSets.{IsString};
 ghost use Rattle.re_syntax.specs.Holds.{Matches};
 ghost use Rattle.re_syntax.specs.Lines.{lines_of};
 ghost use Rattle.re_auto.specs.Meters.{many_built};
-ghost use Rattle.re_search.specs.Literals.{any_literal};
+ghost use Rattle.re_search.specs.Literals.{any_literal, keys};
 ghost use Rattle.re_search.specs.Searching.{FindsPart, AddsAtMost};
 
 mod growth;
+mod keys;
 mod links;
 mod making;
 mod table;
@@ -24,7 +25,8 @@ use std::marker::Model;
 use table::Table;
 
 /// A matcher for many fixed strings, which takes one step a byte however many they are. Contracts
-/// see it as the strings and whether the whole line has to be one of them.
+/// see it as the strings, whether both cases of each letter are alike, and whether the whole line
+/// has to be one of them.
 #[derive(Drop)]
 pub struct FixedSet {
     texts: Vec<u8>,
@@ -34,29 +36,47 @@ pub struct FixedSet {
 }
 
 impl Model for FixedSet {
-    ghost use Rattle.std.specs.Prelude.{◌↔◌, IsTrue, [], ℕ};
+    ghost use Rattle.std.specs.Prelude.{◌↔◌, IsTrue, [], ℕ, map};
     ghost use Rattle.re_syntax.specs.Bytes.{Text};
     ghost use Rattle.re_syntax.specs.Lines.{lines_of};
-    ghost use Rattle.re_search.specs.Literals.{Literals};
+    ghost use Rattle.re_search.specs.Literals.{Literals, keys};
     ghost use Rattle.re_search.specs.FixedSets.{IsTable, IsTableOf, IsString};
 
     ghost Value = { Literals };
 
-    ghost view = { λ f. record { texts = lines_of f.texts.items; whole = f.whole } };
+    ghost view = { λ f. record { texts = lines_of f.texts.items; fold = f.table.fold; whole = f.whole } };
 
-    ghost invariant = { λ f. IsTable f.table × ((label : ℕ → Text) × IsTableOf (record { strings = lines_of f.texts.items; label = label }) f.table)
-        × (IsTrue f.has_empty ↔ IsString (lines_of f.texts.items) []) };
+    ghost invariant = { λ f. IsTable f.table × ((label : ℕ → Text) × IsTableOf (record { strings = map (keys f.table.fold) (lines_of f.texts.items); label = label }) f.table)
+        × (IsTrue f.has_empty ↔ IsString (map (keys f.table.fold) (lines_of f.texts.items)) []) };
 }
 
 impl FixedSet {
-    /// A matcher for the texts, the lines of `texts`, of which no byte is special. The one error
-    /// is that memory was refused.
-    pub fn new(alloc: Global, texts: &[u8], whole: bool) -> Result<FixedSet, AllocError>
-        ensures { IfOk result (λ f. f ≡ record { texts = lines_of texts.now; whole = whole }) }
+    /// A matcher for the texts, the lines of `texts`, of which no byte is special; with `fold` both
+    /// cases of each letter are alike. The one error is that memory was refused.
+    pub fn new(alloc: Global, texts: &[u8], fold: bool, whole: bool) -> Result<FixedSet, AllocError>
+        ensures { IfOk result (λ f. f ≡ record { texts = lines_of texts.now; fold = fold; whole = whole }) }
     {
-        let strings = strings_of(alloc, texts)?;
+        if fold {
+            let lowered = texts.to_ascii_lowercase(alloc)?;
+            return FixedSet::by_keys(alloc, texts, &lowered, fold, whole);
+        }
+        FixedSet::by_keys(alloc, texts, texts, fold, whole)
+    }
+
+    // A matcher for the texts, which are compared as the lines of `keyed`.
+    fn by_keys(
+        alloc: Global,
+        texts: &[u8],
+        keyed: &[u8],
+        fold: bool,
+        whole: bool,
+    ) -> Result<FixedSet, AllocError>
+        requires { lines_of keyed.now ≡ map (keys fold) (lines_of texts.now) }
+        ensures { IfOk result (λ f. f ≡ record { texts = lines_of texts.now; fold = fold; whole = whole }) }
+    {
+        let strings = strings_of(alloc, keyed)?;
         let has_empty = has_empty(&strings);
-        let table = table_of(alloc, &strings)?;
+        let table = table_of(alloc, &strings, fold)?;
         let mut kept = Vec::new(alloc);
         kept.extend_from_slice(texts)?;
         Ok(FixedSet {

@@ -1,7 +1,8 @@
 //! The fallbacks of the nodes, and the strings that they end with.
-ghost use Rattle.std.specs.Prelude.{◌≡◌, ℕ, ◌+◌, ◌^◌, ◌<◌, ◌≤◌, ◌++◌, [], ◌∷◌, IfOk, length, slice_index};
+ghost use Rattle.std.specs.Prelude.{◌≡◌, ℕ, ◌+◌, ◌^◌, ◌<◌, ◌≤◌, ◌++◌, [], ◌∷◌, false, IfOk, length, slice_index};
 ghost use Rattle.re_search.specs.FixedSets.{IsTrie, IsTrieOf, AreStarts, AreStartsOf, AreFallbacks, AreFallbacksOf, AreOwn, AreLinked, AreLinkedFor, Labels, StandsFor, StepsOn, longer_ending};
 
+use crate::fixed_set::keys::key_of;
 use crate::fixed_set::table::step;
 use crate::fixed_set::trie::Trie;
 use std::alloc::{AllocError, Global};
@@ -15,19 +16,39 @@ pub struct Links {
     pub ends: Vec<u32>,
 }
 
-/// The child of the root for each byte, the root where there is none.
-pub fn starts_of(alloc: Global, trie: &Trie) -> Result<Vec<u32>, AllocError>
+/// The child of the root for each byte as strings are compared, the root where there is none.
+pub fn starts_of(alloc: Global, trie: &Trie, fold: bool) -> Result<Vec<u32>, AllocError>
     requires trie { IsTrie trie.now.first.items trie.now.bytes.items }
     requires few { length trie.now.bytes.items < 2 ^ 32 }
     ensures starts { IfOk result (λ starts. AreStarts trie.now.first.items starts.items) }
-    ensures right { IfOk result (λ starts. (all : Labels) → IsTrieOf all trie.now.first.items trie.now.bytes.items → AreStartsOf all starts.items) }
+    ensures right { IfOk result (λ starts. (all : Labels) → IsTrieOf all trie.now.first.items trie.now.bytes.items → AreStartsOf fold all starts.items) }
 {
     let mut starts = Vec::new(alloc);
     'bytes: while starts.len() < 256 {
-        let start = start_of(trie, starts.len() as u8);
+        let start = start_of(trie, key_of(fold, starts.len() as u8));
         push_number(&mut starts, start)?;
     }
     Ok(starts)
+}
+
+/// The child of the root for each byte of a line; `plain` has that for each byte as it is.
+pub fn line_starts(
+    alloc: Global,
+    trie: &Trie,
+    plain: Vec<u32>,
+    fold: bool,
+) -> Result<Vec<u32>, AllocError>
+    requires trie { IsTrie trie.now.first.items trie.now.bytes.items }
+    requires few { length trie.now.bytes.items < 2 ^ 32 }
+    requires plain { AreStarts trie.now.first.items plain.items }
+    ensures starts { IfOk result (λ starts. AreStarts trie.now.first.items starts.items) }
+    ensures right { IfOk result (λ starts. (all : Labels) → IsTrieOf all trie.now.first.items trie.now.bytes.items → AreStartsOf false all plain.items → AreStartsOf fold all starts.items) }
+{
+    if fold {
+        let starts = starts_of(alloc, trie, fold)?;
+        return Ok(starts);
+    }
+    Ok(plain)
 }
 
 // The child of the root for this byte, the root where there is none.
@@ -54,7 +75,7 @@ pub fn links_of(
     requires starts { AreStarts trie.now.first.items starts.now }
     requires owns { length owns.now ≡ length trie.now.bytes.items }
     ensures linked { IfOk result (λ links. AreLinked (length trie.now.bytes.items) links.fails.items links.ends.items) }
-    ensures right { IfOk result (λ links. (all : Labels) → IsTrieOf all trie.now.first.items trie.now.bytes.items → AreStartsOf all starts.now → AreOwn all owns.now
+    ensures right { IfOk result (λ links. (all : Labels) → IsTrieOf all trie.now.first.items trie.now.bytes.items → AreStartsOf false all starts.now → AreOwn all owns.now
         → AreLinkedFor all links.fails.items links.ends.items) }
 {
     let mut fails = Vec::new(alloc);
@@ -83,7 +104,7 @@ fn link_children(
     requires within { node < length trie.now.bytes.items }
     requires linked { AreLinked (slice_index trie.now.first.items node) links.old.fails.items links.old.ends.items }
     ensures linked { IfOk result (λ _. AreLinked (slice_index trie.now.first.items (node + 1)) links.new.fails.items links.new.ends.items) }
-    ensures right { IfOk result (λ _. (all : Labels) → IsTrieOf all trie.now.first.items trie.now.bytes.items → AreStartsOf all starts.now → AreOwn all owns.now
+    ensures right { IfOk result (λ _. (all : Labels) → IsTrieOf all trie.now.first.items trie.now.bytes.items → AreStartsOf false all starts.now → AreOwn all owns.now
         → AreLinkedFor all links.old.fails.items links.old.ends.items → AreLinkedFor all links.new.fails.items links.new.ends.items) }
 {
     let end = trie.first[node + 1] as usize;
@@ -105,7 +126,7 @@ fn fallback(trie: &Trie, starts: &[u32], fails: &[u32], node: usize, byte: u8) -
     requires within { node < length fails.now }
     requires linked { slice_index trie.now.first.items node ≤ length fails.now }
     ensures before { result < slice_index trie.now.first.items node }
-    ensures right { (all : Labels) → IsTrieOf all trie.now.first.items trie.now.bytes.items → AreStartsOf all starts.now → AreFallbacksOf all fails.now
+    ensures right { (all : Labels) → IsTrieOf all trie.now.first.items trie.now.bytes.items → AreStartsOf false all starts.now → AreFallbacksOf all fails.now
         → StandsFor all.strings (all.label result) (all.label node ++ byte ∷ []) 1 }
 {
     if node == 0 {

@@ -5,16 +5,18 @@ ghost use Rattle.re_search.specs.Branches.{AreAscending, branch_at, own_length, 
 ghost use Rattle.re_search.specs.FixedSets.{IsTable, IsTableOf};
 
 use crate::fixed_set::growth::{Branch, grow};
-use crate::fixed_set::links::{links_of, starts_of};
+use crate::fixed_set::links::{line_starts, links_of, starts_of};
 use crate::fixed_set::table::Table;
 use crate::fixed_set::trie::Trie;
 use std::alloc::{AllocError, Global};
 
-/// The table for these strings, which are in order. The one error is that memory was refused, or
-/// that the strings have 2^32 beginnings or more.
-pub fn table_of(alloc: Global, strings: &[&[u8]]) -> Result<Table, AllocError>
+/// The table for these strings, which are in order, for lines whose letters are alike in both
+/// cases where `fold` is set. The one error is that memory was refused, or that the strings have
+/// 2^32 beginnings or more.
+pub fn table_of(alloc: Global, strings: &[&[u8]], fold: bool) -> Result<Table, AllocError>
     requires { AreAscending (map (λ s. s.now) strings.now) }
     ensures table { IfOk result IsTable }
+    ensures fold { IfOk result (λ t. t.fold ≡ fold) }
     ensures right { IfOk result (λ t. (texts : List Text) → HaveSame (map (λ s. s.now) strings.now) texts
         → (label : ℕ → Text) × IsTableOf (record { strings = texts; label = label }) t) }
 {
@@ -24,14 +26,16 @@ pub fn table_of(alloc: Global, strings: &[&[u8]]) -> Result<Table, AllocError>
     let owns = owns_of(alloc, strings, &growth.branches)?;
     let first = growth.first;
     let trie = Trie { first, bytes };
-    let starts = starts_of(alloc, &trie)?;
-    let links = links_of(alloc, &trie, &starts, &owns)?;
+    let plain = starts_of(alloc, &trie, false)?;
+    let links = links_of(alloc, &trie, &plain, &owns)?;
+    let starts = line_starts(alloc, &trie, plain, fold)?;
     Ok(Table {
         trie,
         starts,
         fails: links.fails,
         depths,
         ends: links.ends,
+        fold,
     })
 }
 

@@ -1,9 +1,11 @@
 //! The steps over a line for many fixed strings.
 ghost use Rattle.std.specs.Prelude.{◌≡◌, ℕ, ◌+◌, ◌<◌, ◌≤◌, ◌↔◌, [], ◌∷◌, ◌++◌, IsTrue, Some, length, slice_index};
 ghost use Rattle.re_syntax.specs.Bytes.{Text};
-ghost use Rattle.re_search.specs.FixedSets.{IsTrie, IsTrieOf, IsTable, IsTableOf, IsString, AreFallbacks, AreFallbacksOf, AreStarts, AreStartsOf, Labels, Steps, Occurs, NoneBetween, StandsAtNode, IsBestOccurrence, better_ending};
+ghost use Rattle.re_search.specs.FixedSets.{IsTrie, IsTrieOf, IsTable, IsTableOf, IsString, AreFallbacks, AreFallbacksOf, AreStarts, Labels, Steps, StepsOn, Occurs, NoneBetween, StandsAtNode, IsBestOccurrence, better_ending};
+ghost use Rattle.re_search.specs.Literals.{keys};
 ghost use Rattle.re_search.specs.declared.span.Span.{Span};
 
+use crate::fixed_set::keys::key_of;
 use crate::fixed_set::trie::Trie;
 use crate::span::Span;
 
@@ -20,13 +22,15 @@ pub struct Table {
     pub depths: Vec<u32>,
     /// The length of the longest string that each node ends with, 0 where there is none.
     pub ends: Vec<u32>,
+    /// Whether both cases of each letter of a line are alike; the strings are then in lower case.
+    pub fold: bool,
 }
 
 impl Table {
     /// Whether some string stands on the line.
     pub fn stands_in(&self, line: &[u8]) -> bool
         requires { IsTable self.now }
-        ensures { (all : Labels) → IsTableOf all self.now → IsTrue result ↔ ((i j : ℕ) × Occurs all.strings 0 line.now i j) }
+        ensures { (all : Labels) → IsTableOf all self.now → IsTrue result ↔ ((i j : ℕ) × Occurs all.strings 0 (keys self.now.fold line.now) i j) }
     {
         let mut place = 0;
         let mut node = 0;
@@ -46,7 +50,7 @@ impl Table {
     pub fn find(&self, line: &[u8], from: usize) -> Option<Span>
         requires table { IsTable self.now }
         requires within { from ≤ length line.now }
-        ensures { (all : Labels) → IsTableOf all self.now → IsBestOccurrence all.strings from line.now (length line.now) result }
+        ensures { (all : Labels) → IsTableOf all self.now → IsBestOccurrence all.strings from (keys self.now.fold line.now) (length line.now) result }
     {
         let mut place = from;
         let mut node = 0;
@@ -67,11 +71,11 @@ impl Table {
     pub fn is_line(&self, line: &[u8]) -> bool
         requires table { IsTable self.now }
         requires some { 0 < length line.now }
-        ensures { (all : Labels) → IsTableOf all self.now → IsTrue result ↔ IsString all.strings line.now }
+        ensures { (all : Labels) → IsTableOf all self.now → IsTrue result ↔ IsString all.strings (keys self.now.fold line.now) }
     {
         let mut node = 0;
         'places: for place in 0..line.len() {
-            let Some(child) = self.trie.child(node, line[place]) else {
+            let Some(child) = self.trie.child(node, key_of(self.fold, line[place])) else {
                 return false;
             };
             node = child;
@@ -88,9 +92,10 @@ impl Table {
         requires in_trie { node < length self.now.trie.bytes.items }
         ensures on { (place < result.0) × (result.0 ≤ length line.now) }
         ensures in_trie { result.1 < length self.now.trie.bytes.items }
-        ensures stands { (all : Labels) → IsTableOf all self.now → (from : ℕ) → from ≤ place → StandsAtNode all from line.now place node → StandsAtNode all from line.now result.0 result.1 }
-        ensures between { (all : Labels) → IsTableOf all self.now → (from : ℕ) → from ≤ place → StandsAtNode all from line.now place node
-            → NoneBetween all.strings from line.now place result.0 }
+        ensures stands { (all : Labels) → IsTableOf all self.now → (from : ℕ) → from ≤ place → StandsAtNode all from (keys self.now.fold line.now) place node
+            → StandsAtNode all from (keys self.now.fold line.now) result.0 result.1 }
+        ensures between { (all : Labels) → IsTableOf all self.now → (from : ℕ) → from ≤ place → StandsAtNode all from (keys self.now.fold line.now) place node
+            → NoneBetween all.strings from (keys self.now.fold line.now) place result.0 }
     {
         if node == 0 {
             let behind = next_start(&self.starts, line, place);
@@ -98,7 +103,8 @@ impl Table {
                 return (behind, 0);
             }
         }
-        let into = step(&self.trie, &self.starts, &self.fails, node, line[place]);
+        let byte = key_of(self.fold, line[place]);
+        let into = step(&self.trie, &self.starts, &self.fails, node, byte);
         (place + 1, into)
     }
 }
@@ -113,7 +119,7 @@ pub fn step(trie: &Trie, starts: &[u32], fails: &[u32], node: usize, byte: u8) -
     requires within { node < length fails.now }
     ensures within { result < length trie.now.bytes.items }
     ensures near { result < slice_index trie.now.first.items (node + 1) }
-    ensures step { (all : Labels) → IsTrieOf all trie.now.first.items trie.now.bytes.items → AreStartsOf all starts.now → AreFallbacksOf all fails.now
+    ensures step { (all : Labels) → IsTrieOf all trie.now.first.items trie.now.bytes.items → StepsOn all 0 byte (slice_index starts.now byte) → AreFallbacksOf all fails.now
         → Steps all node byte result }
 {
     let mut at = node;

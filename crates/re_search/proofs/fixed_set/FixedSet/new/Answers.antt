@@ -1,15 +1,13 @@
-use Rattle.std.proofs.Common.{rules, ◌≡◌, [], ◌++◌, ap, sym, ◌∙◌, subst}
-use Rattle.std.specs.Prelude.{◌↔◌}
+use Rattle.std.proofs.Common.{◌≡◌, map, sym, ap, ◌∙◌}
 use Rattle.re_syntax.specs.Lines.{lines_of}
+use Rattle.re_search.specs.Literals.{keys}
+use Rattle.re_search.proofs.SetFolded.{lines_lowered, lines_plain}
 use Rattle.re_search.proofs.fixed_set.FixedSet.new.Goals as goal
 
-pub invariant_of-result : goal.invariant_of-result
-invariant_of-result c =
-    let kept : c.extend_from_slice.new.self.items ≡ c.args.texts.now = search rules in
-    let same = c.in_ok-strings.ensures.same in
-    let empty = rw c.deref.ensures.value at c.has_empty-has_empty.ensures in
-    rw kept (
-      c.in_ok-table.ensures.table,
-      (rw c.deref-2.ensures.value at c.in_ok-table.ensures.right) (lines_of c.args.texts.now) same,
-      ((λ h. (same []).0 (empty.0 h)), (λ s. empty.1 ((same []).1 s))),
-    )
+pub by_keys-requires : goal.by_keys-requires
+by_keys-requires c =
+    lines_lowered c.args.texts.now c.deref.result.now (c.deref.ensures.value ∙ c.in_ok-lowered.ensures.ok)
+    ∙ ap (λ f. map (keys f) (lines_of c.args.texts.now)) (sym c.if-fold.true)
+
+pub by_keys-requires-2 : goal.by_keys-requires-2
+by_keys-requires-2 c = lines_plain c.args.texts.now ∙ ap (λ f. map (keys f) (lines_of c.args.texts.now)) (sym c.if-fold.false)

@@ -1,4 +1,5 @@
 use Rattle.std.proofs.Common.{◌≡◌, ℕ, ◌+◌, ◌-◌, ◌<◌, ◌≤◌, length, slice_index, sym, ap, subst, arith}
+use Rattle.re_search.proofs.SetFolded.{start_of_plain}
 use Rattle.re_search.proofs.SetTries.{ascends}
 use Rattle.re_search.proofs.fixed_set.links.fallback.Goals as goal
 
@@ -12,3 +13,8 @@ returns-clause-before c =
     let top = subst (λ n. slice_index first (slice_index c.args.fails.now c.args.node + 1) ≤ slice_index first n) same up in
     let near = c.step.ensures.near in
     omega (arith, near, top)
+
+pub returns-clause-right : goal.returns-clause-right
+returns-clause-right c = λ all t s f.
+    let inside : 0 < c.args.node = omega arith in
+    c.step.ensures.step all t (start_of_plain all c.args.starts.now s c.args.byte (omega arith)) f (all.label c.args.node) 1 (f c.args.node inside c.requires.within)

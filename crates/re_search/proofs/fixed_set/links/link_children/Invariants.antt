@@ -1,4 +1,4 @@
-use Rattle.std.proofs.Common.{ℕ, ◌+◌, ◌<◌, ◌≤◌, ◌-◌, length, slice_index}
+use Rattle.std.proofs.Common.{ℕ, false, ◌+◌, ◌<◌, ◌≤◌, ◌-◌, length, slice_index}
 use Rattle.re_search.specs.FixedSets.{Labels, IsTrieOf, AreStartsOf, AreOwn, AreLinked, AreLinkedFor}
 use Rattle.re_search.proofs.fixed_set.links.link_children.Given as goal
 
@@ -7,7 +7,7 @@ invariant-children l = record {
   low : slice_index l.trie.first.items l.node ≤ length l.links.fails.items;
   high : length l.links.fails.items ≤ slice_index l.trie.first.items (l.node + 1);
   linked : AreLinked (length l.links.fails.items) l.links.fails.items l.links.ends.items;
-  right : (all : Labels) → IsTrieOf all l.trie.first.items l.trie.bytes.items → AreStartsOf all l.starts → AreOwn all l.owns
+  right : (all : Labels) → IsTrieOf all l.trie.first.items l.trie.bytes.items → AreStartsOf false all l.starts → AreOwn all l.owns
       → AreLinkedFor all l.fn.links.fails.items l.fn.links.ends.items → AreLinkedFor all l.links.fails.items l.links.ends.items;
 }
 

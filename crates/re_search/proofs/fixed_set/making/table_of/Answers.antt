@@ -14,10 +14,12 @@ returns-clause-right c = λ strings same.
       fails = c.in_ok-links.links.fails;
       depths = c.in_ok-depths.depths;
       ends = c.in_ok-links.links.ends;
-    }) refl c.in_ok-owns.owns.items c.requires
+      fold = c.args.fold;
+    }) refl c.in_ok-plain.plain.items c.in_ok-owns.owns.items c.requires
     (rw c.deref.ensures.value at c.in_ok-bytes.ensures.all) (rw c.deref.ensures.value at c.in_ok-bytes.ensures.each)
     (rw c.deref-3.ensures.value at c.in_ok-owns.ensures.all) (rw c.deref-3.ensures.value at c.in_ok-owns.ensures.each)
     (rw c.deref-2.ensures.value at c.in_ok-depths.ensures.each)
     (c.in_ok-links.ensures.linked.all_ends ∙ (rw c.deref.ensures.value at c.in_ok-bytes.ensures.all))
+    c.in_ok-plain.ensures.right
     c.in_ok-starts.ensures.right
     (rw (c.deref-4.ensures.value, c.deref-5.ensures.value) at c.in_ok-links.ensures.right)

@@ -27,7 +27,7 @@ nodes-preserved c = record {
 pub returns-clause-step : goal.returns-clause-step
 returns-clause-step c = λ all t s f w from stands.
     let root : c.nodes.at ≡ 0 = omega arith in
-    s c.args.byte (omega arith) w from (rw root at (c.nodes.invariant.may all t f w from stands))
+    s w from (rw root at (c.nodes.invariant.may all t f w from stands))
 
 pub returns-in-Some-clause-near : goal.returns-in-Some-clause-near
 returns-in-Some-clause-near c =

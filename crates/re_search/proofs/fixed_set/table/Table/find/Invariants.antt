@@ -1,5 +1,6 @@
 use Rattle.std.proofs.Common.{◌≡◌, ℕ, ◌<◌, ◌≤◌, ◌-◌, length}
 use Rattle.re_search.specs.FixedSets.{Labels, IsTableOf, StandsAtNode, IsBestOccurrence}
+use Rattle.re_search.specs.Literals.{keys}
 use Rattle.re_search.proofs.fixed_set.table.Table.find.Given as goal
 
 abbrev pub invariant-places : goal.invariant-places
@@ -7,8 +8,8 @@ invariant-places l = record {
   after : l.from ≤ l.place;
   within : l.place ≤ length l.line;
   in_trie : l.node < length l.self.trie.bytes.items;
-  stands : (all : Labels) → IsTableOf all l.self → StandsAtNode all l.from l.line l.place l.node;
-  best : (all : Labels) → IsTableOf all l.self → IsBestOccurrence all.strings l.from l.line l.place l.best;
+  stands : (all : Labels) → IsTableOf all l.self → StandsAtNode all l.from (keys l.self.fold l.line) l.place l.node;
+  best : (all : Labels) → IsTableOf all l.self → IsBestOccurrence all.strings l.from (keys l.self.fold l.line) l.place l.best;
 }
 
 abbrev pub decreases-places : goal.decreases-places

@@ -1,9 +1,10 @@
 use Rattle.std.proofs.Common.{◌≡◌, ℕ, ◌<◌, ◌≤◌, length, take}
 use Rattle.re_search.specs.FixedSets.{Labels, IsTableOf}
+use Rattle.re_search.specs.Literals.{keys}
 use Rattle.re_search.proofs.fixed_set.table.Table.is_line.Given as goal
 
 abbrev pub invariant-places : goal.invariant-places
 invariant-places l = record {
   in_trie : l.node < length l.self.trie.bytes.items;
-  read : (all : Labels) → IsTableOf all l.self → all.label l.node ≡ take l.place l.line;
+  read : (all : Labels) → IsTableOf all l.self → all.label l.node ≡ take l.place (keys l.self.fold l.line);
 }

@@ -1,15 +1,18 @@
 use Rattle.std.proofs.Common.{◌≡◌, ℕ, ◌+◌, ◌-◌, ◌<◌, ◌≤◌, length, slice_index, refl, sym, ap, subst, ◌∙◌, arith}
 use Rattle.std.proofs.lemmas.Bool.{false≢true}
+use Rattle.std.proofs.lemmas.List.{length-map}
+use Rattle.re_search.specs.Literals.{key, keys}
 use Rattle.re_search.specs.FixedSets.{Labels, StandsAtNode, IsTableOf}
 use Rattle.re_search.proofs.SetSearch.{row_read, some_ends, none_up_to}
 use Rattle.re_search.proofs.fixed_set.table.Table.stands_in.Goals as goal
 
 pub returns-then-index-gt0 : goal.returns-then-index-gt0
 returns-then-index-gt0 c = λ all t.
+    let size : length (keys c.args.self.now.fold c.args.line.now) ≡ length c.args.line.now = length-map c.args.line.now (key c.args.self.now.fold) in
     let in_rows : c.pass-behind.result.1 < length c.args.self.now.ends.items = let r = c.requires.ends in let w = c.pass-behind.ensures.in_trie in omega (arith, r, w) in
     let read = row_read c.args.self.now.ends.items c.pass-behind.result.1 c.index.result.now in_rows c.index.ensures in (
-      (λ _. some_ends all 0 c.args.line.now c.pass-behind.result.0 c.pass-behind.result.1 (slice_index c.args.self.now.ends.items c.pass-behind.result.1)
-          c.pass-behind.ensures.on.1
+      (λ _. some_ends all 0 (keys c.args.self.now.fold c.args.line.now) c.pass-behind.result.0 c.pass-behind.result.1 (slice_index c.args.self.now.ends.items c.pass-behind.result.1)
+          (let w = c.pass-behind.ensures.on.1 in omega (arith, size, w))
           (c.pass-behind.ensures.stands all t 0 (omega arith) (c.places.invariant.stands all t))
           (t.ends c.pass-behind.result.1 c.pass-behind.ensures.in_trie)
           (omega (arith, read, c.if-index-gt0.true))),
@@ -18,6 +21,7 @@ returns-then-index-gt0 c = λ all t.
 
 pub places-preserved : goal.places-preserved
 places-preserved c =
+    let size : length (keys c.args.self.now.fold c.args.line.now) ≡ length c.args.line.now = length-map c.args.line.now (key c.args.self.now.fold) in
     let in_rows : c.pass-behind.result.1 < length c.args.self.now.ends.items = let r = c.requires.ends in let w = c.pass-behind.ensures.in_trie in omega (arith, r, w) in
     let read = row_read c.args.self.now.ends.items c.pass-behind.result.1 c.index.result.now in_rows c.index.ensures in
     record {
@@ -25,8 +29,8 @@ places-preserved c =
       in_trie = c.pass-behind.ensures.in_trie;
       stands = λ all t. c.pass-behind.ensures.stands all t 0 (omega arith) (c.places.invariant.stands all t);
       none = λ all t.
-          none_up_to all 0 c.args.line.now c.places.place c.pass-behind.result.0 c.pass-behind.result.1 (slice_index c.args.self.now.ends.items c.pass-behind.result.1)
-          c.pass-behind.ensures.on.1 (c.places.invariant.none all t)
+          none_up_to all 0 (keys c.args.self.now.fold c.args.line.now) c.places.place c.pass-behind.result.0 c.pass-behind.result.1 (slice_index c.args.self.now.ends.items c.pass-behind.result.1)
+          (let w = c.pass-behind.ensures.on.1 in omega (arith, size, w)) (c.places.invariant.none all t)
           (c.pass-behind.ensures.between all t 0 (omega arith) (c.places.invariant.stands all t))
           (c.pass-behind.ensures.stands all t 0 (omega arith) (c.places.invariant.stands all t))
           (t.ends c.pass-behind.result.1 c.pass-behind.ensures.in_trie)
@@ -34,7 +38,8 @@ places-preserved c =
     }
 
 pub returns : goal.returns
-returns c = λ all t. (
-  (λ h. absurd (false≢true h)),
-  (λ o. let within = c.places.invariant.within in absurd (c.places.invariant.none all t o.0 o.1 (let on_line = o.2.2 in omega (arith, within, on_line)) o.2)),
-)
+returns c = λ all t.
+    let size : length (keys c.args.self.now.fold c.args.line.now) ≡ length c.args.line.now = length-map c.args.line.now (key c.args.self.now.fold) in (
+      (λ h. absurd (false≢true h)),
+      (λ o. let within = c.places.invariant.within in absurd (c.places.invariant.none all t o.0 o.1 (let on_line = o.2.2 in omega (arith, size, within, on_line)) o.2)),
+    )
