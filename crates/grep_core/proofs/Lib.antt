@@ -33,3 +33,4 @@ pub mod PartsLemmas
 pub mod WrittenLemmas
 pub mod MatcherLemmas
 pub mod SameChoice
+pub mod FilterLemmas

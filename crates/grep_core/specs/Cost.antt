@@ -1,4 +1,5 @@
 -- How many steps a search of lines takes at most. A step is a byte that a matcher looks at, and one more comes for each search of a line.
+-- A look for strings that the matches need, at most one pass over the line however many they are, counts none.
 use Rattle.std.specs.Prelude.{◌≡◌, ℕ, ◌+◌, ◌*◌, List, [], ◌∷◌, length}
 use Rattle.re_syntax.specs.Bytes.{Text}
 use Rattle.re_syntax.specs.Expression.{Expression}

@@ -34,7 +34,7 @@ pub use messages::{write_cannot_open, write_read_error};
 pub use options::{Flag, Options};
 pub use pushing::{WriteFault, push_all};
 pub use rows::{write_decimal, write_line, write_row};
-pub use run::search_all;
+pub use run::{search_all, search_filtered};
 pub use search::{FileEnd, FileFound, count_found};
 pub use serving::serves_for_others;
 pub use sources::Sources;

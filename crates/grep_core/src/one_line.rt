@@ -1,5 +1,6 @@
 //! One line: whether it is selected, and what is written for it.
-ghost use Rattle.std.specs.Prelude.{◌≡◌, length, map, IfOk, OnErr};
+ghost use Rattle.std.specs.Prelude.{◌≡◌, length, map, IfOk, IfSome, OnErr};
+ghost use Rattle.re_search.specs.Filters.{AreNeeded};
 ghost use Rattle.re_search.specs.Searching.{AllAnswer};
 ghost use Rattle.grep_core.specs.Files.{Selected};
 ghost use Rattle.grep_core.specs.Output.{form, parts};
@@ -8,10 +9,10 @@ ghost use Rattle.grep_core.specs.Cost.{AsksParts, SearchesLine};
 ghost use Rattle.grep_core.specs.OneLine.{WritesSelected, BreaksSelected, TakesLine, BreaksLine};
 
 use crate::counted::CountedWrite;
-use crate::matching::{is_selected, next_part};
+use crate::matching::{is_selected_behind, next_part};
 use crate::pushing::WriteFault;
 use crate::wanted::{Form, Wanted};
-use re_search::{LineMatch, Meter};
+use re_search::{FixedSet, LineMatch, Meter};
 
 /// Writes the parts of a line, each behind the line's head.
 fn write_parts<M: LineMatch, W: CountedWrite>(
@@ -71,13 +72,15 @@ fn write_selected<M: LineMatch, W: CountedWrite>(
 /// Writes the rows of a line, where there are any, and answers whether it is selected.
 pub fn take_line<M: LineMatch, W: CountedWrite>(
     matchers: &mut [M],
+    filter: Option<&FixedSet>,
     wanted: &Wanted,
     number: u64,
     line: &[u8],
     out: &mut W,
     meter: &mut Meter,
 ) -> Result<bool, WriteFault>
-    requires { AllAnswer wanted.now.options.line_regexp (map M.whole matchers.old) }
+    requires whole { AllAnswer wanted.now.options.line_regexp (map M.whole matchers.old) }
+    requires needed { IfSome filter (λ f. AreNeeded f.now (map M.expression matchers.old)) }
     ensures ok { IfOk result (λ found. TakesLine (map M.expression matchers.old) wanted.now.options wanted.now.many
         wanted.now.name.now number line.now (writer W.contents W.failures out.old) (writer W.contents W.failures out.new) found) }
     ensures err { OnErr result (BreaksLine (map M.expression matchers.old) wanted.now.options wanted.now.many
@@ -86,7 +89,7 @@ pub fn take_line<M: LineMatch, W: CountedWrite>(
     ensures same_wholes { map M.whole matchers.new ≡ map M.whole matchers.old }
     ensures steps { SearchesLine (map M.expression matchers.old) wanted.now.options (length matchers.old) line.now meter.old meter.new }
 {
-    if !is_selected(matchers, wanted.options, line, meter) {
+    if !is_selected_behind(matchers, filter, wanted.options, line, meter) {
         return Ok(false);
     }
     write_selected(matchers, wanted, number, line, out, meter)?;

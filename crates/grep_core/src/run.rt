@@ -1,5 +1,6 @@
 //! The one pass over all sources.
-ghost use Rattle.std.specs.Prelude.{◌≡◌, ◌+◌, ◌<◌, map, length};
+ghost use Rattle.std.specs.Prelude.{◌≡◌, ◌+◌, ◌<◌, map, length, IfSome};
+ghost use Rattle.re_search.specs.Filters.{AreNeeded};
 ghost use Rattle.re_search.specs.Searching.{AllAnswer};
 ghost use Rattle.grep_core.specs.Run.{writer, RunGives};
 ghost use Rattle.grep_core.specs.Sources.{source_at};
@@ -13,7 +14,7 @@ use crate::sources::Sources;
 use crate::status::{RunFault, Status};
 use crate::summary::{status_of, tell_fault, write_summary};
 use crate::wanted::Wanted;
-use re_search::{LineMatch, Meter};
+use re_search::{FixedSet, LineMatch, Meter};
 use std::alloc::Global;
 
 /// Writes the output and the message for the next source.
@@ -22,6 +23,7 @@ fn run_source<S: Sources, M: LineMatch, W: CountedWrite, N: CountedWrite>(
     sources: &mut S,
     k: usize,
     matchers: &mut [M],
+    filter: Option<&FixedSet>,
     options: Options,
     many: bool,
     out: &mut W,
@@ -31,6 +33,7 @@ fn run_source<S: Sources, M: LineMatch, W: CountedWrite, N: CountedWrite>(
     requires place { k < length (S.listed sources.old) }
     requires in_order { S.stands_at sources.old k }
     requires whole { AllAnswer options.line_regexp (map M.whole matchers.old) }
+    requires needed { IfSome filter (λ f. AreNeeded f.now (map M.expression matchers.old)) }
     ensures listed { S.listed sources.new ≡ S.listed sources.old }
     ensures next { S.stands_at sources.new (k + 1) }
     ensures same_loan { S.loan sources.new ≡ S.loan sources.old }
@@ -51,7 +54,9 @@ fn run_source<S: Sources, M: LineMatch, W: CountedWrite, N: CountedWrite>(
     ensures same_expressions { map M.expression matchers.new ≡ map M.expression matchers.old }
     ensures same_wholes { map M.whole matchers.new ≡ map M.whole matchers.old }
 {
-    let found = match search_source(alloc, sources, k, matchers, options, many, out, meter) {
+    let found = match search_source(
+        alloc, sources, k, matchers, filter, options, many, out, meter,
+    ) {
         Ok(found) => found,
         Err(SearchFault::Write) => return Err(RunFault::Write),
         Err(SearchFault::Memory(lines)) => return Err(RunFault::Memory { source: k, lines }),
@@ -116,13 +121,57 @@ pub fn search_all<S: Sources, M: LineMatch, W: CountedWrite, N: CountedWrite>(
     ensures same_expressions { map M.expression matchers.new ≡ map M.expression matchers.old }
     ensures same_wholes { map M.whole matchers.new ≡ map M.whole matchers.old }
 {
+    search_filtered(
+        alloc, sources, matchers, None, options, out, messages, meter,
+    )
+}
+
+/// One pass over all sources, as [`search_all`] makes it, in which a filter, where there is one, is
+/// asked about each line before any matcher: strings of which some stands on each line that some
+/// matcher matches. Where none of them stands on a line no matcher is asked, which spares most of
+/// the work where there are many matchers and few lines that they match.
+///
+/// The output, the messages, the status and the bound on the steps are the same as without a
+/// filter. A look through the filter counts no step, as the search for a string that a matcher
+/// needs counts none within that matcher.
+pub fn search_filtered<S: Sources, M: LineMatch, W: CountedWrite, N: CountedWrite>(
+    alloc: Global,
+    sources: &mut S,
+    matchers: &mut [M],
+    filter: Option<&FixedSet>,
+    options: &Options,
+    out: &mut W,
+    messages: &mut N,
+    meter: &mut Meter,
+) -> Result<Status, RunFault>
+    requires in_order { S.stands_at sources.old 0 }
+    requires whole { AllAnswer options.now.line_regexp (map M.whole matchers.old) }
+    requires needed { IfSome filter (λ f. AreNeeded f.now (map M.expression matchers.old)) }
+    ensures same_loan { S.loan sources.new ≡ S.loan sources.old }
+    ensures run { RunGives (map M.expression matchers.old) options.now (S.listed sources.old)
+        record {
+          out = writer W.contents W.failures out.old;
+          messages = writer N.contents N.failures messages.old;
+          source_failures = S.failures sources.old;
+          steps = meter.old;
+        }
+        record {
+          out = writer W.contents W.failures out.new;
+          messages = writer N.contents N.failures messages.new;
+          source_failures = S.failures sources.new;
+          steps = meter.new;
+        }
+        result }
+    ensures same_expressions { map M.expression matchers.new ≡ map M.expression matchers.old }
+    ensures same_wholes { map M.whole matchers.new ≡ map M.whole matchers.old }
+{
     let count = sources.count();
     let many = count >= 2;
     let mut some = false;
     let mut faulty = false;
     for k in 0..count {
         let found = match run_source(
-            alloc, sources, k, matchers, *options, many, out, messages, meter,
+            alloc, sources, k, matchers, filter, *options, many, out, messages, meter,
         ) {
             Ok(found) => found,
             Err(fault) => return Err(fault),

@@ -1,5 +1,6 @@
 //! The search of one source.
-ghost use Rattle.std.specs.Prelude.{◌≡◌, ℕ, ◌+◌, ◌-◌, ◌^◌, ◌<◌, [], nat_lt, map, length, Err, IfOk, if◌then◌else◌};
+ghost use Rattle.std.specs.Prelude.{◌≡◌, ℕ, ◌+◌, ◌-◌, ◌^◌, ◌<◌, [], nat_lt, map, length, Err, IfOk, IfSome, if◌then◌else◌};
+ghost use Rattle.re_search.specs.Filters.{AreNeeded};
 ghost use Rattle.re_search.specs.Searching.{AllAnswer};
 ghost use Rattle.grep_core.specs.Reading.{open_source};
 ghost use Rattle.grep_core.specs.Run.{writer};
@@ -13,7 +14,7 @@ use crate::options::Options;
 use crate::pushing::WriteFault;
 use crate::sources::Sources;
 use crate::wanted::Wanted;
-use re_search::{LineMatch, Meter};
+use re_search::{FixedSet, LineMatch, Meter};
 use std::alloc::Global;
 
 /// How the search of a file came to its end.
@@ -105,6 +106,7 @@ pub fn count_found(selected: u64, found: bool) -> u64
 fn search_lines<R: CountedRead, M: LineMatch, W: CountedWrite>(
     lines: &mut Lines<R>,
     matchers: &mut [M],
+    filter: Option<&FixedSet>,
     wanted: &Wanted,
     out: &mut W,
     meter: &mut Meter,
@@ -112,6 +114,7 @@ fn search_lines<R: CountedRead, M: LineMatch, W: CountedWrite>(
     requires none_ahead { lines.old.ahead ≡ [] }
     requires still_open { lines.old.stage ≡ Stage.Open }
     requires whole { AllAnswer wanted.now.options.line_regexp (map M.whole matchers.old) }
+    requires needed { IfSome filter (λ f. AreNeeded f.now (map M.expression matchers.old)) }
     ensures ok { IfOk result (λ found. SearchesSource (map M.expression matchers.old) wanted.now.options wanted.now.many
         (open_source wanted.now.name.now (R.remaining lines.old.reader)) (R.failures lines.old.reader) (R.failures lines.new.reader)
         (writer W.contents W.failures out.old) (writer W.contents W.failures out.new)
@@ -132,7 +135,7 @@ fn search_lines<R: CountedRead, M: LineMatch, W: CountedWrite>(
         match lines.next_line() {
             Ok(true) if count < u64::MAX => {
                 count += 1;
-                let found = take_line(matchers, wanted, count, lines.line(), out, meter)?;
+                let found = take_line(matchers, filter, wanted, count, lines.line(), out, meter)?;
                 selected = count_found(selected, found);
                 if found & early {
                     let end = FileEnd::Left;
@@ -162,6 +165,7 @@ pub fn search_source<S: Sources, M: LineMatch, W: CountedWrite>(
     sources: &mut S,
     k: usize,
     matchers: &mut [M],
+    filter: Option<&FixedSet>,
     options: Options,
     many: bool,
     out: &mut W,
@@ -170,6 +174,7 @@ pub fn search_source<S: Sources, M: LineMatch, W: CountedWrite>(
     requires place { k < length (S.listed sources.old) }
     requires in_order { S.stands_at sources.old k }
     requires whole { AllAnswer options.line_regexp (map M.whole matchers.old) }
+    requires needed { IfSome filter (λ f. AreNeeded f.now (map M.expression matchers.old)) }
     ensures listed { S.listed sources.new ≡ S.listed sources.old }
     ensures next { S.stands_at sources.new (k + 1) }
     ensures same_loan { S.loan sources.new ≡ S.loan sources.old }
@@ -202,7 +207,7 @@ pub fn search_source<S: Sources, M: LineMatch, W: CountedWrite>(
         many,
         name: sources.name(k),
     };
-    let found = search_lines(&mut lines, matchers, &wanted, out, meter);
+    let found = search_lines(&mut lines, matchers, filter, &wanted, out, meter);
     sources.close(lines.into_reader());
     found
 }

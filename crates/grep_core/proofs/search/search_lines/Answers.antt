@@ -32,6 +32,9 @@ loop-count-preserved g c =
       is_early = s.is_early;
     }
 
+pub take_line-requires-clause-needed : goal.take_line-requires-clause-needed
+take_line-requires-clause-needed g c = rw c.loop-count.invariant.same_expressions c.requires.needed
+
 pub returns-then-found-early-clause-ok : goal.returns-then-found-early-clause-ok
 returns-then-found-early-clause-ok g c =
     let w = c.args.wanted.now in

@@ -1,6 +1,6 @@
 use Rattle.std.proofs.Common.{◌<◌, ◌≤◌, nat_le, length, map, refl, ap, ◌∙◌, arith}
 use Rattle.grep_core.proofs.RunLaws.{run_none, run_further, run_ends_at, run_given_up, run_ends}
-use Rattle.grep_core.proofs.run.search_all.Goals as goal
+use Rattle.grep_core.proofs.run.search_filtered.Goals as goal
 
 pub loop-k-init : goal.loop-k-init
 loop-k-init g c = record { so_far = run_none _ _ _ _; listed = refl; within = omega arith; in_order = c.requires.in_order; same_loan = refl; same_expressions = refl; same_wholes = refl }
@@ -23,6 +23,9 @@ loop-k-preserved g c =
       same_expressions = c.in-Ok.ensures.same_expressions ∙ s.same_expressions;
       same_wholes = c.in-Ok.ensures.same_wholes ∙ s.same_wholes;
     }
+
+pub run_source-requires-clause-needed : goal.run_source-requires-clause-needed
+run_source-requires-clause-needed g c = rw c.loop-k.invariant.same_expressions c.requires.needed
 
 pub returns-then-options-has_selected-clause-run : goal.returns-then-options-has_selected-clause-run
 returns-then-options-has_selected-clause-run g c =

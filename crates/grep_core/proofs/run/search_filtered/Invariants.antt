@@ -1,7 +1,7 @@
 use Rattle.std.proofs.Common.{◌≡◌, ◌≤◌, length, map, take}
 use Rattle.grep_core.specs.Run.{writer}
 use Rattle.grep_core.proofs.RunLaws.{RunSoFar}
-use Rattle.grep_core.proofs.run.search_all.Given as goal
+use Rattle.grep_core.proofs.run.search_filtered.Given as goal
 
 -- so many sources were run
 abbrev pub invariant-loop-k : goal.invariant-loop-k
