@@ -57,6 +57,7 @@ impl FixedSet {
         let strings = strings_of(alloc, texts)?;
         let has_empty = has_empty(&strings);
         let table = table_of(alloc, &strings)?;
+        drop(strings);
         let mut kept = Vec::new(alloc);
         kept.extend_from_slice(texts)?;
         Ok(FixedSet {
