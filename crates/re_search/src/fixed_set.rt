@@ -174,3 +174,6 @@ impl LineMatch for FixedSet {
         self.occurrence(line, from)
     }
 }
+
+#[cfg(test)]
+mod tests;
