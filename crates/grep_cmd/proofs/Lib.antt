@@ -8,4 +8,4 @@ pub mod TellingLemmas
 pub mod CommandLemmas
 pub mod CountLemmas
 pub mod ShowLaws
-pub mod JoinedLemmas
+pub mod ServingLemmas

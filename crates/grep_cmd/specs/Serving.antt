@@ -1,8 +1,10 @@
 -- The matchers that a search uses for the patterns of a request.
-use Rattle.std.specs.Prelude.{◌≤◌, List, length, map, All}
+use Rattle.std.specs.Prelude.{◌≤◌, Bool, IsTrue, List, length, map, All}
 use Rattle.re_syntax.specs.declared.syntax.Syntax.{Syntax}
 use Rattle.re_syntax.specs.Bytes.{Text}
-use Rattle.re_syntax.specs.Expression.{Expression}
+use Rattle.re_syntax.specs.Expression.{Expression, byte, sequence}
+use Rattle.re_syntax.specs.Holds.{most_positions}
+use Rattle.re_syntax.specs.Spelled.{IsSpelled, has_limit}
 use Rattle.re_search.specs.declared.matcher.Matcher.{Matcher}
 use Rattle.re_search.specs.Reading.{matched_expression, wants_whole, IsReadable}
 use Rattle.re_search.specs.Searching.{AllAnswer}
@@ -18,3 +20,8 @@ pub record ServeFor (syntax : Syntax) (options : Options) (texts : List Text) (m
   pub fewer : length (map matched_expression matchers) ≤ length es
   pub wholes : AllAnswer options.line_regexp (map wants_whole matchers)
   pub readable : All (IsReadable syntax options.ignore_case) texts
+
+-- the text is read as the string that it is, and is not too long where that counts
+pub record IsStringFor (syntax : Syntax) (fold : Bool) (text : Text) : Type 0 where
+  pub spelled : IsSpelled syntax text (sequence (map byte text))
+  pub small : IsTrue (has_limit syntax fold) → length text ≤ most_positions

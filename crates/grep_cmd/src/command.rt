@@ -1,7 +1,8 @@
 //! The whole command (XCU grep).
-ghost use Rattle.std.specs.Prelude.{◌≡◌, ℕ, ◌<◌, nat_lt, map, length};
+ghost use Rattle.std.specs.Prelude.{◌≡◌, ℕ, ◌<◌, nat_lt, IfSome, map, length};
 ghost use Rattle.re_syntax.specs.Lines.{lines_of};
 ghost use Rattle.re_auto.specs.Meters.{Steps, fresh};
+ghost use Rattle.re_search.specs.Filters.{AreNeeded};
 ghost use Rattle.re_search.specs.Reading.{matched_expression, wants_whole};
 ghost use Rattle.re_search.specs.Searching.{AllAnswer};
 ghost use Rattle.grep_core.specs.Run.{writer};
@@ -10,16 +11,16 @@ ghost use Rattle.grep_cmd.specs.Folder.{searched, sources_named};
 ghost use Rattle.grep_cmd.specs.Words.{asked, texts_of};
 
 use crate::files::Files;
-use crate::joined::searchers_of;
+
 use crate::patterns::read_patterns;
 use crate::refusal::tell_refused;
+use crate::searchers::{Searchers, has_more_than, searchers_of};
 use crate::searching::search_files;
 use crate::telling::{FAILED, end_search, tell, tell_unread, tell_usage};
 use crate::words::{Request, read_words};
 use grep_core::CountedWrite;
 use re_auto::fresh_meter;
-use re_search::Matcher;
-use re_syntax::{FaultKind, split_file};
+use re_syntax::FaultKind;
 use std::alloc::Global;
 
 /// The greatest number of patterns.
@@ -29,13 +30,14 @@ const MOST_PATTERNS: usize = 65535;
 fn search_request<F: Files, W: CountedWrite, N: CountedWrite>(
     alloc: Global,
     request: &Request,
-    matchers: &mut [Matcher],
+    searchers: &mut Searchers,
     files: &mut F,
     out: &mut W,
     messages: &mut N,
 ) -> u8
-    requires { AllAnswer request.now.options.line_regexp (map wants_whole matchers.old) }
-    ensures { (steps : Steps) × SearchEnds (map matched_expression matchers.old) request.now.options
+    requires whole { AllAnswer request.now.options.line_regexp (map wants_whole searchers.old.matchers.items) }
+    requires needed { IfSome searchers.old.needed (λ strings. AreNeeded strings (map matched_expression searchers.old.matchers.items)) }
+    ensures { (steps : Steps) × SearchEnds (map matched_expression searchers.old.matchers.items) request.now.options
         (sources_named (F.folder files.old) (searched (texts_of request.now.files.items)))
         record {
           out = writer W.contents W.failures out.old;
@@ -55,16 +57,9 @@ fn search_request<F: Files, W: CountedWrite, N: CountedWrite>(
     let options = &request.options;
     let mut meter = fresh_meter();
     let found = search_files(
-        alloc, files, words, matchers, options, out, messages, &mut meter,
+        alloc, files, words, &mut searchers.matchers, searchers.needed.as_ref(), options, out, messages, &mut meter,
     );
     end_search(messages, found)
-}
-
-/// Whether there are more patterns than this, which are the lines of `texts`.
-fn has_more_than(most: usize, texts: &[u8]) -> bool
-    ensures { result ≡ nat_lt most (length (lines_of texts.now)) }
-{
-    split_file(texts).nth(most).is_some()
 }
 
 /// Reads the patterns, which are the lines of `texts`, and searches the files of a request for
@@ -97,7 +92,7 @@ fn run_patterns<F: Files, W: CountedWrite, N: CountedWrite>(
         return FAILED;
     }
     match searchers_of(alloc, texts, request.syntax, &request.options) {
-        Ok(mut matchers) => search_request(alloc, request, &mut matchers, files, out, messages),
+        Ok(mut searchers) => search_request(alloc, request, &mut searchers, files, out, messages),
         Err((place, fault)) => {
             if fault.kind == FaultKind::Memory {
                 tell(messages, b"grep: out of memory");

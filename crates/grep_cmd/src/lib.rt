@@ -3,7 +3,7 @@
 
 mod command;
 mod files;
-mod joined;
+mod searchers;
 mod matchers;
 mod memory;
 mod operands;

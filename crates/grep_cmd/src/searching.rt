@@ -1,5 +1,6 @@
 //! The search of the files that words name.
-ghost use Rattle.std.specs.Prelude.{map};
+ghost use Rattle.std.specs.Prelude.{IfSome, map};
+ghost use Rattle.re_search.specs.Filters.{AreNeeded};
 ghost use Rattle.re_search.specs.Searching.{AllAnswer};
 ghost use Rattle.grep_core.specs.Run.{writer, RunGives};
 ghost use Rattle.grep_cmd.specs.Folder.{searched, sources_named};
@@ -7,27 +8,29 @@ ghost use Rattle.grep_cmd.specs.Words.{texts_of};
 
 use crate::files::Files;
 use crate::operands::Operands;
-use grep_core::{CountedWrite, Options, RunFault, Status, search_all};
+use grep_core::{CountedWrite, Options, RunFault, Status, search_filtered};
 use re_auto::Meter;
-use re_search::LineMatch;
+use re_search::{FixedSet, LineMatch};
 use std::alloc::Global;
 
 /// One pass over the files that the words name, or over standard input where there is no word.
 ///
 /// # Errors
 ///
-/// Those of [`grep_core::search_all`].
+/// Those of [`grep_core::search_filtered`].
 pub fn search_files<F: Files, L: LineMatch, W: CountedWrite, N: CountedWrite>(
     alloc: Global,
     files: &mut F,
     words: &[String],
     matchers: &mut [L],
+    filter: Option<&FixedSet>,
     options: &Options,
     out: &mut W,
     messages: &mut N,
     meter: &mut Meter,
 ) -> Result<Status, RunFault>
-    requires { AllAnswer options.now.line_regexp (map L.whole matchers.old) }
+    requires whole { AllAnswer options.now.line_regexp (map L.whole matchers.old) }
+    requires needed { IfSome filter (λ f. AreNeeded f.now (map L.expression matchers.old)) }
     ensures { RunGives (map L.expression matchers.old) options.now
         (sources_named (F.folder files.old) (searched (texts_of words.now)))
         record {
@@ -45,10 +48,11 @@ pub fn search_files<F: Files, L: LineMatch, W: CountedWrite, N: CountedWrite>(
         result }
 {
     let mut operands = Operands::new(&mut *files, words);
-    let found = search_all(
+    let found = search_filtered(
         alloc,
         &mut operands,
         matchers,
+        filter,
         options,
         out,
         messages,

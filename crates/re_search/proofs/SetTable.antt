@@ -97,25 +97,11 @@ module _ (texts strings : List Text) (same : HaveSame texts strings) (bs : List 
       let own = own_right ascends (branch_at bs n) (a.are n no_branch in_bs) in
       rw (each n in_bs) own
 
-  pub table_right : (t : Table) → t.trie.first.items ≡ first → (plain owns : List ℕ) → AreAscending texts → length t.trie.bytes.items ≡ length bs → ((n : ℕ) → n < length bs → slice_index t.trie.bytes.items n ≡ (branch_at bs n).byte)
+  pub nodes_right : AreAscending texts → (bytes owns : List ℕ) → length bytes ≡ length bs → ((n : ℕ) → n < length bs → slice_index bytes n ≡ (branch_at bs n).byte)
       → length owns ≡ length bs → ((n : ℕ) → n < length bs → slice_index owns n ≡ own_length texts (branch_at bs n))
-      → ((n : ℕ) → n < length bs → slice_index t.depths.items n ≡ (branch_at bs n).depth) → length t.ends.items ≡ length bs
-      → ((all : Labels) → IsTrieOf all t.trie.first.items t.trie.bytes.items → AreStartsOf false all plain)
-      → ((all : Labels) → IsTrieOf all t.trie.first.items t.trie.bytes.items → AreStartsOf false all plain → AreStartsOf t.fold all t.starts.items)
-      → ((all : Labels) → IsTrieOf all t.trie.first.items t.trie.bytes.items → AreStartsOf false all plain → AreOwn all owns → AreLinkedFor all t.fails.items t.ends.items)
-      → (label : ℕ → Text) × IsTableOf (record { strings = strings; label = label }) t
-  table_right t is plain owns ascends size named sized own deep ended starts on_lines links =
-      let these : Labels = record { strings = strings; label = λ n. branch_text texts (branch_at bs n) } in
-      let trie : IsTrieOf these t.trie.first.items t.trie.bytes.items = subst (λ f. IsTrieOf these f t.trie.bytes.items) (sym is) (trie_right t.trie.bytes.items size named) in
-      let linked = links these trie (starts these trie) (owns_right ascends owns sized own) in (
-        (λ n. branch_text texts (branch_at bs n)),
-        record {
-          trie = trie;
-          starts = on_lines these trie (starts these trie);
-          fails = linked.fallbacks;
-          depths = λ n lt.
-              let in_bs : n < length bs = omega (arith, lt, size) in
-              deep n in_bs ∙ sym (a.are n no_branch in_bs).deep;
-          ends = λ n lt. linked.endings n (omega (arith, lt, size, ended));
-        },
-      )
+      → (label : ℕ → Text) × IsTrieOf (record { strings = strings; label = label }) first bytes × AreOwn (record { strings = strings; label = label }) owns
+  nodes_right ascends bytes owns size named sized own = (
+    (λ n. branch_text texts (branch_at bs n)),
+    trie_right bytes size named,
+    owns_right ascends owns sized own,
+  )

@@ -19,7 +19,7 @@ pub fn needed_strings(alloc: Global, matchers: &[Matcher]) -> Result<Option<Fixe
     let Some(texts) = needed_lines(alloc, matchers)? else {
         return Ok(None);
     };
-    let strings = FixedSet::new(alloc, &texts, false)?;
+    let strings = FixedSet::new(alloc, &texts, false, false)?;
     Ok(Some(strings))
 }
 

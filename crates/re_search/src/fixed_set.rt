@@ -77,6 +77,7 @@ impl FixedSet {
         let strings = strings_of(alloc, keyed)?;
         let has_empty = has_empty(&strings);
         let table = table_of(alloc, &strings, fold)?;
+        drop(strings);
         let mut kept = Vec::new(alloc);
         kept.extend_from_slice(texts)?;
         Ok(FixedSet {
@@ -194,3 +195,6 @@ impl LineMatch for FixedSet {
         self.occurrence(line, from)
     }
 }
+
+#[cfg(test)]
+mod tests;

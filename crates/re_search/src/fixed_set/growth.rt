@@ -34,9 +34,10 @@ pub fn grow(alloc: Global, strings: &[&[u8]]) -> Result<Growth, AllocError>
     ensures rows { IfOk result (λ g. AreRows (map (λ s. s.now) strings.now) g.branches.items g.first.items (length g.branches.items)) }
     ensures few { IfOk result (λ g. length g.branches.items < 2 ^ 32) }
 {
-    let mut branches = Vec::new(alloc);
+    let count = count_of(strings);
+    let mut branches = Vec::with_capacity(alloc, count)?;
     add_branch(&mut branches, 0, 0, 0, strings.len())?;
-    let mut first = Vec::new(alloc);
+    let mut first = Vec::with_capacity(alloc, count.saturating_add(1))?;
     add_entry(&mut first, 1)?;
     let mut node = 0;
     'nodes: while node < branches.len() {
@@ -45,6 +46,39 @@ pub fn grow(alloc: Global, strings: &[&[u8]]) -> Result<Growth, AllocError>
         node += 1;
     }
     Ok(Growth { branches, first })
+}
+
+// How many beginnings the strings have, which are in order: as many as there is room to make for.
+fn count_of(strings: &[&[u8]]) -> usize {
+    let mut count = 1_usize;
+    'places: for place in 0..strings.len() {
+        count = count.saturating_add(added_by(strings, place));
+    }
+    count
+}
+
+// How many bytes of a string stand behind what it shares with the one before it.
+fn added_by(strings: &[&[u8]], place: usize) -> usize
+    requires { place < length strings.now }
+{
+    let string = strings[place];
+    if place == 0 {
+        return string.len();
+    }
+    string.len() - shared(strings[place - 1], string)
+}
+
+// With how many bytes both texts begin.
+fn shared(before: &[u8], text: &[u8]) -> usize
+    ensures { result ≤ length text.now }
+{
+    let end = before.len().min(text.len());
+    'places: for place in 0..end {
+        if before[place] != text[place] {
+            return place;
+        }
+    }
+    end
 }
 
 // Adds an entry.

@@ -78,9 +78,9 @@ pub fn links_of(
     ensures right { IfOk result (λ links. (all : Labels) → IsTrieOf all trie.now.first.items trie.now.bytes.items → AreStartsOf false all starts.now → AreOwn all owns.now
         → AreLinkedFor all links.fails.items links.ends.items) }
 {
-    let mut fails = Vec::new(alloc);
+    let mut fails = Vec::with_capacity(alloc, trie.bytes.len())?;
     push_number(&mut fails, 0)?;
-    let mut ends = Vec::new(alloc);
+    let mut ends = Vec::with_capacity(alloc, trie.bytes.len())?;
     push_number(&mut ends, 0)?;
     let mut links = Links { fails, ends };
     'nodes: for node in 0..trie.bytes.len() {

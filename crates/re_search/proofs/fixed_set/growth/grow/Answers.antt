@@ -10,9 +10,9 @@ pub nodes-init : goal.nodes-init
 nodes-init c =
     let texts : List Text = map (λ s. s.now) c.args.strings.now in
     let one : c.add_branch.new.branches.items ≡ record { byte = 0; depth = 0; low = 0; high = length texts } ∷ [] =
-    c.in_ok-add_branch.ensures ∙ ap (λ xs. xs ++ record { byte = 0; depth = 0; low = 0; high = length c.args.strings.now } ∷ []) c.new-branches.ensures.items
+    c.in_ok-add_branch.ensures ∙ ap (λ xs. xs ++ record { byte = 0; depth = 0; low = 0; high = length c.args.strings.now } ∷ []) c.in_ok-branches.ensures.items
     ∙ ap (λ n. record { byte = 0; depth = 0; low = 0; high = n } ∷ []) (sym (length-map c.args.strings.now (λ s. s.now))) in
-    let entry : c.add_entry.new.first.items ≡ 1 ∷ [] = c.in_ok-add_entry.ensures.added ∙ ap (λ xs. xs ++ 1 ∷ []) c.new-first.ensures.items in
+    let entry : c.add_entry.new.first.items ≡ 1 ∷ [] = c.in_ok-add_entry.ensures.added ∙ ap (λ xs. xs ++ 1 ∷ []) c.in_ok-first.ensures.items in
     rw (one, entry) (record { rows = rows_at_first texts; few = omega arith })
 
 pub nodes-preserved : goal.nodes-preserved

@@ -1,9 +1,10 @@
-use Rattle.std.proofs.Common.{◌≡◌, ℕ, ◌<◌, length, slice_index}
-use Rattle.re_search.specs.Branches.{branch_at}
+use Rattle.std.proofs.Common.{◌≡◌, ℕ, ◌<◌, ◌≤◌, length, slice_index}
+use Rattle.re_search.specs.FixedSets.{Labels, IsTrieOf}
 use Rattle.re_search.proofs.fixed_set.making.depths_of.Given as goal
 
-abbrev pub invariant-places : goal.invariant-places
-invariant-places l = record {
-  all : length l.depths.items ≡ l.place;
-  each : (n : ℕ) → n < l.place → slice_index l.depths.items n ≡ (branch_at l.branches n).depth;
+abbrev pub invariant-nodes : goal.invariant-nodes
+invariant-nodes l = record {
+  all : length l.depths.items ≡ slice_index l.trie.first.items l.node;
+  small : (n : ℕ) → n < length l.depths.items → slice_index l.depths.items n ≤ n;
+  right : (all : Labels) → IsTrieOf all l.trie.first.items l.trie.bytes.items → (n : ℕ) → n < length l.depths.items → slice_index l.depths.items n ≡ length (all.label n);
 }

@@ -6,7 +6,7 @@ use Rattle.std.proofs.lemmas.Bool.{lt-ltb, le-ltb}
 use Rattle.std.proofs.lemmas.Option.{slice_get_within, slice_get_cases}
 use Rattle.std.proofs.lemmas.Iterator.Consumers.{nth_from_yields_List, YieldsList-from_first}
 use Rattle.re_syntax.specs.Lines.{lines_of}
-use Rattle.grep_cmd.proofs.joined.are_several.Goals as goal
+use Rattle.grep_cmd.proofs.searchers.has_more_than.Goals as goal
 
 -- that something stands at a place says that the list reaches it
 reaches : {A B : Type 0} (v : A → B) (r : Option A) (xs : List B) (n : ℕ) → option_map v r ≡ slice_get xs n → is_some r ≡ nat_lt n (length xs)
@@ -17,4 +17,4 @@ pub returns : goal.returns
 returns c =
     let texts = lines_of c.args.texts.now in
     let all = YieldsList-from_first (λ x. x.now) (λ texts. texts) texts c.split_file.ensures in
-    c.is_some.ensures ∙ reaches (λ x. x.now) _ texts 1 (nth_from_yields_List _ _ 1 c.nth.ensures.ran all)
+    c.is_some.ensures ∙ reaches (λ x. x.now) _ texts c.args.most (nth_from_yields_List _ _ c.args.most c.nth.ensures.ran all)

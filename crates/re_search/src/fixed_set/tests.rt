@@ -1,0 +1,269 @@
+use super::*;
+use re_auto::fresh_meter;
+use std::process::Abort;
+use std::test::Fail;
+
+// A set of the lines of a text.
+fn set_of(alloc: Global, texts: &[u8], whole: bool) -> Result<FixedSet, AllocError> {
+    FixedSet::new(alloc, texts, false, whole)
+}
+
+// All parts of the line. Each search takes one step for each byte that is left, and one more.
+fn parts_of(
+    rt: &impl Abort,
+    alloc: Global,
+    set: &mut FixedSet,
+    line: &[u8],
+) -> Result<Vec<(usize, usize)>, AllocError> {
+    let mut found = Vec::new(alloc);
+    let mut from = 0;
+    for _ in line {
+        assert!(rt; from <= line.len());
+        let mut meter = fresh_meter();
+        let part = set.find(line, from, &mut meter);
+        let steps = (line.len() - from) as u64 + 1;
+        assert_eq!(rt;
+            (meter.built(), meter.reused()),
+            (steps, 0),
+            "{line:?} from {from}"
+        );
+        let Some(part) = part else {
+            return Ok(found);
+        };
+        found.push((part.start, part.end))?;
+        from = part.end;
+    }
+    Ok(found)
+}
+
+// Asserts whether the set selects the line, in one step more than the line has bytes, and its parts.
+fn assert_line(
+    rt: &impl Abort,
+    alloc: Global,
+    set: &mut FixedSet,
+    line: &[u8],
+    is_selected: bool,
+    expected: &[(usize, usize)],
+) -> Result<(), Fail> {
+    let mut meter = fresh_meter();
+    let verdict = set.is_match(line, &mut meter);
+    assert_eq!(rt; verdict, is_selected, "{line:?}");
+    let steps = line.len() as u64 + 1;
+    assert_eq!(rt; (meter.built(), meter.reused()), (steps, 0), "{line:?}");
+    let found = parts_of(rt, alloc, set, line)?;
+    assert_eq!(rt; found.as_slice(), expected, "{line:?}");
+    Ok(())
+}
+
+// For the lines of a text, whether the whole line has to be one of them, and a line: whether it is
+// selected, and its parts.
+type Row = (
+    &'static [u8],
+    bool,
+    &'static [u8],
+    bool,
+    &'static [(usize, usize)],
+);
+
+static ROWS: [Row; 62] = [
+    // One string, and several.
+    (b"aa\n", false, b"aaa", true, &[(0, 2)]),
+    (b"aa\n", false, b"aaaa", true, &[(0, 2), (2, 4)]),
+    (b"ab\nabc\nc\n", false, b"abcc", true, &[(0, 3), (3, 4)]),
+    (b"abc\nab\nc\n", false, b"abcc", true, &[(0, 3), (3, 4)]),
+    (b"b\nab", false, b"ab", true, &[(0, 2)]),
+    (b"\n", false, b"x", true, &[]),
+    (b"\nx", false, b"x", true, &[(0, 1)]),
+    (b"\n", false, b"", true, &[]),
+    (b"aa\n", true, b"aa", true, &[(0, 2)]),
+    (b"a\naa\n", true, b"aa", true, &[(0, 2)]),
+    (b"a\n", true, b"aa", false, &[]),
+    (b"\n", true, b"", true, &[]),
+    (b"ab\nabcd\n", false, b"abc", true, &[(0, 2)]),
+    (b"ab\nab\nab", false, b"abab", true, &[(0, 2), (2, 4)]),
+    (b"ab\nbc", false, b"acb", false, &[]),
+    (b"ab\nbc", false, b"", false, &[]),
+    // The empty string among others.
+    (b"a\n\n", false, b"b", true, &[]),
+    (b"a\n\n", false, b"ba", true, &[(1, 2)]),
+    (b"a\n\n", false, b"", true, &[]),
+    (b"a\n\n", true, b"a", true, &[(0, 1)]),
+    (b"a\n\n", true, b"b", false, &[]),
+    (b"a\n\n", true, b"", true, &[]),
+    (b"\n\nab", true, b"", true, &[]),
+    (b"\n\nab", true, b"abab", false, &[]),
+    (b"\n\nab", false, b"abab", true, &[(0, 2), (2, 4)]),
+    // Strings that are beginnings and ends of others, and stand inside them.
+    (b"a\nab\nabc\nbc\nc", false, b"xabcx", true, &[(1, 4)]),
+    (
+        b"a\nab\nabc\nbc\nc",
+        false,
+        b"abcab",
+        true,
+        &[(0, 3), (3, 5)],
+    ),
+    (
+        b"a\nab\nabc\nbc\nc",
+        false,
+        b"bcab",
+        true,
+        &[(0, 2), (2, 4)],
+    ),
+    (b"a\nab\nabc\nbc\nc", false, b"bxb", false, &[]),
+    (b"a\naa\naaa", false, b"aaaa", true, &[(0, 3), (3, 4)]),
+    (b"aab\nab\nb", false, b"aaab", true, &[(1, 4)]),
+    (b"he\nshe\nhis\nhers", false, b"ushers", true, &[(1, 4)]),
+    (
+        b"he\nshe\nhis\nhers",
+        false,
+        b"hishers",
+        true,
+        &[(0, 3), (3, 7)],
+    ),
+    (b"abcd\nbc\nc", false, b"abcx", true, &[(1, 3)]),
+    (b"abcd\nc", false, b"abc", true, &[(2, 3)]),
+    (b"abcd\nc", false, b"abab", false, &[]),
+    (b"ab\nbcde\ncd", false, b"abcde", true, &[(0, 2), (2, 4)]),
+    (b"ab\nbcde\ncd", false, b"xbcdx", true, &[(2, 4)]),
+    (b"ab\nbcde\ncd", false, b"xbcde", true, &[(1, 5)]),
+    (b"bcde\ncd\nd", false, b"abcdx", true, &[(2, 4)]),
+    (b"abcde\nbcd\nc", false, b"abcdf", true, &[(1, 4)]),
+    (
+        b"abcdefg\nbcdef\ncde\nd",
+        false,
+        b"abcdefx",
+        true,
+        &[(1, 6)],
+    ),
+    (b"abcdefg\nbcdef\ncde\nd", false, b"abcdex", true, &[(2, 5)]),
+    (b"abcdefg\nbcdef\ncde\nd", false, b"abcdx", true, &[(3, 4)]),
+    (b"abcdefg\nbcdef\ncde\nd", false, b"abcde", true, &[(2, 5)]),
+    (b"abab\nba", false, b"abaabab", true, &[(1, 3), (3, 7)]),
+    (b"abab\nba", false, b"ababab", true, &[(0, 4)]),
+    (b"aaab\naab", false, b"aabaaaab", true, &[(0, 3), (4, 8)]),
+    (
+        b"\x00\xff\n\xff\x00\x00",
+        false,
+        b"\xff\x00\xff",
+        true,
+        &[(1, 3)],
+    ),
+    (
+        b"\x80\n\x7f\x80\n\xff",
+        false,
+        b"\x7f\x7f\x80\xff",
+        true,
+        &[(1, 3), (3, 4)],
+    ),
+    // The whole line.
+    (b"ab\nabc\nbc", true, b"ab", true, &[(0, 2)]),
+    (b"ab\nabc\nbc", true, b"abc", true, &[(0, 3)]),
+    (b"ab\nabc\nbc", true, b"bc", true, &[(0, 2)]),
+    (b"ab\nabc\nbc", true, b"a", false, &[]),
+    (b"ab\nabc\nbc", true, b"c", false, &[]),
+    (b"ab\nabc\nbc", true, b"abcd", false, &[]),
+    (b"ab\nabc\nbc", true, b"xbc", false, &[]),
+    (b"ab\nabc\nbc", true, b"abbc", false, &[]),
+    (b"ab\nabc\nbc", true, b"", false, &[]),
+    (b"abcd\nc", true, b"abc", false, &[]),
+    (b"abc\nc", true, b"abc", true, &[(0, 3)]),
+    (b"abcd\nbc", true, b"abcd", true, &[(0, 4)]),
+];
+
+fn rows() -> &'static [Row] {
+    &ROWS
+}
+
+#[test]
+fn sets_have_their_parts(rt: HostRuntime) -> Result<(), Fail> {
+    let alloc = rt.alloc();
+    for (texts, whole, line, is_selected, expected) in rows() {
+        let mut set = set_of(alloc, texts, *whole)?;
+        assert_line(&rt, alloc, &mut set, line, *is_selected, expected)?;
+    }
+    Ok(())
+}
+
+// The parts of a line of which each byte is one.
+fn single_bytes(alloc: Global, length: usize) -> Result<Vec<(usize, usize)>, AllocError> {
+    let mut found = Vec::new(alloc);
+    for start in 0..length {
+        found.push((start, start + 1))?;
+    }
+    Ok(found)
+}
+
+#[test]
+fn each_byte_may_be_a_string(rt: HostRuntime) -> Result<(), Fail> {
+    let alloc = rt.alloc();
+    let mut texts = Vec::new(alloc);
+    let mut line = Vec::new(alloc);
+    for byte in 0..=u8::MAX {
+        if byte != b'\n' {
+            texts.extend_from_slice(&[byte, b'\n'])?;
+            line.push(byte)?;
+        }
+    }
+    let single = single_bytes(alloc, line.len())?;
+    let mut set = set_of(alloc, &texts, false)?;
+    for byte in &line {
+        assert_line(&rt, alloc, &mut set, &[*byte], true, &[(0, 1)])?;
+    }
+    assert_line(&rt, alloc, &mut set, &line, true, &single)?;
+    texts.extend_from_slice(&line)?;
+    let mut set = set_of(alloc, &texts, false)?;
+    assert_line(&rt, alloc, &mut set, &line, true, &[(0, 255)])?;
+    line.reverse();
+    assert_line(&rt, alloc, &mut set, &line, true, &single)
+}
+
+#[test]
+fn a_string_may_be_long(rt: HostRuntime) -> Result<(), Fail> {
+    let alloc = rt.alloc();
+    let mut line = vec![in alloc; b'a'; 4_097]?;
+    let mut texts = Vec::new(alloc);
+    texts.extend_from_slice(b"ab\n")?;
+    texts.extend_from_slice(&line)?;
+    let mut set = set_of(alloc, &texts, false)?;
+    let mut whole = set_of(alloc, &texts, true)?;
+    assert_line(&rt, alloc, &mut set, &line, true, &[(0, 4_097)])?;
+    assert_line(&rt, alloc, &mut whole, &line, true, &[(0, 4_097)])?;
+    line.pop();
+    assert_line(&rt, alloc, &mut set, &line, false, &[])?;
+    assert_line(&rt, alloc, &mut whole, &line, false, &[])?;
+    line.push(b'b')?;
+    assert_line(&rt, alloc, &mut set, &line, true, &[(4_095, 4_097)])?;
+    assert_line(&rt, alloc, &mut whole, &line, false, &[])
+}
+
+// The numbers below this one, a line each.
+fn numbers(alloc: Global, end: usize) -> Result<Vec<u8>, AllocError> {
+    let mut texts = Vec::new(alloc);
+    for number in 0..end {
+        let text = format!(in alloc; "{number}\n")?;
+        texts.extend_from_slice(text.as_bytes())?;
+    }
+    Ok(texts)
+}
+
+#[test]
+fn a_set_may_have_many_strings(rt: HostRuntime) -> Result<(), Fail> {
+    let alloc = rt.alloc();
+    let texts = numbers(alloc, 65_535)?;
+    let mut set = set_of(alloc, &texts, false)?;
+    assert_line(&rt, alloc, &mut set, b"x65534", true, &[(1, 6)])?;
+    assert_line(&rt, alloc, &mut set, b"65535", true, &[(0, 4), (4, 5)])?;
+    assert_line(
+        &rt,
+        alloc,
+        &mut set,
+        b"007",
+        true,
+        &[(0, 1), (1, 2), (2, 3)],
+    )?;
+    assert_line(&rt, alloc, &mut set, b"none", false, &[])?;
+    let mut whole = set_of(alloc, &texts, true)?;
+    assert_line(&rt, alloc, &mut whole, b"65534", true, &[(0, 5)])?;
+    assert_line(&rt, alloc, &mut whole, b"65535", false, &[])?;
+    assert_line(&rt, alloc, &mut whole, b"007", false, &[])
+}
