@@ -56,7 +56,10 @@ pub fn searchers_of(
         return Ok(Searchers { matchers, needed });
     }
     match matchers_of(alloc, texts, syntax, options) {
-        Ok(matchers) => Ok(behind_needed(alloc, matchers)),
+        Ok(matchers) => {
+            let needed = needed_by(alloc, &matchers);
+            Ok(Searchers { matchers, needed })
+        }
         Err(refused) => Err(refused),
     }
 }
@@ -115,18 +118,16 @@ fn joined(alloc: Global, texts: &[u8], options: &Options) -> Result<Vec<Matcher>
     Ok(matchers)
 }
 
-/// The matchers, with strings that they need where they are many and each needs some. Where memory
-/// is refused for these the search goes without.
-fn behind_needed(alloc: Global, matchers: Vec<Matcher>) -> Searchers
-    ensures same { result.matchers.items ≡ matchers.items }
-    ensures needed { IfSome result.needed (λ strings. AreNeeded strings (map matched_expression matchers.items)) }
+/// Strings that the matchers need, where these are many and each needs some. Where memory is
+/// refused for them the search goes without.
+fn needed_by(alloc: Global, matchers: &[Matcher]) -> Option<FixedSet>
+    ensures { IfSome result (λ strings. AreNeeded strings (map matched_expression matchers.now)) }
 {
-    let mut needed = None;
-    if matchers.len() > FEW {
-        needed = match needed_strings(alloc, &matchers) {
-            Ok(strings) => strings,
-            Err(_) => None,
-        };
+    if matchers.len() <= FEW {
+        return None;
     }
-    Searchers { matchers, needed }
+    match needed_strings(alloc, matchers) {
+        Ok(strings) => strings,
+        Err(_) => None,
+    }
 }

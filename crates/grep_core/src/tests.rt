@@ -1,4 +1,4 @@
-ghost use Rattle.std.specs.Prelude.{◌≡◌, IfOk, IfSome};
+ghost use Rattle.std.specs.Prelude.{◌≡◌, false, IfOk, IfSome};
 ghost use Rattle.re_syntax.specs.Lines.{lines_of};
 
 use super::*;
@@ -76,9 +76,9 @@ fn a_failed_flush_keeps_a_beginning(rt: HostRuntime) -> Result<(), Fail> {
 
 // The lines of a text as a matcher, or as a filter.
 fn strings(alloc: Global, texts: &[u8], whole: bool) -> Result<FixedSet, AllocError>
-    ensures { IfOk result (λ f. f ≡ record { texts = lines_of texts.now; whole = whole }) }
+    ensures { IfOk result (λ f. f ≡ record { texts = lines_of texts.now; fold = false; whole = whole }) }
 {
-    FixedSet::new(alloc, texts, whole)
+    FixedSet::new(alloc, texts, false, whole)
 }
 
 // What is written for a line by a matcher of these texts behind the filter, where there is one.

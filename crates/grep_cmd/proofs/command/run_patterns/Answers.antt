@@ -1,4 +1,4 @@
-use Rattle.std.proofs.Common.{sym, ◌∙◌, inr}
+use Rattle.std.proofs.Common.{refl, sym, ◌∙◌, inr}
 use Rattle.re_auto.specs.Meters.{fresh}
 use Rattle.grep_cmd.proofs.CommandLemmas.{too_many, refuses, searches, kind_differs, not_memory, place_fits}
 use Rattle.grep_cmd.proofs.TellingLemmas.{gives_up}
@@ -26,4 +26,4 @@ pub returns-in-Ok : goal.returns-in-Ok
 returns-in-Ok g c =
     let few = sym c.has_more_than.ensures ∙ c.if-has_more_than.false in
     let given = c.search_request.ensures in
-    (given.0, searches _ _ _ _ _ _ few _ _ c.in-Ok.ensures.ok c.deref_mut.ensures.value given.1)
+    (given.0, searches _ _ _ _ _ _ few _ _ c.in-Ok.ensures.ok refl given.1)

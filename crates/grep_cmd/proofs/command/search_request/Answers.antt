@@ -1,4 +1,8 @@
+use Rattle.std.proofs.Common.{map}
+use Rattle.re_search.specs.Filters.{AreNeeded}
+use Rattle.re_search.specs.Reading.{matched_expression}
 use Rattle.grep_core.specs.Run.{writer}
+use Rattle.grep_cmd.proofs.ServingLemmas.{behind_reference}
 use Rattle.grep_cmd.proofs.command.search_request.Goals as goal
 
 pub returns : goal.returns
@@ -12,7 +16,11 @@ returns g c = (
       source_failures = g.F.Files.failures c.search_files-found.new.files;
       steps = c.search_files-found.new.meter;
     };
-    runs = rw (c.fresh_meter-meter.ensures, c.deref.ensures.value) at c.search_files-found.ensures;
+    runs = rw (c.fresh_meter-meter.ensures, c.deref.ensures.value, c.deref_mut.ensures.value) at c.search_files-found.ensures;
     ends = c.end_search.ensures _ _ _;
   },
 )
+
+pub search_files-found-requires-clause-needed : goal.search_files-found-requires-clause-needed
+search_files-found-requires-clause-needed g c = rw c.deref_mut.ensures.value
+    (behind_reference (λ strings. AreNeeded strings (map matched_expression c.args.searchers.now.matchers.items)) c.as_ref.result c.args.searchers.now.needed c.as_ref.ensures.value c.requires.needed)
