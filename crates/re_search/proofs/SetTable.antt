@@ -1,14 +1,13 @@
 -- The tables of strings in order, as those of any list with the same strings.
-use Rattle.std.proofs.Common.{◌≡◌, ℕ, ◌+◌, ◌-◌, ◌<◌, ◌≤◌, ◌⊎◌, inl, inr, Bool, true, false, List, [], ◌∷◌, ◌++◌, All, Any, length, take, get_or, slice_get, slice_index, nat_eq, Option, Some, None, refl, sym, ap, subst, ◌∙◌, arith, if◌then◌else◌}
+use Rattle.std.proofs.Common.{◌≡◌, ℕ, ◌+◌, ◌<◌, ◌≤◌, ◌⊎◌, inl, inr, Bool, true, false, List, [], ◌∷◌, ◌++◌, length, take, get_or, slice_get, slice_index, nat_eq, None, refl, sym, ap, subst, ◌∙◌, arith, if◌then◌else◌}
 use Rattle.std.proofs.lemmas.Bool.{eqb-true, eqb-false}
-use Rattle.std.proofs.lemmas.List.{append-nil, length-take-le, get_or_default, length-take}
+use Rattle.std.proofs.lemmas.List.{append-nil, get_or_default, length-take}
 use Rattle.std.proofs.Math.ListN.{get_or-eq_default}
 use Rattle.std.proofs.lemmas.Option.{slice_get_past, slice_get-get_or}
 use Rattle.re_syntax.specs.Bytes.{Text, Begins}
 use Rattle.re_search.specs.declared.fixed_set.growth.Branch.{Branch}
-use Rattle.re_search.specs.declared.fixed_set.table.Table.{Table}
-use Rattle.re_search.specs.FixedSets.{IsFront, IsString, Labels, IsTrie, IsTrieOf, AreOwn, AreStartsOf, AreLinkedFor, IsTableOf}
-use Rattle.re_search.specs.Branches.{text_at, rank, AreAscending, branch_text, IsBranch, branch_at, no_branch, IsRow, AreRows, own_length, HaveSame}
+use Rattle.re_search.specs.FixedSets.{IsFront, IsString, Labels, IsTrieOf, AreOwn}
+use Rattle.re_search.specs.Branches.{text_at, rank, AreAscending, branch_text, IsBranch, branch_at, no_branch, AreRows, own_length, HaveSame}
 use Rattle.re_search.proofs.SetSearch.{all_read}
 
 -- a number is below another, or not

@@ -48,7 +48,8 @@ pub fn grow(alloc: Global, strings: &[&[u8]]) -> Result<Growth, AllocError>
     Ok(Growth { branches, first })
 }
 
-// How many beginnings the strings have, which are in order: as many as there is room to make for.
+// How many beginnings the strings have, which are in order. It says how much room to make at once,
+// and nothing rests on it.
 fn count_of(strings: &[&[u8]]) -> usize {
     let mut count = 1_usize;
     'places: for place in 0..strings.len() {
@@ -57,7 +58,7 @@ fn count_of(strings: &[&[u8]]) -> usize {
     count
 }
 
-// How many bytes of a string stand behind what it shares with the one before it.
+// How many bytes of a string stand behind those with which the one before it begins too.
 fn added_by(strings: &[&[u8]], place: usize) -> usize
     requires { place < length strings.now }
 {

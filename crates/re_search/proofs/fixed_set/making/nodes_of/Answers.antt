@@ -1,4 +1,4 @@
-use Rattle.std.proofs.Common.{rules, ◌≡◌, ℕ, ◌<◌, length, map, slice_index}
+use Rattle.std.proofs.Common.{map}
 use Rattle.re_search.proofs.SetTable.{nodes_right}
 use Rattle.re_search.proofs.fixed_set.making.nodes_of.Goals as goal
 

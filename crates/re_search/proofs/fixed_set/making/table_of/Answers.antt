@@ -1,4 +1,4 @@
-use Rattle.std.proofs.Common.{rules, ◌≡◌, ℕ, ◌<◌, length, sym, ap, ◌∙◌, arith}
+use Rattle.std.proofs.Common.{arith}
 use Rattle.re_search.specs.FixedSets.{Labels}
 use Rattle.re_search.proofs.fixed_set.making.table_of.Goals as goal
 
