@@ -32,10 +32,24 @@ impl Table {
         requires { IsTable self.now }
         ensures { (all : Labels) → IsTableOf all self.now → IsTrue result ↔ ((i j : ℕ) × Occurs all.strings 0 (keys self.now.fold line.now) i j) }
     {
+        if self.fold {
+            return self.stands_by(line, true);
+        }
+        self.stands_by(line, false)
+    }
+
+    // The same, with the table's `fold` given apart: where it is constant the loop is compiled for
+    // it alone.
+    #[inline(always)]
+    fn stands_by(&self, line: &[u8], fold: bool) -> bool
+        requires table { IsTable self.now }
+        requires alike { fold ≡ self.now.fold }
+        ensures { (all : Labels) → IsTableOf all self.now → IsTrue result ↔ ((i j : ℕ) × Occurs all.strings 0 (keys self.now.fold line.now) i j) }
+    {
         let mut place = 0;
         let mut node = 0;
         'places: while place < line.len() {
-            let (behind, into) = self.pass(line, place, node);
+            let (behind, into) = self.pass(line, place, node, fold);
             place = behind;
             node = into;
             if self.ends[node] > 0 {
@@ -52,11 +66,25 @@ impl Table {
         requires within { from ≤ length line.now }
         ensures { (all : Labels) → IsTableOf all self.now → IsBestOccurrence all.strings from (keys self.now.fold line.now) (length line.now) result }
     {
+        if self.fold {
+            return self.find_by(line, from, true);
+        }
+        self.find_by(line, from, false)
+    }
+
+    // The same, with the table's `fold` given apart.
+    #[inline(always)]
+    fn find_by(&self, line: &[u8], from: usize, fold: bool) -> Option<Span>
+        requires table { IsTable self.now }
+        requires within { from ≤ length line.now }
+        requires alike { fold ≡ self.now.fold }
+        ensures { (all : Labels) → IsTableOf all self.now → IsBestOccurrence all.strings from (keys self.now.fold line.now) (length line.now) result }
+    {
         let mut place = from;
         let mut node = 0;
         let mut best = None;
         'places: while place < line.len() {
-            let (behind, into) = self.pass(line, place, node);
+            let (behind, into) = self.pass(line, place, node, fold);
             place = behind;
             node = into;
             if begins_before(best, place.saturating_sub(self.depths[node] as usize)) {
@@ -85,11 +113,12 @@ impl Table {
 
     // Goes over the byte at `place`, or, where no string is on its way, over those that none begins
     // with; gives the place behind and the node there.
-    #[inline]
-    fn pass(&self, line: &[u8], place: usize, node: usize) -> (usize, usize)
+    #[inline(always)]
+    fn pass(&self, line: &[u8], place: usize, node: usize, fold: bool) -> (usize, usize)
         requires table { IsTable self.now }
         requires within { place < length line.now }
         requires in_trie { node < length self.now.trie.bytes.items }
+        requires alike { fold ≡ self.now.fold }
         ensures on { (place < result.0) × (result.0 ≤ length line.now) }
         ensures in_trie { result.1 < length self.now.trie.bytes.items }
         ensures stands { (all : Labels) → IsTableOf all self.now → (from : ℕ) → from ≤ place → StandsAtNode all from (keys self.now.fold line.now) place node
@@ -103,7 +132,7 @@ impl Table {
                 return (behind, 0);
             }
         }
-        let byte = key_of(self.fold, line[place]);
+        let byte = key_of(fold, line[place]);
         let into = step(&self.trie, &self.starts, &self.fails, node, byte);
         (place + 1, into)
     }

@@ -1,6 +1,6 @@
-use Rattle.std.proofs.Common.{◌≡◌, ℕ, ◌+◌, ◌-◌, ◌<◌, ◌≤◌, length, slice_index, refl, sym, ap, subst, ◌∙◌, arith}
+use Rattle.std.proofs.Common.{◌≡◌, ap, length, slice_index, sym, subst, ◌∙◌, arith}
 use Rattle.std.proofs.lemmas.List.{length-map}
-use Rattle.re_search.specs.FixedSets.{Labels, StandsAtNode, IsTableOf, Occurs, Steps}
+use Rattle.re_search.specs.FixedSets.{Steps}
 use Rattle.re_search.specs.Literals.{key, keys}
 use Rattle.re_search.proofs.SetFolded.{key_at, start_of_key, passed_by_keys}
 use Rattle.re_search.proofs.SetSearch.{byte_read, root_stays, none_at_root}
@@ -30,7 +30,7 @@ returns-clause-stands c = λ all t from low s.
     let fold = c.args.self.now.fold in
     let line = keys fold c.args.line.now in
     let size : length line ≡ length c.args.line.now = length-map c.args.line.now (key fold) in
-    let is : c.key_of-byte.result ≡ key fold (slice_index c.args.line.now c.args.place) = c.key_of-byte.ensures in
+    let is : c.key_of-byte.result ≡ key fold (slice_index c.args.line.now c.args.place) = c.key_of-byte.ensures ∙ ap (λ f. key f (slice_index c.args.line.now c.args.place)) c.requires.alike in
     let here : c.key_of-byte.result ≡ slice_index line c.args.place = is ∙ sym (key_at fold c.args.line.now c.args.place c.requires.within) in
     let steps = (rw (c.deref-2.ensures.value, c.deref-3.ensures.value) at c.step-into.ensures.step) all t.trie
     (start_of_key fold all c.args.self.now.starts.items t.starts (slice_index c.args.line.now c.args.place) c.key_of-byte.result is (omega arith)) t.fails in

@@ -1,7 +1,7 @@
 use Rattle.std.proofs.Common.{◌≡◌, ℕ, ◌<◌, ◌≤◌, ◌-◌, length}
 use Rattle.re_search.specs.FixedSets.{Labels, IsTableOf, StandsAtNode, IsBestOccurrence}
 use Rattle.re_search.specs.Literals.{keys}
-use Rattle.re_search.proofs.fixed_set.table.Table.find.Given as goal
+use Rattle.re_search.proofs.fixed_set.table.Table.find_by.Given as goal
 
 abbrev pub invariant-places : goal.invariant-places
 invariant-places l = record {

@@ -4,7 +4,7 @@ use Rattle.re_search.specs.Literals.{key, keys}
 use Rattle.re_search.specs.declared.span.Span.{Span}
 use Rattle.re_search.specs.FixedSets.{Labels, StandsAtNode, IsTableOf, IsBestOccurrence}
 use Rattle.re_search.proofs.SetSearch.{nothing_read, row_read, best_at_first, best_on, best_settled}
-use Rattle.re_search.proofs.fixed_set.table.Table.find.Goals as goal
+use Rattle.re_search.proofs.fixed_set.table.Table.find_by.Goals as goal
 
 pub places-init : goal.places-init
 places-init c =

@@ -4,12 +4,12 @@ use Rattle.std.proofs.lemmas.List.{length-map}
 use Rattle.re_search.specs.Literals.{key, keys}
 use Rattle.re_search.specs.FixedSets.{Labels, StandsAtNode, IsTableOf}
 use Rattle.re_search.proofs.SetSearch.{row_read, some_ends, none_up_to}
-use Rattle.re_search.proofs.fixed_set.table.Table.stands_in.Goals as goal
+use Rattle.re_search.proofs.fixed_set.table.Table.stands_by.Goals as goal
 
 pub returns-then-index-gt0 : goal.returns-then-index-gt0
 returns-then-index-gt0 c = λ all t.
     let size : length (keys c.args.self.now.fold c.args.line.now) ≡ length c.args.line.now = length-map c.args.line.now (key c.args.self.now.fold) in
-    let in_rows : c.pass-behind.result.1 < length c.args.self.now.ends.items = let r = c.requires.ends in let w = c.pass-behind.ensures.in_trie in omega (arith, r, w) in
+    let in_rows : c.pass-behind.result.1 < length c.args.self.now.ends.items = let r = c.requires.table.ends in let w = c.pass-behind.ensures.in_trie in omega (arith, r, w) in
     let read = row_read c.args.self.now.ends.items c.pass-behind.result.1 c.index.result.now in_rows c.index.ensures in (
       (λ _. some_ends all 0 (keys c.args.self.now.fold c.args.line.now) c.pass-behind.result.0 c.pass-behind.result.1 (slice_index c.args.self.now.ends.items c.pass-behind.result.1)
           (let w = c.pass-behind.ensures.on.1 in omega (arith, size, w))
@@ -22,7 +22,7 @@ returns-then-index-gt0 c = λ all t.
 pub places-preserved : goal.places-preserved
 places-preserved c =
     let size : length (keys c.args.self.now.fold c.args.line.now) ≡ length c.args.line.now = length-map c.args.line.now (key c.args.self.now.fold) in
-    let in_rows : c.pass-behind.result.1 < length c.args.self.now.ends.items = let r = c.requires.ends in let w = c.pass-behind.ensures.in_trie in omega (arith, r, w) in
+    let in_rows : c.pass-behind.result.1 < length c.args.self.now.ends.items = let r = c.requires.table.ends in let w = c.pass-behind.ensures.in_trie in omega (arith, r, w) in
     let read = row_read c.args.self.now.ends.items c.pass-behind.result.1 c.index.result.now in_rows c.index.ensures in
     record {
       within = c.pass-behind.ensures.on.1;
