@@ -11,7 +11,6 @@ ghost use Rattle.grep_cmd.specs.Folder.{searched, sources_named};
 ghost use Rattle.grep_cmd.specs.Words.{asked, texts_of};
 
 use crate::files::Files;
-
 use crate::patterns::read_patterns;
 use crate::refusal::tell_refused;
 use crate::searchers::{Searchers, has_more_than, searchers_of};
@@ -57,7 +56,15 @@ fn search_request<F: Files, W: CountedWrite, N: CountedWrite>(
     let options = &request.options;
     let mut meter = fresh_meter();
     let found = search_files(
-        alloc, files, words, &mut searchers.matchers, searchers.needed.as_ref(), options, out, messages, &mut meter,
+        alloc,
+        files,
+        words,
+        &mut searchers.matchers,
+        searchers.needed.as_ref(),
+        options,
+        out,
+        messages,
+        &mut meter,
     );
     end_search(messages, found)
 }

@@ -3,12 +3,12 @@
 
 mod command;
 mod files;
-mod searchers;
 mod matchers;
 mod memory;
 mod operands;
 mod patterns;
 mod refusal;
+mod searchers;
 mod searching;
 mod showing;
 mod telling;

@@ -107,10 +107,10 @@ fn has_most(syntax: Syntax, fold: bool) -> bool
 /// The one matcher for all strings.
 fn joined(alloc: Global, texts: &[u8], options: &Options) -> Result<Vec<Matcher>, AllocError>
     ensures { IfOk result (λ matchers. matchers.items ≡ m.FixedSet (record {
-        texts = lines_of texts.now;
-        fold = options.now.ignore_case;
-        whole = options.now.line_regexp;
-      }) ∷ []) }
+      texts = lines_of texts.now;
+      fold = options.now.ignore_case;
+      whole = options.now.line_regexp;
+    }) ∷ []) }
 {
     let set = FixedSet::new(alloc, texts, options.ignore_case, options.line_regexp)?;
     let mut matchers = Vec::new(alloc);

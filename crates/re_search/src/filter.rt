@@ -57,3 +57,6 @@ fn add_line(texts: &mut Vec<u8>, text: &[u8]) -> Result<(), AllocError>
     texts.push(b'\n')?;
     Ok(())
 }
+
+#[cfg(test)]
+mod tests;

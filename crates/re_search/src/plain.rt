@@ -13,6 +13,9 @@ use std::alloc::Global;
 pub fn is_plain(alloc: Global, text: &[u8], syntax: Syntax) -> bool
     ensures { IsTrue result → IsSpelled syntax text.now (sequence (map byte text.now)) }
 {
+    if syntax == Syntax::Fixed {
+        return true;
+    }
     match spelled_tree(alloc, text, syntax) {
         Ok(tree) => is_string(&tree, text),
         Err(_) => false,
@@ -43,3 +46,6 @@ fn are_bytes(parts: &[Tree], text: &[u8]) -> bool
     }
     true
 }
+
+#[cfg(test)]
+mod tests;

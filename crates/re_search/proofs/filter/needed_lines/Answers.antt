@@ -9,8 +9,7 @@ use Rattle.re_search.proofs.filter.needed_lines.Goals as goal
 
 pub matchers-preserved : goal.matchers-preserved
 matchers-preserved c =
-    let strings = c.matchers.invariant.0 in
-    (
+    let strings = c.matchers.invariant.0 in (
       strings ++ c.in-Some.text.now ∷ [],
       c.in_ok-add_line.ensures ∙ ap (λ bytes. bytes ++ (c.in-Some.text.now ++ 10 ∷ [])) c.matchers.invariant.1 ∙ terminated-push strings c.in-Some.text.now,
       All-push HasNoNewline strings c.in-Some.text.now c.matchers.invariant.2 c.in-Some.ensures.1,
