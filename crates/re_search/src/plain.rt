@@ -13,9 +13,16 @@ use std::alloc::Global;
 pub fn is_plain(alloc: Global, text: &[u8], syntax: Syntax) -> bool
     ensures { IsTrue result → IsSpelled syntax text.now (sequence (map byte text.now)) }
 {
-    if syntax == Syntax::Fixed {
-        return true;
+    match syntax {
+        Syntax::Fixed => true,
+        _ => is_read_so(alloc, text, syntax),
     }
+}
+
+// Whether the text is read as the string that it is.
+fn is_read_so(alloc: Global, text: &[u8], syntax: Syntax) -> bool
+    ensures { IsTrue result → IsSpelled syntax text.now (sequence (map byte text.now)) }
+{
     match spelled_tree(alloc, text, syntax) {
         Ok(tree) => is_string(&tree, text),
         Err(_) => false,
