@@ -2,6 +2,7 @@
 mod commands;
 mod faults;
 mod harness;
+mod many;
 mod options;
 mod rows;
 mod sessions;
