@@ -1,12 +1,4 @@
-ghost use Rattle.std.specs.Prelude.{◌≡◌, false, IfOk, IfSome};
-ghost use Rattle.re_syntax.specs.Lines.{lines_of};
-
 use super::*;
-use one_line::take_line;
-use re_auto::fresh_meter;
-use re_search::FixedSet;
-use std::alloc::{AllocError, Global};
-use std::process::Abort;
 use std::test::Fail;
 
 // The length of the next line. A growth that is refused is asked for once more.
@@ -71,80 +63,5 @@ fn a_failed_flush_keeps_a_beginning(rt: HostRuntime) -> Result<(), Fail> {
     assert_eq!(rt; out.failures(), 1);
     let bytes = out.into_inner().into_inner().into_inner();
     assert_eq!(rt; bytes.as_slice(), b"0123456".as_slice());
-    Ok(())
-}
-
-// The lines of a text as a matcher, or as a filter.
-fn strings(alloc: Global, texts: &[u8], whole: bool) -> Result<FixedSet, AllocError>
-    ensures { IfOk result (λ f. f ≡ record { texts = lines_of texts.now; fold = false; whole = whole }) }
-{
-    FixedSet::new(alloc, texts, false, whole)
-}
-
-// What is written for a line by a matcher of these texts behind the filter, where there is one.
-fn row_behind(
-    rt: &impl Abort,
-    alloc: Global,
-    texts: &[u8],
-    filter: Option<&FixedSet>,
-    options: Options,
-    line: &[u8],
-) -> Result<Vec<u8>, AllocError>
-    requires { IfSome filter (λ f. f.now.texts ≡ lines_of texts.now) }
-{
-    let mut matchers = [strings(alloc, texts, options.line_regexp)?];
-    let wanted = Wanted {
-        options,
-        many: false,
-        name: b"a.txt",
-    };
-    let mut out = Tally::new(Vec::new(alloc));
-    let mut meter = fresh_meter();
-    let taken = take_line(
-        &mut matchers,
-        filter,
-        &wanted,
-        1,
-        line,
-        &mut out,
-        &mut meter,
-    );
-    assert!(rt; taken.is_ok());
-    Ok(out.into_inner())
-}
-
-// `-v`, `-x` and a line, and what is written for it.
-type FilteredRow = (bool, bool, &'static [u8], &'static [u8]);
-
-static FILTERED: [FilteredRow; 8] = [
-    (false, false, b"xab", b"xab\n"),
-    (false, false, b"ac", b""),
-    (true, false, b"xab", b""),
-    (true, false, b"ac", b"ac\n"),
-    (false, true, b"cd", b"cd\n"),
-    (false, true, b"xcd", b""),
-    (true, true, b"xcd", b"xcd\n"),
-    (true, true, b"", b"\n"),
-];
-
-fn filtered() -> &'static [FilteredRow] {
-    &FILTERED
-}
-
-#[test]
-fn a_filter_changes_no_row(rt: HostRuntime) -> Result<(), Fail> {
-    let texts = b"ab\ncd";
-    let filter = strings(rt.alloc(), texts, false)?;
-    for (invert_match, line_regexp, line, expected) in filtered() {
-        let options = Options {
-            invert_match: *invert_match,
-            line_regexp: *line_regexp,
-            ..Options::default()
-        };
-        let plain = row_behind(&rt, rt.alloc(), texts, None, options, line)?;
-        assert_eq!(rt; plain.as_slice(), *expected, "{line:?}");
-        let behind = row_behind(&rt, rt.alloc(), texts, Some(&filter), options, line)?;
-        assert_eq!(rt; behind.as_slice(), *expected, "{line:?}");
-    }
     Ok(())
 }

@@ -3,6 +3,8 @@ use crate::memory::Content;
 use crate::tests::harness::{
     Row, UNLIMITED, assert_command, assert_search, assert_written, commanded, file,
 };
+use std::alloc::Global;
+use std::process::Abort;
 use std::test::Fail;
 
 static STRINGS: [Row<'static>; 16] = [
@@ -188,37 +190,37 @@ fn many_patterns_give_their_rows(rt: HostRuntime) -> Result<(), Fail> {
     Ok(())
 }
 
+// Looks with these words for the patterns of the file `long` in a line of 4,097 bytes.
+fn assert_long(
+    rt: &impl Abort,
+    alloc: Global,
+    texts: &[u8],
+    words: &str,
+    output: &'static [u8],
+    told: &'static [u8],
+) -> Result<(), Fail> {
+    let line = vec![in alloc; b'a'; 4_097]?;
+    let folder = [file("long", texts)];
+    let files = folder.as_slice();
+    let found = commanded(alloc, words, files, Content::new(&line), UNLIMITED)?;
+    assert_written(rt, &found, output, told, words, texts.len());
+    Ok(())
+}
+
 // Of many strings the one that is too long where case doesn't count is told, and any other may be
 // of any length.
 #[test]
 fn a_long_string_among_many_is_refused_where_it_is_folded(rt: HostRuntime) -> Result<(), Fail> {
     let alloc = rt.alloc();
+    let told = b"grep: pattern 9: TooLarge at 0\n".as_slice();
     let mut texts = Vec::new(alloc);
     texts.extend_from_slice(b"1\n2\n3\n4\n5\n6\n7\n8\n")?;
-    let line = vec![in alloc; b'a'; 4_097]?;
-    texts.extend_from_slice(&line)?;
-    let folder = [file("long", &texts)];
-    let files = folder.as_slice();
-    let input = Content::new(&line);
-    let plain = commanded(alloc, "-F -c -f long", files, input, UNLIMITED)?;
-    assert_written(&rt, &plain, b"1\n", b"", "-F", 4_097);
-    for words in ["-F -i -c -f long", "-c -f long"] {
-        let folded = commanded(alloc, words, files, input, UNLIMITED)?;
-        assert_written(
-            &rt,
-            &folded,
-            b"",
-            b"grep: pattern 9: TooLarge at 0\n",
-            words,
-            4_097,
-        );
-    }
-    texts.pop();
-    let folder = [file("long", &texts)];
-    let files = folder.as_slice();
-    for words in ["-F -i -c -f long", "-c -f long"] {
-        let folded = commanded(alloc, words, files, input, UNLIMITED)?;
-        assert_written(&rt, &folded, b"1\n", b"", words, 4_096);
-    }
-    Ok(())
+    texts.resize(16 + 4_096, b'a')?;
+    assert_long(&rt, alloc, &texts, "-F -c -f long", b"1\n", b"")?;
+    assert_long(&rt, alloc, &texts, "-F -i -c -f long", b"1\n", b"")?;
+    assert_long(&rt, alloc, &texts, "-c -f long", b"1\n", b"")?;
+    texts.push(b'a')?;
+    assert_long(&rt, alloc, &texts, "-F -c -f long", b"1\n", b"")?;
+    assert_long(&rt, alloc, &texts, "-F -i -c -f long", b"", told)?;
+    assert_long(&rt, alloc, &texts, "-c -f long", b"", told)
 }
