@@ -1,5 +1,5 @@
 -- Matchers that serve for patterns: one for each, or one for all strings.
-use Rattle.std.proofs.Common.{◌≡◌, ℕ, suc, ◌≤◌, ◌<◌, Bool, All, List, [], ◌∷◌, Bor, IfSome, Option, Some, None, length, map, refl, sym, subst, ◌∙◌, arith}
+use Rattle.std.proofs.Common.{◌≡◌, suc, ◌≤◌, Bool, All, List, [], ◌∷◌, Bor, IfSome, Option, Some, None, length, map, refl, sym, subst, arith}
 use Rattle.std.proofs.lemmas.List.{length-map}
 use Rattle.std.proofs.lemmas.List.Elements.{All-push}
 use Rattle.std.specs.List.{AllZip}

@@ -1,15 +1,14 @@
 -- Strings that several expressions need.
-use Rattle.std.proofs.Common.{◌≡◌, ℕ, ◌+◌, ◌-◌, ◌<◌, ◌≤◌, ◌⊎◌, inl, inr, Bool, true, false, List, [], ◌∷◌, ◌++◌, Any, All, length, map, take, drop, get_or, refl, sym, ap, subst, ◌∙◌, arith, append_assoc, length-drop, length-append}
+use Rattle.std.proofs.Common.{◌≡◌, ℕ, ◌+◌, ◌<◌, ◌≤◌, ◌⊎◌, inl, inr, Bool, true, false, List, [], ◌∷◌, ◌++◌, Any, All, length, take, drop, get_or, refl, sym, ap, subst, ◌∙◌, arith, append_assoc}
 use Rattle.std.proofs.lemmas.List.{get_or_default, drop-drop}
 use Rattle.re_syntax.specs.Bytes.{Text}
-use Rattle.re_syntax.specs.Expression.{Expression, byte, sequence, alt}
+use Rattle.re_syntax.specs.Expression.{Expression}
 use Rattle.re_syntax.specs.Holds.{Holds, Matches}
 use Rattle.re_syntax.specs.Lines.{newline, terminated}
 use Rattle.re_syntax.proofs.Decisions.{Any-first}
-use Rattle.re_syntax.proofs.FixedStrings.{stands-holds}
 use Rattle.re_search.specs.declared.matcher.Matcher.{Matcher}
 use Rattle.re_search.specs.Filters.{AreNeeded, NeedsOneOf}
-use Rattle.re_search.specs.Literals.{Literals, any_literal}
+use Rattle.re_search.specs.Literals.{any_literal}
 use Rattle.re_search.specs.Needles.{IsNeeded, StandsBetween}
 use Rattle.re_search.specs.Reading.{matched_expression}
 use Rattle.re_search.specs.Searching.{SomeMatches}

@@ -1,5 +1,5 @@
 -- What fixed strings mean, and how many positions they have.
-use Rattle.std.proofs.Common.{◌≡◌, ℕ, ◌+◌, Bool, true, false, List, [], ◌∷◌, length, map, refl, arith}
+use Rattle.std.proofs.Common.{◌≡◌, Bool, true, false, [], ◌∷◌, length, map, refl, arith}
 use Rattle.re_syntax.specs.declared.syntax.Syntax.TheVariants.{Fixed}
 use Rattle.re_syntax.specs.Bytes.{Text}
 use Rattle.re_syntax.specs.Expression.{Expression, byte, cat, sequence}

@@ -1,9 +1,9 @@
 -- Trees of single bytes, and needed strings of several expressions.
-use Rattle.std.proofs.Common.{◌≡◌, ℕ, zero, suc, ◌+◌, ◌<◌, ◌≤◌, List, [], ◌∷◌, length, map, get_or, slice_index, refl, sym, ap, ◌∙◌, arith}
+use Rattle.std.proofs.Common.{◌≡◌, ℕ, suc, ◌<◌, List, [], ◌∷◌, length, map, get_or, slice_index, refl, ap, ◌∙◌, arith}
 use Rattle.re_syntax.specs.Bytes.{Text}
 use Rattle.re_syntax.specs.declared.tree.Tree.{Tree}
 use Rattle.re_syntax.specs.declared.tree.Tree.TheVariants.{Empty}
-use Rattle.re_syntax.specs.Expression.{Expression, byte, expression_of}
+use Rattle.re_syntax.specs.Expression.{byte, expression_of}
 
 -- parts that are the bytes of a text, place by place
 pub parts_are_bytes : (parts : List Tree) (text : Text) → length parts ≡ length text → ((k : ℕ) → k < length parts → expression_of (get_or parts k Empty) ≡ byte (slice_index text k)) → map expression_of parts ≡ map byte text

@@ -1,12 +1,10 @@
 -- Beginnings of strings in order: those of one byte more.
-use Rattle.std.proofs.Common.{◌≡◌, ℕ, zero, suc, ◌+◌, ◌-◌, ◌<◌, ◌≤◌, ◌⊎◌, inl, inr, List, [], ◌∷◌, ◌++◌, length, take, drop, Any, get_or, slice_get, slice_index, All, Option, Some, None, refl, sym, ap, subst, ◌∙◌, arith, length-append, append_assoc}
-use Rattle.std.proofs.lemmas.List.{append-nil, get_or_append_left, get_or_push, get_or_default}
+use Rattle.std.proofs.Common.{◌≡◌, ℕ, ◌+◌, ◌<◌, ◌≤◌, ◌⊎◌, inl, inr, List, [], ◌∷◌, ◌++◌, length, take, slice_get, slice_index, All, Option, Some, None, refl, sym, ap, subst, ◌∙◌, arith, length-append, append_assoc}
+use Rattle.std.proofs.lemmas.List.{get_or_append_left, get_or_push, get_or_default}
 use Rattle.std.proofs.lemmas.List.Elements.{All-push}
 use Rattle.re_syntax.specs.Bytes.{Text, Begins}
 use Rattle.re_search.specs.declared.fixed_set.growth.Branch.{Branch}
-use Rattle.re_search.specs.FixedSets.{IsFront}
 use Rattle.re_search.specs.Branches.{text_at, rank, AreAscending, branch_text, IsBranch, branch_at, no_branch, IsRow, AreRows}
-use Rattle.re_search.proofs.SetSteps.{front_shorter}
 
 -- a number is below another, or not
 pub split : (m n : ℕ) → (m < n) ⊎ (n ≤ m)

@@ -1,12 +1,12 @@
 -- Strings and lines as they are compared: what both cases of each letter have alike.
-use Rattle.std.proofs.Common.{◌≡◌, ◌↔◌, ℕ, zero, suc, ◌+◌, ◌-◌, ◌<◌, ◌≤◌, ◌⊎◌, inl, inr, Bool, true, false, IsTrue, ◌&&◌, ◌||◌, List, [], ◌∷◌, length, map, get_or, slice_get, slice_index, nat_eq, nat_le, if◌then◌else◌, Option, Some, None, refl, sym, ap, subst, ◌∙◌, arith}
+use Rattle.std.proofs.Common.{◌≡◌, ◌↔◌, ℕ, zero, suc, ◌+◌, ◌-◌, ◌<◌, ◌≤◌, ◌⊎◌, inl, inr, Bool, true, false, IsTrue, ◌||◌, List, [], ◌∷◌, length, map, slice_get, slice_index, nat_eq, Some, refl, sym, ap, subst, ◌∙◌, arith}
 use Rattle.std.specs.Option.{option_map}
 use Rattle.std.specs.Char.{to_ascii_lowercase}
 use Rattle.std.proofs.lemmas.Bool.{cases_lt, and_from, and_right, and_left, or_cases, le-leb, lt-leb, lt-ltb, le-ltb, cond-true, cond-false, eqb-true, eq-eqb, ne_eqb, cases_eq}
-use Rattle.std.proofs.lemmas.List.{get_or-map, map-id}
+use Rattle.std.proofs.lemmas.List.{get_or-map}
 use Rattle.std.proofs.lemmas.Option.{slice_get-map}
 use Rattle.re_syntax.specs.Bytes.{Text, only, range, closed, other_case}
-use Rattle.re_syntax.specs.Expression.{Expression, cat, alt, byte, sequence}
+use Rattle.re_syntax.specs.Expression.{cat, alt, byte, sequence}
 use Rattle.re_syntax.specs.Holds.{Holds, folded}
 use Rattle.re_syntax.specs.Lines.{lines_of, newline, put_before}
 use Rattle.re_search.specs.Literals.{key, keys, literal_meaning}

@@ -2,7 +2,7 @@
 use Rattle.std.proofs.Common.{◌≡◌, ℕ, ◌+◌, ◌-◌, ◌<◌, ◌≤◌, ◌⊎◌, inl, inr, Bool, true, false, List, [], ◌∷◌, ◌++◌, length, drop, slice_index, nat_lt, refl, sym, ap, subst, ◌∙◌, arith, length-append, length-drop, if◌then◌else◌, ltb-true, ltb-false}
 use Rattle.std.proofs.lemmas.List.{drop-drop, get_or_append_left, get_or_push}
 use Rattle.re_syntax.specs.Bytes.{Text}
-use Rattle.re_search.specs.FixedSets.{IsFront, IsString, StandsFor, EndsIn, Labels, AreFallbacks, AreFallbacksOf, AreOwn, AreLinked, AreLinkedFor, longer_ending}
+use Rattle.re_search.specs.FixedSets.{IsString, StandsFor, EndsIn, Labels, AreLinked, AreLinkedFor, longer_ending}
 use Rattle.re_search.proofs.SetSteps.{string_front}
 
 -- a number is below another, or not

@@ -1,10 +1,9 @@
 -- What is matched by a choice of fixed strings: where one of them stands, as strings are compared.
-use Rattle.std.proofs.Common.{◌≡◌, ◌↔◌, ℕ, zero, suc, ◌+◌, ◌-◌, ◌<◌, ◌≤◌, ◌⊎◌, inl, inr, Bool, true, false, IsTrue, List, [], ◌∷◌, ◌++◌, Any, length, map, take, drop, Option, Some, None, refl, sym, ap, subst, ◌∙◌, arith, length-append, length-drop}
-use Rattle.std.proofs.lemmas.Bool.{false≢true}
-use Rattle.std.proofs.lemmas.List.{drop-append-le, append-nil, take-append-drop, length-take-le, length-map}
+use Rattle.std.proofs.Common.{◌≡◌, ◌↔◌, ℕ, ◌+◌, ◌-◌, ◌<◌, ◌≤◌, ◌⊎◌, inl, inr, Bool, true, false, IsTrue, List, [], ◌∷◌, ◌++◌, length, map, take, drop, Option, Some, None, refl, sym, ap, subst, ◌∙◌, arith, length-append, length-drop}
+use Rattle.std.proofs.lemmas.List.{drop-append-le, take-append-drop, length-take-le, length-map}
 use Rattle.std.proofs.Math.ListN.{drop_of_length-le}
 use Rattle.re_syntax.specs.Bytes.{Text}
-use Rattle.re_syntax.specs.Expression.{Expression, alt, byte, sequence}
+use Rattle.re_syntax.specs.Expression.{alt, byte, sequence}
 use Rattle.re_syntax.specs.Holds.{Holds, Matches}
 use Rattle.re_syntax.specs.Parts.{IsFound}
 use Rattle.re_syntax.proofs.Decisions.{Any-first, Any-later, Any-cases, Any-none}

@@ -1,18 +1,17 @@
 -- Searches for many fixed strings: which of them end at a place, and which is the best.
-use Rattle.std.proofs.Common.{◌≡◌, ◌↔◌, ℕ, zero, suc, add-one, ◌+◌, ◌-◌, ◌<◌, ◌≤◌, ◌⊎◌, inl, inr, Bool, true, false, IsTrue, List, [], ◌∷◌, ◌++◌, length, take, drop, Any, slice_index, nat_eq, nat_lt, nat_le, Option, Some, None, refl, sym, ap, subst, ◌∙◌, arith, length-append, length-drop, append_assoc, if◌then◌else◌, get_or, ltb-true, leb-true, leb-false, eq-eqb, eq-or-lt_of_le}
+use Rattle.std.proofs.Common.{◌≡◌, ◌↔◌, ℕ, zero, suc, add-one, ◌+◌, ◌-◌, ◌<◌, ◌≤◌, ◌⊎◌, inl, inr, Bool, true, false, IsTrue, List, [], ◌∷◌, ◌++◌, length, take, drop, slice_index, nat_eq, nat_le, Option, Some, None, refl, sym, ap, subst, ◌∙◌, arith, length-drop, if◌then◌else◌, get_or, leb-true, leb-false, eq-eqb, eq-or-lt_of_le}
 use Rattle.std.proofs.lemmas.Bool.{eqb-true, eqb-false}
 use Rattle.std.proofs.lemmas.Grind.{get_or_default_zero}
 use Rattle.std.proofs.Math.Seq.{drop-length}
-use Rattle.std.proofs.lemmas.List.{drop-append-le, drop-drop, append-nil, length-take-le, take-append-drop}
+use Rattle.std.proofs.lemmas.List.{drop-append-le, drop-drop, length-take-le, take-append-drop}
 use Rattle.std.proofs.Math.Seq.{take-suc}
-use Rattle.re_syntax.specs.Bytes.{Text, Begins}
+use Rattle.re_syntax.specs.Bytes.{Text}
 use Rattle.re_auto.specs.Starts.{IsBest, Least, better}
 use Rattle.re_search.specs.declared.span.Span.{Span}
-use Rattle.re_search.specs.declared.fixed_set.table.Table.{Table}
 use Rattle.re_search.specs.Simulations.{places, better_span}
-use Rattle.re_search.specs.FixedSets.{IsFront, IsString, StandsFor, MayStandFor, EndsIn, Labels, IsTableOf, Steps, StepsOn, Occurs, NoneBetween, StandsAtNode, IsBestOccurrence, better_ending}
+use Rattle.re_search.specs.FixedSets.{IsFront, IsString, StandsFor, EndsIn, Labels, Steps, StepsOn, Occurs, NoneBetween, StandsAtNode, IsBestOccurrence, better_ending}
 use Rattle.re_search.proofs.BestSpans.{better_places}
-use Rattle.re_search.proofs.SetSteps.{any_map, front_shorter, string_front, empty_end, may_at_first}
+use Rattle.re_search.proofs.SetSteps.{front_shorter, string_front, empty_end, may_at_first}
 
 -- a number is below another, or not
 split : (m n : ℕ) → (m < n) ⊎ (n ≤ m)

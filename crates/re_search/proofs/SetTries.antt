@@ -1,5 +1,5 @@
 -- Children of a node, by a search for their byte.
-use Rattle.std.proofs.Common.{◌≡◌, ℕ, zero, suc, ◌⊎◌, inl, inr, subst, ◌+◌, ◌-◌, ◌<◌, ◌≤◌, true, List, length, take, drop, slice_index, refl, sym, ap, ◌∙◌, arith, eq-eqb, length-drop}
+use Rattle.std.proofs.Common.{◌≡◌, ℕ, zero, suc, subst, ◌+◌, ◌-◌, ◌<◌, ◌≤◌, List, length, take, drop, slice_index, sym, ap, ◌∙◌, arith, eq-eqb, length-drop}
 use Rattle.std.proofs.lemmas.List.{get_or-drop, get_or-take, length-take-le}
 use Rattle.re_search.specs.FixedSets.{IsTrie}
 use Rattle.memchr.specs.Find.{Nowhere, Passes, is_byte}

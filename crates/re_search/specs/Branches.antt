@@ -1,5 +1,5 @@
 -- The beginnings of strings that stand in order.
-use Rattle.std.specs.Prelude.{◌≡◌, ℕ, ◌+◌, ◌<◌, ◌≤◌, List, [], ◌∷◌, ◌++◌, length, take, map, get_or, slice_get, slice_index, All, nat_eq, ◌↔◌, if◌then◌else◌, Option, Some, None}
+use Rattle.std.specs.Prelude.{◌≡◌, ℕ, ◌+◌, ◌<◌, ◌≤◌, List, [], ◌∷◌, ◌++◌, length, take, get_or, slice_get, slice_index, All, nat_eq, ◌↔◌, if◌then◌else◌, Option, Some, None}
 use Rattle.re_syntax.specs.Bytes.{Text, Begins}
 use Rattle.re_search.specs.declared.fixed_set.growth.Branch.{Branch}
 use Rattle.re_search.specs.FixedSets.{IsFront, IsString}

@@ -1,5 +1,5 @@
 -- Many fixed strings at once: the tree of their beginnings, each with the longest end of it that is such a beginning too (Aho and Corasick, 1975).
-use Rattle.std.specs.Prelude.{◌≡◌, ℕ, ◌+◌, ◌-◌, ◌<◌, ◌≤◌, Bool, List, [], ◌∷◌, ◌++◌, length, take, drop, Any, slice_index, MatchOption, Option, nat_eq, nat_lt, if◌then◌else◌}
+use Rattle.std.specs.Prelude.{◌≡◌, ℕ, ◌+◌, ◌-◌, ◌<◌, ◌≤◌, Bool, List, [], ◌∷◌, ◌++◌, length, take, drop, Any, slice_index, Option, nat_eq, nat_lt, if◌then◌else◌}
 use Rattle.re_syntax.specs.Bytes.{Text, Begins}
 use Rattle.re_auto.specs.Starts.{IsBest}
 use Rattle.re_search.specs.declared.span.Span.{Span}

@@ -1,4 +1,4 @@
-use Rattle.std.proofs.Common.{◌≡◌, arith, length, map, ◌<◌, ◌≤◌, ◌++◌, [], ◌∷◌, get_or, sym, ap, ◌∙◌, subst, All}
+use Rattle.std.proofs.Common.{◌≡◌, arith, map, ◌++◌, [], ◌∷◌, sym, ap, ◌∙◌, subst, All}
 use Rattle.std.proofs.lemmas.List.Elements.{All-push, All-map}
 use Rattle.re_syntax.specs.Lines.{HasNoNewline, lines_of}
 use Rattle.re_syntax.proofs.LinesLaws.{lines_of-terminated}

@@ -1,4 +1,4 @@
-use Rattle.std.proofs.Common.{length, map}
+use Rattle.std.proofs.Common.{map}
 use Rattle.re_syntax.specs.Lines.{lines_of}
 use Rattle.re_search.specs.Reading.{matched_expression}
 use Rattle.re_search.proofs.FilterLaws.{texts_are_needed}

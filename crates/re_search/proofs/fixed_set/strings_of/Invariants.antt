@@ -1,4 +1,4 @@
-use Rattle.std.proofs.Common.{◌≡◌, List, ◌++◌, map}
+use Rattle.std.proofs.Common.{◌≡◌, ◌++◌, map}
 use Rattle.re_syntax.specs.Lines.{lines_of}
 use Rattle.re_search.proofs.fixed_set.strings_of.Given as goal
 

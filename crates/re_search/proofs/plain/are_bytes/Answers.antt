@@ -1,4 +1,4 @@
-use Rattle.std.proofs.Common.{◌<◌, ◌≤◌, arith}
+use Rattle.std.proofs.Common.{arith}
 use Rattle.re_search.proofs.PlainLaws.{parts_are_bytes}
 use Rattle.re_search.proofs.plain.are_bytes.Goals as goal
 

@@ -1,8 +1,5 @@
-use Rattle.std.proofs.Common.{rules, ◌≡◌, ℕ, [], List, map, sym, ap, ◌∙◌, subst}
-use Rattle.std.specs.Prelude.{◌↔◌}
-use Rattle.re_syntax.specs.Bytes.{Text}
+use Rattle.std.proofs.Common.{rules, ◌≡◌, [], map, sym, ap, ◌∙◌}
 use Rattle.re_syntax.specs.Lines.{lines_of}
-use Rattle.re_search.specs.FixedSets.{IsTableOf}
 use Rattle.re_search.specs.Literals.{keys}
 use Rattle.re_search.proofs.fixed_set.FixedSet.by_keys.Goals as goal
 

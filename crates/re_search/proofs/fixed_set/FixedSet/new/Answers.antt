@@ -1,4 +1,4 @@
-use Rattle.std.proofs.Common.{◌≡◌, map, sym, ap, ◌∙◌}
+use Rattle.std.proofs.Common.{map, sym, ap, ◌∙◌}
 use Rattle.re_syntax.specs.Lines.{lines_of}
 use Rattle.re_search.specs.Literals.{keys}
 use Rattle.re_search.proofs.SetFolded.{lines_lowered, lines_plain}

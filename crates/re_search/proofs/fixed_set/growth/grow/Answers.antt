@@ -1,8 +1,6 @@
-use Rattle.std.proofs.Common.{rules, ◌≡◌, ℕ, ◌+◌, ◌-◌, ◌<◌, ◌≤◌, ◌++◌, ◌∷◌, [], List, length, map, slice_index, refl, sym, ap, subst, ◌∙◌, arith}
+use Rattle.std.proofs.Common.{rules, ◌≡◌, ◌<◌, ◌++◌, ◌∷◌, [], List, length, map, sym, ap, ◌∙◌, arith}
 use Rattle.std.proofs.lemmas.List.{length-map}
 use Rattle.re_syntax.specs.Bytes.{Text}
-use Rattle.re_search.specs.declared.fixed_set.growth.Branch.{Branch}
-use Rattle.re_search.specs.Branches.{AreRows}
 use Rattle.re_search.proofs.SetBranches.{rows_at_first, rows_more}
 use Rattle.re_search.proofs.fixed_set.growth.grow.Goals as goal
 

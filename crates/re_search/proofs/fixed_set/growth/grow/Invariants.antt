@@ -1,4 +1,4 @@
-use Rattle.std.proofs.Common.{ℕ, ◌<◌, ◌-◌, ◌^◌, map, length}
+use Rattle.std.proofs.Common.{◌<◌, ◌-◌, ◌^◌, map, length}
 use Rattle.re_search.specs.Branches.{AreRows}
 use Rattle.re_search.proofs.fixed_set.growth.grow.Given as goal
 

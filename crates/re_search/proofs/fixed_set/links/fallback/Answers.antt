@@ -1,4 +1,4 @@
-use Rattle.std.proofs.Common.{◌≡◌, ℕ, ◌+◌, ◌-◌, ◌<◌, ◌≤◌, length, slice_index, sym, ap, subst, arith}
+use Rattle.std.proofs.Common.{◌≡◌, ◌+◌, ◌-◌, ◌<◌, ◌≤◌, slice_index, subst, arith}
 use Rattle.re_search.proofs.SetFolded.{start_of_plain}
 use Rattle.re_search.proofs.SetTries.{ascends}
 use Rattle.re_search.proofs.fixed_set.links.fallback.Goals as goal

@@ -1,5 +1,5 @@
-use Rattle.std.proofs.Common.{rules, ◌≡◌, ℕ, ◌+◌, ◌-◌, ◌<◌, ◌≤◌, [], ◌∷◌, ◌++◌, length, slice_index, refl, sym, ap, subst, ◌∙◌, arith, length-append}
-use Rattle.re_search.specs.FixedSets.{StandsFor, IsString, longer_ending}
+use Rattle.std.proofs.Common.{rules, ◌≡◌, ◌+◌, ◌<◌, [], ◌∷◌, ◌++◌, length, slice_index, sym, ap, subst, ◌∙◌, arith, length-append}
+use Rattle.re_search.specs.FixedSets.{StandsFor, longer_ending}
 use Rattle.re_search.proofs.SetLinks.{linked_more, linked_right}
 use Rattle.re_search.proofs.SetSearch.{row_read}
 use Rattle.re_search.proofs.fixed_set.links.link_children.Goals as goal

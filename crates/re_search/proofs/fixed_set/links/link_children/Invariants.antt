@@ -1,4 +1,4 @@
-use Rattle.std.proofs.Common.{ℕ, false, ◌+◌, ◌<◌, ◌≤◌, ◌-◌, length, slice_index}
+use Rattle.std.proofs.Common.{false, ◌+◌, ◌≤◌, ◌-◌, length, slice_index}
 use Rattle.re_search.specs.FixedSets.{Labels, IsTrieOf, AreStartsOf, AreOwn, AreLinked, AreLinkedFor}
 use Rattle.re_search.proofs.fixed_set.links.link_children.Given as goal
 

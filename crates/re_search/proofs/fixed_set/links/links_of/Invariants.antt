@@ -1,4 +1,4 @@
-use Rattle.std.proofs.Common.{ℕ, false, ◌+◌, ◌<◌, ◌≤◌, ◌-◌, length, slice_index}
+use Rattle.std.proofs.Common.{false, slice_index}
 use Rattle.re_search.specs.FixedSets.{Labels, IsTrieOf, AreStartsOf, AreOwn, AreLinked, AreLinkedFor}
 use Rattle.re_search.proofs.fixed_set.links.links_of.Given as goal
 

@@ -1,4 +1,4 @@
-use Rattle.std.proofs.Common.{◌≡◌, ℕ, [], ◌∷◌, ◌++◌, sym, ap, subst}
+use Rattle.std.proofs.Common.{[], ◌∷◌, ◌++◌, sym, subst}
 use Rattle.re_search.specs.FixedSets.{IsFront, StandsFor, MayStandFor}
 use Rattle.re_search.proofs.SetSteps.{goes_on, nothing_left}
 use Rattle.re_search.proofs.fixed_set.links.start_of.Goals as goal

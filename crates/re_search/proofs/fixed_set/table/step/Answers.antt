@@ -1,5 +1,4 @@
-use Rattle.std.proofs.Common.{◌≡◌, ℕ, ◌<◌, ◌≤◌, [], ◌∷◌, ◌++◌, length, slice_index, refl, sym, ap, subst, arith}
-use Rattle.re_search.specs.FixedSets.{StandsFor, MayStandFor}
+use Rattle.std.proofs.Common.{◌≡◌, slice_index, arith}
 use Rattle.re_search.proofs.SetSteps.{may_at_first, goes_on, falls_back}
 use Rattle.re_search.proofs.SetTries.{ascends}
 use Rattle.re_search.proofs.fixed_set.table.step.Goals as goal

@@ -1,8 +1,7 @@
-use Rattle.std.proofs.Common.{◌≡◌, ℕ, ◌+◌, ◌-◌, ◌<◌, ◌≤◌, length, slice_index, Some, refl, sym, ap, subst, ◌∙◌, arith}
+use Rattle.std.proofs.Common.{◌≡◌, ◌<◌, length, slice_index, sym, subst, ◌∙◌, arith}
 use Rattle.std.proofs.lemmas.List.{length-map}
 use Rattle.re_search.specs.Literals.{key, keys}
-use Rattle.re_search.specs.declared.span.Span.{Span}
-use Rattle.re_search.specs.FixedSets.{Labels, StandsAtNode, IsTableOf, IsBestOccurrence}
+use Rattle.re_search.specs.FixedSets.{IsBestOccurrence}
 use Rattle.re_search.proofs.SetSearch.{nothing_read, row_read, best_at_first, best_on, best_settled}
 use Rattle.re_search.proofs.fixed_set.table.Table.find_by.Goals as goal
 

@@ -1,4 +1,4 @@
-use Rattle.std.proofs.Common.{◌≡◌, ℕ, ◌<◌, ◌≤◌, ◌-◌, length}
+use Rattle.std.proofs.Common.{◌<◌, ◌≤◌, ◌-◌, length}
 use Rattle.re_search.specs.FixedSets.{Labels, IsTableOf, StandsAtNode, IsBestOccurrence}
 use Rattle.re_search.specs.Literals.{keys}
 use Rattle.re_search.proofs.fixed_set.table.Table.find_by.Given as goal

@@ -1,4 +1,4 @@
-use Rattle.std.proofs.Common.{◌≡◌, ℕ, ◌<◌, ◌≤◌, length, take}
+use Rattle.std.proofs.Common.{◌≡◌, ◌<◌, length, take}
 use Rattle.re_search.specs.FixedSets.{Labels, IsTableOf}
 use Rattle.re_search.specs.Literals.{keys}
 use Rattle.re_search.proofs.fixed_set.table.Table.is_line.Given as goal

@@ -1,8 +1,7 @@
-use Rattle.std.proofs.Common.{◌≡◌, ℕ, ◌+◌, ◌-◌, ◌<◌, ◌≤◌, length, slice_index, refl, sym, ap, subst, ◌∙◌, arith}
+use Rattle.std.proofs.Common.{◌≡◌, ◌<◌, length, slice_index, refl, arith}
 use Rattle.std.proofs.lemmas.Bool.{false≢true}
 use Rattle.std.proofs.lemmas.List.{length-map}
 use Rattle.re_search.specs.Literals.{key, keys}
-use Rattle.re_search.specs.FixedSets.{Labels, StandsAtNode, IsTableOf}
 use Rattle.re_search.proofs.SetSearch.{row_read, some_ends, none_up_to}
 use Rattle.re_search.proofs.fixed_set.table.Table.stands_by.Goals as goal
 

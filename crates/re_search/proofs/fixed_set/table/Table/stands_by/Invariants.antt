@@ -1,4 +1,4 @@
-use Rattle.std.proofs.Common.{◌≡◌, ℕ, ◌<◌, ◌≤◌, ◌-◌, length}
+use Rattle.std.proofs.Common.{ℕ, ◌<◌, ◌≤◌, ◌-◌, length}
 use Rattle.re_search.specs.FixedSets.{Labels, IsTableOf, Occurs, StandsAtNode}
 use Rattle.re_search.specs.Literals.{keys}
 use Rattle.re_search.proofs.fixed_set.table.Table.stands_by.Given as goal
