@@ -11,6 +11,8 @@ trap 'rm -rf "$folder"' EXIT
 cd "$folder"
 printf 'b\nab\nB\n' > short
 printf 'a+\n[[:alpha:]]{2,3}b\n' > patterns
+printf '%s\n' aab xyz ab b wordword Aab q1 q2 q3 > strings
+printf '%s\n' 'a[a-c]b' 'x*yz' 'ab$' 'bc.' 'word[a-z]*' 'Aab*' 'q1.' 'q2.' 'q3.' > expressions
 { printf 'aab\n'; head -c 200000 /dev/zero | tr '\0' a; printf '\naab\n'; } > long
 
 runs=0
@@ -39,6 +41,9 @@ try() {
 try -F b
 try -n -e b -e 'a*b' short - long
 try -E -i -o -f patterns short long
+try -F -n -f strings short long
+try -F -i -o -f strings short
+try -f expressions short long
 try -c -v -x -E '(a{2,3}|b)*' long short
 try -f - short
 try -e '\(' short
