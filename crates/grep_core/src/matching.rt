@@ -29,6 +29,7 @@ pub fn is_selected<M: LineMatch>(
 }
 
 /// Whether there is a filter, and none of its strings stands on the line.
+#[inline]
 fn is_ruled_out(filter: Option<&FixedSet>, line: &[u8]) -> bool
     ensures { IsTrue result ↔ IsSomeAnd filter.entry (λ f. Matches (any_literal f.now) line.now false → ⊥) }
 {
@@ -40,6 +41,7 @@ fn is_ruled_out(filter: Option<&FixedSet>, line: &[u8]) -> bool
 
 /// Whether grep selects the line, as [`is_selected`] tells it. Where a filter rules the line out no
 /// matcher is asked, and no step is counted.
+#[inline(always)]
 pub fn is_selected_behind<M: LineMatch>(
     matchers: &mut [M],
     filter: Option<&FixedSet>,

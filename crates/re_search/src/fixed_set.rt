@@ -52,7 +52,8 @@ impl Model for FixedSet {
 
 impl FixedSet {
     /// A matcher for the texts, the lines of `texts`, of which no byte is special; with `fold` both
-    /// cases of each letter are alike. The one error is that memory was refused.
+    /// cases of each letter are alike. The one error is that memory was refused, or that the texts
+    /// have 2^32 beginnings or more.
     pub fn new(alloc: Global, texts: &[u8], fold: bool, whole: bool) -> Result<FixedSet, AllocError>
         ensures { IfOk result (λ f. f ≡ record { texts = lines_of texts.now; fold = fold; whole = whole }) }
     {
