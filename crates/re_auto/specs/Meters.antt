@@ -16,5 +16,8 @@ counted more n = min (n + more) (2 ^ 64 - 1)
 abbrev pub many_built : ℕ → Steps → Steps
 many_built more steps = record { built = counted more steps.built; reused = steps.reused }
 
+abbrev pub many_reused : ℕ → Steps → Steps
+many_reused more steps = record { built = steps.built; reused = counted more steps.reused }
+
 abbrev pub one_reused : Steps → Steps
 one_reused steps = record { built = steps.built; reused = counted 1 steps.reused }

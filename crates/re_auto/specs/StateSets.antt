@@ -1,5 +1,5 @@
 -- What a set of positions stands for on a line and a place.
-use Rattle.std.specs.Prelude.{◌≡◌, ℕ, ◌<◌, Bool, false, length}
+use Rattle.std.specs.Prelude.{◌≡◌, ℕ, ◌<◌, ◌↔◌, Bool, List, false, length, slice_index}
 use Rattle.re_syntax.specs.Bytes.{Text}
 use Rattle.re_syntax.specs.Expression.{Expression}
 use Rattle.re_syntax.specs.Holds.{positions}
@@ -38,3 +38,11 @@ IsNextSet e mode from byte into =
 -- by the set's mark and positions, some stretch of the mode that ends here is matched
 unfoldable pub IsAccepting : Expression → Mode → StateSet → Bool → Type 0
 IsAccepting e mode set at_end = Accepts (part_of e 0) mode set.at_begin at_end (Has set.words.items)
+
+-- the same positions take both bytes
+abbrev pub TakenAlike : Expression → ℕ → ℕ → Type 0
+TakenAlike e b c = (q : ℕ) → (part_of e 0).takes q b ↔ (part_of e 0).takes q c
+
+-- bytes of one class are taken by the same positions
+abbrev pub AreAlikeInClasses : Expression → List ℕ → Type 0
+AreAlikeInClasses e classes = (b c : ℕ) → b < 256 → c < 256 → slice_index classes b ≡ slice_index classes c → TakenAlike e b c

@@ -9,7 +9,7 @@ ghost use Rattle.re_auto.specs.Meters.{many_built};
 ghost use Rattle.re_auto.specs.Positions.{part_of, is_begin, is_end};
 ghost use Rattle.re_auto.specs.Stepping.{MayBegin, IsNext};
 ghost use Rattle.re_auto.specs.Tables.{words_for, CanBegin, IsRefused};
-ghost use Rattle.re_auto.specs.StateSets.{IsMadeFor, IsNowhere, StandsAt, IsNextSet, IsAccepting};
+ghost use Rattle.re_auto.specs.StateSets.{IsMadeFor, IsNowhere, StandsAt, IsNextSet, IsAccepting, AreAlikeInClasses};
 
 mod one_word;
 
@@ -117,6 +117,14 @@ impl Automaton {
             → StandsAt (expression_of self.now) Search line j set → StandsAt (expression_of self.now) Search line (suc j) set }
     {
         self.tables.beginnings[byte as usize]
+    }
+
+    /// A class for each of the 256 bytes: bytes of one class are taken by the same positions.
+    pub fn classes(&self) -> &[u8]
+        ensures len { length result.now ≡ 256 }
+        ensures alike { AreAlikeInClasses (expression_of self.now) result.now }
+    {
+        &self.tables.class_of
     }
 
     /// How many positions there are.

@@ -1,5 +1,5 @@
 ghost use Rattle.std.specs.Prelude.{◌≡◌};
-ghost use Rattle.re_auto.specs.Meters.{many_built, one_reused, fresh};
+ghost use Rattle.re_auto.specs.Meters.{many_built, many_reused, one_reused, fresh};
 
 use std::marker::Model;
 
@@ -39,6 +39,14 @@ impl Meter {
         ensures { self.new ≡ many_built steps self.old }
     {
         self.built = self.built.saturating_add(steps);
+    }
+
+    /// Counts so many more steps as found in a cache. For the matchers above this crate.
+    pub fn add_reused_steps(&mut self, steps: u64)
+        ensures counted { self.new ≡ many_reused steps self.old }
+        ensures none { steps ≡ 0 → self.new ≡ self.old }
+    {
+        self.reused = self.reused.saturating_add(steps);
     }
 
     /// Counts one more step as found in a cache. For the matchers above this crate.

@@ -19,3 +19,8 @@ pub mod PlainLaws
 pub mod FilterLaws
 pub mod SetFolded
 pub mod LiteralLaws
+pub mod StageLaws
+pub mod PairLemmas
+pub mod SetKeys
+pub mod RowLaws
+pub mod WalkLaws

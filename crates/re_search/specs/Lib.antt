@@ -7,3 +7,8 @@ pub mod Simulations
 pub mod FixedSets
 pub mod Branches
 pub mod Filters
+pub mod Pairs
+pub mod Rows
+pub mod Stages
+pub mod Walks
+pub mod CachedMatchers

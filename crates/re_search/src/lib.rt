@@ -2,6 +2,7 @@
 //! counted steps.
 #![tactic(auto)]
 
+mod cached;
 mod filter;
 mod fixed;
 mod fixed_set;
@@ -13,6 +14,7 @@ mod several;
 mod simulated;
 mod span;
 
+pub use cached::Cached;
 pub use filter::needed_strings;
 pub use fixed::Fixed;
 pub use fixed_set::FixedSet;

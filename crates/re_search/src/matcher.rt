@@ -4,9 +4,10 @@ ghost use Rattle.re_syntax.specs.Expression.{expression_of};
 ghost use Rattle.re_syntax.specs.Holds.{Matches, most_positions, positions};
 ghost use Rattle.re_syntax.specs.Spelled.{IsSpelled, IsMeant, has_limit};
 ghost use Rattle.re_search.specs.Needles.{IsNeeded};
-ghost use Rattle.re_search.specs.Reading.{matched_expression, wants_whole, is_fixed, IsSmallFor, IsReadable, IsOutOfMemory, IsBuildFault, IsNotSpelled, IsRefusedFor};
+ghost use Rattle.re_search.specs.Reading.{matched_expression, wants_whole, is_fixed, room_of, entries_of, CountsSteps, IsSmallFor, IsReadable, IsOutOfMemory, IsBuildFault, IsNotSpelled, IsRefusedFor};
 ghost use Rattle.re_search.specs.Searching.{FindsPart, AddsAtMost};
 
+use crate::cached::Cached;
 use crate::fixed::Fixed;
 use crate::fixed_set::FixedSet;
 use crate::line_match::LineMatch;
@@ -15,6 +16,7 @@ use crate::span::Span;
 use re_auto::{BuildFault, Meter};
 use re_syntax::{FaultKind, PatternFault, Syntax, Tree, read_basic, read_extended, read_fixed};
 use std::alloc::Global;
+use std::num::NonZeroUsize;
 
 /// A matcher of either kind.
 #[derive(Drop)]
@@ -25,14 +27,16 @@ pub enum Matcher {
     FixedSet(FixedSet),
     /// Steps an automaton.
     Simulated(Simulated),
+    /// Steps an automaton, and keeps what its sets of positions become.
+    Cached(Cached),
 }
 
 impl Matcher {
     /// The matcher for the text of a pattern, read in its syntax; with `fold` both cases of each
     /// letter are alike (XCU grep, option `-i`), and with `whole` the whole line has to be matched
     /// (option `-x`). A string that is not folded is looked for as it is, and may be of any length;
-    /// all other patterns get an automaton. `_states`, from 1 to 65,536, is the size of a cache that
-    /// there is not yet, and has no effect.
+    /// all other patterns get an automaton and a cache of at most `states` entries, from 1 to 65,536,
+    /// which is gone without where memory for it is refused.
     ///
     /// # Errors
     ///
@@ -45,20 +49,33 @@ impl Matcher {
         syntax: Syntax,
         fold: bool,
         whole: bool,
-        _states: usize,
+        states: usize,
     ) -> Result<Matcher, PatternFault>
-        requires { (1 ≤ _states) × (_states ≤ 65536) }
+        requires { (1 ≤ states) × (states ≤ 65536) }
         ensures meant { IfOk result (λ m. IsMeant syntax fold text.now (matched_expression m)) }
         ensures whole { IfOk result (λ m. wants_whole m ≡ whole) }
         ensures small { IfOk result (λ m. IsSmallFor syntax fold (matched_expression m)) }
         ensures kind { IfOk result (λ m. is_fixed m ≡ not (has_limit syntax fold)) }
+        ensures room { IfOk result (λ m. room_of m ≤ states) }
+        ensures empty { IfOk result (λ m. entries_of m ≡ []) }
         ensures refused { IfErr result (λ fault. IsOutOfMemory fault ⊎ IsRefusedFor syntax fold text.now fault) }
         ensures unreadable { IfErr result (λ fault. IsOutOfMemory fault ⊎ (IsReadable syntax fold text.now → ⊥)) }
     {
         if is_limited(syntax, fold) {
-            return simulated_matcher(alloc, text, syntax, fold, whole);
+            return stepping_matcher(alloc, text, syntax, fold, whole, states);
         }
         fixed_matcher(alloc, text, whole)
+    }
+
+    /// How many entries its cache has; 0 where it has none.
+    pub fn cached(&self) -> usize
+        ensures held { result ≡ length (entries_of self.now) }
+        ensures few { result ≤ room_of self.now }
+    {
+        match self {
+            Matcher::Cached(cached) => cached.cached(),
+            _ => 0,
+        }
     }
 
     /// A string that stands on each stretch that is matched, where one is known of a matcher that
@@ -68,6 +85,7 @@ impl Matcher {
     {
         match self {
             Matcher::Simulated(simulated) => simulated.needed(),
+            Matcher::Cached(cached) => cached.needed(),
             _ => None,
         }
     }
@@ -85,11 +103,14 @@ impl LineMatch for Matcher {
         ensures same_expression { matched_expression self.new ≡ matched_expression self.old }
         ensures same_whole { wants_whole self.new ≡ wants_whole self.old }
         ensures steps { AddsAtMost (length line.now + 1) meter.old meter.new }
+        ensures counted { CountsSteps line.now self.old meter.old self.new meter.new result }
+        ensures same_room { room_of self.new ≡ room_of self.old }
     {
         match self {
             Matcher::Fixed(fixed) => fixed.is_match(line, meter),
             Matcher::FixedSet(set) => set.is_match(line, meter),
             Matcher::Simulated(simulated) => simulated.is_match(line, meter),
+            Matcher::Cached(cached) => cached.is_match(line, meter),
         }
     }
 
@@ -99,11 +120,14 @@ impl LineMatch for Matcher {
         ensures same_expression { matched_expression self.new ≡ matched_expression self.old }
         ensures same_whole { wants_whole self.new ≡ wants_whole self.old }
         ensures steps { AddsAtMost (length line.now - from + 1) meter.old meter.new }
+        ensures same_entries { entries_of self.new ≡ entries_of self.old }
+        ensures same_room { room_of self.new ≡ room_of self.old }
     {
         match self {
             Matcher::Fixed(fixed) => fixed.find(line, from, meter),
             Matcher::FixedSet(set) => set.find(line, from, meter),
             Matcher::Simulated(simulated) => simulated.find(line, from, meter),
+            Matcher::Cached(cached) => cached.find(line, from, meter),
         }
     }
 }
@@ -131,38 +155,62 @@ fn fixed_matcher(alloc: Global, text: &[u8], whole: bool) -> Result<Matcher, Pat
 }
 
 // The matcher that steps the automaton of what the text means.
-fn simulated_matcher(
+fn stepping_matcher(
     alloc: Global,
     text: &[u8],
     syntax: Syntax,
     fold: bool,
     whole: bool,
+    states: usize,
 ) -> Result<Matcher, PatternFault>
-    requires { IsTrue (has_limit syntax fold) }
+    requires limited { IsTrue (has_limit syntax fold) }
+    requires some { 1 ≤ states }
     ensures meant { IfOk result (λ m. IsMeant syntax fold text.now (matched_expression m)) }
     ensures whole { IfOk result (λ m. wants_whole m ≡ whole) }
     ensures small { IfOk result (λ m. IsSmallFor syntax fold (matched_expression m)) }
     ensures kind { IfOk result (λ m. is_fixed m ≡ false) }
+    ensures room { IfOk result (λ m. room_of m ≤ states) }
+    ensures empty { IfOk result (λ m. entries_of m ≡ []) }
     ensures refused { IfErr result (λ fault. IsOutOfMemory fault ⊎ IsRefusedFor syntax fold text.now fault) }
 {
     let tree = match meant_tree(alloc, text, syntax, fold) {
         Ok(tree) => tree,
         Err(fault) => return Err(fault),
     };
-    stepping_matcher(alloc, tree, whole)
+    match simulated_matcher(alloc, tree, whole) {
+        Ok(simulated) => Ok(with_cache(alloc, simulated, states)),
+        Err(fault) => Err(fault),
+    }
 }
 
 // The matcher that steps the automaton of a tree. Its faults are `TooLarge`, exactly where the
 // expression has more than 4,096 positions, and `Memory`.
-fn stepping_matcher(alloc: Global, tree: Tree, whole: bool) -> Result<Matcher, PatternFault>
-    ensures made { IfOk result (λ m. m ≡ Matcher.Simulated (record { tree = tree; whole = whole })) }
+fn simulated_matcher(alloc: Global, tree: Tree, whole: bool) -> Result<Simulated, PatternFault>
+    ensures made { IfOk result (λ s. s ≡ record { tree = tree; whole = whole }) }
     ensures few { IfOk result (λ _. positions (expression_of tree) ≤ most_positions) }
     ensures refused { IfErr result (IsBuildFault (positions (expression_of tree))) }
 {
     match Simulated::new(alloc, tree, whole) {
-        Ok(simulated) => Ok(Matcher::Simulated(simulated)),
+        Ok(simulated) => Ok(simulated),
         Err(BuildFault::TooLarge) => Err(fault_at_first(FaultKind::TooLarge)),
         Err(BuildFault::Memory) => Err(fault_at_first(FaultKind::Memory)),
+    }
+}
+
+// The matcher with a cache of so many entries, or without one where memory for it is refused.
+fn with_cache(alloc: Global, simulated: Simulated, states: usize) -> Matcher
+    requires { 1 ≤ states }
+    ensures made { (matched_expression result ≡ expression_of simulated.tree) × (wants_whole result ≡ simulated.whole) }
+    ensures kind { is_fixed result ≡ false }
+    ensures room { room_of result ≤ states }
+    ensures empty { entries_of result ≡ [] }
+{
+    let Some(most) = NonZeroUsize::new(states) else {
+        unreachable!();
+    };
+    match Cached::over(alloc, simulated, most) {
+        Ok(cached) => Matcher::Cached(cached),
+        Err(simulated) => Matcher::Simulated(simulated),
     }
 }
 

@@ -4,17 +4,19 @@ ghost use Rattle.re_syntax.specs.Expression.{expression_of};
 ghost use Rattle.re_syntax.specs.Holds.{Matches, most_positions, positions};
 ghost use Rattle.re_auto.specs.Tables.{IsRefused};
 ghost use Rattle.re_search.specs.Needles.{IsNeeded};
+ghost use Rattle.re_auto.specs.StateSets.{IsMadeFor};
+ghost use Rattle.re_search.specs.Stages.{Cache, Searches, FinishesFrom, IsSettled, mode_for};
 ghost use Rattle.re_search.specs.Searching.{FindsPart, AddsAtMost};
 
 mod least;
 mod sets;
-mod skipping;
+pub mod skipping;
 
 use crate::line_match::LineMatch;
 use crate::needle::Needle;
 use crate::span::Span;
 use least::StartPair;
-use re_auto::{Automaton, BuildFault, Meter};
+use re_auto::{Automaton, BuildFault, Meter, Mode, StateSet};
 use re_syntax::Tree;
 use sets::SetPair;
 use std::alloc::Global;
@@ -84,45 +86,84 @@ impl Simulated {
         }
     }
 
-    // Whether some stretch of the line is matched.
-    fn stands_in(&mut self, line: &[u8], meter: &mut Meter) -> bool
-        ensures told { IsTrue result ↔ Matches (expression_of self.old.tree) line.now false }
-        ensures same { self.new ≡ self.old }
-        ensures steps { AddsAtMost (length line.now) meter.old meter.new }
+    /// The automaton.
+    #[inline(always)]
+    pub(crate) fn automaton(&self) -> &Automaton
+        ensures { result.now ≡ self.now.tree }
+    {
+        &self.automaton
+    }
+
+    /// The mode in which lines are searched.
+    #[inline(always)]
+    pub(crate) fn mode(&self) -> Mode
+        ensures { result ≡ mode_for self.now.whole }
+    {
+        if self.whole {
+            return Mode::Whole;
+        }
+        Mode::Search
+    }
+
+    /// What is known of the line without a step.
+    #[inline(always)]
+    pub(crate) fn settled(&self, line: &[u8]) -> Option<bool>
+        ensures { IfSome result (λ told. IsSettled (expression_of self.now.tree) self.now.whole line.now told) }
     {
         if let Some(needle) = &self.needle {
             if needle.finder.find(line).is_none() {
-                return false;
+                return Some(false);
             }
-            if needle.is_all {
-                return true;
+            if needle.is_all && !self.whole {
+                return Some(true);
             }
+        }
+        None
+    }
+
+    /// Whether the line is matched, by steps alone.
+    pub(crate) fn step_over(&mut self, line: &[u8], meter: &mut Meter) -> bool
+        ensures searches { (cache : Cache) → cache.entries ≡ [] → Searches (expression_of self.old.tree) (mode_for self.old.whole) line.now cache cache meter.old meter.new result }
+        ensures same { self.new ≡ self.old }
+    {
+        if self.whole {
+            return self.sets.is_line(&self.automaton, line, meter);
         }
         self.sets.stands_in(&self.automaton, line, meter)
     }
 
-    // Whether the whole line is matched.
-    fn is_line(&mut self, line: &[u8], meter: &mut Meter) -> bool
-        ensures told { IsTrue result ↔ Matches (expression_of self.old.tree) line.now true }
+    /// The rest of a search, by steps alone, from a place on at which the set stands.
+    #[inline(never)]
+    pub(crate) fn finish(
+        &mut self,
+        set: &StateSet,
+        line: &[u8],
+        from: usize,
+        meter: &mut Meter,
+    ) -> bool
+        requires set { IsMadeFor (expression_of self.old.tree) set.now }
+        requires within { from ≤ length line.now }
+        ensures finishes { FinishesFrom (expression_of self.old.tree) (mode_for self.old.whole) line.now from set.now meter.old meter.new result }
         ensures same { self.new ≡ self.old }
-        ensures steps { AddsAtMost (length line.now) meter.old meter.new }
     {
-        if let Some(needle) = &self.needle {
-            if needle.finder.find(line).is_none() {
-                return false;
-            }
+        if self.whole {
+            return self
+                .sets
+                .is_line_from(&self.automaton, set, line, from, meter);
         }
-        self.sets.is_line(&self.automaton, line, meter)
+        self.sets
+            .stands_from(&self.automaton, set, line, from, meter)
     }
 
     // The part where the whole line has to be matched.
     fn whole_line(&mut self, line: &[u8], from: usize, meter: &mut Meter) -> Option<Span>
-        requires { from ≤ length line.now }
+        requires within { from ≤ length line.now }
+        requires whole { self.old.whole ≡ true }
         ensures told { FindsPart (expression_of self.old.tree ∷ []) line.now true from result }
         ensures same { self.new ≡ self.old }
-        ensures steps { AddsAtMost (length line.now - from) meter.old meter.new }
+        ensures steps { AddsAtMost (length line.now - from + 1) meter.old meter.new }
     {
-        if from > 0 || line.is_empty() || !self.is_line(line, meter) {
+        if from > 0 || line.is_empty() || !self.is_match(line, meter) {
             return None;
         }
         Some(Span {
@@ -165,10 +206,10 @@ impl LineMatch for Simulated {
         ensures steps { AddsAtMost (length line.now + 1) meter.old meter.new }
         ensures same { self.new ≡ self.old }
     {
-        if self.whole {
-            return self.is_line(line, meter);
+        if let Some(told) = self.settled(line) {
+            return told;
         }
-        self.stands_in(line, meter)
+        self.step_over(line, meter)
     }
 
     fn find(&mut self, line: &[u8], from: usize, meter: &mut Meter) -> Option<Span>

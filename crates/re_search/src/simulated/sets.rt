@@ -1,14 +1,12 @@
 //! Sets of positions on their way over a line.
-ghost use Rattle.std.specs.Prelude.{◌≡◌, ℕ, suc, ◌-◌, ◌<◌, ◌≤◌, ◌↔◌, true, false, Some, IsTrue, IfOk, IfErr, length, slice_get};
-ghost use Rattle.re_syntax.specs.Bytes.{Text};
+ghost use Rattle.std.specs.Prelude.{◌≡◌, ◌<◌, ◌≤◌, [], IfOk, IfErr, length};
 ghost use Rattle.re_syntax.specs.Expression.{expression_of};
-ghost use Rattle.re_syntax.specs.Holds.{Matches};
 ghost use Rattle.re_auto.specs.declared.build.BuildFault.TheVariants.{Memory};
-ghost use Rattle.re_auto.specs.declared.mode.Mode.TheVariants.{Search};
+ghost use Rattle.re_auto.specs.declared.mode.Mode.TheVariants.{Search, Whole};
 ghost use Rattle.re_auto.specs.Meters.{many_built};
-ghost use Rattle.re_auto.specs.StateSets.{StandsAt};
-ghost use Rattle.re_search.specs.Searching.{AddsAtMost};
+ghost use Rattle.re_auto.specs.StateSets.{IsMadeFor, IsNextSet};
 ghost use Rattle.re_search.specs.Simulations.{AreSetsFor};
+ghost use Rattle.re_search.specs.Stages.{Cache, Searches, FinishesFrom, GoesFrom};
 
 use crate::simulated::skipping::next_beginning;
 use re_auto::{Automaton, BuildFault, Meter, Mode, StateSet};
@@ -38,11 +36,75 @@ impl SetPair {
     pub fn stands_in(&mut self, automaton: &Automaton, line: &[u8], meter: &mut Meter) -> bool
         requires made { AreSetsFor (expression_of automaton.now) self.old }
         ensures made { AreSetsFor (expression_of automaton.now) self.new }
-        ensures told { IsTrue result ↔ Matches (expression_of automaton.now) line.now false }
-        ensures steps { AddsAtMost (length line.now) meter.old meter.new }
+        ensures searches { (cache : Cache) → cache.entries ≡ [] → Searches (expression_of automaton.now) Search line.now cache cache meter.old meter.new result }
     {
         automaton.start(&mut self.current);
-        let mut place = 0;
+        self.rest_stands(automaton, line, 0, meter)
+    }
+
+    /// The same from a set on that stands at some place.
+    pub fn stands_from(
+        &mut self,
+        automaton: &Automaton,
+        set: &StateSet,
+        line: &[u8],
+        from: usize,
+        meter: &mut Meter,
+    ) -> bool
+        requires made { AreSetsFor (expression_of automaton.now) self.old }
+        requires set { IsMadeFor (expression_of automaton.now) set.now }
+        requires within { from ≤ length line.now }
+        ensures made { AreSetsFor (expression_of automaton.now) self.new }
+        ensures finishes { FinishesFrom (expression_of automaton.now) Search line.now from set.now meter.old meter.new result }
+    {
+        self.current.copy_from(set);
+        self.rest_stands(automaton, line, from, meter)
+    }
+
+    /// Whether the whole line is matched. It ends where no stretch from the line's first place is
+    /// on its way any more.
+    pub fn is_line(&mut self, automaton: &Automaton, line: &[u8], meter: &mut Meter) -> bool
+        requires made { AreSetsFor (expression_of automaton.now) self.old }
+        ensures made { AreSetsFor (expression_of automaton.now) self.new }
+        ensures searches { (cache : Cache) → cache.entries ≡ [] → Searches (expression_of automaton.now) Whole line.now cache cache meter.old meter.new result }
+    {
+        automaton.start(&mut self.current);
+        self.rest_is_line(automaton, line, 0, meter)
+    }
+
+    /// The same from a set on that stands at some place.
+    pub fn is_line_from(
+        &mut self,
+        automaton: &Automaton,
+        set: &StateSet,
+        line: &[u8],
+        from: usize,
+        meter: &mut Meter,
+    ) -> bool
+        requires made { AreSetsFor (expression_of automaton.now) self.old }
+        requires set { IsMadeFor (expression_of automaton.now) set.now }
+        requires within { from ≤ length line.now }
+        ensures made { AreSetsFor (expression_of automaton.now) self.new }
+        ensures finishes { FinishesFrom (expression_of automaton.now) Whole line.now from set.now meter.old meter.new result }
+    {
+        self.current.copy_from(set);
+        self.rest_is_line(automaton, line, from, meter)
+    }
+
+    // The rest of the search for some matched stretch, from a place on.
+    fn rest_stands(
+        &mut self,
+        automaton: &Automaton,
+        line: &[u8],
+        from: usize,
+        meter: &mut Meter,
+    ) -> bool
+        requires made { AreSetsFor (expression_of automaton.now) self.old }
+        requires within { from ≤ length line.now }
+        ensures made { AreSetsFor (expression_of automaton.now) self.new }
+        ensures finishes { FinishesFrom (expression_of automaton.now) Search line.now from self.old.current meter.old meter.new result }
+    {
+        let mut place = from;
         'places: while place < line.len() {
             if automaton.accepts(Mode::Search, &self.current, false) {
                 return true;
@@ -52,16 +114,20 @@ impl SetPair {
         automaton.accepts(Mode::Search, &self.current, true)
     }
 
-    /// Whether the whole line is matched. It ends where no stretch from the line's first place is
-    /// on its way any more.
-    pub fn is_line(&mut self, automaton: &Automaton, line: &[u8], meter: &mut Meter) -> bool
+    // The rest of the search for the whole line, from a place on.
+    fn rest_is_line(
+        &mut self,
+        automaton: &Automaton,
+        line: &[u8],
+        from: usize,
+        meter: &mut Meter,
+    ) -> bool
         requires made { AreSetsFor (expression_of automaton.now) self.old }
+        requires within { from ≤ length line.now }
         ensures made { AreSetsFor (expression_of automaton.now) self.new }
-        ensures told { IsTrue result ↔ Matches (expression_of automaton.now) line.now true }
-        ensures steps { AddsAtMost (length line.now) meter.old meter.new }
+        ensures finishes { FinishesFrom (expression_of automaton.now) Whole line.now from self.old.current meter.old meter.new result }
     {
-        automaton.start(&mut self.current);
-        'places: for place in 0..line.len() {
+        'places: for place in from..line.len() {
             if self.current.is_nowhere() {
                 return false;
             }
@@ -71,17 +137,13 @@ impl SetPair {
     }
 
     // Goes over the byte at `place`, or, where no stretch is on its way, over those from there on
-    // that none can begin with, and gives the place behind. At the places passed without a step the
-    // set of before stands.
+    // that none can begin with, and gives the place behind.
     fn pass(&mut self, automaton: &Automaton, line: &[u8], place: usize, meter: &mut Meter) -> usize
         requires made { AreSetsFor (expression_of automaton.now) self.old }
         requires within { place < length line.now }
-        requires stands { StandsAt (expression_of automaton.now) Search line.now place self.old.current }
         ensures made { AreSetsFor (expression_of automaton.now) self.new }
         ensures on { (place < result) × (result ≤ length line.now) }
-        ensures stands { StandsAt (expression_of automaton.now) Search line.now result self.new.current }
-        ensures between { (k : ℕ) → place ≤ k → k < result → StandsAt (expression_of automaton.now) Search line.now k self.old.current }
-        ensures steps { AddsAtMost (result - place) meter.old meter.new }
+        ensures goes { GoesFrom (expression_of automaton.now) Search line.now place self.old.current meter.old result self.new.current meter.new }
     {
         if self.current.is_nowhere() {
             let next = next_beginning(automaton, line, place);
@@ -98,8 +160,7 @@ impl SetPair {
     fn advance(&mut self, automaton: &Automaton, mode: Mode, byte: u8, meter: &mut Meter)
         requires made { AreSetsFor (expression_of automaton.now) self.old }
         ensures made { AreSetsFor (expression_of automaton.now) self.new }
-        ensures stands { (line : Text) (j : ℕ) → slice_get line j ≡ Some byte
-            → StandsAt (expression_of automaton.now) mode line j self.old.current → StandsAt (expression_of automaton.now) mode line (suc j) self.new.current }
+        ensures next { IsNextSet (expression_of automaton.now) mode self.old.current byte self.new.current }
         ensures counted { meter.new ≡ many_built 1 meter.old }
     {
         if automaton.has_one_word() {
@@ -114,8 +175,7 @@ impl SetPair {
     fn advance_in_spare(&mut self, automaton: &Automaton, mode: Mode, byte: u8, meter: &mut Meter)
         requires made { AreSetsFor (expression_of automaton.now) self.old }
         ensures made { AreSetsFor (expression_of automaton.now) self.new }
-        ensures stands { (line : Text) (j : ℕ) → slice_get line j ≡ Some byte
-            → StandsAt (expression_of automaton.now) mode line j self.old.current → StandsAt (expression_of automaton.now) mode line (suc j) self.new.current }
+        ensures next { IsNextSet (expression_of automaton.now) mode self.old.current byte self.new.current }
         ensures counted { meter.new ≡ many_built 1 meter.old }
     {
         automaton.advance(mode, &self.current, byte, &mut self.spare, meter);

@@ -5,9 +5,9 @@ use Rattle.re_search.proofs.matcher.Matcher.new.Goals as goal
 
 pub returns-then-is_limited-clause-unreadable : goal.returns-then-is_limited-clause-unreadable
 returns-then-is_limited-clause-unreadable c =
-    IfErr-weaker c.simulated_matcher.result _ _
+    IfErr-weaker c.stepping_matcher.result _ _
     (λ fault why. elim why [ inl memory ↦ inl memory | inr refused ↦ inr (refused_unreadable c.args.syntax c.args.fold c.args.text.now fault refused) ])
-    c.simulated_matcher.ensures.refused
+    c.stepping_matcher.ensures.refused
 
 pub returns-clause-meant : goal.returns-clause-meant
 returns-clause-meant c =

@@ -1,20 +1,15 @@
-use Rattle.std.proofs.Common.{arith, add-one}
-use Rattle.std.proofs.lemmas.Option.{slice_get-get_or}
+use Rattle.std.proofs.Common.{add-one}
 use Rattle.re_syntax.specs.Expression.{expression_of}
-use Rattle.re_search.proofs.Passing.{stands_on}
+use Rattle.re_auto.specs.declared.mode.Mode.TheVariants.{Search}
+use Rattle.re_search.proofs.StageLaws.{goes_to, goes_built}
 use Rattle.re_search.proofs.simulated.sets.SetPair.pass.Goals as goal
 
-pub returns-then-next-place-clause-stands : goal.returns-then-next-place-clause-stands
-returns-then-next-place-clause-stands c =
-    let next = c.next_beginning-next.result in
-    stands_on (expression_of c.args.automaton.now) c.args.line.now c.args.self.now.current c.args.place next (c.is_nowhere.ensures.0 c.if-is_nowhere.true) c.requires.stands
-    c.next_beginning-next.ensures.within.1 c.next_beginning-next.ensures.passed next c.next_beginning-next.ensures.within.0 (omega arith)
+pub returns-then-next-place-clause-goes : goal.returns-then-next-place-clause-goes
+returns-then-next-place-clause-goes c = λ first cache none plain goes.
+    goes_to (expression_of c.args.automaton.now) c.args.line.now first _ c.args.place c.next_beginning-next.result c.next_beginning-next.ensures.within.0
+    (c.is_nowhere.ensures.0 c.if-is_nowhere.true) plain c.next_beginning-next.ensures.passed goes
 
-pub returns-then-next-place-clause-between : goal.returns-then-next-place-clause-between
-returns-then-next-place-clause-between c = λ k low high.
-    stands_on (expression_of c.args.automaton.now) c.args.line.now c.args.self.now.current c.args.place c.next_beginning-next.result (c.is_nowhere.ensures.0 c.if-is_nowhere.true) c.requires.stands
-    c.next_beginning-next.ensures.within.1 c.next_beginning-next.ensures.passed k low (omega arith)
-
-pub returns-clause-stands : goal.returns-clause-stands
-returns-clause-stands c =
-    rw (add-one c.args.place) (c.advance.ensures.stands c.args.line.now c.args.place (slice_get-get_or c.args.line.now c.args.place 0 c.requires.within) c.requires.stands)
+pub returns-clause-goes : goal.returns-clause-goes
+returns-clause-goes c = λ first cache none plain goes.
+    rw (add-one c.args.place) (goes_built (expression_of c.args.automaton.now) Search c.args.line.now c.args.place first cache c.args.self.now.current c.advance.new.self.current c.args.meter.now c.advance.new.meter
+    none plain c.advance.ensures.next c.advance.ensures.counted goes)

@@ -1,0 +1,113 @@
+//! When it is worth while to keep pairs, and to pass bytes without a step. Nothing that a contract
+//! says rests on it.
+
+// How many bytes are stepped over before pairs are kept: what is made ready for them has to pay.
+const WARM: usize = 256;
+
+// How many lines are searched without keeping anything after the first search that gave up; after
+// each later one twice as many.
+const REST: u32 = 1024;
+
+// How many bytes a miss has to be made up for by.
+const BYTES_A_MISS: usize = 32;
+
+// After so many passes their mean length decides whether passing goes on.
+const PASSES: u32 = 64;
+
+// From this mean length on, passing bytes is quicker than reading their cells.
+const WORTH_PASSING: usize = 8;
+
+/// What was seen of searches so far.
+#[derive(Drop)]
+pub struct Pace {
+    warm: usize,
+    rest: u32,
+    next_rest: u32,
+    misses: usize,
+    reused: usize,
+    passes: u32,
+    passed: usize,
+    passing: bool,
+}
+
+impl Pace {
+    /// Nothing was seen.
+    pub fn new() -> Pace {
+        Pace {
+            warm: 0,
+            rest: 0,
+            next_rest: REST,
+            misses: 0,
+            reused: 0,
+            passes: 0,
+            passed: 0,
+            passing: true,
+        }
+    }
+
+    /// Whether to begin to keep pairs with a line of this length.
+    pub fn begins(&mut self, length: usize) -> bool {
+        if self.rest > 0 {
+            self.rest -= 1;
+            return false;
+        }
+        self.warm = self.warm.saturating_add(length);
+        self.warm >= WARM
+    }
+
+    /// So many bytes were gone over whose pairs are held.
+    #[inline(always)]
+    pub fn note_reused(&mut self, bytes: usize) {
+        self.reused = self.reused.saturating_add(bytes);
+    }
+
+    /// One more pair was not held, where so many may be. Whether keeping pairs goes on: it has to
+    /// save enough steps.
+    pub fn affords_miss(&mut self, most: usize) -> bool {
+        self.misses = self.misses.saturating_add(1);
+        if self.misses / 2 <= most {
+            return true;
+        }
+        if !self.pays() {
+            return false;
+        }
+        self.count_anew();
+        true
+    }
+
+    /// A search gave up. Where keeping pairs didn't pay, the next lines are searched without.
+    pub fn give_up(&mut self) {
+        if !self.pays() {
+            self.rest = self.next_rest;
+            self.next_rest = self.next_rest.saturating_mul(2);
+        }
+        self.count_anew();
+    }
+
+    // Whether so many steps were reused that they make up for the misses.
+    fn pays(&self) -> bool {
+        self.reused / BYTES_A_MISS >= self.misses
+    }
+
+    // Begins to count misses and reused steps at nothing.
+    fn count_anew(&mut self) {
+        self.misses = 0;
+        self.reused = 0;
+    }
+
+    /// Whether bytes that no stretch can begin with are passed without a step.
+    pub fn passes(&self) -> bool {
+        self.passing
+    }
+
+    /// So many bytes were passed.
+    pub fn note_pass(&mut self, bytes: usize) {
+        self.passes = self.passes.saturating_add(1);
+        self.passed = self.passed.saturating_add(bytes);
+        if self.passes >= PASSES {
+            self.passing = self.passed / PASSES as usize >= WORTH_PASSING;
+            self.passes = 0;
+            self.passed = 0;
+        }
+    }
+}
