@@ -75,7 +75,7 @@ over_alike e mode c old new other is over = record {
       | inl b ↦ inl (record {
         not_held = b.not_held;
         next = next_same e mode old.set new.set other.set c is.set b.next;
-        cache = subst (λ cache. HoldsNoOther old.cache old.set c cache) (sym is.cache) b.cache;
+        cache = subst (λ cache. HoldsNoOther e old.cache old.set c cache) (sym is.cache) b.cache;
         steps = is.steps ∙ b.steps;
       })
       | inr p ↦ inr (record { search = p.search; nowhere = p.nowhere; never = p.never; same = alike_trans other new old is p.same })

@@ -138,7 +138,7 @@ module _ (e : Expression) (mode : Mode) (classes : List ℕ) (stride : ℕ) (set
 
   -- by one that was worked out
   pub lands_learned : (line : Text) (first : Stage) (now : Cache) (before after : Steps) (j r byte cell : ℕ) → byte < 256 → slice_get line j ≡ Some byte → cell_at classes cells r byte ≡ unknown
-      → ((set : StateSet) → IsRowOf sets stride r set → (cell < unknown) × TellsNext e mode now.sets now.stride set byte cell) → ((set : StateSet) → IsRowOf sets stride r set → HoldsNoOther cache set byte now)
+      → ((set : StateSet) → IsRowOf sets stride r set → (cell < unknown) × TellsNext e mode now.sets now.stride set byte cell) → ((set : StateSet) → IsRowOf sets stride r set → HoldsNoOther e cache set byte now)
       → after ≡ many_built 1 before → ComesTo e mode line first cache before j r → Lands e mode line first now after j cell
   lands_learned line first now before after j r byte cell small is none found others counted came =
       lands_at line first came.set now before after j byte cell is (found came.set came.row).1 (found came.set came.row).0 came.goes
@@ -174,14 +174,14 @@ module _ (e : Expression) (mode : Mode) (classes : List ℕ) (stride : ℕ) (set
       → ((r : ℕ) (set : StateSet) → IsRowOf sets stride r set → IsRowOf sets-2 stride r set)
       → (new : List ℕ) (now : List (ℕ × ℕ)) → Mirrors now new → (r byte : ℕ) (set : StateSet) → IsRowOf sets stride r set → byte < 256
       → ((k : ℕ) → (k ≡ r + slice_index classes byte → ⊥) → IsKeptOrLost (slice_index cells-2 k) (slice_index new k)) → length new ≡ length cells-2
-      → HoldsNoOther cache set byte (record { classes = classes; stride = stride; sets = sets-2; entries = now })
+      → HoldsNoOther e cache set byte (record { classes = classes; stride = stride; sets = sets-2; entries = now })
   holds_no_other sets-2 marks-2 cells-2 sound-2 rows new now mirrors r byte set row small others len = λ other b lt h.
       let k = h.number * stride + slice_index classes b in
       let here : IsRowOf sets-2 stride (h.number * stride) h.same = record { number = h.number; row = refl; is = h.is } in
       elim (cases_eq k (r + slice_index classes byte)) [
         | inl same ↦
             let both = same_place e mode classes stride sets-2 marks-2 cells-2 entries sound-2 (h.number * stride) r (slice_index classes b) (slice_index classes byte) h.same set here (rows r set row) (sound.classed b lt) (sound.classed byte small) same in
-            inr (subst (IsSame other) both.1 (same_sym h.same other h.alike), both.0)
+            inr (subst (IsSame other) both.1 (same_sym h.same other h.alike), sound.alike b byte lt small both.0)
         | inr not ↦
             let value = held_value (lookup (nat_eq k) now) refl h.held in
             let inside = (mirrors.within k value.0 value.1).0 in

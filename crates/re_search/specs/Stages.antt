@@ -9,7 +9,7 @@ use Rattle.re_auto.specs.declared.mode.Mode.TheVariants.{Search, Whole}
 use Rattle.re_auto.specs.declared.state_set.StateSet.{StateSet}
 use Rattle.re_auto.specs.Meters.{Steps, many_built, many_reused}
 use Rattle.re_auto.specs.Positions.{part_of}
-use Rattle.re_auto.specs.StateSets.{IsSame, IsNowhere, IsNextSet, IsAccepting, StandsAt}
+use Rattle.re_auto.specs.StateSets.{IsSame, IsNowhere, IsNextSet, IsAccepting, StandsAt, TakenAlike}
 use Rattle.re_auto.specs.Tables.{CanBegin}
 use Rattle.re_search.specs.Needles.{IsNeeded}
 
@@ -28,9 +28,9 @@ pub record IsHeld (cache : Cache) (set : StateSet) (c : ℕ) : Type 0 where
   pub alike : IsSame same set
   pub held : IsSome (lookup (nat_eq (number * cache.stride + slice_index cache.classes c)) cache.entries)
 
--- the new cache holds no pair that the old one didn't, but for that of this set and the class of this byte
-abbrev pub HoldsNoOther : Cache → StateSet → ℕ → Cache → Type 0
-HoldsNoOther old set c new = (other : StateSet) (b : ℕ) → b < 256 → IsHeld new other b → IsHeld old other b ⊎ (IsSame other set × (slice_index new.classes b ≡ slice_index new.classes c))
+-- the new cache holds no pair that the old one didn't, but for those of this set and of bytes that the same positions take as this one
+abbrev pub HoldsNoOther : Expression → Cache → StateSet → ℕ → Cache → Type 0
+HoldsNoOther e old set c new = (other : StateSet) (b : ℕ) → b < 256 → IsHeld new other b → IsHeld old other b ⊎ (IsSame other set × TakenAlike e b c)
 
 -- what a search has come to at some place: the set of positions that stands there, what the cache holds, and the steps counted
 pub record Stage : Type 0 where
@@ -55,7 +55,7 @@ pub record IsReused (e : Expression) (mode : Mode) (c : ℕ) (old new : Stage) :
 pub record IsBuilt (e : Expression) (mode : Mode) (c : ℕ) (old new : Stage) : Type 0 where
   pub not_held : ¬ IsHeld old.cache old.set c
   pub next : IsNextSet e mode old.set c new.set
-  pub cache : HoldsNoOther old.cache old.set c new.cache
+  pub cache : HoldsNoOther e old.cache old.set c new.cache
   pub steps : new.steps ≡ many_built 1 old.steps
 
 -- no stretch is on its way and none can begin with the byte, which is passed without a step

@@ -237,7 +237,7 @@ impl Table {
         ensures counted { meter.new ≡ many_built 1 meter.old }
         ensures right { IfSome result (λ _. IsRight (expression_of automaton.now) mode self.new) }
         ensures found { (set : Set) → IsRowOf self.old.sets.keys self.old.stride row set → IfSome result (λ cell. (cell < unknown) × TellsNext (expression_of automaton.now) mode self.new.sets.keys self.new.stride set byte cell) }
-        ensures others { (set : Set) → IsRowOf self.old.sets.keys self.old.stride row set → IfSome result (λ _. HoldsNoOther (cache_of self.old) set byte (cache_of self.new)) }
+        ensures others { (set : Set) → IsRowOf self.old.sets.keys self.old.stride row set → IfSome result (λ _. HoldsNoOther (expression_of automaton.now) (cache_of self.old) set byte (cache_of self.new)) }
     {
         let from = &self.sets.as_slice()[self.stride.number(row)];
         automaton.advance(mode, from, byte, into, meter);

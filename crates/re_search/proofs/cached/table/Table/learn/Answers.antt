@@ -100,8 +100,8 @@ returns-clause-others c = λ set row.
     subst (λ es. IsSoundTable e c.args.mode known.classes.items known.stride new.sets.keys new.marks.items new.pairs.cells es) kept.entries
     (subst (λ n. IsSoundTable e c.args.mode known.classes.items n new.sets.keys new.marks.items new.pairs.cells new.pairs.entries) kept.stride
     (subst (λ cs. IsSoundTable e c.args.mode cs new.stride new.sets.keys new.marks.items new.pairs.cells new.pairs.entries) kept.classes c.in_ok-number.ensures.sound)) in
-    subst (λ cs. HoldsNoOther (cache_of known) set c.args.byte (record { classes = cs; stride = new.stride; sets = new.sets.keys; entries = c.put.new.self.entries })) (sym kept.classes)
-    (subst (λ n. HoldsNoOther (cache_of known) set c.args.byte (record { classes = known.classes.items; stride = n; sets = new.sets.keys; entries = c.put.new.self.entries })) (sym kept.stride)
+    subst (λ cs. HoldsNoOther e (cache_of known) set c.args.byte (record { classes = cs; stride = new.stride; sets = new.sets.keys; entries = c.put.new.self.entries })) (sym kept.classes)
+    (subst (λ n. HoldsNoOther e (cache_of known) set c.args.byte (record { classes = known.classes.items; stride = n; sets = new.sets.keys; entries = c.put.new.self.entries })) (sym kept.stride)
     (holds_no_other e c.args.mode known.classes.items known.stride known.sets.keys known.marks.items known.pairs.cells known.pairs.entries c.requires.right.sound new.sets.keys new.marks.items new.pairs.cells sound
     (λ r other at. record { number = at.number; row = at.row; is = kept.sets at.number other at.is }) c.put.new.self.cells c.put.new.self.entries c.put.ensures.mirrors c.args.row c.args.byte set row c.ranges.byte.fits
     (subst (λ classes. (k : ℕ) → (k ≡ c.args.row + slice_index classes c.args.byte → ⊥) → IsKeptOrLost (slice_index new.pairs.cells k) (slice_index c.put.new.self.cells k)) (c.as_slice-2.ensures.value ∙ kept.classes) c.put.ensures.others)
