@@ -1,6 +1,6 @@
 # make            proves every crate, builds the programs into build/ and tries one of them
 # make test       the whole gate: proofs from nothing, edits that must fail, tests, programs
-# make test-memory  runs the program and sessions with each of their allocations refused in turn (wants a C compiler)
+# make test-memory  runs the program, matchers and sessions with each of their allocations refused in turn (wants a C compiler)
 # make install    copies the programs and their manual pages below $(DESTDIR)$(PREFIX)
 # make clean      removes what make built; what rt keeps of its proofs stays
 
@@ -32,7 +32,7 @@ test:
 
 test-memory: build/grep
 	tools/refuse_allocations.sh
-	tools/refuse_session_growths.sh
+	tools/refuse_growths.sh
 
 install: build/grep
 	install -d "$(DESTDIR)$(PREFIX)/bin" "$(DESTDIR)$(PREFIX)/share/man/man1"

@@ -19,3 +19,4 @@ pub mod RepeatedLemmas
 pub mod ClassLemmas
 pub mod FillingLemmas
 pub mod WordLemmas
+pub mod BeginningLemmas

@@ -4,6 +4,7 @@ pub mod Starts
 pub mod Laws
 pub mod Meters
 pub mod Bits
+pub mod Beginnings
 pub mod Tables
 pub mod StateSets
 pub mod StartSets

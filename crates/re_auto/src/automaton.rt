@@ -1,5 +1,5 @@
 //! The position automaton of an expression, and how sets of its positions are stepped.
-ghost use Rattle.std.specs.Prelude.{◌≡◌, ℕ, suc, Bool, true, false, ◌<◌, ◌≤◌, ◌↔◌, Some, IsTrue, IfOk, IfErr, vec_len, length, slice_get};
+ghost use Rattle.std.specs.Prelude.{◌≡◌, ℕ, suc, Bool, true, false, ◌<◌, ◌≤◌, ◌↔◌, Some, IsTrue, IfOk, IfErr, vec_len, length, slice_get, slice_index};
 ghost use Rattle.re_syntax.specs.Bytes.{Text};
 ghost use Rattle.re_syntax.specs.Expression.{expression_of};
 ghost use Rattle.re_syntax.specs.Holds.{Holds, most_positions, positions};
@@ -116,7 +116,19 @@ impl Automaton {
         ensures stays { result ≡ false → (set : StateSet) (line : Text) (j : ℕ) → IsNowhere set → slice_get line j ≡ Some byte
             → StandsAt (expression_of self.now) Search line j set → StandsAt (expression_of self.now) Search line (suc j) set }
     {
-        self.tables.beginnings[byte as usize]
+        self.tables.beginnings.has(byte)
+    }
+
+    /// The first place, `place` or later, whose byte a stretch inside a line can begin with; the
+    /// line's end where there is none.
+    #[inline]
+    pub fn next_beginning(&self, line: &[u8], place: usize) -> usize
+        requires { place ≤ length line.now }
+        ensures within { (place ≤ result) × (result ≤ length line.now) }
+        ensures passed { (k : ℕ) → place ≤ k → k < result → ¬ CanBegin (part_of (expression_of self.now) 0) (slice_index line.now k) }
+        ensures stops { result < length line.now → CanBegin (part_of (expression_of self.now) 0) (slice_index line.now result) }
+    {
+        self.tables.beginnings.next_in(line, place)
     }
 
     /// A class for each of the 256 bytes: bytes of one class are taken by the same positions.

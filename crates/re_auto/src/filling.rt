@@ -4,6 +4,7 @@ ghost use Rattle.re_syntax.specs.Expression.{expression_of};
 ghost use Rattle.re_syntax.specs.Holds.{positions, most_positions};
 ghost use Rattle.re_auto.specs.Tables.{IsRefused, Tells};
 
+use crate::beginnings::Beginnings;
 use crate::build::BuildFault;
 use crate::classes::{bytes_meeting, classes_of};
 use crate::count::{TOO_MANY, position_count};
@@ -36,7 +37,7 @@ fn fill_tables(alloc: Global, tree: &Tree, count: usize) -> Result<Tables, Alloc
 {
     let mut rows = Rows::blank(alloc, count)?;
     let ends = rows.add(alloc, tree, count)?;
-    let beginnings = bytes_meeting(&rows.takes, rows.width, &ends.first_inside);
+    let marks = bytes_meeting(&rows.takes, rows.width, &ends.first_inside);
     let classes = classes_of(alloc, &rows.takes, rows.width)?;
     Ok(Tables {
         size: count,
@@ -49,7 +50,7 @@ fn fill_tables(alloc: Global, tree: &Tree, count: usize) -> Result<Tables, Alloc
         last_at_end: ends.last_at_end,
         last_inside: ends.last_inside,
         empty: ends.empty,
-        beginnings,
+        beginnings: Beginnings::of(marks),
     })
 }
 

@@ -3,6 +3,7 @@
 #![tactic(auto)]
 
 mod automaton;
+mod beginnings;
 mod bits;
 mod build;
 mod classes;

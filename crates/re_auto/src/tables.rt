@@ -1,5 +1,7 @@
 ghost use Rattle.std.specs.Prelude.{Bool, IsTrue, ◌↔◌, ◌⊎◌};
 
+use crate::beginnings::Beginnings;
+
 /// What is known of an expression's positions, as words of bits: a row is a set of positions and
 /// has `width` words. `Tells` in `specs/Tables.antt` says what each table holds.
 #[derive(Drop)]
@@ -24,8 +26,8 @@ pub struct Tables {
     pub last_inside: Vec<u64>,
     /// Where the expression holds on the empty stretch.
     pub empty: Empty,
-    /// For each of the 256 bytes whether a stretch inside a line can begin with it.
-    pub beginnings: [bool; 256],
+    /// The bytes that a stretch inside a line can begin with.
+    pub beginnings: Beginnings,
 }
 
 /// Whether an expression holds on the empty stretch, for each kind of place.

@@ -13,6 +13,8 @@ pub mod pace;
 pub mod pairs;
 pub mod stride;
 pub mod table;
+#[cfg(test)]
+mod tests;
 pub mod walking;
 
 use crate::line_match::LineMatch;

@@ -10,7 +10,6 @@ ghost use Rattle.re_search.specs.Searching.{FindsPart, AddsAtMost};
 
 mod least;
 mod sets;
-pub mod skipping;
 
 use crate::line_match::LineMatch;
 use crate::needle::Needle;

@@ -14,7 +14,6 @@ ghost use Rattle.re_search.specs.Walks.{LeadsOn, Arrives, Gives};
 use crate::cached::pace::Pace;
 use crate::cached::pairs::UNKNOWN;
 use crate::cached::table::{LIMIT, Table};
-use crate::simulated::skipping::next_beginning;
 use re_auto::{Automaton, Meter, Mode, StateSet};
 use std::alloc::Global;
 
@@ -283,7 +282,7 @@ impl Table {
         if mode == Mode::Whole {
             return Went::Told(false);
         }
-        let next = next_beginning(automaton, line, place);
+        let next = automaton.next_beginning(line, place);
         pace.note_pass(next - place);
         Went::To(Spot {
             place: next,

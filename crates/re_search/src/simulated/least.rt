@@ -9,7 +9,6 @@ ghost use Rattle.re_auto.specs.StartSets.{place_of};
 ghost use Rattle.re_search.specs.Searching.{FindsPart, AddsAtMost};
 ghost use Rattle.re_search.specs.Simulations.{AreStartsFor, IsBestSpan, Carries, better_span};
 
-use crate::simulated::skipping::next_beginning;
 use crate::span::Span;
 use re_auto::{Automaton, BuildFault, Meter, Mode, Starts};
 use std::alloc::Global;
@@ -121,7 +120,7 @@ impl StartPair {
         if best.is_some() || !self.current.is_spent(place - 1) {
             return place;
         }
-        let next = next_beginning(automaton, line, place);
+        let next = automaton.next_beginning(line, place);
         self.current.start(next);
         next
     }

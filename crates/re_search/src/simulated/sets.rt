@@ -8,7 +8,6 @@ ghost use Rattle.re_auto.specs.StateSets.{IsMadeFor, IsNextSet};
 ghost use Rattle.re_search.specs.Simulations.{AreSetsFor};
 ghost use Rattle.re_search.specs.Stages.{Cache, Searches, FinishesFrom, GoesFrom};
 
-use crate::simulated::skipping::next_beginning;
 use re_auto::{Automaton, BuildFault, Meter, Mode, StateSet};
 use std::alloc::Global;
 use std::mem;
@@ -146,7 +145,7 @@ impl SetPair {
         ensures goes { GoesFrom (expression_of automaton.now) Search line.now place self.old.current meter.old result self.new.current meter.new }
     {
         if self.current.is_nowhere() {
-            let next = next_beginning(automaton, line, place);
+            let next = automaton.next_beginning(line, place);
             if next > place {
                 return next;
             }

@@ -1,6 +1,6 @@
 //! Edits of which each request for memory is refused in turn, and calls that make none.
 //!
-//! The library that tools/refuse_session_growths.sh loads before the C library takes requests of
+//! The library that tools/refuse_growths.sh loads before the C library takes requests of
 //! two sizes as commands. Without it each request is granted, and each edit is made once.
 ghost use Rattle.std.specs.Prelude.{◌≤◌};
 

@@ -4,12 +4,12 @@ use Rattle.re_auto.specs.Tables.{Tells}
 use Rattle.re_auto.proofs.Steps.{nowhere_stays}
 use Rattle.re_auto.proofs.automaton.Automaton.begins.Goals as goal
 
-known : (c : goal.After-result-1) → Tells (expression_of c.args.self.now) c.self.inside.tables
+known : (c : goal.After-has) → Tells (expression_of c.args.self.now) c.self.inside.tables
 known c = rw c.self.view_is at c.self.invariant
 
 pub returns-clause-can : goal.returns-clause-can
-returns-clause-can c = (known c).beginnings.1 c.args.byte c.ranges.byte.fits
+returns-clause-can c = rw c.has.ensures ((known c).beginnings.1 c.args.byte c.ranges.byte.fits)
 
 pub returns-clause-stays : goal.returns-clause-stays
 returns-clause-stays c = λ cannot.
-    nowhere_stays (expression_of c.args.self.now) c.args.byte (λ can. true≢false (sym (((known c).beginnings.1 c.args.byte c.ranges.byte.fits).1 can) ∙ cannot))
+    nowhere_stays (expression_of c.args.self.now) c.args.byte (λ can. true≢false (sym (((known c).beginnings.1 c.args.byte c.ranges.byte.fits).1 can) ∙ sym c.has.ensures ∙ cannot))

@@ -1,0 +1,13 @@
+use Rattle.std.proofs.Common.{ℕ, ◌<◌, ◌≤◌, ◌-◌, slice_index}
+use Rattle.re_auto.specs.Beginnings.{IsMarked}
+use Rattle.re_auto.proofs.beginnings.Beginnings.pass_fours.Given as goal
+
+abbrev pub invariant-fours : goal.invariant-fours
+invariant-fours l = record {
+  low : l.fn.place ≤ l.next;
+  high : l.next ≤ l.fn.end;
+  passed : (k : ℕ) → l.fn.place ≤ k → k < l.next → ¬ IsMarked l.self (slice_index l.line k);
+}
+
+abbrev pub decreases-fours : goal.decreases-fours
+decreases-fours l = l.fn.end - l.next
