@@ -40,6 +40,14 @@ IsMadeForStarts e starts = (length starts.held.items ≡ words_for (positions e)
 abbrev pub AreAlike : Starts → Starts → Type 0
 AreAlike one other = (length one.held.items ≡ length other.held.items) × (length one.starts.items ≡ length other.starts.items) × (one.place ≡ other.place)
 
+-- there is room for as many positions in the one as in the other
+abbrev pub AreOfOneSize : Starts → Starts → Type 0
+AreOfOneSize one other = (length one.held.items ≡ length other.held.items) × (length one.starts.items ≡ length other.starts.items)
+
+-- the two are for the same place and carry the same starts
+abbrev pub AreSame : Starts → Starts → Type 0
+AreSame one other = (one.place ≡ other.place) × (one.held.items ≡ other.held.items) × (one.starts.items ≡ other.starts.items)
+
 -- the starts are right at place j of the line, for the stretches of the mode that begin at `from` or later
 unfoldable pub StartsAt : Expression → Mode → ℕ → Text → ℕ → Starts → Type 0
 StartsAt e mode from line j starts = (starts.place ≡ j) × (from ≤ j) × StartsAfter (part_of e 0) mode from line j (least_of starts)

@@ -46,7 +46,7 @@ fn told(
     'places: for place in from..to {
         let byte = *line.get(place)?;
         here.advance(&automaton, Mode::Search, byte, &mut there, &mut meter);
-        mem::swap(&mut here, &mut there);
+        here.copy_from(&there);
     }
     Some(here.accepts(&automaton, to == line.len()))
 }
@@ -172,6 +172,15 @@ fn the_least_start_is_told_at_each_end(rt: HostRuntime) {
     }
 }
 
+/// The next place of a line of 39 bytes at which a stretch can begin.
+fn next_of(rt: &HostRuntime, text: &[u8], place: usize) -> Option<usize> {
+    let line = b"a ....................... b . c . d . e";
+    if place > line.len() {
+        return None;
+    }
+    Some(automaton_of(rt, text)?.next_beginning(line, place))
+}
+
 #[test]
 fn bytes_that_begin_a_stretch_are_known(rt: HostRuntime) {
     let begins = |text: &[u8], byte: u8| Some(automaton_of(&rt, text)?.begins(byte));
@@ -180,4 +189,11 @@ fn bytes_that_begin_a_stretch_are_known(rt: HostRuntime) {
     assert!(rt; begins(b"a|b?c", b'd') == Some(false));
     assert!(rt; begins(b"^a", b'a') == Some(false));
     assert!(rt; begins(b"a*", b'b') == Some(false));
+    assert!(rt; next_of(&rt, b"^a", 0) == Some(39));
+    assert!(rt; next_of(&rt, b"b", 0) == Some(26));
+    assert!(rt; next_of(&rt, b"[bc]e", 27) == Some(30));
+    assert!(rt; next_of(&rt, b"[bcd]", 31) == Some(34));
+    assert!(rt; next_of(&rt, b"[b-e]", 1) == Some(26));
+    assert!(rt; next_of(&rt, b"[b-z]", 35) == Some(38));
+    assert!(rt; next_of(&rt, b"[b-z]", 39) == Some(39));
 }

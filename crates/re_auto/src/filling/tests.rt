@@ -44,8 +44,8 @@ fn as_many_positions_as_there_may_be(rt: HostRuntime) -> Result<(), Fail> {
         2 * 64,
         "a row for a, and one for the other bytes"
     );
-    assert!(rt; tables.beginnings[b'a' as usize]);
-    assert!(rt; !tables.beginnings[b'b' as usize]);
+    assert!(rt; tables.beginnings.has(b'a'));
+    assert!(rt; !tables.beginnings.has(b'b'));
     Ok(())
 }
 

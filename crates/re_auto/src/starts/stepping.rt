@@ -7,7 +7,7 @@ ghost use Rattle.re_auto.specs.declared.mode.Mode.{Mode};
 ghost use Rattle.re_auto.specs.Meters.{many_built};
 ghost use Rattle.re_auto.specs.Positions.{is_end};
 ghost use Rattle.re_auto.specs.Starts.{Least, IsMatched, IsSpent};
-ghost use Rattle.re_auto.specs.StartSets.{place_of, least_of, IsMadeForStarts, StartsAt, AreNext};
+ghost use Rattle.re_auto.specs.StartSets.{place_of, least_of, IsMadeForStarts, AreOfOneSize, AreSame, StartsAt, AreNext};
 
 use crate::automaton::Automaton;
 use crate::bits;
@@ -45,6 +45,16 @@ impl Starts {
     {
         bits::clear(&mut self.held);
         self.place = from;
+    }
+
+    /// Makes these starts those, without memory. Both were made for the same automaton.
+    pub fn copy_from(&mut self, from: &Starts)
+        requires { AreOfOneSize self.old from.now }
+        ensures { AreSame self.new from.now }
+    {
+        self.place = from.place;
+        self.held.copy_from_slice(&from.held);
+        self.starts.copy_from_slice(&from.starts);
     }
 
     /// Sets the one to what this becomes by one more byte, which counts as one step.
