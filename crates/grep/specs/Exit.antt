@@ -1,7 +1,7 @@
 -- How the program ends behind its command (XCU grep, EXIT STATUS and STDERR).
 use Rattle.std.specs.Prelude.{◌≡◌, ℕ, nat_lt, List, [], ◌∷◌, ◌⊎◌, codes, Option, MatchBool}
 use Rattle.grep_core.specs.Buffer.{BufferedWriter, SendsAll, SendsSome, all_contents}
-use Rattle.grep_core.specs.Meters.{Steps, fresh}
+use Rattle.grep_core.specs.Meters.{Steps}
 use Rattle.grep_core.specs.Run.{Writer, writer}
 use Rattle.grep_cmd.specs.Bytes.{Text}
 use Rattle.grep_cmd.specs.Command.{Tells, CommandGives}
@@ -15,11 +15,12 @@ words_refused = codes "grep: words must be UTF-8"
 abbrev pub TellsWriteError : Writer → Writer → Type 0
 TellsWriteError old new = MatchBool (nat_lt 0 old.failures) (new ≡ old) (Tells old new (write_error ∷ []))
 
--- standard output, gathered; standard error; and how often a file could not be opened or read
+-- standard output, gathered; standard error; how often a file could not be opened or read; and the steps that were counted
 pub record Streams (W : Type 0) : Type 0 where
   pub out : BufferedWriter W
   pub messages : Writer
   pub source_failures : ℕ
+  pub steps : Steps
 
 module _ {W : Type 0} (contents : W → Option Text) (failures : W → ℕ) where
   -- where a write of the output failed before, nothing more is sent; otherwise all that waits goes out, and the status
@@ -36,13 +37,12 @@ module _ {W : Type 0} (contents : W → Option Text) (failures : W → ℕ) wher
   gathered = writer (all_contents contents) (λ out. failures out.inner)
 
   -- what the program does for its words: what the command does, and then its end
-  pub record ProgramGives (folder : Folder) (words : List Text) (old new : Streams W) (status : ℕ) : Type 0 where
+  pub record ProgramGives (folder : Folder) (given : List (Option Text) → Type 0) (words : List Text) (old new : Streams W) (status : ℕ) : Type 0 where
     pub found : ℕ
     pub out : BufferedWriter W
     pub messages : Writer
-    pub steps : Steps
-    pub command : CommandGives folder
-        record { out = gathered old.out; messages = old.messages; source_failures = old.source_failures; steps = fresh }
-        record { out = gathered out; messages = messages; source_failures = new.source_failures; steps = steps }
+    pub command : CommandGives folder given
+        record { out = gathered old.out; messages = old.messages; source_failures = old.source_failures; steps = old.steps }
+        record { out = gathered out; messages = messages; source_failures = new.source_failures; steps = new.steps }
         found words
     pub ends : EndsAs out new.out messages new.messages found status

@@ -9,17 +9,18 @@ use std::fs::File;
 use std::io::{Read, Stdin};
 use std::{fs, io};
 
-/// What is read: standard input, a file, or nothing.
+/// What is read: standard input, a file, or nothing. Contracts know of it what they know of the
+/// device that it is, so that a failed read is passed on as one.
 #[derive(Drop)]
-pub enum Stream {
-    StandardInput(Stdin),
-    File(File),
+pub enum Stream<I, F> {
+    StandardInput(I),
+    File(F),
     /// No byte is left of it.
     Empty,
 }
 
-impl Read for Stream {
-    ghost remaining = { known_bytes };
+impl<I: Read, F: Read> Read for Stream<I, F> {
+    ghost remaining = { known_bytes I.remaining F.remaining };
 
     fn read(&mut self, buf: &mut [u8]) -> io::Result<usize> {
         match self {
@@ -58,13 +59,13 @@ impl<'a> DiskFiles<'a> {
 /// Nothing is known of a file's bytes, nor whether it can be opened; of standard input it is known
 /// that it is empty from its second use on.
 impl Files for DiskFiles<'_> {
-    type Reader = Tally<Stream>;
+    type Reader = Tally<Stream<Stdin, File>>;
 
     ghost folder = { λ d. folder_of d.input_used };
 
     ghost failures = { λ d. d.failed };
 
-    fn standard(&mut self) -> Tally<Stream> {
+    fn standard(&mut self) -> Tally<Stream<Stdin, File>> {
         if self.input_used {
             return Tally::new(Stream::Empty);
         }
@@ -72,7 +73,7 @@ impl Files for DiskFiles<'_> {
         Tally::new(Stream::StandardInput(self.rt.stdin()))
     }
 
-    fn open(&mut self, name: &str) -> Option<Tally<Stream>> {
+    fn open(&mut self, name: &str) -> Option<Tally<Stream<Stdin, File>>> {
         match fs::open(self.rt, name) {
             Ok(file) => Some(Tally::new(Stream::File(file))),
             Err(_) => {
@@ -82,7 +83,7 @@ impl Files for DiskFiles<'_> {
         }
     }
 
-    fn close(&mut self, reader: Tally<Stream>) {
+    fn close(&mut self, reader: Tally<Stream<Stdin, File>>) {
         self.failed = self.failed.saturating_add(reader.failures());
     }
 

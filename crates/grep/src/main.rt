@@ -5,6 +5,7 @@ mod disk;
 mod ending;
 
 ghost use Rattle.grep_core.specs.Run.{writer};
+ghost use Rattle.grep_core.specs.Sources.{GivesBack};
 ghost use Rattle.grep_cmd.specs.Words.{texts_of};
 ghost use Rattle.grep.specs.Exit.{ProgramGives};
 
@@ -12,6 +13,7 @@ use crate::disk::DiskFiles;
 use crate::ending::{finish, refuse_memory, refuse_words};
 use grep_cmd::{Files, run_grep};
 use grep_core::{Buffered, CountedWrite, Tally};
+use re_auto::{Meter, fresh_meter};
 use std::alloc::Global;
 use std::io::{ErrorKind, IsTerminal};
 use std::process::ExitCode;
@@ -24,21 +26,24 @@ fn run_gathered<F: Files, W: CountedWrite, M: CountedWrite>(
     files: &mut F,
     out: &mut Buffered<W>,
     messages: &mut M,
+    meter: &mut Meter,
 ) -> u8
-    ensures { ProgramGives W.contents W.failures (F.folder files.old) (texts_of words.now)
+    ensures { ProgramGives W.contents W.failures (F.folder files.old) (GivesBack F.given_back files.old files.new) (texts_of words.now)
         record {
           out = out.old;
           messages = writer M.contents M.failures messages.old;
           source_failures = F.failures files.old;
+          steps = meter.old;
         }
         record {
           out = out.new;
           messages = writer M.contents M.failures messages.new;
           source_failures = F.failures files.new;
+          steps = meter.new;
         }
         result }
 {
-    let found = run_grep(alloc, words, files, out, messages);
+    let found = run_grep(alloc, words, files, out, messages, meter);
     finish(out, messages, found)
 }
 
@@ -48,12 +53,27 @@ fn run(rt: &HostRuntime, words: &[String]) -> u8 {
     let alloc = rt.alloc();
     let mut files = DiskFiles::new(rt);
     let mut messages = Tally::new(rt.stderr());
+    let mut meter = fresh_meter();
     if rt.stdout().is_terminal() {
         let mut out = Tally::new(rt.stdout());
-        return run_grep(alloc, words, &mut files, &mut out, &mut messages);
+        return run_grep(
+            alloc,
+            words,
+            &mut files,
+            &mut out,
+            &mut messages,
+            &mut meter,
+        );
     }
     match Buffered::new(alloc, Tally::new(rt.stdout())) {
-        Ok(mut out) => run_gathered(alloc, words, &mut files, &mut out, &mut messages),
+        Ok(mut out) => run_gathered(
+            alloc,
+            words,
+            &mut files,
+            &mut out,
+            &mut messages,
+            &mut meter,
+        ),
         Err(_) => refuse_memory(&mut messages),
     }
 }

@@ -1,5 +1,5 @@
 -- How the whole command ends, from what its steps did.
-use Rattle.std.proofs.Common.{◌≡◌, ℕ, nat_lt, ◌<◌, ◌≤◌, ◌-◌, ◌^◌, Bool, true, false, List, [], ◌∷◌, Ok, Err, MatchBool, MatchResult, ◌⊎◌, inl, inr, length, map, refl, sym, ap, ◌∙◌, subst, arith}
+use Rattle.std.proofs.Common.{◌≡◌, ℕ, nat_lt, ◌<◌, ◌≤◌, ◌-◌, ◌^◌, Bool, true, false, List, [], ◌∷◌, Ok, Err, MatchBool, MatchResult, ◌⊎◌, inl, inr, length, map, refl, sym, ap, ◌∙◌, subst, arith, ◌++◌, Option}
 use Rattle.std.proofs.lemmas.Bool.{ltb-false, false≢true}
 use denote.Enum.Bare.{sameb}
 use Rattle.re_syntax.specs.contracts.fault.FaultKind.{the_type}
@@ -8,14 +8,15 @@ use Rattle.re_syntax.specs.declared.fault.FaultKind.TheVariants.{Memory}
 use Rattle.re_syntax.specs.declared.syntax.Syntax.{Syntax}
 use Rattle.re_syntax.specs.declared.fault.PatternFault.{PatternFault}
 use Rattle.re_syntax.specs.Bytes.{Text}
-use Rattle.re_auto.specs.Meters.{Steps}
+use Rattle.re_search.specs.Meters.{Steps}
 use Rattle.re_search.specs.declared.matcher.Matcher.{Matcher}
 use Rattle.re_search.specs.Reading.{matched_expression, IsOutOfMemory}
 use Rattle.re_syntax.specs.Expression.{Expression}
 use Rattle.grep_core.specs.declared.options.Options.{Options}
 use Rattle.grep_core.specs.Reading.{Source as FileSource}
 use Rattle.grep_core.specs.SameChoice.{IsSameChoice}
-use Rattle.grep_core.proofs.SameChoice.{serves_for_others}
+use Rattle.grep_core.proofs.SameChoice.{RunGives-same}
+use Rattle.grep_core.proofs.GivenLaws.{RunGives-given}
 use Rattle.grep_core.specs.Run.{Writer, Devices}
 use Rattle.grep_cmd.specs.declared.patterns.PatternsFault.{PatternsFault}
 use Rattle.grep_cmd.specs.declared.patterns.PatternsFault.TheVariants as unread
@@ -48,68 +49,91 @@ place_fits syntax fold texts place fault few first =
     omega arith
 
 -- a search for expressions that are the same choice as others, and no more, is one for these
-served : (options : Options) (sources : List FileSource) (old new : Devices) (status : ℕ) (ds es : List Expression) → IsSameChoice ds es → length ds ≤ length es → SearchEnds ds options sources old new status → SearchEnds es options sources old new status
-served options sources old new status ds es same fewer s = record { found = s.found; between = s.between; runs = serves_for_others options ds es same fewer sources old s.between s.found s.runs; ends = s.ends }
+served : (options : Options) (sources : List FileSource) (given : List (Option Text) → Type 0) (old new : Devices) (status : ℕ) (ds es : List Expression) → IsSameChoice ds es → length ds ≤ length es → SearchEnds ds options sources given old new status → SearchEnds es options sources given old new status
+served options sources given old new status ds es same fewer s = record { found = s.found; between = s.between; runs = RunGives-same options ds es same fewer sources given old s.between s.found s.runs; ends = s.ends }
 
-module _ (asked : Asked) (folder : Folder) (texts : List Text) (old new : Devices) (status : ℕ) where
+module _ (asked : Asked) (folder : Folder) (texts : List Text) (given : List (Option Text) → Type 0) (old new : Devices) (status : ℕ) where
   -- there are too many patterns
-  pub too_many : nat_lt most_patterns (length texts) ≡ true → GivesUp old new (too_many_patterns ∷ []) 0 status → PatternsGive asked folder texts old new status
-  too_many many h = inl (subst (λ b. MatchBool b (GivesUp old new (too_many_patterns ∷ []) 0 status) (RefusesPattern asked folder texts old new status ⊎ SearchesFiles asked folder texts old new status)) (sym many) h)
+  pub too_many : nat_lt most_patterns (length texts) ≡ true → GivesUp old new (too_many_patterns ∷ []) 0 status → PatternsGive asked folder texts given old new status
+  too_many many h = inl (subst (λ b. MatchBool b (GivesUp old new (too_many_patterns ∷ []) 0 status) (RefusesPattern asked folder texts given old new status ⊎ SearchesFiles asked folder texts given old new status)) (sym many) h)
 
   module _ (few : nat_lt most_patterns (length texts) ≡ false) where
     -- a pattern is refused
     pub refuses : (place : ℕ) (fault : PatternFault) → IsFirstRefused asked.syntax asked.options.ignore_case texts place fault → GivesUp old new (pattern_refused place fault ∷ []) 0 status
-        → PatternsGive asked folder texts old new status
-    refuses place fault first h = inl (subst (λ b. MatchBool b (GivesUp old new (too_many_patterns ∷ []) 0 status) (RefusesPattern asked folder texts old new status ⊎ SearchesFiles asked folder texts old new status)) (sym few)
+        → PatternsGive asked folder texts given old new status
+    refuses place fault first h = inl (subst (λ b. MatchBool b (GivesUp old new (too_many_patterns ∷ []) 0 status) (RefusesPattern asked folder texts given old new status ⊎ SearchesFiles asked folder texts given old new status)) (sym few)
         (inl (record { place = place; fault = fault; is_first = first; gives_up = h })))
 
     -- the files are searched
     pub searches : (matchers searching : List Matcher) → ServeFor asked.syntax asked.options texts matchers → searching ≡ matchers
-        → SearchEnds (map matched_expression searching) asked.options (sources_named folder (searched asked.files)) old new status → PatternsGive asked folder texts old new status
-    searches matchers searching m is h = inl (subst (λ b. MatchBool b (GivesUp old new (too_many_patterns ∷ []) 0 status) (RefusesPattern asked folder texts old new status ⊎ SearchesFiles asked folder texts old new status)) (sym few)
-        (inr (record { readable = m.readable; es = m.es; are_meant = m.meant; ends = served asked.options (sources_named folder (searched asked.files)) old new status (map matched_expression matchers) m.es m.same m.fewer (subst (λ ms. SearchEnds (map matched_expression ms) asked.options (sources_named folder (searched asked.files)) old new status) is h) })))
+        → SearchEnds (map matched_expression searching) asked.options (sources_named folder (searched asked.files)) given old new status → PatternsGive asked folder texts given old new status
+    searches matchers searching m is h = inl (subst (λ b. MatchBool b (GivesUp old new (too_many_patterns ∷ []) 0 status) (RefusesPattern asked folder texts given old new status ⊎ SearchesFiles asked folder texts given old new status)) (sym few)
+        (inr (record { readable = m.readable; es = m.es; are_meant = m.meant; ends = served asked.options (sources_named folder (searched asked.files)) given old new status (map matched_expression matchers) m.es m.same m.fewer (subst (λ ms. SearchEnds (map matched_expression ms) asked.options (sources_named folder (searched asked.files)) given old new status) is h) })))
 
-module _ (asked : Asked) (folder : Folder) (old new : Devices) (status : ℕ) where
+-- the same where more is said of what readers had left
+patterns_given : (asked : Asked) (folder : Folder) (texts : List Text) (given other : List (Option Text) → Type 0) → ((left : List (Option Text)) → given left → other left) → (old new : Devices) (status : ℕ)
+    → PatternsGive asked folder texts given old new status → PatternsGive asked folder texts other old new status
+patterns_given asked folder texts given other more old new status (inr memory) = inr memory
+patterns_given asked folder texts given other more old new status (inl does) = inl (by_count (nat_lt most_patterns (length texts)) does)
+  where
+    ends : (es : List Expression) → SearchEnds es asked.options (sources_named folder (searched asked.files)) given old new status → SearchEnds es asked.options (sources_named folder (searched asked.files)) other old new status
+    ends es e = record {
+      found = e.found;
+      between = e.between;
+      runs = RunGives-given es asked.options (sources_named folder (searched asked.files)) given other more old e.between e.found e.runs;
+      ends = e.ends;
+    }
+
+    by_count : (many : Bool) → MatchBool many (GivesUp old new (too_many_patterns ∷ []) 0 status) (RefusesPattern asked folder texts given old new status ⊎ SearchesFiles asked folder texts given old new status)
+        → MatchBool many (GivesUp old new (too_many_patterns ∷ []) 0 status) (RefusesPattern asked folder texts other old new status ⊎ SearchesFiles asked folder texts other old new status)
+    by_count true h = h
+    by_count false (inl r) = inl (record { place = r.place; fault = r.fault; is_first = r.is_first; gives_up = r.gives_up })
+    by_count false (inr f) = inr (record { readable = f.readable; es = f.es; are_meant = f.are_meant; ends = ends f.es f.ends })
+
+module _ (asked : Asked) (folder : Folder) (given : List (Option Text) → Type 0) (old new : Devices) (status : ℕ) where
   -- the patterns of the sources were read
-  sources_read : (texts : List Text) → GivePatterns folder asked.sources texts → PatternsGive asked (behind_all folder asked.sources) texts old new status → RequestGives folder old new status asked
-  sources_read texts given (inl does) = inl (inr (texts, given, does))
-  sources_read texts given (inr memory) = inr memory
+  sources_read : (texts : List Text) (read : List (Option Text)) → GivePatterns folder asked.sources texts → PatternsGive asked (behind_all folder asked.sources) texts (λ left. given (read ++ left)) old new status
+      → RequestGives folder given old new status asked
+  sources_read texts read gives (inl does) = inl (inr (texts, read, gives, does))
+  sources_read texts read gives (inr memory) = inr memory
 
   -- the same, by what the calls said
   pub patterns_read : (mid : Folder) (sources : List Source) (texts read_texts : List Text) (between : Devices) → sources ≡ asked.sources → read_texts ≡ texts → mid ≡ behind_all folder sources → between ≡ old
-      → GivePatterns folder sources texts → PatternsGive asked mid read_texts between new status → RequestGives folder old new status asked
-  patterns_read mid sources texts read_texts between is same used same_devices given gives =
-      let there = subst (λ f. PatternsGive asked f read_texts between new status) (used ∙ ap (behind_all folder) is) gives in
-      let of_texts = subst (λ t. PatternsGive asked (behind_all folder asked.sources) t between new status) same there in
-      sources_read texts (subst (λ s. GivePatterns folder s texts) is given) (subst (λ d. PatternsGive asked (behind_all folder asked.sources) texts d new status) same_devices of_texts)
+      → GivePatterns folder sources texts → (read : List (Option Text)) (behind : List (Option Text) → Type 0) → ((left : List (Option Text)) → behind left → given (read ++ left))
+      → PatternsGive asked mid read_texts behind between new status → RequestGives folder given old new status asked
+  patterns_read mid sources texts read_texts between is same used same_devices gave read behind join gives =
+      let all = patterns_given asked mid read_texts behind (λ left. given (read ++ left)) join between new status gives in
+      let there = subst (λ f. PatternsGive asked f read_texts (λ left. given (read ++ left)) between new status) (used ∙ ap (behind_all folder) is) all in
+      let of_texts = subst (λ t. PatternsGive asked (behind_all folder asked.sources) t (λ left. given (read ++ left)) between new status) same there in
+      sources_read texts read (subst (λ s. GivePatterns folder s texts) is gave) (subst (λ d. PatternsGive asked (behind_all folder asked.sources) texts (λ left. given (read ++ left)) d new status) same_devices of_texts)
 
-module _ (asked : Asked) (folder : Folder) (out old new : Writer) (before after : ℕ) (steps : Steps) where
+module _ (asked : Asked) (folder : Folder) (given : List (Option Text) → Type 0) (out old new : Writer) (before after : ℕ) (steps : Steps) where
   -- they were not
   sources_unread : (f : PatternsFault) → StopsFor (FirstUnread folder asked.sources) before after f → Tells old new (told_of f ∷ [])
-      → RequestGives folder (record { out = out; messages = old; source_failures = before; steps = steps }) (record { out = out; messages = new; source_failures = after; steps = steps }) 2 asked
-  sources_unread (unread.Missing word) h told = inl (inl (_, h.1, record { is_error = refl; none_written = refl; told = told; counted = h.2 }))
-  sources_unread (unread.Broken word) h told = inl (inl (_, h.1, record { is_error = refl; none_written = refl; told = told; counted = h.2 }))
-  sources_unread unread.Memory h told = inr (record { is_error = refl; none_written = refl; told = told; counted = h })
+      → RequestGives folder given (record { out = out; messages = old; source_failures = before; steps = steps }) (record { out = out; messages = new; source_failures = after; steps = steps }) 2 asked
+  sources_unread (unread.Missing word) h told = inl (inl (_, h.1, record { is_error = refl; none_written = refl; told = told; counted = h.2; no_step = refl }))
+  sources_unread (unread.Broken word) h told = inl (inl (_, h.1, record { is_error = refl; none_written = refl; told = told; counted = h.2; no_step = refl }))
+  sources_unread unread.Memory h told = inr (record { is_error = refl; none_written = refl; told = told; counted = h; no_step = refl })
 
   -- the same, by what the calls said
   pub patterns_unread : (sources : List Source) → sources ≡ asked.sources → (f : PatternsFault) → StopsFor (FirstUnread folder sources) before after f → Tells old new (told_of f ∷ [])
-      → RequestGives folder (record { out = out; messages = old; source_failures = before; steps = steps }) (record { out = out; messages = new; source_failures = after; steps = steps }) 2 asked
+      → RequestGives folder given (record { out = out; messages = old; source_failures = before; steps = steps }) (record { out = out; messages = new; source_failures = after; steps = steps }) 2 asked
   patterns_unread sources is f h told = sources_unread f (subst (λ s. StopsFor (FirstUnread folder s) before after f) is h) told
 
-module _ (folder : Folder) (words : List Text) where
+module _ (folder : Folder) (given : List (Option Text) → Type 0) (words : List Text) where
   -- the words were read
-  pub words_read : (asked : Asked) (old new : Devices) (status : ℕ) → read words ≡ Ok asked → RequestGives folder old new status asked → CommandGives folder old new status words
+  pub words_read : (asked : Asked) (old new : Devices) (status : ℕ) → read words ≡ Ok asked → RequestGives folder given old new status asked → CommandGives folder given old new status words
   words_read asked old new status is (inl does) =
-      inl (subst (λ r. MatchResult r (DoesForRequest folder old new status) (λ fault. GivesUp old new (usage_texts fault) 0 status)) (sym is) does)
+      inl (subst (λ r. MatchResult r (DoesForRequest folder given old new status) (λ fault. GivesUp old new (usage_texts fault) 0 status)) (sym is) does)
   words_read asked old new status is (inr memory) = inr memory
 
-  words_fault : (fault : UsageFault) (old new : Devices) (status : ℕ) → read words ≡ Err fault → GivesUp old new (usage_texts fault) 0 status → CommandGives folder old new status words
+  words_fault : (fault : UsageFault) (old new : Devices) (status : ℕ) → read words ≡ Err fault → GivesUp old new (usage_texts fault) 0 status → CommandGives folder given old new status words
   words_fault fault old new status is h =
-      inl (subst (λ r. MatchResult r (DoesForRequest folder old new status) (λ f. GivesUp old new (usage_texts f) 0 status)) (sym is) h)
+      inl (subst (λ r. MatchResult r (DoesForRequest folder given old new status) (λ f. GivesUp old new (usage_texts f) 0 status)) (sym is) h)
 
   -- they were not
   pub words_refused : (fault : UsageFault) (old new : Devices) (status : ℕ) → OrMemory fault (read words ≡ Err fault) → GivesUp old new (usage_texts fault) 0 status
-      → CommandGives folder old new status words
+      → CommandGives folder given old new status words
   unfolding fault_text
   words_refused usage.Memory old new status is h = inr h
   words_refused (usage.UnknownOption c) old new status is h = words_fault _ old new status is h

@@ -56,7 +56,7 @@ module _ {R : Type 0} (remaining : R → Option Text) (failures : R → ℕ) whe
     }
 
     -- no line is left
-    pub all_added : count ≤ most_lines → IsUsedUp remaining failures old new → AddsLines (remaining reader) (failures reader) (failures new.reader) before mid true
+    pub all_added : count ≤ most_lines → IsUsedUp remaining failures old new → AddsLines (remaining reader) (remaining new.reader) (failures reader) (failures new.reader) before mid true
     all_added few h = record {
       texts = s.lines;
       adds = s.adds;
@@ -64,7 +64,7 @@ module _ {R : Type 0} (remaining : R → Option Text) (failures : R → ℕ) whe
     }
 
     -- a read failed
-    pub some_added : count ≤ most_lines → old.stage ≡ Open → IsCutOff remaining failures old new → AddsLines (remaining reader) (failures reader) (failures new.reader) before mid false
+    pub some_added : count ≤ most_lines → old.stage ≡ Open → IsCutOff remaining failures old new → AddsLines (remaining reader) (remaining new.reader) (failures reader) (failures new.reader) before mid false
     some_added few was_open h = record {
       texts = s.lines;
       adds = s.adds;
@@ -72,7 +72,7 @@ module _ {R : Type 0} (remaining : R → Option Text) (failures : R → ℕ) whe
     }
 
     -- there is one line more than can be numbered
-    pub most_added : count ≡ most_lines → HandsOut remaining failures old new → AddsLines (remaining reader) (failures reader) (failures new.reader) before mid false
+    pub most_added : count ≡ most_lines → HandsOut remaining failures old new → AddsLines (remaining reader) (remaining new.reader) (failures reader) (failures new.reader) before mid false
     most_added full h = record {
       texts = s.lines;
       adds = s.adds;

@@ -26,7 +26,7 @@ use Rattle.grep_cmd.proofs.GatherLemmas.{Adds-none, Adds-trans}
 
 module _ {R : Type 0} (remaining : R → Option Text) (failures : R → ℕ) (source : reading.Source) (reader read : R) (opens : IfSome source.opens (λ b. b ≡ true))
     (bytes : remaining reader ≡ source.bytes) (fresh : failures reader ≡ 0) (before after : ℕ) (counted : after ≡ count_more before (failures read)) where
-  gave : (lines : List Text) (ending : _) → StandsFor source.name (remaining reader) (failures reader) (failures read) lines ending
+  gave : (lines : List Text) (ending : _) → StandsFor source.name (remaining reader) (remaining read) (failures reader) (failures read) lines ending
       → (did : reading.Reading) × IsReadingOf source did × (file_of source.name did ≡ record { name = source.name; lines = lines; ending = ending }) × (after ≡ count_more before (failures_of did))
   gave lines ending s = (
     s.reading,
@@ -36,7 +36,7 @@ module _ {R : Type 0} (remaining : R → Option Text) (failures : R → ℕ) (so
   )
 
   -- all its lines were added
-  pub file_whole : (old new : Text) → AddsLines (remaining reader) (failures reader) (failures read) old new true → ReadsFile source before after old new Whole
+  pub file_whole : (old new : Text) → AddsLines (remaining reader) (remaining read) (failures reader) (failures read) old new true → ReadsFile source before after old new Whole
   file_whole old new h =
       let did = gave h.texts whole (h.stands source.name) in
       let none : failures_of did.0 ≡ 0 = whole-failures source.name did.0 (ap (λ (f : File). f.ending) did.2) in (
@@ -47,7 +47,7 @@ module _ {R : Type 0} (remaining : R → Option Text) (failures : R → ℕ) (so
       )
 
   -- not all of them
-  pub file_broken : (old new : Text) → AddsLines (remaining reader) (failures reader) (failures read) old new false → ReadsFile source before after old new Broken
+  pub file_broken : (old new : Text) → AddsLines (remaining reader) (remaining read) (failures reader) (failures read) old new false → ReadsFile source before after old new Broken
   file_broken old new h =
       let did = gave h.texts broken (h.stands source.name) in
       (failures_of did.0, (did.0, did.1, sym (ap (λ (f : File). patterns_by f.ending f (failures_of did.0)) did.2)), did.3)

@@ -1,7 +1,7 @@
 -- What is told, whether or not a write fails.
 use Rattle.std.proofs.Common.{◌≡◌, ℕ, List, [], ◌∷◌, ◌++◌, Option, Result, Ok, Err, inl, inr, refl, sym, ap, ◌∙◌, append_assoc}
 use Rattle.re_syntax.specs.Bytes.{Text}
-use Rattle.re_auto.specs.Meters.{Steps}
+use Rattle.re_search.specs.Meters.{Steps}
 use Rattle.grep_core.specs.Output.{written}
 use Rattle.grep_core.specs.Row.{output_line}
 use Rattle.grep_core.specs.Run.{Writer, writer}
@@ -23,7 +23,7 @@ module _ {W : Type 0} (contents : W → Option Text) (failures : W → ℕ) (old
 -- a command that tells of a want ends so
 pub gives_up : (out old new : Writer) (n : ℕ) (steps : Steps) (texts : List Text) → Tells old new texts
     → GivesUp (record { out = out; messages = old; source_failures = n; steps = steps }) (record { out = out; messages = new; source_failures = n; steps = steps }) texts 0 2
-gives_up out old new n steps texts told = record { is_error = refl; none_written = refl; told = told; counted = refl }
+gives_up out old new n steps texts told = record { is_error = refl; none_written = refl; told = told; counted = refl; no_step = refl }
 
 -- the pieces of a line, one behind the other
 pub line_of_pieces : (front kind_front kind at place end : Text) → (front ++ (kind_front ++ kind)) ++ ((at ++ place) ++ end) ≡ ((((front ++ kind_front) ++ kind) ++ at) ++ place) ++ end

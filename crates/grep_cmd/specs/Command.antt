@@ -1,5 +1,5 @@
 -- The whole command: what it writes for its words, and its exit status (XCU grep).
-use Rattle.std.specs.Prelude.{◌≡◌, ℕ, nat_lt, List, [], ◌∷◌, ◌⊎◌, length, All, Result, Ok, Err, MatchBool, MatchResult}
+use Rattle.std.specs.Prelude.{◌≡◌, ℕ, nat_lt, List, [], ◌∷◌, ◌++◌, ◌⊎◌, length, All, Option, Result, Ok, Err, MatchBool, MatchResult}
 use Rattle.re_syntax.specs.declared.fault.PatternFault.{PatternFault}
 use Rattle.re_syntax.specs.Bytes.{Text}
 use Rattle.re_syntax.specs.Expression.{Expression}
@@ -29,12 +29,13 @@ status_number Error = 2
 abbrev pub Tells : Writer → Writer → List Text → Type 0
 Tells old new texts = TakesAll old new texts ⊎ (TakesFront old new texts × (new.failures ≡ one_more old.failures))
 
--- the command ends with these messages and status 2; nothing more is written to the output, and so often the devices of files failed
+-- the command ends with these messages and status 2; nothing more is written to the output, no step is counted, and so often the devices of files failed
 pub record GivesUp (old new : Devices) (texts : List Text) (failures status : ℕ) : Type 0 where
   pub is_error : status ≡ 2
   pub none_written : new.out ≡ old.out
   pub told : Tells old.messages new.messages texts
   pub counted : new.source_failures ≡ count_more old.source_failures failures
+  pub no_step : new.steps ≡ old.steps
 
 -- how the command ends once the files were searched: what cut the search short is told, but not behind a message that could not be written
 abbrev pub EndsAfter : Result Status RunFault → Devices → Devices → ℕ → Type 0
@@ -43,14 +44,15 @@ EndsAfter (Err Write) old new status = GivesUp old new (write_error ∷ []) 0 st
 EndsAfter (Err MessageWrite) old new status = (status ≡ 2) × (new ≡ old)
 EndsAfter (Err (Memory k lines)) old new status = GivesUp old new (out_of_memory ∷ []) 0 status
 
--- the files were searched for these expressions, and the command ended so
-pub record SearchEnds (es : List Expression) (options : Options) (sources : List Source) (old new : Devices) (status : ℕ) : Type 0 where
+-- the files were searched for these expressions, and the command ended so; `given` says of what readers may have left that
+-- readers that had this left were given back
+pub record SearchEnds (es : List Expression) (options : Options) (sources : List Source) (given : List (Option Text) → Type 0) (old new : Devices) (status : ℕ) : Type 0 where
   pub found : Result Status RunFault
   pub between : Devices
-  pub runs : RunGives es options sources old between found
+  pub runs : RunGives es options sources given old between found
   pub ends : EndsAfter found between new status
 
-module _ (asked : Asked) (folder : Folder) (texts : List Text) (old new : Devices) (status : ℕ) where
+module _ (asked : Asked) (folder : Folder) (texts : List Text) (given : List (Option Text) → Type 0) (old new : Devices) (status : ℕ) where
   -- the first pattern that isn't readable is told
   pub record RefusesPattern : Type 0 where
     pub place : ℕ
@@ -63,7 +65,7 @@ module _ (asked : Asked) (folder : Folder) (texts : List Text) (old new : Device
     pub readable : All (IsReadable asked.syntax asked.options.ignore_case) texts
     pub es : List Expression
     pub are_meant : AreMeant asked.syntax asked.options texts es
-    pub ends : SearchEnds es asked.options (sources_named folder (searched asked.files)) old new status
+    pub ends : SearchEnds es asked.options (sources_named folder (searched asked.files)) given old new status
 
   -- the patterns are counted, then each is read in order, and then the files are searched
   abbrev pub DoesForPatterns : Type 0
@@ -73,12 +75,13 @@ module _ (asked : Asked) (folder : Folder) (texts : List Text) (old new : Device
   abbrev pub PatternsGive : Type 0
   PatternsGive = DoesForPatterns ⊎ GivesUp old new (out_of_memory ∷ []) 0 status
 
-module _ (folder : Folder) (old new : Devices) (status : ℕ) where
-  -- the pattern files are read, up to the first that can't be
+module _ (folder : Folder) (given : List (Option Text) → Type 0) (old new : Devices) (status : ℕ) where
+  -- the pattern files are read, up to the first that can't be; their readers are given back before those of the files
   abbrev pub DoesForRequest : Asked → Type 0
   DoesForRequest asked =
       ((unread : Unread) × FirstUnread folder asked.sources unread × GivesUp old new (unread.message ∷ []) unread.failures status)
-      ⊎ ((texts : List Text) × GivePatterns folder asked.sources texts × DoesForPatterns asked (behind_all folder asked.sources) texts old new status)
+      ⊎ ((texts : List Text) × (read : List (Option Text)) × GivePatterns folder asked.sources texts
+      × DoesForPatterns asked (behind_all folder asked.sources) texts (λ left. given (read ++ left)) old new status)
 
   -- or memory was wanting before the search
   abbrev pub RequestGives : Asked → Type 0

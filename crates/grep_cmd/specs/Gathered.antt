@@ -21,11 +21,11 @@ pub record Adds (old new : Text) (texts : List Text) : Type 0 where
   pub bytes : new ≡ old ++ terminated texts
   pub no_newlines : All HasNoNewline texts
 
--- the lines of a reader were added, and whether these are all
-pub record AddsLines (known : Option Text) (failed_before failed : ℕ) (old new : Text) (all : Bool) : Type 0 where
+-- the lines of a reader were added, which has this left, and whether these are all
+pub record AddsLines (known rest : Option Text) (failed_before failed : ℕ) (old new : Text) (all : Bool) : Type 0 where
   pub texts : List Text
   pub adds : Adds old new texts
-  pub stands : (name : Text) → StandsFor name known failed_before failed texts (if all then whole else broken)
+  pub stands : (name : Text) → StandsFor name known rest failed_before failed texts (if all then whole else broken)
 
 abbrev pub refusal : Text → ℕ → Result (List Text) Unread
 refusal message failures = Err (record { message = message; failures = failures })

@@ -1,11 +1,11 @@
 //! The whole command (XCU grep).
 ghost use Rattle.std.specs.Prelude.{◌≡◌, ℕ, ◌<◌, nat_lt, IfSome, map, length};
 ghost use Rattle.re_syntax.specs.Lines.{lines_of};
-ghost use Rattle.re_auto.specs.Meters.{Steps, fresh};
 ghost use Rattle.re_search.specs.Filters.{AreNeeded};
 ghost use Rattle.re_search.specs.Reading.{matched_expression, wants_whole};
 ghost use Rattle.re_search.specs.Searching.{AllAnswer};
 ghost use Rattle.grep_core.specs.Run.{writer};
+ghost use Rattle.grep_core.specs.Sources.{GivesBack};
 ghost use Rattle.grep_cmd.specs.Command.{SearchEnds, PatternsGive, RequestGives, CommandGives};
 ghost use Rattle.grep_cmd.specs.Folder.{searched, sources_named};
 ghost use Rattle.grep_cmd.specs.Words.{asked, texts_of};
@@ -18,7 +18,7 @@ use crate::searching::search_files;
 use crate::telling::{FAILED, end_search, tell, tell_unread, tell_usage};
 use crate::words::{Request, read_words};
 use grep_core::CountedWrite;
-use re_auto::fresh_meter;
+use re_search::Meter;
 use re_syntax::FaultKind;
 use std::alloc::Global;
 
@@ -33,28 +33,28 @@ fn search_request<F: Files, W: CountedWrite, N: CountedWrite>(
     files: &mut F,
     out: &mut W,
     messages: &mut N,
+    meter: &mut Meter,
 ) -> u8
     requires whole { AllAnswer request.now.options.line_regexp (map wants_whole searchers.old.matchers.items) }
     requires needed { IfSome searchers.old.needed (λ strings. AreNeeded strings (map matched_expression searchers.old.matchers.items)) }
-    ensures { (steps : Steps) × SearchEnds (map matched_expression searchers.old.matchers.items) request.now.options
-        (sources_named (F.folder files.old) (searched (texts_of request.now.files.items)))
+    ensures { SearchEnds (map matched_expression searchers.old.matchers.items) request.now.options
+        (sources_named (F.folder files.old) (searched (texts_of request.now.files.items))) (GivesBack F.given_back files.old files.new)
         record {
           out = writer W.contents W.failures out.old;
           messages = writer N.contents N.failures messages.old;
           source_failures = F.failures files.old;
-          steps = fresh;
+          steps = meter.old;
         }
         record {
           out = writer W.contents W.failures out.new;
           messages = writer N.contents N.failures messages.new;
           source_failures = F.failures files.new;
-          steps = steps;
+          steps = meter.new;
         }
         result }
 {
     let words = &request.files;
     let options = &request.options;
-    let mut meter = fresh_meter();
     let found = search_files(
         alloc,
         files,
@@ -64,7 +64,7 @@ fn search_request<F: Files, W: CountedWrite, N: CountedWrite>(
         options,
         out,
         messages,
-        &mut meter,
+        meter,
     );
     end_search(messages, found)
 }
@@ -78,19 +78,20 @@ fn run_patterns<F: Files, W: CountedWrite, N: CountedWrite>(
     files: &mut F,
     out: &mut W,
     messages: &mut N,
+    meter: &mut Meter,
 ) -> u8
-    ensures { (steps : Steps) × PatternsGive (asked request.now) (F.folder files.old) (lines_of texts.now)
+    ensures { PatternsGive (asked request.now) (F.folder files.old) (lines_of texts.now) (GivesBack F.given_back files.old files.new)
         record {
           out = writer W.contents W.failures out.old;
           messages = writer N.contents N.failures messages.old;
           source_failures = F.failures files.old;
-          steps = fresh;
+          steps = meter.old;
         }
         record {
           out = writer W.contents W.failures out.new;
           messages = writer N.contents N.failures messages.new;
           source_failures = F.failures files.new;
-          steps = steps;
+          steps = meter.new;
         }
         result }
 {
@@ -99,7 +100,15 @@ fn run_patterns<F: Files, W: CountedWrite, N: CountedWrite>(
         return FAILED;
     }
     match searchers_of(alloc, texts, request.syntax, &request.options) {
-        Ok(mut searchers) => search_request(alloc, request, &mut searchers, files, out, messages),
+        Ok(mut searchers) => search_request(
+            alloc,
+            request,
+            &mut searchers,
+            files,
+            out,
+            messages,
+            meter,
+        ),
         Err((place, fault)) => {
             if fault.kind == FaultKind::Memory {
                 tell(messages, b"grep: out of memory");
@@ -118,24 +127,25 @@ fn run_request<F: Files, W: CountedWrite, N: CountedWrite>(
     files: &mut F,
     out: &mut W,
     messages: &mut N,
+    meter: &mut Meter,
 ) -> u8
-    ensures { (steps : Steps) × RequestGives (F.folder files.old)
+    ensures { RequestGives (F.folder files.old) (GivesBack F.given_back files.old files.new)
         record {
           out = writer W.contents W.failures out.old;
           messages = writer N.contents N.failures messages.old;
           source_failures = F.failures files.old;
-          steps = fresh;
+          steps = meter.old;
         }
         record {
           out = writer W.contents W.failures out.new;
           messages = writer N.contents N.failures messages.new;
           source_failures = F.failures files.new;
-          steps = steps;
+          steps = meter.new;
         }
         result (asked request.now) }
 {
     match read_patterns(alloc, files, &request.sources) {
-        Ok(texts) => run_patterns(alloc, request, &texts, files, out, messages),
+        Ok(texts) => run_patterns(alloc, request, &texts, files, out, messages, meter),
         Err(fault) => {
             tell_unread(messages, fault);
             FAILED
@@ -165,30 +175,35 @@ fn run_request<F: Files, W: CountedWrite, N: CountedWrite>(
 /// is told and the status is 2. Where a message can't be written the status is 2 and nothing more is
 /// told. Where a growth is refused `grep: out of memory` is told and the status is 2. No write is
 /// tried again, and neither device is flushed.
+///
+/// The steps that the meter counts are at most those of one search of each line for each pattern,
+/// and where parts are written, of one more for each part of the line and one for its end; before
+/// the files are searched none is counted.
 pub fn run_grep<F: Files, W: CountedWrite, M: CountedWrite>(
     alloc: Global,
     words: &[String],
     files: &mut F,
     out: &mut W,
     messages: &mut M,
+    meter: &mut Meter,
 ) -> u8
-    ensures { (steps : Steps) × CommandGives (F.folder files.old)
+    ensures { CommandGives (F.folder files.old) (GivesBack F.given_back files.old files.new)
         record {
           out = writer W.contents W.failures out.old;
           messages = writer M.contents M.failures messages.old;
           source_failures = F.failures files.old;
-          steps = fresh;
+          steps = meter.old;
         }
         record {
           out = writer W.contents W.failures out.new;
           messages = writer M.contents M.failures messages.new;
           source_failures = F.failures files.new;
-          steps = steps;
+          steps = meter.new;
         }
         result (texts_of words.now) }
 {
     match read_words(alloc, words) {
-        Ok(request) => run_request(alloc, &request, files, out, messages),
+        Ok(request) => run_request(alloc, &request, files, out, messages, meter),
         Err(fault) => {
             tell_usage(messages, fault);
             FAILED

@@ -1,7 +1,7 @@
 //! The files that a command may name.
-ghost use Rattle.std.specs.Prelude.{◌≡◌, ℕ};
+ghost use Rattle.std.specs.Prelude.{◌≡◌, ℕ, ⊤, List, [], ◌∷◌, Option};
 ghost use Rattle.grep_core.specs.Run.{count_more};
-ghost use Rattle.grep_core.specs.Sources.{Opens};
+ghost use Rattle.grep_core.specs.Sources.{Opens, GivesBack};
 ghost use Rattle.grep_cmd.specs.Folder.{Folder, file_named, input_used, is_standard, shown_name, source_named, after_use};
 
 use grep_core::CountedRead;
@@ -18,6 +18,10 @@ pub trait Files {
     /// How many attempts to open a file, and reads of readers that were given back, have failed.
     ghost failures: { Self → ℕ };
 
+    /// What the readers that were given back had left, in order: any history of them that a caller
+    /// keeps.
+    ghost given_back: { Self → List (Option (List ℕ)) → Type 0 } = { λ _ _. ⊤ };
+
     /// Which loan they are that are a `&mut`, by the name of its referent's value in proofs. It is
     /// the same for all that are none.
     ghost loan: { Self → ℕ } = { λ _. 0 };
@@ -29,6 +33,7 @@ pub trait Files {
         ensures bytes { Self.Reader.remaining result ≡ (folder self.old).input }
         ensures fresh { Self.Reader.failures result ≡ 0 }
         ensures counted { failures self.new ≡ failures self.old }
+        ensures none_back { GivesBack given_back self.old self.new [] }
         ensures same_loan { loan self.new ≡ loan self.old };
 
     /// A reader of the file, from its first byte on, of which no read has failed. `None` says that
@@ -37,12 +42,14 @@ pub trait Files {
         ensures kept { folder self.new ≡ folder self.old }
         ensures opened { Opens Self.Reader.remaining Self.Reader.failures (file_named (folder self.old) name.now)
             (failures self.old) (failures self.new) result }
+        ensures none_back { GivesBack given_back self.old self.new [] }
         ensures same_loan { loan self.new ≡ loan self.old };
 
     /// Takes a reader back, and counts its failures.
     fn close(&mut self, reader: Self::Reader)
         ensures kept { folder self.new ≡ folder self.old }
         ensures counted { failures self.new ≡ count_more (failures self.old) (Self.Reader.failures reader) }
+        ensures back { GivesBack given_back self.old self.new (Self.Reader.remaining reader ∷ []) }
         ensures same_loan { loan self.new ≡ loan self.old };
 
     /// How many attempts to open a file, and reads of readers that were given back, have failed.
@@ -57,6 +64,8 @@ impl<F: Files> Files for &mut F {
     ghost folder = { λ f. F.folder f.now };
 
     ghost failures = { λ f. F.failures f.now };
+
+    ghost given_back = { λ f left. F.given_back f.now left };
 
     ghost loan = { λ f. f.ghost_name };
 
@@ -99,6 +108,7 @@ pub fn open_named<F: Files>(files: &mut F, name: &str) -> Option<F::Reader>
     ensures used { F.folder files.new ≡ after_use (F.folder files.old) name.now }
     ensures opened { Opens F.Reader.remaining F.Reader.failures (source_named (F.folder files.old) name.now)
         (F.failures files.old) (F.failures files.new) result }
+    ensures none_back { GivesBack F.given_back files.old files.new [] }
     ensures same_loan { F.loan files.new ≡ F.loan files.old }
 {
     if is_standard(name) {

@@ -1,7 +1,9 @@
 //! The patterns of a request (XCU grep, options `-e` and `-f`, and the operand pattern_list).
-ghost use Rattle.std.specs.Prelude.{◌≡◌, [], ◌∷◌, ◌++◌, IfOk, IfErr, OnErr, Err, map};
+ghost use Rattle.std.specs.Prelude.{◌≡◌, List, Option, [], ◌∷◌, ◌++◌, IfOk, IfErr, OnErr, Err, map};
+ghost use Rattle.re_syntax.specs.Bytes.{Text};
 ghost use Rattle.re_syntax.specs.Lines.{newline, lines_of};
 ghost use Rattle.grep_core.specs.declared.lines.Stage.{Stage};
+ghost use Rattle.grep_core.specs.Sources.{GivesBack};
 ghost use Rattle.grep_cmd.specs.Folder.{source_named, after_use};
 ghost use Rattle.grep_cmd.specs.Patterns.{SourceGives, behind, behind_all, GivePatterns, FirstUnread};
 ghost use Rattle.grep_cmd.specs.Gathered.{AddsLines, ReadsFile, AddsSource, StopsFor};
@@ -49,7 +51,7 @@ fn add_text(texts: &mut Vec<u8>, text: &[u8]) -> Result<(), AllocError>
 fn add_lines<R: CountedRead>(lines: &mut Lines<R>, texts: &mut Vec<u8>) -> Result<bool, AllocError>
     requires none_ahead { lines.old.ahead ≡ [] }
     requires still_open { lines.old.stage ≡ Stage.Open }
-    ensures ok { IfOk result (λ all. AddsLines (R.remaining lines.old.reader) (R.failures lines.old.reader)
+    ensures ok { IfOk result (λ all. AddsLines (R.remaining lines.old.reader) (R.remaining lines.new.reader) (R.failures lines.old.reader)
         (R.failures lines.new.reader) texts.old.items texts.new.items all) }
     ensures err { OnErr result (R.failures lines.new.reader ≡ R.failures lines.old.reader) }
 {
@@ -77,6 +79,7 @@ fn add_file<F: Files>(
 ) -> Result<FileRead, AllocError>
     ensures used { F.folder files.new ≡ after_use (F.folder files.old) word.now }
     ensures same_loan { F.loan files.new ≡ F.loan files.old }
+    ensures back { (left : List (Option Text)) × GivesBack F.given_back files.old files.new left }
     ensures ok { IfOk result (λ read. ReadsFile (source_named (F.folder files.old) word.now)
         (F.failures files.old) (F.failures files.new) texts.old.items texts.new.items read) }
     ensures err { OnErr result (F.failures files.new ≡ F.failures files.old) }
@@ -109,6 +112,7 @@ fn add_source<'a, F: Files>(
 ) -> Result<(), PatternsFault<'a>>
     ensures used { F.folder files.new ≡ behind (F.folder files.old) (given_source source.now) }
     ensures same_loan { F.loan files.new ≡ F.loan files.old }
+    ensures back { (left : List (Option Text)) × GivesBack F.given_back files.old files.new left }
     ensures ok { IfOk result (λ _. AddsSource (F.folder files.old) (given_source source.now) texts.old.items texts.new.items) }
     ensures none_failed { IfOk result (λ _. F.failures files.new ≡ F.failures files.old) }
     ensures err { IfErr result (λ fault. StopsFor (λ unread. SourceGives (F.folder files.old) (given_source source.now) (Err unread))
@@ -139,6 +143,7 @@ pub fn read_patterns<'a, F: Files>(
     sources: &'a [PatternSource],
 ) -> Result<Vec<u8>, PatternsFault<'a>>
     ensures same_loan { F.loan files.new ≡ F.loan files.old }
+    ensures back { (left : List (Option Text)) × GivesBack F.given_back files.old files.new left }
     ensures used { IfOk result (λ _. F.folder files.new ≡ behind_all (F.folder files.old) (map given_source sources.now)) }
     ensures none_failed { IfOk result (λ _. F.failures files.new ≡ F.failures files.old) }
     ensures ok { IfOk result (λ texts. GivePatterns (F.folder files.old) (map given_source sources.now) (lines_of texts.items)) }

@@ -3,14 +3,14 @@ ghost use Rattle.std.specs.Prelude.{IfSome, map};
 ghost use Rattle.re_search.specs.Filters.{AreNeeded};
 ghost use Rattle.re_search.specs.Searching.{AllAnswer};
 ghost use Rattle.grep_core.specs.Run.{writer, RunGives};
+ghost use Rattle.grep_core.specs.Sources.{GivesBack};
 ghost use Rattle.grep_cmd.specs.Folder.{searched, sources_named};
 ghost use Rattle.grep_cmd.specs.Words.{texts_of};
 
 use crate::files::Files;
 use crate::operands::Operands;
 use grep_core::{CountedWrite, Options, RunFault, Status, search_filtered};
-use re_auto::Meter;
-use re_search::{FixedSet, LineMatch};
+use re_search::{FixedSet, LineMatch, Meter};
 use std::alloc::Global;
 
 /// One pass over the files that the words name, or over standard input where there is no word.
@@ -32,7 +32,7 @@ pub fn search_files<F: Files, L: LineMatch, W: CountedWrite, N: CountedWrite>(
     requires whole { AllAnswer options.now.line_regexp (map L.whole matchers.old) }
     requires needed { IfSome filter (λ f. AreNeeded f.now (map L.expression matchers.old)) }
     ensures { RunGives (map L.expression matchers.old) options.now
-        (sources_named (F.folder files.old) (searched (texts_of words.now)))
+        (sources_named (F.folder files.old) (searched (texts_of words.now))) (GivesBack F.given_back files.old files.new)
         record {
           out = writer W.contents W.failures out.old;
           messages = writer N.contents N.failures messages.old;

@@ -1,6 +1,6 @@
 //! What a command tells on standard error (XCU grep, STDERR), and its exit status.
 ghost use Rattle.std.specs.Prelude.{◌≡◌, ℕ, [], ◌∷◌};
-ghost use Rattle.re_auto.specs.Meters.{Steps};
+ghost use Rattle.re_search.specs.Meters.{Steps};
 ghost use Rattle.grep_core.specs.Row.{output_line};
 ghost use Rattle.grep_core.specs.Run.{Writer, writer};
 ghost use Rattle.grep_core.specs.Written.{Writes};

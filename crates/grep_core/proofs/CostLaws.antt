@@ -6,7 +6,7 @@ use Rattle.re_syntax.specs.Bytes.{Text}
 use Rattle.re_syntax.specs.Expression.{Expression}
 use Rattle.re_syntax.proofs.PartsExist.{AreParts-exist}
 use Rattle.re_syntax.proofs.PartsLaws.{ArePartsFrom-unique}
-use Rattle.re_auto.specs.Meters.{Steps}
+use Rattle.re_search.specs.Meters.{Steps}
 use Rattle.re_search.specs.Searching.{AddsAtMost}
 use Rattle.grep_core.specs.declared.options.Options.{Options}
 use Rattle.grep_core.specs.Files.{File}

@@ -130,6 +130,8 @@ module _ {R : Type 0} (remaining : R → Option Text) (failures : R → ℕ) whe
       record {
         reading = ends_after (s.given ++ left.0);
         is_reading = (refl, left.1.0);
+        none_fails = refl;
+        is_left = λ rest. (rest, refl);
         more = cut.0;
         named = ap (λ (f : File). f.name) (same ∙ cut.2);
         has_lines = ap (λ (f : File). f.lines) (same ∙ cut.2);
@@ -138,19 +140,20 @@ module _ {R : Type 0} (remaining : R → Option Text) (failures : R → ℕ) whe
 
   -- no line is left
   pub stands_whole : (name : Text) (reader : R) (old new : LineReader R) (handed : List Text) → HandsLines remaining failures reader old handed → length handed ≤ most_lines
-      → IsUsedUp remaining failures old new → StandsFor name (remaining reader) (failures reader) (failures new.reader) handed whole
+      → IsUsedUp remaining failures old new → StandsFor name (remaining reader) (remaining new.reader) (failures reader) (failures new.reader) handed whole
   stands_whole name reader old new handed s few h =
       let gave = Consumes-kept (remaining reader) (to_come remaining failures old) (to_come remaining failures new) s.given s.gave h.kept in
       record {
         reading = ends_after s.given;
         is_reading = (refl, given_all (remaining reader) (to_come remaining failures new) s.given gave h.none_left);
+        is_left = (remaining new.reader, refl);
         file = ap (λ ls. up_to_limit name ls whole) (lines_given old.stage s.given handed s.are_handed) ∙ up_to_limit-few name handed whole few;
         counted = h.none_failed ∙ s.none_failed;
       }
 
   -- a read failed behind the lines
   pub stands_broken : (name : Text) (reader : R) (old new : LineReader R) (handed : List Text) → HandsLines remaining failures reader old handed → length handed ≤ most_lines → old.stage ≡ Open
-      → IsCutOff remaining failures old new → StandsFor name (remaining reader) (failures reader) (failures new.reader) handed broken
+      → IsCutOff remaining failures old new → StandsFor name (remaining reader) (remaining new.reader) (failures reader) (failures new.reader) handed broken
   stands_broken name reader old new handed s few was_open h =
       let lines : AreHanded Open s.given handed = subst (λ stage. AreHanded stage s.given handed) was_open s.are_handed in
       let kept = Consumes-kept (remaining reader) (to_come remaining failures old) (to_come remaining failures new) s.given s.gave h.kept in
@@ -159,6 +162,7 @@ module _ {R : Type 0} (remaining : R → Option Text) (failures : R → ℕ) whe
       record {
         reading = fails_after (s.given ++ new.ahead);
         is_reading = (refl, with_rest (remaining reader) (s.given ++ new.ahead) rest.0 rest.1.0);
+        is_left = (remaining new.reader, refl, gave);
         file =
             ap (λ ls. up_to_limit name ls broken) (ap (λ l. ended_lines_of (l ++ new.ahead)) lines.0 ∙ ended_lines_of-unfinished handed new.ahead lines.1 h.unfinished)
             ∙ up_to_limit-few name handed broken few;
@@ -167,7 +171,7 @@ module _ {R : Type 0} (remaining : R → Option Text) (failures : R → ℕ) whe
 
   -- a line more than the limit allows was handed out
   pub stands_cut : (name : Text) (reader : R) (now : LineReader R) (handed : List Text) (line : Text) → HandsLines remaining failures reader now (handed ++ line ∷ []) → length handed ≡ most_lines
-      → StandsFor name (remaining reader) (failures reader) (failures now.reader) handed broken
+      → StandsFor name (remaining reader) (remaining now.reader) (failures reader) (failures now.reader) handed broken
   stands_cut name reader now handed line s many =
       let left = all_of (remaining reader) (to_come remaining failures now) s.given s.gave in
       let front = lines_front now.stage s.given (handed ++ line ∷ []) left.0 s.are_handed (λ e. left.1.1 (s.all_given e)) in
@@ -175,6 +179,7 @@ module _ {R : Type 0} (remaining : R → Option Text) (failures : R → ℕ) whe
       record {
         reading = ends_after (s.given ++ left.0);
         is_reading = (refl, left.1.0);
+        is_left = (remaining now.reader, refl);
         file = ap (λ ls. up_to_limit name ls whole) all ∙ up_to_limit-over name handed front.0 line whole many;
         counted = s.none_failed;
       }

@@ -28,6 +28,7 @@ pub mod LinesLemmas
 pub mod OpenedLemmas
 pub mod SummaryLemmas
 pub mod RunLaws
+pub mod GivenLaws
 pub mod CostLaws
 pub mod PartsLemmas
 pub mod WrittenLemmas

@@ -5,7 +5,7 @@ use Rattle.std.proofs.lemmas.Bool.{false≢true, cases_Bool, cond-true, cond-fal
 use Rattle.std.proofs.lemmas.List.{length_push, length-append}
 use Rattle.re_syntax.specs.Bytes.{Text}
 use Rattle.re_syntax.specs.Expression.{Expression}
-use Rattle.re_auto.specs.Meters.{Steps}
+use Rattle.re_search.specs.Meters.{Steps}
 use Rattle.grep_core.specs.declared.options.Options.{Options}
 use Rattle.grep_core.specs.declared.lines.Stage.TheVariants.{Open}
 use Rattle.grep_core.specs.declared.search.FileEnd.TheVariants.{Whole, Broken, Left}
@@ -14,7 +14,7 @@ use Rattle.grep_core.specs.LineReader.{LineReader, HandsOut, IsUsedUp, IsCutOff,
 use Rattle.grep_core.specs.Files.{File, whole, broken, Selected, HasSelected}
 use Rattle.grep_core.specs.Output.{nothing, names, form, OutAs, SelectedLines}
 use Rattle.grep_core.specs.Messages.{FaultMet}
-use Rattle.grep_core.specs.Reading.{open_source, file_of, failures_of, most_lines}
+use Rattle.grep_core.specs.Reading.{open_source, file_of, failures_of, most_lines, OneLeft}
 use Rattle.grep_core.specs.Run.{Writer, TakesAll, RowsAs, first_lines}
 use Rattle.grep_core.specs.Pass.{HandsLines, StandsFor, BeginsWith, file_so_far}
 use Rattle.grep_core.specs.Cost.{SearchesLine, SearchesLines}
@@ -22,6 +22,7 @@ use Rattle.grep_core.specs.OneLine.{LineRowsOf, TakesLine, BreaksLine}
 use Rattle.grep_core.specs.Searched.{leaves_early, summary_as, BreaksSource, StopsSource, SearchesSource}
 use Rattle.grep_core.proofs.AnyLaws.{Any-left}
 use Rattle.grep_core.proofs.Verdicts.{decided_yes, decided_no, picked}
+use Rattle.grep_core.proofs.Decided.{dec_fault_met}
 use Rattle.grep_core.proofs.CostLaws.{searched_no_line, searched_one_line, searched_first_lines}
 use Rattle.grep_core.proofs.WriterLaws.{TakesAll-nothing, TakesAll-more, TakesFront-more, TakesFront-longer}
 use Rattle.grep_core.proofs.OneFile.{whole-failures}
@@ -66,17 +67,17 @@ module _ (es : List Expression) (options : Options) (many : Bool) (name : Text) 
   some_tells : (lines : List Text) (old new : Writer) (selected : ℕ) → WritesLines lines old new selected → Decides (nat_lt 0 selected) (Any (Selected es options) lines)
   some_tells lines old new selected w = subst (λ n. Decides (nat_lt 0 n) (Any (Selected es options) lines)) w.counted (chosen_tells es options many name lines w.chosen w.are_chosen)
 
-  module _ (known : Option Text) (old new : Writer) (began ended : Steps) where
+  module _ (known rest : Option Text) (old new : Writer) (began ended : Steps) where
     module _ (failed_before failed : ℕ) (lines : List Text) (selected : ℕ) (w : WritesLines lines old new selected) (spent : SearchesLines es options (length es) lines began ended) where
       -- all lines were searched
-      pub searches_whole : StandsFor name known failed_before failed lines whole → SearchesSource es options many (open_source name known) failed_before failed old new began ended Whole selected
+      pub searches_whole : StandsFor name known rest failed_before failed lines whole → SearchesSource es options many (open_source name known) (OneLeft rest) failed_before failed old new began ended Whole selected
       searches_whole s =
           let ends : File = record { name = name; lines = lines; ending = whole } in
           let unmet : FaultMet es options (file_of name s.reading) → ⊥ = subst (λ f. FaultMet es options f → ⊥) (sym s.file) (λ h. h) in
           record {
             reading = s.reading;
             is_reading = s.is_reading;
-            failures = record { own = failures_of s.reading; are_own = inr (unmet, whole-failures name s.reading (ap (λ (f : File). f.ending) s.file)); counted = s.counted };
+            failures = record { own = failures_of s.reading; are_own = inr (unmet, whole-failures name s.reading (ap (λ (f : File). f.ending) s.file)); counted = s.counted; left = rest ∷ []; are_left = s.is_left; gave_back = refl };
             some = subst (λ f. Decides (nat_lt 0 selected) (HasSelected es options f)) (sym s.file) (some_tells lines old new selected w);
             fault = decided_no unmet;
             ends = λ e. absurd (false≢true e);
@@ -88,7 +89,7 @@ module _ (es : List Expression) (options : Options) (many : Bool) (name : Text) 
           }
 
       -- a read failed behind them
-      pub searches_broken : StandsFor name known failed_before failed lines broken → (IsTrue (leaves_early options) → selected ≡ 0) → SearchesSource es options many (open_source name known) failed_before failed old new began ended Broken selected
+      pub searches_broken : StandsFor name known rest failed_before failed lines broken → (IsTrue (leaves_early options) → selected ≡ 0) → SearchesSource es options many (open_source name known) (OneLeft rest) failed_before failed old new began ended Broken selected
       searches_broken s none =
           let ends : File = record { name = name; lines = lines; ending = broken } in
           let some = some_tells lines old new selected w in
@@ -97,7 +98,7 @@ module _ (es : List Expression) (options : Options) (many : Bool) (name : Text) 
           record {
             reading = s.reading;
             is_reading = s.is_reading;
-            failures = record { own = failures_of s.reading; are_own = inl (met, refl); counted = s.counted };
+            failures = record { own = failures_of s.reading; are_own = inl (met, refl); counted = s.counted; left = rest ∷ []; are_left = s.is_left; gave_back = refl };
             some = subst (λ f. Decides (nat_lt 0 selected) (HasSelected es options f)) (sym s.file) some;
             fault = decided_yes met;
             ends = λ _. ap (λ (f : File). f.ending) s.file;
@@ -109,7 +110,7 @@ module _ (es : List Expression) (options : Options) (many : Bool) (name : Text) 
           }
 
       -- the source was left behind them, at a selected line
-      pub searches_left : BeginsWith name known lines → failed ≡ failed_before → IsTrue (leaves_early options) → 0 < selected → SearchesSource es options many (open_source name known) failed_before failed old new began ended Left selected
+      pub searches_left : BeginsWith name known lines → failed ≡ failed_before → IsTrue (leaves_early options) → 0 < selected → SearchesSource es options many (open_source name known) (OneLeft rest) failed_before failed old new began ended Left selected
       searches_left b none_failed early found =
           let file = file_of name b.reading in
           let here : nat_lt 0 selected ≡ true = positive selected found in
@@ -119,7 +120,7 @@ module _ (es : List Expression) (options : Options) (many : Bool) (name : Text) 
           record {
             reading = b.reading;
             is_reading = b.is_reading;
-            failures = record { own = 0; are_own = inr (unmet, refl); counted = none_failed };
+            failures = record { own = 0; are_own = inr (unmet, refl); counted = none_failed; left = rest ∷ []; are_left = b.is_left rest; gave_back = refl };
             some = some;
             fault = decided_no unmet;
             ends = λ e. absurd (false≢true e);
@@ -131,14 +132,17 @@ module _ (es : List Expression) (options : Options) (many : Bool) (name : Text) 
 
     -- want of memory came behind the lines
     pub stops_behind : (lines : List Text) (selected count : ℕ) → WritesLines lines old new selected → SearchesLines es options (length es) lines began ended → BeginsWith name known lines → length lines ≡ count
-        → StopsSource es options many (open_source name known) count old new began ended
-    stops_behind lines selected count w spent b counted =
+        → (failed_before failed : ℕ) → failed ≡ failed_before → StopsSource es options many (open_source name known) (OneLeft rest) count failed_before failed old new began ended
+    stops_behind lines selected count w spent b counted failed_before failed none_failed =
         let file = file_of name b.reading in
         let first : take count file.lines ≡ lines = ap (take count) b.has_lines ∙ ap (λ k. take k (lines ++ b.more)) (sym counted) ∙ take-append_seam lines b.more in
         let same : file_so_far name lines ≡ first_lines count file = λ i. record { name = sym b.named i; lines = sym first i; ending = whole } in
         record {
           reading = b.reading;
           is_reading = b.is_reading;
+          none_failed = none_failed;
+          rest = rest;
+          gave_back = refl;
           in_file = omega (arith, counted, length-append lines b.more, ap length b.has_lines);
           rows = w.rows;
           are_rows = subst (λ f. RowsAs es options (form options) many f w.rows) same (rows_as es options many (form options) (file_so_far name lines) w.rows w.are_rows);
@@ -147,15 +151,24 @@ module _ (es : List Expression) (options : Options) (many : Bool) (name : Text) 
         }
 
   -- a write failed within the rows of the next line
-  pub breaks_within : (known : Option Text) (lines : List Text) (line : Text) (old mid new : Writer) (began ended : Steps) (selected : ℕ) → WritesLines lines old mid selected → SearchesLines es options (length es) (lines ++ line ∷ []) began ended
-      → BeginsWith name known (lines ++ line ∷ []) → BreaksLine es options many name (length lines + 1) line mid new → BreaksSource es options many (open_source name known) old new began ended
-  breaks_within known lines line old mid new began ended selected w spent b broke =
+  pub breaks_within : (known rest : Option Text) (lines : List Text) (line : Text) (old mid new : Writer) (began ended : Steps) (selected : ℕ) → WritesLines lines old mid selected → SearchesLines es options (length es) (lines ++ line ∷ []) began ended
+      → BeginsWith name known (lines ++ line ∷ []) → BreaksLine es options many name (length lines + 1) line mid new → (failed_before failed : ℕ) → failed ≡ failed_before
+      → BreaksSource es options many (open_source name known) (OneLeft rest) failed_before failed old new began ended
+  breaks_within known rest lines line old mid new began ended selected w spent b broke failed_before failed none_failed =
       let rows = w.rows ++ broke.rows in
       let these = rows_line es options many name (form options) lines line w.rows broke.rows w.are_rows broke.are_rows in
       let all = output_front es options many (file_of name b.reading) name (lines ++ line ∷ []) b.more (form options) rows b.named b.has_lines these in
       record {
         reading = b.reading;
         is_reading = b.is_reading;
+        failures = record {
+          own = 0;
+          are_own = elim (dec_fault_met es options (file_of name b.reading)) [ yes met ↦ inl (met, sym b.none_fails) | no unmet ↦ inr (unmet, refl) ];
+          counted = none_failed;
+          left = rest ∷ [];
+          are_left = b.is_left rest;
+          gave_back = refl;
+        };
         rows = rows ++ all.0;
         are_rows = all.1;
         wrote = TakesFront-longer old new rows all.0 (TakesFront-more old mid new w.rows broke.rows w.wrote broke.wrote);
@@ -226,48 +239,51 @@ module _ {R : Type 0} (remaining : R → Option Text) (failures : R → ℕ) (es
 
     -- it is selected, and the source is left there
     leaves_here : (line : Text) (more : ℕ) → HandsOut remaining failures before now → line ≡ now.line → TakesLine es options many name (count + 1) line mid new true → SearchesLine es options (length es) line amid ended → more ≡ selected + 1
-        → count < most_lines → IsTrue (leaves_early options) → SearchesSource es options many (open_source name (remaining reader)) (failures reader) (failures now.reader) old new began ended Left more
+        → count < most_lines → IsTrue (leaves_early options) → SearchesSource es options many (open_source name (remaining reader)) (OneLeft (remaining now.reader)) (failures reader) (failures now.reader) old new began ended Left more
     leaves_here line more h is t one e few early =
         let lines = next_line line h is in
         let within : length (s.lines ++ line ∷ []) ≤ most_lines = omega (arith, length_push s.lines line, s.is_count) in
-        searches_left es options many name (remaining reader) old new began ended (failures reader) (failures now.reader) (s.lines ++ line ∷ []) more (subst (WritesLines es options many name (s.lines ++ line ∷ []) old new) (sym e) (took line true t)) (spent line one)
+        searches_left es options many name (remaining reader) (remaining now.reader) old new began ended (failures reader) (failures now.reader) (s.lines ++ line ∷ []) more (subst (WritesLines es options many name (s.lines ++ line ∷ []) old new) (sym e) (took line true t)) (spent line one)
         (begins_with remaining failures name reader now (s.lines ++ line ∷ []) lines within) lines.none_failed early (omega (arith, e))
 
     pub leaves_at : (line : Text) (found early : Bool) (more : ℕ) → HandsOut remaining failures before now → line ≡ now.line → TakesLine es options many name (count + 1) line mid new found → SearchesLine es options (length es) line amid ended
         → more ≡ (if found then selected + 1 else selected) → count < most_lines → early ≡ leaves_early options → (found && early) ≡ true
-        → SearchesSource es options many (open_source name (remaining reader)) (failures reader) (failures now.reader) old new began ended Left more
+        → SearchesSource es options many (open_source name (remaining reader)) (OneLeft (remaining now.reader)) (failures reader) (failures now.reader) old new began ended Left more
     leaves_at line true true more h is t one e few is_early both = leaves_here line more h is t one e few (sym is_early)
     leaves_at line true false more h is t one e few is_early both = absurd (false≢true both)
     leaves_at line false early more h is t one e few is_early both = absurd (false≢true both)
 
     -- a write failed in its rows
     pub breaks_at : (line : Text) → HandsOut remaining failures before now → line ≡ now.line → count < most_lines → BreaksLine es options many name (count + 1) line mid new → SearchesLine es options (length es) line amid ended
-        → BreaksSource es options many (open_source name (remaining reader)) old new began ended
+        → BreaksSource es options many (open_source name (remaining reader)) (OneLeft (remaining now.reader)) (failures reader) (failures now.reader) old new began ended
     breaks_at line h is few broke one =
         let lines = next_line line h is in
         let within : length (s.lines ++ line ∷ []) ≤ most_lines = omega (arith, length_push s.lines line, s.is_count) in
-        breaks_within es options many name (remaining reader) s.lines line old mid new began ended selected s.wrote (spent line one) (begins_with remaining failures name reader now (s.lines ++ line ∷ []) lines within) (subst (λ n. BreaksLine es options many name n line mid new) number broke)
+        breaks_within es options many name (remaining reader) (remaining now.reader) s.lines line old mid new began ended selected s.wrote (spent line one) (begins_with remaining failures name reader now (s.lines ++ line ∷ []) lines within) (subst (λ n. BreaksLine es options many name n line mid new) number broke)
+        (failures reader) (failures now.reader) lines.none_failed
 
   module _ (before now : LineReader R) (old new : Writer) (began ended : Steps) (count selected : ℕ) (s : SearchedSoFar before old new began ended count selected) (few : count ≤ most_lines) where
     within : length s.lines ≤ most_lines
     within = omega (arith, s.is_count, few)
 
     -- no line is left
-    pub ends_whole : IsUsedUp remaining failures before now → SearchesSource es options many (open_source name (remaining reader)) (failures reader) (failures now.reader) old new began ended Whole selected
-    ends_whole h = searches_whole es options many name (remaining reader) old new began ended (failures reader) (failures now.reader) s.lines selected s.wrote s.steps (stands_whole remaining failures name reader before now s.lines s.hands within h)
+    pub ends_whole : IsUsedUp remaining failures before now → SearchesSource es options many (open_source name (remaining reader)) (OneLeft (remaining now.reader)) (failures reader) (failures now.reader) old new began ended Whole selected
+    ends_whole h = searches_whole es options many name (remaining reader) (remaining now.reader) old new began ended (failures reader) (failures now.reader) s.lines selected s.wrote s.steps (stands_whole remaining failures name reader before now s.lines s.hands within h)
 
     -- a read failed
-    pub ends_broken : before.stage ≡ Open → IsCutOff remaining failures before now → SearchesSource es options many (open_source name (remaining reader)) (failures reader) (failures now.reader) old new began ended Broken selected
+    pub ends_broken : before.stage ≡ Open → IsCutOff remaining failures before now → SearchesSource es options many (open_source name (remaining reader)) (OneLeft (remaining now.reader)) (failures reader) (failures now.reader) old new began ended Broken selected
     ends_broken was_open h =
-        searches_broken es options many name (remaining reader) old new began ended (failures reader) (failures now.reader) s.lines selected s.wrote s.steps (stands_broken remaining failures name reader before now s.lines s.hands within was_open h) s.none_early
+        searches_broken es options many name (remaining reader) (remaining now.reader) old new began ended (failures reader) (failures now.reader) s.lines selected s.wrote s.steps (stands_broken remaining failures name reader before now s.lines s.hands within was_open h) s.none_early
 
     -- there is one line too many
-    pub ends_cut : count ≡ most_lines → HandsOut remaining failures before now → SearchesSource es options many (open_source name (remaining reader)) (failures reader) (failures now.reader) old new began ended Broken selected
+    pub ends_cut : count ≡ most_lines → HandsOut remaining failures before now → SearchesSource es options many (open_source name (remaining reader)) (OneLeft (remaining now.reader)) (failures reader) (failures now.reader) old new began ended Broken selected
     ends_cut full h =
-        searches_broken es options many name (remaining reader) old new began ended (failures reader) (failures now.reader) s.lines selected s.wrote s.steps
+        searches_broken es options many name (remaining reader) (remaining now.reader) old new began ended (failures reader) (failures now.reader) s.lines selected s.wrote s.steps
         (stands_cut remaining failures name reader now s.lines now.line (HandsLines-line remaining failures reader before now s.lines s.hands h) (s.is_count ∙ full)) s.none_early
 
     -- want of memory
-    pub runs_out : before.stage ≡ Open → IsInterrupted remaining failures before now → StopsSource es options many (open_source name (remaining reader)) count old new began ended
+    pub runs_out : before.stage ≡ Open → IsInterrupted remaining failures before now → StopsSource es options many (open_source name (remaining reader)) (OneLeft (remaining now.reader)) count (failures reader) (failures now.reader) old new began ended
     runs_out was_open h =
-        stops_behind es options many name (remaining reader) old new began ended s.lines selected count s.wrote s.steps (begins_with remaining failures name reader now s.lines (HandsLines-stays remaining failures reader before now s.lines s.hands was_open h) within) s.is_count
+        let stays = HandsLines-stays remaining failures reader before now s.lines s.hands was_open h in
+        stops_behind es options many name (remaining reader) (remaining now.reader) old new began ended s.lines selected count s.wrote s.steps (begins_with remaining failures name reader now s.lines stays within) s.is_count
+        (failures reader) (failures now.reader) stays.none_failed

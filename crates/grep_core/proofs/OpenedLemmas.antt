@@ -1,10 +1,10 @@
 -- A search of a source that was opened, by the search of its reader.
-use Rattle.std.proofs.Common.{◌≡◌, ℕ, zero, suc, ◌≤◌, ◌⊎◌, Bool, true, false, List, [], length, Option, Result, Ok, Err, IfSome, IfOk, refl, sym, ap, subst, ◌∙◌, inl, inr, arith}
+use Rattle.std.proofs.Common.{◌≡◌, ℕ, zero, suc, ◌≤◌, ◌⊎◌, Bool, true, false, List, [], ◌∷◌, length, Option, Result, Ok, Err, IfSome, IfOk, refl, sym, ap, subst, ◌∙◌, inl, inr, arith}
 use Rattle.std.proofs.lemmas.Bool.{false≢true}
 use Rattle.re_syntax.specs.Bytes.{Text}
 use Rattle.re_syntax.specs.Expression.{Expression}
 use Rattle.re_syntax.proofs.Decisions.{Any-none}
-use Rattle.re_auto.specs.Meters.{Steps}
+use Rattle.re_search.specs.Meters.{Steps}
 use Rattle.grep_core.specs.declared.options.Options.{Options}
 use Rattle.grep_core.specs.declared.search.FileEnd.{FileEnd}
 use Rattle.grep_core.specs.declared.search.FileEnd.TheVariants.{Missing}
@@ -14,10 +14,10 @@ use Rattle.grep_core.specs.Choose.{Chosen}
 use Rattle.grep_core.specs.LineReader.{LineReader}
 use Rattle.grep_core.specs.Files.{File, Selected}
 use Rattle.grep_core.specs.Output.{Form, nothing, names, counts, parts, lines, form, numbered}
-use Rattle.grep_core.specs.Reading.{Source, Reading, not_opened, fails_after, ends_after, open_source, IsReadingOf, file_of, failures_of}
+use Rattle.grep_core.specs.Reading.{Source, Reading, not_opened, fails_after, ends_after, open_source, IsReadingOf, file_of, failures_of, AreLeft, OneLeft}
 use Rattle.grep_core.specs.Run.{Writer, first_lines, count_more}
 use Rattle.grep_core.specs.OneLine.{LineRowsOf}
-use Rattle.grep_core.specs.Searched.{BreaksSource, StopsSource, SearchesSource}
+use Rattle.grep_core.specs.Searched.{CountsSource, BreaksSource, StopsSource, SearchesSource}
 use Rattle.grep_core.proofs.Verdicts.{decided_yes, decided_no}
 use Rattle.grep_core.proofs.CostLaws.{searched_no_line, searched_first_lines}
 use Rattle.grep_core.proofs.WriterLaws.{TakesAll-nothing}
@@ -47,14 +47,37 @@ few_failures not_opened = omega arith
 few_failures (fails_after bytes) = omega arith
 few_failures (ends_after bytes) = omega arith
 
-module _ (es : List Expression) (options : Options) (many : Bool) (source : Source) (opens : IfSome source.opens (λ b. b ≡ true)) (old new : Writer) (began ended : Steps) where
+-- what the reader of an open source had left is what that of the source had
+left_of : (source : Source) (r : Reading) (left : List (Option Text)) → AreLeft (open_source source.name source.bytes) r left → AreLeft source r left
+left_of source not_opened left h = h
+left_of source (fails_after bytes) left h = h
+left_of source (ends_after bytes) left h = h
+
+module _ (es : List Expression) (options : Options) (many : Bool) (source : Source) (given : List (Option Text) → Type 0) (rest : Option Text) (gives : given (rest ∷ []))
+    (before after failed : ℕ) (counted : after ≡ count_more before failed) where
+  -- what was counted of the reader from nothing on was counted of the source
+  counted_on : (reading : Reading) → CountsSource es options many (open_source source.name source.bytes) (OneLeft rest) reading 0 failed → CountsSource es options many source given reading before after
+  counted_on reading s = record {
+    own = s.own;
+    are_own = s.are_own;
+    counted = counted ∙ ap (count_more before) s.counted ∙ count_on before s.own few;
+    left = s.left;
+    are_left = left_of source reading s.left s.are_left;
+    gave_back = subst given (sym s.gave_back) gives;
+  }
+    where
+      few : s.own ≤ 1
+      few = elim s.are_own [ inl f ↦ omega (arith, f.1, few_failures reading) | inr f ↦ omega (arith, f.1) ]
+
+module _ (es : List Expression) (options : Options) (many : Bool) (source : Source) (given : List (Option Text) → Type 0) (rest : Option Text) (gives : given (rest ∷ []))
+    (opens : IfSome source.opens (λ b. b ≡ true)) (old new : Writer) (began ended : Steps) (before after failed : ℕ) (counted : after ≡ count_more before failed) where
   -- a search of its reader was a search of the source
-  pub source_searched : (end : FileEnd) (selected before after failed : ℕ) → SearchesSource es options many (open_source source.name source.bytes) 0 failed old new began ended end selected → after ≡ count_more before failed
-      → SearchesSource es options many source before after old new began ended end selected
-  source_searched end selected before after failed s e = record {
+  pub source_searched : (end : FileEnd) (selected : ℕ) → SearchesSource es options many (open_source source.name source.bytes) (OneLeft rest) 0 failed old new began ended end selected
+      → SearchesSource es options many source given before after old new began ended end selected
+  source_searched end selected s = record {
     reading = s.reading;
     is_reading = opened source s.reading opens s.is_reading;
-    failures = record { own = s.failures.own; are_own = s.failures.are_own; counted = e ∙ ap (count_more before) s.failures.counted ∙ count_on before s.failures.own few };
+    failures = counted_on es options many source given rest gives before after failed counted s.reading s.failures;
     some = s.some;
     fault = s.fault;
     ends = s.ends;
@@ -63,24 +86,44 @@ module _ (es : List Expression) (options : Options) (many : Bool) (source : Sour
     wrote = s.wrote;
     steps = s.steps;
   }
-    where
-      few : s.failures.own ≤ 1
-      few = elim s.failures.are_own [ inl f ↦ omega (arith, f.1, few_failures s.reading) | inr f ↦ omega (arith, f.1) ]
 
-  pub source_broken : BreaksSource es options many (open_source source.name source.bytes) old new began ended → BreaksSource es options many source old new began ended
-  source_broken s = record { reading = s.reading; is_reading = opened source s.reading opens s.is_reading; rows = s.rows; are_rows = s.are_rows; wrote = s.wrote; counted = s.counted; steps = s.steps }
+  pub source_broken : BreaksSource es options many (open_source source.name source.bytes) (OneLeft rest) 0 failed old new began ended → BreaksSource es options many source given before after old new began ended
+  source_broken s = record {
+    reading = s.reading;
+    is_reading = opened source s.reading opens s.is_reading;
+    failures = counted_on es options many source given rest gives before after failed counted s.reading s.failures;
+    rows = s.rows;
+    are_rows = s.are_rows;
+    wrote = s.wrote;
+    counted = s.counted;
+    steps = s.steps;
+  }
 
-  pub source_stopped : (n : ℕ) → StopsSource es options many (open_source source.name source.bytes) n old new began ended → StopsSource es options many source n old new began ended
-  source_stopped n s = record { reading = s.reading; is_reading = opened source s.reading opens s.is_reading; in_file = s.in_file; rows = s.rows; are_rows = s.are_rows; wrote = s.wrote; steps = s.steps }
+  pub source_stopped : (n : ℕ) → StopsSource es options many (open_source source.name source.bytes) (OneLeft rest) n 0 failed old new began ended → StopsSource es options many source given n before after old new began ended
+  source_stopped n s = record {
+    reading = s.reading;
+    is_reading = opened source s.reading opens s.is_reading;
+    none_failed = counted ∙ ap (count_more before) s.none_failed;
+    rest = s.rest;
+    gave_back = subst given (sym s.gave_back) gives;
+    in_file = s.in_file;
+    rows = s.rows;
+    are_rows = s.are_rows;
+    wrote = s.wrote;
+    steps = s.steps;
+  }
 
-module _ (es : List Expression) (options : Options) (many : Bool) (source : Source) (w : Writer) (steps : Steps) where
+module _ (es : List Expression) (options : Options) (many : Bool) (source : Source) (given : List (Option Text) → Type 0) (w : Writer) (steps : Steps) where
   -- want of memory before a source was read
-  pub source_unread : StopsSource es options many source 0 w w steps steps
-  source_unread =
+  pub source_unread : (before after : ℕ) → after ≡ before → (rest : Option Text) → given (rest ∷ []) → StopsSource es options many source given 0 before after w w steps steps
+  source_unread before after same rest gives =
       let some = IsReadingOf-exists source in
       record {
         reading = some.0;
         is_reading = some.1;
+        none_failed = same;
+        rest = rest;
+        gave_back = gives;
         in_file = omega arith;
         rows = [];
         are_rows = rows_as es options many (form options) (first_lines 0 (file_of source.name some.0)) [] (no_rows (form options) (first_lines 0 (file_of source.name some.0)) refl);
@@ -96,11 +139,11 @@ module _ (es : List Expression) (options : Options) (many : Bool) (source : Sour
       no_rows lines file e = ([], subst (λ ls. Chosen (λ l. Selected es options l.1) (numbered ls) []) (sym e) refl, refl)
 
   -- a source that could not be opened
-  pub source_missing : (before after : ℕ) → IfSome source.opens (λ b. b ≡ false) → after ≡ one_more before → SearchesSource es options many source before after w w steps steps Missing 0
-  source_missing before after closed e = record {
+  pub source_missing : (before after : ℕ) → IfSome source.opens (λ b. b ≡ false) → after ≡ one_more before → given [] → SearchesSource es options many source given before after w w steps steps Missing 0
+  source_missing before after closed e gives = record {
     reading = not_opened;
     is_reading = closed;
-    failures = record { own = 1; are_own = inl (tt, refl); counted = e };
+    failures = record { own = 1; are_own = inl (tt, refl); counted = e; left = []; are_left = refl; gave_back = gives };
     some = decided_no (Any-none (Selected es options));
     fault = decided_yes tt;
     ends = λ _. refl;
@@ -111,25 +154,35 @@ module _ (es : List Expression) (options : Options) (many : Bool) (source : Sour
   }
 
 -- the reader that a source was opened with, and the lines made of it
-module _ {R : Type 0} (remaining : R → Option Text) (failures : R → ℕ) (es : List Expression) (options : Options) (many : Bool) (source : Source) (opens : IfSome source.opens (λ b. b ≡ true))
+module _ {R : Type 0} (remaining : R → Option Text) (failures : R → ℕ) (es : List Expression) (options : Options) (many : Bool) (source : Source) (given : List (Option Text) → Type 0) (rest : Option Text) (gives : given (rest ∷ [])) (opens : IfSome source.opens (λ b. b ≡ true))
     (reader : R) (bytes : remaining reader ≡ source.bytes) (fresh : failures reader ≡ 0) (start : LineReader R) (holds : start.reader ≡ reader) (name : Text) (named : name ≡ source.name) (old new : Writer) (began ended : Steps) where
   same_source : open_source name (remaining start.reader) ≡ open_source source.name source.bytes
   same_source = λ i. open_source (named i) ((ap remaining holds ∙ bytes) i)
 
-  -- the search of the lines found this
-  pub found_in : {E : Type 0} (r : Result FileFound E) (before after failed : ℕ) → after ≡ count_more before failed
-      → IfOk r (λ found. SearchesSource es options many (open_source name (remaining start.reader)) (failures start.reader) failed old new began ended found.end found.selected)
-      → IfOk r (λ found. SearchesSource es options many source before after old new began ended found.end found.selected)
-  found_in (Err e) before after failed counted s = tt
-  found_in (Ok found) before after failed counted s =
-      let at_source = subst (λ src. SearchesSource es options many src (failures start.reader) failed old new began ended found.end found.selected) same_source s in
-      let from_none = subst (λ n. SearchesSource es options many (open_source source.name source.bytes) n failed old new began ended found.end found.selected) (ap failures holds ∙ fresh) at_source in
-      source_searched es options many source opens old new began ended found.end found.selected before after failed from_none counted
+  fresh_start : failures start.reader ≡ 0
+  fresh_start = ap failures holds ∙ fresh
 
-  -- a write failed in it
-  pub broken_in : BreaksSource es options many (open_source name (remaining start.reader)) old new began ended → BreaksSource es options many source old new began ended
-  broken_in s = source_broken es options many source opens old new began ended (subst (λ src. BreaksSource es options many src old new began ended) same_source s)
+  module _ (before after failed : ℕ) (counted : after ≡ count_more before failed) where
+    -- the search of the lines found this
+    pub found_in : {E : Type 0} (r : Result FileFound E)
+        → IfOk r (λ found. SearchesSource es options many (open_source name (remaining start.reader)) (OneLeft rest) (failures start.reader) failed old new began ended found.end found.selected)
+        → IfOk r (λ found. SearchesSource es options many source given before after old new began ended found.end found.selected)
+    found_in (Err e) s = tt
+    found_in (Ok found) s =
+        let at_source = subst (λ src. SearchesSource es options many src (OneLeft rest) (failures start.reader) failed old new began ended found.end found.selected) same_source s in
+        let from_none = subst (λ n. SearchesSource es options many (open_source source.name source.bytes) (OneLeft rest) n failed old new began ended found.end found.selected) fresh_start at_source in
+        source_searched es options many source given rest gives opens old new began ended before after failed counted found.end found.selected from_none
 
-  -- want of memory came behind n lines
-  pub stopped_in : (n : ℕ) → StopsSource es options many (open_source name (remaining start.reader)) n old new began ended → StopsSource es options many source n old new began ended
-  stopped_in n s = source_stopped es options many source opens old new began ended n (subst (λ src. StopsSource es options many src n old new began ended) same_source s)
+    -- a write failed in it
+    pub broken_in : BreaksSource es options many (open_source name (remaining start.reader)) (OneLeft rest) (failures start.reader) failed old new began ended → BreaksSource es options many source given before after old new began ended
+    broken_in s =
+        let at_source = subst (λ src. BreaksSource es options many src (OneLeft rest) (failures start.reader) failed old new began ended) same_source s in
+        let from_none = subst (λ n. BreaksSource es options many (open_source source.name source.bytes) (OneLeft rest) n failed old new began ended) fresh_start at_source in
+        source_broken es options many source given rest gives opens old new began ended before after failed counted from_none
+
+    -- want of memory came behind n lines
+    pub stopped_in : (n : ℕ) → StopsSource es options many (open_source name (remaining start.reader)) (OneLeft rest) n (failures start.reader) failed old new began ended → StopsSource es options many source given n before after old new began ended
+    stopped_in n s =
+        let at_source = subst (λ src. StopsSource es options many src (OneLeft rest) n (failures start.reader) failed old new began ended) same_source s in
+        let from_none = subst (λ m. StopsSource es options many (open_source source.name source.bytes) (OneLeft rest) n m failed old new began ended) fresh_start at_source in
+        source_stopped es options many source given rest gives opens old new began ended before after failed counted n from_none

@@ -6,7 +6,7 @@ use Rattle.re_syntax.specs.Expression.{Expression}
 use Rattle.re_syntax.specs.Parts.{IsFound, IsPart, ArePartsFrom, AreParts}
 use Rattle.re_syntax.proofs.PartsLaws.{IsPart-unique}
 use Rattle.re_syntax.proofs.PartsExist.{AreParts-exist}
-use Rattle.re_auto.specs.Meters.{Steps}
+use Rattle.re_search.specs.Meters.{Steps}
 use Rattle.re_search.specs.Searching.{FindsPart, AddsAtMost}
 use Rattle.re_search.specs.declared.span.Span.{Span}
 use Rattle.grep_core.specs.declared.options.Options.{Options}

@@ -1,5 +1,5 @@
 -- A run over sources, one more source at a time, and how it comes to its end.
-use Rattle.std.proofs.Common.{◌≡◌, ℕ, zero, suc, ◌+◌, nat_lt, nat_le, ◌<◌, ◌≤◌, Bool, true, false, ◌||◌, ◌&&◌, IsTrue, Decides, List, [], ◌∷◌, ◌++◌, length, take, drop, get_or, None, Ok, Err, Any, refl, sym, ap, subst, ◌∙◌, inl, inr, arith, append-nil, append_assoc}
+use Rattle.std.proofs.Common.{◌≡◌, ℕ, zero, suc, ◌+◌, nat_lt, nat_le, ◌<◌, ◌≤◌, Bool, true, false, ◌||◌, ◌&&◌, IsTrue, Decides, List, [], ◌∷◌, ◌++◌, length, take, drop, get_or, Option, None, Ok, Err, Any, refl, sym, ap, subst, ◌∙◌, inl, inr, arith, append-nil, append_assoc}
 use Rattle.std.proofs.Math.Seq.{take-suc, take-append_seam, get_or-append_seam}
 use Rattle.std.proofs.lemmas.Bool.{false≢true, cond-true}
 use Rattle.std.proofs.lemmas.List.{length-append, length-take-le, take_all}
@@ -17,11 +17,11 @@ use Rattle.grep_core.specs.Choose.{IfHolds}
 use Rattle.grep_core.specs.Files.{File, missing, HasSelected}
 use Rattle.grep_core.specs.Output.{Form, nothing, names, counts, parts, lines, form, OutAs, Out, are_many}
 use Rattle.grep_core.specs.Messages.{FaultMet, Stops, Told, Messages, AnySelected, StatusOf}
-use Rattle.grep_core.specs.Reading.{Source, Reading, IsReadingOf, file_of, failures_of}
-use Rattle.grep_core.specs.Run.{Writer, Devices, TakesAll, TakesFront, files_of, AreReadings, FailuresMet, RowsAs, first_lines, file_at, count_more, Finishes, BreaksOff, StopsBehind, RunGives}
+use Rattle.grep_core.specs.Reading.{Source, Reading, IsReadingOf, file_of, failures_of, AreLeft}
+use Rattle.grep_core.specs.Run.{Writer, Devices, TakesAll, TakesFront, files_of, AreReadings, FailuresMet, LeftMet, RowsAs, first_lines, file_at, count_more, Finishes, BreaksOff, StopsBehind, RunGives}
 use Rattle.grep_core.specs.Sources.{source_at}
 use Rattle.grep_core.specs.Cost.{SearchesLines, SearchesFiles}
-use Rattle.grep_core.specs.Searched.{is_fault, status_by, SourceGives, FinishesSource, BreaksSource, BreaksMessage, StopsSource}
+use Rattle.grep_core.specs.Searched.{is_fault, status_by, SourceGives, CountsSource, FinishesSource, BreaksSource, BreaksMessage, StopsSource}
 use Rattle.grep_core.proofs.AnyLaws.{Any-left, Any-right, Any-append-cases, Any-single, none_more}
 use Rattle.grep_core.proofs.CostLaws.{searched_without_steps, searched_one_file, searched_up_to}
 use Rattle.grep_core.proofs.Decided.{dec_stops}
@@ -30,7 +30,7 @@ use Rattle.grep_core.proofs.MoreFiles.{OutAs-append, OutAs-front}
 use Rattle.grep_core.proofs.MessageLaws.{Told-nothing, Told-append, Reached-all, Reached-stopped, Messages-reached, Messages-front}
 use Rattle.grep_core.proofs.PassLemmas.{or_tells}
 use Rattle.grep_core.proofs.Readings.{AreReadings-exist}
-use Rattle.grep_core.proofs.SourceLaws.{AreReadings-append, files_of-append, length-files_of, count_more-add, FailuresMet-append, FailuresMet-stopped, FailuresMet-one}
+use Rattle.grep_core.proofs.SourceLaws.{AreReadings-append, files_of-append, length-files_of, count_more-add, FailuresMet-append, FailuresMet-stopped, FailuresMet-one, FailuresMet-longer, LeftMet-append, LeftMet-stopped, LeftMet-one, LeftMet-longer}
 use Rattle.grep_core.proofs.StatusLaws.{StatusOf-stopped, StatusOf-error, StatusOf-selected, StatusOf-none}
 use Rattle.grep_core.proofs.WriterLaws.{TakesAll-nothing, TakesAll-more, TakesFront-all, TakesFront-more, TakesFront-longer}
 
@@ -67,7 +67,7 @@ cut_at (x ∷ xs) (suc k) d h = ap (λ l. x ∷ l) (cut_at xs k d (omega (arith,
 
 module _ (es : List Expression) (options : Options) (many : Bool) where
   -- output and messages for these sources were written, and the run goes on
-  pub record RunSoFar (before : List Source) (old new : Devices) (some faulty : Bool) : Type 0 where
+  pub record RunSoFar (before : List Source) (given : List (Option Text) → Type 0) (old new : Devices) (some faulty : Bool) : Type 0 where
     pub readings : List Reading
     pub are_readings : AreReadings before readings
     pub output : List Text
@@ -82,11 +82,14 @@ module _ (es : List Expression) (options : Options) (many : Bool) where
     pub failures : ℕ
     pub are_failures : FailuresMet es options before readings failures
     pub counted : new.source_failures ≡ count_more old.source_failures failures
+    pub left : List (Option Text)
+    pub are_left : LeftMet es options before readings left
+    pub gave_back : given left
     pub steps : SearchesFiles es options (length es) (files_of before readings) old.steps new.steps
 
   -- no source was read yet
-  pub run_none : (d : Devices) → RunSoFar [] d d false false
-  run_none d = record {
+  pub run_none : (given : List (Option Text) → Type 0) → given [] → (d : Devices) → RunSoFar [] given d d false false
+  run_none given none d = record {
     readings = [];
     are_readings = tt;
     output = [];
@@ -101,6 +104,9 @@ module _ (es : List Expression) (options : Options) (many : Bool) where
     failures = 0;
     are_failures = refl;
     counted = refl;
+    left = [];
+    are_left = refl;
+    gave_back = none;
     steps = searched_without_steps es options (length es) [] d.steps;
   }
     where
@@ -111,9 +117,11 @@ module _ (es : List Expression) (options : Options) (many : Bool) where
       nothing_written parts = refl
       nothing_written lines = refl
 
-  module _ (before : List Source) (source : Source) (old mid : Devices) (some faulty : Bool) (s : RunSoFar before old mid some faulty) where
+  -- what was given back before this source, in its search, and up to behind it
+  module _ (before : List Source) (source : Source) (given own_given all_given : List (Option Text) → Type 0) (join : (a b : List (Option Text)) → given a → own_given b → all_given (a ++ b))
+      (old mid : Devices) (some faulty : Bool) (s : RunSoFar before given old mid some faulty) where
     -- one more source, at which the run does not stop
-    pub run_next : (new : Devices) (end : FileEnd) (found : ℕ) → FinishesSource es options many source mid new end found → (options.quiet && nat_lt 0 found) ≡ false → RunSoFar (before ++ source ∷ []) old new (some || nat_lt 0 found) (faulty || is_fault end)
+    pub run_next : (new : Devices) (end : FileEnd) (found : ℕ) → FinishesSource es options many source own_given mid new end found → (options.quiet && nat_lt 0 found) ≡ false → RunSoFar (before ++ source ∷ []) all_given old new (some || nat_lt 0 found) (faulty || is_fault end)
     run_next new end found f goes =
         let file = file_of source.name f.reading in
         let files = files_of before s.readings in
@@ -134,6 +142,9 @@ module _ (es : List Expression) (options : Options) (many : Bool) where
           failures = s.failures + f.failures.own;
           are_failures = FailuresMet-append es options before (source ∷ []) s.readings (f.reading ∷ []) s.failures f.failures.own s.are_readings s.goes_on s.are_failures (FailuresMet-one es options source f.reading f.failures.own f.failures.are_own);
           counted = f.failures.counted ∙ ap (λ n. count_more n f.failures.own) s.counted ∙ sym (count_more-add old.source_failures s.failures f.failures.own);
+          left = s.left ++ f.failures.left;
+          are_left = LeftMet-append es options before (source ∷ []) s.readings (f.reading ∷ []) s.left f.failures.left s.are_readings s.goes_on s.are_left (LeftMet-one es options source f.reading f.failures.left f.failures.are_left);
+          gave_back = join s.left f.failures.left s.gave_back f.failures.gave_back;
           steps = subst (λ fs. SearchesFiles es options (length es) fs old.steps new.steps) (sym all) (searched_one_file es options (length es) files file old.steps mid.steps new.steps s.steps f.steps);
         }
 
@@ -170,6 +181,41 @@ module _ (es : List Expression) (options : Options) (many : Bool) where
       spent : (new : Devices) → SearchesLines es options (length es) file.lines mid.steps new.steps → SearchesFiles es options (length es) (files_of all_sources readings) old.steps new.steps
       spent new steps = subst (λ fs. SearchesFiles es options (length es) fs old.steps new.steps) (sym all_files) (searched_up_to es options (length es) first file behind old.steps mid.steps new.steps s.steps steps)
 
+      -- how often the devices failed in the first sources
+      met_before : FailuresMet es options (take (length before) all_sources) readings s.failures
+      met_before =
+          subst (λ xs. FailuresMet es options xs readings s.failures) (sym (take-append_seam before (source ∷ after)))
+          (FailuresMet-longer es options before s.readings (r ∷ rest.0) s.failures s.are_readings s.are_failures)
+
+      -- and in this one
+      met_here : (own : ℕ) → IfHolds (FaultMet es options file) (own ≡ failures_of r) (own ≡ 0) → FailuresMet es options (take (length (before ++ source ∷ [])) all_sources) readings (s.failures + own)
+      met_here own are_own =
+          let these = before ++ source ∷ [] in
+          let here = FailuresMet-append es options before (source ∷ []) s.readings (r ∷ []) s.failures own s.are_readings s.goes_on s.are_failures (FailuresMet-one es options source r own are_own) in
+          let are = AreReadings-append before (source ∷ []) s.readings (r ∷ []) s.are_readings (is_reading, tt) in
+          let first_sources : take (length these) all_sources ≡ these = ap (take (length these)) (sym (append_assoc before (source ∷ []) after)) ∙ take-append_seam these after in
+          subst (λ xs. FailuresMet es options xs readings (s.failures + own)) (sym first_sources)
+          (subst (λ rs. FailuresMet es options these rs (s.failures + own)) (append_assoc s.readings (r ∷ []) rest.0) (FailuresMet-longer es options these (s.readings ++ r ∷ []) rest.0 (s.failures + own) are here))
+
+      -- what the readers of the first sources had left
+      left_before : LeftMet es options (take (length before) all_sources) readings s.left
+      left_before =
+          subst (λ xs. LeftMet es options xs readings s.left) (sym (take-append_seam before (source ∷ after)))
+          (LeftMet-longer es options before s.readings (r ∷ rest.0) s.left s.are_readings s.are_left)
+
+      -- and that of this one
+      left_here : (own : List (Option Text)) → AreLeft source r own → LeftMet es options (take (length (before ++ source ∷ [])) all_sources) readings (s.left ++ own)
+      left_here own is_left =
+          let these = before ++ source ∷ [] in
+          let here = LeftMet-append es options before (source ∷ []) s.readings (r ∷ []) s.left own s.are_readings s.goes_on s.are_left (LeftMet-one es options source r own is_left) in
+          let are = AreReadings-append before (source ∷ []) s.readings (r ∷ []) s.are_readings (is_reading, tt) in
+          let first_sources : take (length these) all_sources ≡ these = ap (take (length these)) (sym (append_assoc before (source ∷ []) after)) ∙ take-append_seam these after in
+          subst (λ xs. LeftMet es options xs readings (s.left ++ own)) (sym first_sources)
+          (subst (λ rs. LeftMet es options these rs (s.left ++ own)) (append_assoc s.readings (r ∷ []) rest.0) (LeftMet-longer es options these (s.readings ++ r ∷ []) rest.0 (s.left ++ own) are here))
+
+      counted_here : (new : Devices) (own : ℕ) → new.source_failures ≡ count_more mid.source_failures own → new.source_failures ≡ count_more old.source_failures (s.failures + own)
+      counted_here new own counted = counted ∙ ap (λ n. count_more n own) s.counted ∙ sym (count_more-add old.source_failures s.failures own)
+
       -- the output for the first sources and this one is a beginning of the output
       out_front : (rows : List Text) → OutAs es options many (form options) (file ∷ []) rows → (more : List Text) × Out es options (files_of all_sources readings) ((s.output ++ rows) ++ more)
       out_front rows is =
@@ -182,9 +228,10 @@ module _ (es : List Expression) (options : Options) (many : Bool) where
           )
 
       -- a write failed within the output for this source
-      breaks_out : (new : Devices) (rows : List Text) → OutAs es options many (form options) (file ∷ []) rows → TakesFront mid.out new.out rows → new.messages ≡ mid.messages → SearchesLines es options (length es) file.lines mid.steps new.steps
-          → BreaksOff es options all_sources old new
-      breaks_out new rows is front same steps =
+      breaks_out : (new : Devices) (rows : List Text) → OutAs es options many (form options) (file ∷ []) rows → TakesFront mid.out new.out rows → new.messages ≡ mid.messages
+          → CountsSource es options many source own_given r mid.source_failures new.source_failures → SearchesLines es options (length es) file.lines mid.steps new.steps
+          → BreaksOff es options all_sources all_given old new
+      breaks_out new rows is front same failed steps =
           let out = out_front rows is in
           let told = Messages-front es options first (file ∷ behind) s.messages s.goes_on s.are_told in
           record {
@@ -196,6 +243,13 @@ module _ (es : List Expression) (options : Options) (many : Bool) where
             are_messages = subst (λ fs. Messages es options fs (s.messages ++ told.0)) (sym all_files) told.1;
             wrote = TakesFront-longer old.out new.out (s.output ++ rows) out.0 (TakesFront-more old.out mid.out new.out s.output rows s.wrote front);
             told = subst (λ w. TakesFront old.messages w (s.messages ++ told.0)) (sym same) (TakesFront-all old.messages mid.messages s.messages told.0 s.told);
+            met = length (before ++ source ∷ []);
+            failures = s.failures + failed.own;
+            are_failures = met_here failed.own failed.are_own;
+            counted = counted_here new failed.own failed.counted;
+            left = s.left ++ failed.left;
+            are_left = left_here failed.left failed.are_left;
+            gave_back = join s.left failed.left s.gave_back failed.gave_back;
             steps = spent new steps;
           }
 
@@ -218,8 +272,8 @@ module _ (es : List Expression) (options : Options) (many : Bool) where
       -- a write failed within its message
       breaks_told : (new : Devices) (rows messages : List Text) → OutAs es options many (form options) (file ∷ []) rows → TakesAll mid.out new.out rows
           → Told es options (file ∷ []) messages → TakesFront mid.messages new.messages messages
-          → SearchesLines es options (length es) file.lines mid.steps new.steps → BreaksOff es options all_sources old new
-      breaks_told new rows messages is took tells front steps =
+          → CountsSource es options many source own_given r mid.source_failures new.source_failures → SearchesLines es options (length es) file.lines mid.steps new.steps → BreaksOff es options all_sources all_given old new
+      breaks_told new rows messages is took tells front failed steps =
           let out = out_front rows is in
           let told = told_front messages tells in
           record {
@@ -231,13 +285,20 @@ module _ (es : List Expression) (options : Options) (many : Bool) where
             are_messages = told.1;
             wrote = TakesFront-all old.out new.out (s.output ++ rows) out.0 (TakesAll-more old.out mid.out new.out s.output rows s.wrote took);
             told = TakesFront-longer old.messages new.messages (s.messages ++ messages) told.0 (TakesFront-more old.messages mid.messages new.messages s.messages messages s.told front);
+            met = length (before ++ source ∷ []);
+            failures = s.failures + failed.own;
+            are_failures = met_here failed.own failed.are_own;
+            counted = counted_here new failed.own failed.counted;
+            left = s.left ++ failed.left;
+            are_left = left_here failed.left failed.are_left;
+            gave_back = join s.left failed.left s.gave_back failed.gave_back;
             steps = spent new steps;
           }
 
       -- want of memory came behind n of its lines
       stops : (new : Devices) (n : ℕ) (rows : List Text) → n ≤ length file.lines → RowsAs es options (form options) many (first_lines n file) rows → TakesAll mid.out new.out rows → new.messages ≡ mid.messages
-          → SearchesLines es options (length es) file.lines mid.steps new.steps → StopsBehind es options all_sources old new (length before) n
-      stops new n rows within are took same steps =
+          → new.source_failures ≡ mid.source_failures → (last : Option Text) → own_given (last ∷ []) → SearchesLines es options (length es) file.lines mid.steps new.steps → StopsBehind es options all_sources all_given old new (length before) n
+      stops new n rows within are took same none_failed last gives steps =
           let place : length first ≡ length before = length-files_of before s.readings s.are_readings in
           let front : take (length before) (files_of all_sources readings) ≡ first =
           ap (λ k. take k (files_of all_sources readings)) (sym place) ∙ ap (take (length first)) all_files ∙ take-append_seam first (file ∷ behind) in
@@ -256,14 +317,21 @@ module _ (es : List Expression) (options : Options) (many : Bool) where
             are_messages = subst (λ fs. Messages es options fs s.messages) (sym front) (Messages-reached es options first first s.messages (Reached-all es options first s.goes_on) s.are_told);
             wrote = TakesAll-more old.out mid.out new.out s.output rows s.wrote took;
             told = subst (λ w. TakesAll old.messages w s.messages) (sym same) s.told;
+            failures = s.failures;
+            are_failures = met_before;
+            counted = none_failed ∙ s.counted;
+            left = s.left;
+            rest = last;
+            are_left = left_before;
+            gave_back = join s.left (last ∷ []) s.gave_back gives;
             steps = spent new steps;
           }
 
       -- under `-q` a line of this source is selected
       finishes_here : (new : Devices) (end : FileEnd) (found : ℕ) (rows messages : List Text) (own : ℕ) → Stops es options file → OutAs es options many (form options) (file ∷ []) rows → TakesAll mid.out new.out rows
           → Told es options (file ∷ []) messages → TakesAll mid.messages new.messages messages → IfHolds (FaultMet es options file) (own ≡ failures_of r) (own ≡ 0)
-          → new.source_failures ≡ count_more mid.source_failures own → SearchesLines es options (length es) file.lines mid.steps new.steps → Finishes es options all_sources old new selected
-      finishes_here new end found rows messages own here is took tells told are_own counted steps =
+          → new.source_failures ≡ count_more mid.source_failures own → (own_left : List (Option Text)) → AreLeft source r own_left → own_given own_left → SearchesLines es options (length es) file.lines mid.steps new.steps → Finishes es options all_sources all_given old new selected
+      finishes_here new end found rows messages own here is took tells told are_own counted own_left is_left gives steps =
           let quiet_form : form options ≡ nothing = cond-true _ _ _ here.0 in
           let none_out : (xs : List File) → OutAs es options many (form options) xs [] = λ xs. subst (λ shape. OutAs es options many shape xs []) (sym quiet_form) refl in
           let output = OutAs-append es options many (form options) (first ++ file ∷ []) behind (s.output ++ rows) [] (OutAs-append es options many (form options) first (file ∷ []) s.output rows s.is_output is) (none_out behind) in
@@ -283,7 +351,10 @@ module _ (es : List Expression) (options : Options) (many : Bool) where
             told = TakesAll-more old.messages mid.messages new.messages s.messages messages s.told told;
             failures = s.failures + own;
             are_failures = FailuresMet-append es options before (source ∷ after) s.readings (r ∷ rest.0) s.failures own s.are_readings s.goes_on s.are_failures (FailuresMet-stopped es options source after r rest.0 own here are_own);
-            counted = counted ∙ ap (λ n. count_more n own) s.counted ∙ sym (count_more-add old.source_failures s.failures own);
+            counted = counted_here new own counted;
+            left = s.left ++ own_left;
+            are_left = LeftMet-append es options before (source ∷ after) s.readings (r ∷ rest.0) s.left own_left s.are_readings s.goes_on s.are_left (LeftMet-stopped es options source after r rest.0 own_left here is_left);
+            gave_back = join s.left own_left s.gave_back gives;
             steps = spent new steps;
           }
 
@@ -293,39 +364,39 @@ module _ (es : List Expression) (options : Options) (many : Bool) where
       many_here : many ≡ nat_le 2 (length (before ++ source ∷ after))
       many_here = is_many ∙ ap (λ l. nat_le 2 (length l)) cut
 
-      pub run_unwritten : BreaksSource es options many source mid.out new.out mid.steps new.steps → new.messages ≡ mid.messages → BreaksOff es options sources old new × (new.out.failures ≡ one_more old.out.failures) × (new.messages.failures ≡ old.messages.failures)
+      pub run_unwritten : BreaksSource es options many source own_given mid.source_failures new.source_failures mid.out new.out mid.steps new.steps → new.messages ≡ mid.messages → BreaksOff es options sources all_given old new × (new.out.failures ≡ one_more old.out.failures) × (new.messages.failures ≡ old.messages.failures)
       run_unwritten b same = (
-        subst (λ l. BreaksOff es options l old new) (sym cut) (breaks_out after many_here b.reading b.is_reading new b.rows b.are_rows b.wrote same b.steps),
+        subst (λ l. BreaksOff es options l all_given old new) (sym cut) (breaks_out after many_here b.reading b.is_reading new b.rows b.are_rows b.wrote same b.failures b.steps),
         b.counted ∙ ap one_more s.wrote.none_failed,
         ap (λ (w : Writer). w.failures) same ∙ s.told.none_failed,
       )
 
-      pub run_untold : BreaksMessage es options many source mid new → BreaksOff es options sources old new × (new.out.failures ≡ old.out.failures) × (new.messages.failures ≡ one_more old.messages.failures)
+      pub run_untold : BreaksMessage es options many source own_given mid new → BreaksOff es options sources all_given old new × (new.out.failures ≡ old.out.failures) × (new.messages.failures ≡ one_more old.messages.failures)
       run_untold b = (
-        subst (λ l. BreaksOff es options l old new) (sym cut) (breaks_told after many_here b.reading b.is_reading new b.rows b.messages b.are_rows b.wrote b.are_messages b.told b.steps),
+        subst (λ l. BreaksOff es options l all_given old new) (sym cut) (breaks_told after many_here b.reading b.is_reading new b.rows b.messages b.are_rows b.wrote b.are_messages b.told b.failures b.steps),
         b.wrote.none_failed ∙ s.wrote.none_failed,
         b.counted ∙ ap one_more s.told.none_failed,
       )
 
-      pub run_out_of_memory : (k n : ℕ) → k ≡ length before → StopsSource es options many source n mid.out new.out mid.steps new.steps → new.messages ≡ mid.messages → StopsBehind es options sources old new k n
+      pub run_out_of_memory : (k n : ℕ) → k ≡ length before → StopsSource es options many source own_given n mid.source_failures new.source_failures mid.out new.out mid.steps new.steps → new.messages ≡ mid.messages → StopsBehind es options sources all_given old new k n
       run_out_of_memory k n place b same =
-          subst (λ j. StopsBehind es options sources old new j n) (sym place)
-          (subst (λ l. StopsBehind es options l old new (length before) n) (sym cut) (stops after many_here b.reading b.is_reading new n b.rows b.in_file b.are_rows b.wrote same b.steps))
+          subst (λ j. StopsBehind es options sources all_given old new j n) (sym place)
+          (subst (λ l. StopsBehind es options l all_given old new (length before) n) (sym cut) (stops after many_here b.reading b.is_reading new n b.rows b.in_file b.are_rows b.wrote same b.none_failed b.rest b.gave_back b.steps))
 
-      pub run_stopped : (end : FileEnd) (found : ℕ) → FinishesSource es options many source mid new end found → (options.quiet && nat_lt 0 found) ≡ true → Finishes es options sources old new selected
+      pub run_stopped : (end : FileEnd) (found : ℕ) → FinishesSource es options many source own_given mid new end found → (options.quiet && nat_lt 0 found) ≡ true → Finishes es options sources all_given old new selected
       run_stopped end found f both =
-          subst (λ l. Finishes es options l old new selected) (sym cut)
-          (finishes_here after many_here f.reading f.is_reading new end found f.rows f.messages f.failures.own (both_hold options.quiet (nat_lt 0 found) both f.some) f.are_rows f.wrote f.are_messages f.told f.failures.are_own f.failures.counted f.steps)
+          subst (λ l. Finishes es options l all_given old new selected) (sym cut)
+          (finishes_here after many_here f.reading f.is_reading new end found f.rows f.messages f.failures.own (both_hold options.quiet (nat_lt 0 found) both f.some) f.are_rows f.wrote f.are_messages f.told f.failures.are_own f.failures.counted f.failures.left f.failures.are_left f.failures.gave_back f.steps)
 
       -- the search of the source was given up
-      pub run_fault : (k : ℕ) (fault : RunFault) → k ≡ length before → SourceGives es options many source k mid new (Err fault) → RunGives es options sources old new (Err fault)
+      pub run_fault : (k : ℕ) (fault : RunFault) → k ≡ length before → SourceGives es options many source own_given k mid new (Err fault) → RunGives es options sources all_given old new (Err fault)
       run_fault k Write place h = run_unwritten h.0 h.1
       run_fault k MessageWrite place h = run_untold h
       run_fault k (Memory at n) place h = run_out_of_memory at n (h.0 ∙ place) h.1 h.2
 
   -- all sources were read
-  pub run_all : (sources : List Source) (old new : Devices) (some faulty : Bool) → many ≡ nat_le 2 (length sources) → RunSoFar sources old new some faulty → Finishes es options sources old new (status_by some faulty)
-  run_all sources old new some faulty is_many s =
+  pub run_all : (sources : List Source) (given : List (Option Text) → Type 0) (old new : Devices) (some faulty : Bool) → many ≡ nat_le 2 (length sources) → RunSoFar sources given old new some faulty → Finishes es options sources given old new (status_by some faulty)
+  run_all sources given old new some faulty is_many s =
       let files = files_of sources s.readings in
       record {
         readings = s.readings;
@@ -340,6 +411,9 @@ module _ (es : List Expression) (options : Options) (many : Bool) where
         failures = s.failures;
         are_failures = s.are_failures;
         counted = s.counted;
+        left = s.left;
+        are_left = s.are_left;
+        gave_back = s.gave_back;
         steps = s.steps;
       }
     where
@@ -354,35 +428,36 @@ module _ (es : List Expression) (options : Options) (many : Bool) where
 
   -- ---- sources by their places
 
-  module _ (sources : List Source) (k : ℕ) (inside : k < length sources) (old mid new : Devices) (some faulty : Bool) (s : RunSoFar (take k sources) old mid some faulty) where
+  module _ (sources : List Source) (k : ℕ) (inside : k < length sources) (given own_given all_given : List (Option Text) → Type 0) (join : (a b : List (Option Text)) → given a → own_given b → all_given (a ++ b))
+      (old mid new : Devices) (some faulty : Bool) (s : RunSoFar (take k sources) given old mid some faulty) where
     place : k ≡ length (take k sources)
     place = sym (length-take-le k sources (omega (arith, inside)))
 
     -- source k was searched, and the run goes on
-    pub run_further : (end : FileEnd) (found : ℕ) (here told fault : Bool) → FinishesSource es options many (source_at sources k) mid new end found → here ≡ nat_lt 0 found → (options.quiet && here) ≡ false → told ≡ nat_lt 0 found → fault ≡ is_fault end
-        → RunSoFar (take (k + 1) sources) old new (some || told) (faulty || fault)
+    pub run_further : (end : FileEnd) (found : ℕ) (here told fault : Bool) → FinishesSource es options many (source_at sources k) own_given mid new end found → here ≡ nat_lt 0 found → (options.quiet && here) ≡ false → told ≡ nat_lt 0 found → fault ≡ is_fault end
+        → RunSoFar (take (k + 1) sources) all_given old new (some || told) (faulty || fault)
     run_further end found here told fault f here_is goes told_is fault_is =
-        let next = run_next (take k sources) (source_at sources k) old mid some faulty s new end found f (ap (λ b. options.quiet && b) (sym here_is) ∙ goes) in
+        let next = run_next (take k sources) (source_at sources k) given own_given all_given join old mid some faulty s new end found f (ap (λ b. options.quiet && b) (sym here_is) ∙ goes) in
         let one : k + 1 ≡ suc k = omega arith in
         let longer : take (k + 1) sources ≡ take k sources ++ source_at sources k ∷ [] = ap (λ n. take n sources) one ∙ take-suc sources k (record { name = []; opens = None; bytes = None }) inside in
-        let verdicts = subst (λ b. RunSoFar (take k sources ++ source_at sources k ∷ []) old new (some || b) (faulty || is_fault end)) (sym told_is) next in
-        let both = subst (λ b. RunSoFar (take k sources ++ source_at sources k ∷ []) old new (some || told) (faulty || b)) (sym fault_is) verdicts in
-        subst (λ l. RunSoFar l old new (some || told) (faulty || fault)) (sym longer) both
+        let verdicts = subst (λ b. RunSoFar (take k sources ++ source_at sources k ∷ []) all_given old new (some || b) (faulty || is_fault end)) (sym told_is) next in
+        let both = subst (λ b. RunSoFar (take k sources ++ source_at sources k ∷ []) all_given old new (some || told) (faulty || b)) (sym fault_is) verdicts in
+        subst (λ l. RunSoFar l all_given old new (some || told) (faulty || fault)) (sym longer) both
 
     module _ (is_many : many ≡ nat_le 2 (length sources)) where
       -- under `-q` a line of it is selected
-      pub run_ends_at : (end : FileEnd) (found : ℕ) (here : Bool) → FinishesSource es options many (source_at sources k) mid new end found → here ≡ nat_lt 0 found → (options.quiet && here) ≡ true → RunGives es options sources old new (Ok selected)
+      pub run_ends_at : (end : FileEnd) (found : ℕ) (here : Bool) → FinishesSource es options many (source_at sources k) own_given mid new end found → here ≡ nat_lt 0 found → (options.quiet && here) ≡ true → RunGives es options sources all_given old new (Ok selected)
       run_ends_at end found here f here_is both =
-          run_stopped (take k sources) (source_at sources k) old mid some faulty s sources (drop (suc k) sources) (cut_at sources k _ inside) is_many new end found f (ap (λ b. options.quiet && b) (sym here_is) ∙ both)
+          run_stopped (take k sources) (source_at sources k) given own_given all_given join old mid some faulty s sources (drop (suc k) sources) (cut_at sources k _ inside) is_many new end found f (ap (λ b. options.quiet && b) (sym here_is) ∙ both)
 
       -- its search was given up
-      pub run_given_up : (fault : RunFault) (ds : List Expression) (listed : List Source) → ds ≡ es → listed ≡ sources → SourceGives ds options many (source_at listed k) k mid new (Err fault) → RunGives es options sources old new (Err fault)
+      pub run_given_up : (fault : RunFault) (ds : List Expression) (listed : List Source) → ds ≡ es → listed ≡ sources → SourceGives ds options many (source_at listed k) own_given k mid new (Err fault) → RunGives es options sources all_given old new (Err fault)
       run_given_up fault ds listed same_expressions same_sources h =
-          let given = subst (λ l. SourceGives es options many (source_at l k) k mid new (Err fault)) same_sources (subst (λ xs. SourceGives xs options many (source_at listed k) k mid new (Err fault)) same_expressions h) in
-          run_fault (take k sources) (source_at sources k) old mid some faulty s sources (drop (suc k) sources) (cut_at sources k _ inside) is_many new k fault place given
+          let searched = subst (λ l. SourceGives es options many (source_at l k) own_given k mid new (Err fault)) same_sources (subst (λ xs. SourceGives xs options many (source_at listed k) own_given k mid new (Err fault)) same_expressions h) in
+          run_fault (take k sources) (source_at sources k) given own_given all_given join old mid some faulty s sources (drop (suc k) sources) (cut_at sources k _ inside) is_many new k fault place searched
 
   -- all sources were searched
-  pub run_ends : (sources : List Source) (k : ℕ) (old new : Devices) (some faulty : Bool) (status : Status) → many ≡ nat_le 2 (length sources) → length sources ≤ k → RunSoFar (take k sources) old new some faulty → status ≡ status_by some faulty
-      → RunGives es options sources old new (Ok status)
-  run_ends sources k old new some faulty status is_many over s is =
-      subst (Finishes es options sources old new) (sym is) (run_all sources old new some faulty is_many (subst (λ l. RunSoFar l old new some faulty) (take_all k sources over) s))
+  pub run_ends : (sources : List Source) (given : List (Option Text) → Type 0) (k : ℕ) (old new : Devices) (some faulty : Bool) (status : Status) → many ≡ nat_le 2 (length sources) → length sources ≤ k → RunSoFar (take k sources) given old new some faulty → status ≡ status_by some faulty
+      → RunGives es options sources given old new (Ok status)
+  run_ends sources given k old new some faulty status is_many over s is =
+      subst (Finishes es options sources given old new) (sym is) (run_all sources given old new some faulty is_many (subst (λ l. RunSoFar l given old new some faulty) (take_all k sources over) s))

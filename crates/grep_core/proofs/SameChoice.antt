@@ -1,12 +1,12 @@
 -- Expressions that hold on the same stretches give the same output, messages and status, and fewer of them cost no more.
-use Rattle.std.proofs.Common.{◌≡◌, ℕ, ◌+◌, ◌*◌, ◌≤◌, ◌↔◌, Bool, true, false, List, [], ◌∷◌, inl, inr, length, Any, MatchBool, Result, Ok, Err, refl, arith}
+use Rattle.std.proofs.Common.{◌≡◌, ℕ, ◌+◌, ◌*◌, ◌≤◌, ◌↔◌, Bool, true, false, List, [], ◌∷◌, inl, inr, length, Any, MatchBool, Option, Result, Ok, Err, refl, arith, take}
 use Rattle.std.proofs.Math.Nat.{mul-le-mul_left, mul-le-mul_right}
 use Rattle.re_syntax.specs.Bytes.{Text}
 use Rattle.re_syntax.specs.Expression.{Expression, alt}
 use Rattle.re_syntax.specs.Holds.{Holds, Matches}
 use Rattle.re_syntax.specs.Parts.{IsFound, IsPart, ArePartsFrom}
 use Rattle.re_syntax.proofs.Decisions.{Any-first, Any-later, Any-cases, Any-none}
-use Rattle.re_auto.specs.Meters.{Steps}
+use Rattle.re_search.specs.Meters.{Steps}
 use Rattle.grep_core.specs.declared.options.Options.{Options}
 use Rattle.grep_core.specs.declared.status.Status.{Status}
 use Rattle.grep_core.specs.declared.status.RunFault.{RunFault}
@@ -17,7 +17,7 @@ use Rattle.grep_core.specs.Files.{File, Ending, whole, missing, broken, Matched,
 use Rattle.grep_core.specs.Messages.{FaultMetBy, FaultMet, Stops, Reached, Message, Messages, AnySelected, StatusOf}
 use Rattle.grep_core.specs.Output.{Form, nothing, names, counts, parts, lines, form, SelectedLines, CountOf, RowsOf, PartsOfLine, PartRowsOf, OutAs}
 use Rattle.grep_core.specs.Reading.{Source, Reading, file_of}
-use Rattle.grep_core.specs.Run.{Devices, FailuresMet, RowsAs, Finishes, BreaksOff, StopsBehind, RunGives}
+use Rattle.grep_core.specs.Run.{Devices, FailuresMet, LeftMet, RowsAs, Finishes, BreaksOff, StopsBehind, RunGives}
 use Rattle.grep_core.specs.SameChoice.{IsSameChoice, ServesForOthers}
 
 -- ---- what holds of some element
@@ -178,6 +178,13 @@ module _ (options : Options) where
         let file = file_of source.name r in
         (h.0, h.1, for_fault file (λ a. a) (λ b. b) h.2, for_stops file (λ a. a) (FailuresMet-same sources readings h.1) h.3, h.4)
 
+    LeftMet-same : (sources : List Source) (readings : List Reading) (left : List (Option Text)) → LeftMet ds options sources readings left → LeftMet es options sources readings left
+    LeftMet-same [] readings left h = h
+    LeftMet-same (source ∷ sources) [] left h = h
+    LeftMet-same (source ∷ sources) (r ∷ readings) left h =
+        let file = file_of source.name r in
+        (h.0, h.1, h.2, for_stops file (λ a. a) (LeftMet-same sources readings h.1) h.3, h.4)
+
     -- ---- steps
 
     PartsAsked-same : (shape : Form) (line : Text) (times : ℕ) → PartsAsked ds options shape line times → PartsAsked es options shape line times
@@ -213,8 +220,8 @@ module _ (options : Options) where
 
     -- ---- runs
 
-    module _ (fewer : length ds ≤ length es) (sources : List Source) (old new : Devices) where
-      Finishes-same : (status : Status) → Finishes ds options sources old new status → Finishes es options sources old new status
+    module _ (fewer : length ds ≤ length es) (sources : List Source) (given : List (Option Text) → Type 0) (old new : Devices) where
+      Finishes-same : (status : Status) → Finishes ds options sources given old new status → Finishes es options sources given old new status
       Finishes-same status f = record {
         readings = f.readings;
         are_readings = f.are_readings;
@@ -228,10 +235,13 @@ module _ (options : Options) where
         failures = f.failures;
         are_failures = FailuresMet-same sources f.readings f.failures f.are_failures;
         counted = f.counted;
+        left = f.left;
+        are_left = LeftMet-same sources f.readings f.left f.are_left;
+        gave_back = f.gave_back;
         steps = SearchesFiles-same (length ds) (length es) fewer _ old.steps new.steps f.steps;
       }
 
-      BreaksOff-same : BreaksOff ds options sources old new → BreaksOff es options sources old new
+      BreaksOff-same : BreaksOff ds options sources given old new → BreaksOff es options sources given old new
       BreaksOff-same b = record {
         readings = b.readings;
         are_readings = b.are_readings;
@@ -241,10 +251,17 @@ module _ (options : Options) where
         are_messages = Messages-same _ b.messages b.are_messages;
         wrote = b.wrote;
         told = b.told;
+        met = b.met;
+        failures = b.failures;
+        are_failures = FailuresMet-same (take b.met sources) b.readings b.failures b.are_failures;
+        counted = b.counted;
+        left = b.left;
+        are_left = LeftMet-same (take b.met sources) b.readings b.left b.are_left;
+        gave_back = b.gave_back;
         steps = SearchesFiles-same (length ds) (length es) fewer _ old.steps new.steps b.steps;
       }
 
-      StopsBehind-same : (k n : ℕ) → StopsBehind ds options sources old new k n → StopsBehind es options sources old new k n
+      StopsBehind-same : (k n : ℕ) → StopsBehind ds options sources given old new k n → StopsBehind es options sources given old new k n
       StopsBehind-same k n s = record {
         readings = s.readings;
         are_readings = s.are_readings;
@@ -258,10 +275,17 @@ module _ (options : Options) where
         are_messages = Messages-same _ s.messages s.are_messages;
         wrote = s.wrote;
         told = s.told;
+        failures = s.failures;
+        are_failures = FailuresMet-same (take k sources) s.readings s.failures s.are_failures;
+        counted = s.counted;
+        left = s.left;
+        rest = s.rest;
+        are_left = LeftMet-same (take k sources) s.readings s.left s.are_left;
+        gave_back = s.gave_back;
         steps = SearchesFiles-same (length ds) (length es) fewer _ old.steps new.steps s.steps;
       }
 
-      pub RunGives-same : (result : Result Status RunFault) → RunGives ds options sources old new result → RunGives es options sources old new result
+      pub RunGives-same : (result : Result Status RunFault) → RunGives ds options sources given old new result → RunGives es options sources given old new result
       RunGives-same (Ok status) f = Finishes-same status f
       RunGives-same (Err Write) b = (BreaksOff-same b.0, b.1, b.2)
       RunGives-same (Err MessageWrite) b = (BreaksOff-same b.0, b.1, b.2)
@@ -269,4 +293,4 @@ module _ (options : Options) where
 
 -- a run for expressions that are the same choice as others, and no more, is a run for these
 pub serves_for_others : (options : Options) → ServesForOthers options
-serves_for_others options = λ ds es same fewer sources old new result. RunGives-same options ds es same fewer sources old new result
+serves_for_others options = λ ds es same fewer sources left old new result. RunGives-same options ds es same fewer sources (λ given. given ≡ left) old new result

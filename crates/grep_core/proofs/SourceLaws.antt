@@ -1,13 +1,15 @@
 -- The files of more sources, and how often the devices failed in them.
-use Rattle.std.proofs.Common.{◌≡◌, ℕ, zero, suc, ◌+◌, List, [], ◌∷◌, ◌++◌, inl, inr, refl, ap, subst, ◌∙◌, length, Any, arith}
+use Rattle.std.proofs.Common.{◌≡◌, ℕ, zero, suc, ◌+◌, List, [], ◌∷◌, ◌++◌, inl, inr, Option, refl, sym, ap, subst, ◌∙◌, length, Any, arith, append-nil, append_assoc}
 use Rattle.re_syntax.specs.Expression.{Expression}
 use Rattle.re_syntax.proofs.Decisions.{Any-first, Any-later}
 use Rattle.grep_core.specs.declared.options.Options.{Options}
 use Rattle.grep_core.specs.Counted.{one_more}
 use Rattle.grep_core.specs.Choose.{IfHolds}
 use Rattle.grep_core.specs.Messages.{FaultMet, Stops}
-use Rattle.grep_core.specs.Reading.{Source, Reading, file_of, failures_of}
-use Rattle.grep_core.specs.Run.{files_of, AreReadings, FailuresMet, count_more}
+use Rattle.grep_core.specs.Reading.{Source, Reading, file_of, failures_of, AreLeft}
+use Rattle.grep_core.specs.Run.{files_of, AreReadings, FailuresMet, LeftMet, count_more}
+use Rattle.grep_core.specs.Sources.{GivesBack}
+use Rattle.re_syntax.specs.Bytes.{Text}
 use Rattle.grep_core.proofs.Decided.{dec_stops, dec_fault_met}
 
 -- readings of some sources, and of others behind them
@@ -65,6 +67,14 @@ module _ (es : List Expression) (options : Options) where
   pub FailuresMet-one : (x : Source) (r : Reading) (own : ℕ) → IfHolds (FaultMet es options (file_of x.name r)) (own ≡ failures_of r) (own ≡ 0) → FailuresMet es options (x ∷ []) (r ∷ []) own
   FailuresMet-one x r own h = elim (dec_stops es options (file_of x.name r)) [ yes stops ↦ FailuresMet-stopped x [] r [] own stops h | no goes_on ↦ (own, 0, h, inr (goes_on, refl), omega arith) ]
 
+  -- what the sources behind did makes no difference
+  pub FailuresMet-longer : (xs : List Source) (rs ss : List Reading) (n : ℕ) → AreReadings xs rs → FailuresMet es options xs rs n → FailuresMet es options xs (rs ++ ss) n
+  FailuresMet-longer [] [] ss n h f = f
+  FailuresMet-longer [] (r ∷ rs) ss n h f = absurd h
+  FailuresMet-longer (x ∷ xs) [] ss n h f = absurd h
+  FailuresMet-longer (x ∷ xs) (r ∷ rs) ss n h f =
+      (f.0, f.1, f.2, elim f.3 [ inl stops ↦ inl stops | inr goes_on ↦ inr (goes_on.0, FailuresMet-longer xs rs ss f.1 h.1 goes_on.1) ], f.4)
+
   -- the number of failures there is
   pub FailuresMet-exist : (xs : List Source) (rs : List Reading) → (n : ℕ) × FailuresMet es options xs rs n
   FailuresMet-exist [] rs = (0, refl)
@@ -76,3 +86,49 @@ module _ (es : List Expression) (options : Options) where
       join (yes f) (no s) rest = (failures_of r + rest.0, (failures_of r, rest.0, inl (f, refl), inr (s, rest.1), refl))
       join (no f) (yes s) rest = (0, (0, 0, inr (f, refl), inl (s, refl), refl))
       join (no f) (no s) rest = (0 + rest.0, (0, rest.0, inr (f, refl), inr (s, rest.1), refl))
+
+  -- what the readers of sources had left at which a run does not stop, and of others behind them
+  pub LeftMet-append : (xs ys : List Source) (rs ss : List Reading) (a b : List (Option Text)) → AreReadings xs rs → (Any (Stops es options) (files_of xs rs) → ⊥) →
+      LeftMet es options xs rs a → LeftMet es options ys ss b → LeftMet es options (xs ++ ys) (rs ++ ss) (a ++ b)
+  LeftMet-append [] ys [] ss a b h none f g = subst (LeftMet es options ys ss) (ap (λ l. l ++ b) (sym f)) g
+  LeftMet-append [] ys (r ∷ rs) ss a b h none f g = absurd h
+  LeftMet-append (x ∷ xs) ys [] ss a b h none f g = absurd h
+  LeftMet-append (x ∷ xs) ys (r ∷ rs) ss a b h none f g =
+      let file = file_of x.name r in
+      elim f.3 [
+        | inl stops ↦ absurd (none (Any-first (Stops es options) file (files_of xs rs) stops.0))
+        | inr goes_on ↦ (
+          f.0,
+          f.1 ++ b,
+          f.2,
+          inr (goes_on.0, LeftMet-append xs ys rs ss f.1 b h.1 (λ n. none (Any-later (Stops es options) file (files_of xs rs) n)) goes_on.1 g),
+          ap (λ l. l ++ b) f.4 ∙ append_assoc f.0 f.1 b,
+        )
+      ]
+
+  -- of a first source at which a run stops, whatever follows
+  pub LeftMet-stopped : (x : Source) (xs : List Source) (r : Reading) (rs : List Reading) (own : List (Option Text)) → Stops es options (file_of x.name r) → AreLeft x r own → LeftMet es options (x ∷ xs) (r ∷ rs) own
+  LeftMet-stopped x xs r rs own stops h = (own, [], h, inl (stops, refl), sym (append-nil own))
+
+  -- of one source
+  pub LeftMet-one : (x : Source) (r : Reading) (own : List (Option Text)) → AreLeft x r own → LeftMet es options (x ∷ []) (r ∷ []) own
+  LeftMet-one x r own h = elim (dec_stops es options (file_of x.name r)) [ yes stops ↦ LeftMet-stopped x [] r [] own stops h | no goes_on ↦ (own, [], h, inr (goes_on, refl), sym (append-nil own)) ]
+
+  -- what the sources behind did makes no difference
+  pub LeftMet-longer : (xs : List Source) (rs ss : List Reading) (left : List (Option Text)) → AreReadings xs rs → LeftMet es options xs rs left → LeftMet es options xs (rs ++ ss) left
+  LeftMet-longer [] [] ss left h f = f
+  LeftMet-longer [] (r ∷ rs) ss left h f = absurd h
+  LeftMet-longer (x ∷ xs) [] ss left h f = absurd h
+  LeftMet-longer (x ∷ xs) (r ∷ rs) ss left h f =
+      (f.0, f.1, f.2, elim f.3 [ inl stops ↦ inl stops | inr goes_on ↦ inr (goes_on.0, LeftMet-longer xs rs ss f.1 h.1 goes_on.1) ], f.4)
+
+-- ---- readers that were given back
+
+module _ {S : Type 0} (given_back : S → List (Option Text) → Type 0) where
+  -- none was
+  pub gives_none : (state : S) → GivesBack given_back state state []
+  gives_none state before h = subst (given_back state) (sym (append-nil before)) h
+
+  -- some were, and then others
+  pub gives_both : (old mid new : S) (a b : List (Option Text)) → GivesBack given_back old mid a → GivesBack given_back mid new b → GivesBack given_back old new (a ++ b)
+  gives_both old mid new a b f g before h = subst (given_back new) (append_assoc before a b) (g (before ++ a) (f before h))

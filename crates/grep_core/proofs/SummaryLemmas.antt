@@ -1,10 +1,10 @@
 -- One source is done: its summary and its message, behind the rows of its lines.
-use Rattle.std.proofs.Common.{◌≡◌, ℕ, Bool, true, false, Decides, IsTrue, List, [], ◌∷◌, ◌++◌, MatchBool, nat_le, length, refl, sym, ap, subst, ◌∙◌, inl, inr}
+use Rattle.std.proofs.Common.{◌≡◌, ℕ, Bool, true, false, Decides, IsTrue, List, [], ◌∷◌, ◌++◌, MatchBool, nat_le, length, refl, sym, ap, subst, ◌∙◌, inl, inr, Option}
 use Rattle.std.proofs.lemmas.Bool.{false≢true, cases_Bool, cond-true, cond-false}
 use Rattle.re_syntax.specs.Bytes.{Text}
 use Rattle.re_syntax.specs.Lines.{lines_of, ended_lines_of}
 use Rattle.re_syntax.specs.Expression.{Expression}
-use Rattle.re_auto.specs.Meters.{Steps}
+use Rattle.re_search.specs.Meters.{Steps}
 use Rattle.grep_core.specs.declared.options.Options.{Options}
 use Rattle.grep_core.specs.declared.search.FileEnd.{FileEnd}
 use Rattle.grep_core.specs.declared.search.FileEnd.TheVariants.{Missing, Whole, Broken, Left}
@@ -45,16 +45,17 @@ module _ (es : List Expression) (options : Options) where
       by_flag true = refl
       by_flag false = EachGives-one (Message es options) file (message (ending_of end) name) m
 
-  module _ (many : Bool) (source : Source) (name : Text) (named : name ≡ source.name) (end : FileEnd) (found : ℕ) where
+  module _ (many : Bool) (source : Source) (given : List (Option Text) → Type 0) (name : Text) (named : name ≡ source.name) (end : FileEnd) (found : ℕ) where
     -- the summary could not be written
-    pub source_unwritten : (before after : ℕ) (old mid new : Writer) (began ended : Steps) → SearchesSource es options many source before after old mid began ended end found → TakesFront mid new (summary_as (form options) many name end found) → new.failures ≡ one_more mid.failures
-        → BreaksSource es options many source old new began ended
+    pub source_unwritten : (before after : ℕ) (old mid new : Writer) (began ended : Steps) → SearchesSource es options many source given before after old mid began ended end found → TakesFront mid new (summary_as (form options) many name end found) → new.failures ≡ one_more mid.failures
+        → BreaksSource es options many source given before after old new began ended
     source_unwritten before after old mid new began ended s front failed =
         let summary = summary_as (form options) many source.name end found in
         let front_here = subst (λ n. TakesFront mid new (summary_as (form options) many n end found)) named front in
         record {
           reading = s.reading;
           is_reading = s.is_reading;
+          failures = s.failures;
           rows = s.rows ++ summary;
           are_rows = s.are_rows;
           wrote = TakesFront-more old mid new s.rows summary s.wrote front_here;
@@ -62,7 +63,7 @@ module _ (es : List Expression) (options : Options) where
           steps = s.steps;
         }
 
-    module _ (old new : Devices) (mid : Writer) (s : SearchesSource es options many source old.source_failures new.source_failures old.out mid old.steps new.steps end found)
+    module _ (old new : Devices) (mid : Writer) (s : SearchesSource es options many source given old.source_failures new.source_failures old.out mid old.steps new.steps end found)
         (took : TakesAll mid new.out (summary_as (form options) many name end found)) where
       abbrev summary : List Text
       summary = summary_as (form options) many source.name end found
@@ -74,7 +75,7 @@ module _ (es : List Expression) (options : Options) where
       tells = file_told end (file_of source.name s.reading) source.name (one_told end (file_of source.name s.reading) source.name s.fault s.ends (file_named source.name s.reading))
 
       -- all was written
-      pub source_done : TakesAll old.messages new.messages (told_of options.no_messages end name) → FinishesSource es options many source old new end found
+      pub source_done : TakesAll old.messages new.messages (told_of options.no_messages end name) → FinishesSource es options many source given old new end found
       source_done told = record {
         reading = s.reading;
         is_reading = s.is_reading;
@@ -91,10 +92,11 @@ module _ (es : List Expression) (options : Options) where
       }
 
       -- the message could not be written
-      pub source_untold : TakesFront old.messages new.messages (told_of options.no_messages end name) → new.messages.failures ≡ one_more old.messages.failures → BreaksMessage es options many source old new
+      pub source_untold : TakesFront old.messages new.messages (told_of options.no_messages end name) → new.messages.failures ≡ one_more old.messages.failures → BreaksMessage es options many source given old new
       source_untold told failed = record {
         reading = s.reading;
         is_reading = s.is_reading;
+        failures = s.failures;
         rows = s.rows ++ summary;
         are_rows = s.are_rows;
         wrote = all_out;

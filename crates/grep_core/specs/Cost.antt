@@ -4,7 +4,7 @@ use Rattle.std.specs.Prelude.{◌≡◌, ℕ, ◌+◌, ◌*◌, List, [], ◌∷
 use Rattle.re_syntax.specs.Bytes.{Text}
 use Rattle.re_syntax.specs.Expression.{Expression}
 use Rattle.re_syntax.specs.Parts.{AreParts}
-use Rattle.re_auto.specs.Meters.{Steps}
+use Rattle.re_search.specs.Meters.{Steps}
 use Rattle.re_search.specs.Searching.{AddsAtMost}
 use Rattle.grep_core.specs.declared.options.Options.{Options}
 use Rattle.grep_core.specs.Files.{File}

@@ -5,7 +5,7 @@ pub use Rattle.re_syntax.specs.Holds
 pub use Rattle.re_syntax.specs.Parts
 pub use Rattle.re_syntax.specs.Lines
 pub use Rattle.re_syntax.specs.Spelled
-pub use Rattle.re_auto.specs.Meters
+pub use Rattle.re_search.specs.Meters
 pub use Rattle.re_search.specs.Searching
 pub use Rattle.re_search.specs.Filters
 pub mod Counted

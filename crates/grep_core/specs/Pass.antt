@@ -1,5 +1,5 @@
 -- A pass over the lines of a reader, from its first line on: which lines were handed out, and what was written for them.
-use Rattle.std.specs.Prelude.{◌≡◌, ℕ, Bool, IsTrue, ◌↔◌, ◌⊎◌, List, ◌++◌, All, Any, Option}
+use Rattle.std.specs.Prelude.{◌≡◌, ℕ, Bool, IsTrue, ◌↔◌, ◌⊎◌, List, [], ◌∷◌, ◌++◌, All, Any, Option}
 use Rattle.std.specs.Io.KnownBytes.{Consumes, IsAtEnd}
 use Rattle.re_syntax.specs.Bytes.{Text}
 use Rattle.re_syntax.specs.Expression.{Expression}
@@ -9,7 +9,7 @@ use Rattle.grep_core.specs.declared.lines.Stage.TheVariants.{Open, Ended, Failed
 use Rattle.grep_core.specs.declared.options.Options.{Options}
 use Rattle.grep_core.specs.LineReader.{LineReader, to_come}
 use Rattle.grep_core.specs.Files.{File, Ending, whole, broken, Selected}
-use Rattle.grep_core.specs.Reading.{Reading, IsReadingOf, open_source, file_of, failures_of}
+use Rattle.grep_core.specs.Reading.{Reading, IsReadingOf, open_source, file_of, failures_of, AreLeft}
 use Rattle.grep_core.specs.Output.{RowsOf}
 use Rattle.grep_core.specs.Run.{Writer, TakesAll, TakesFront, count_more}
 
@@ -28,10 +28,11 @@ module _ {R : Type 0} (remaining : R → Option Text) (failures : R → ℕ) whe
     pub all_given : now.stage ≡ Ended → IsAtEnd (to_come remaining failures now)
     pub none_failed : failures now.reader ≡ failures reader
 
--- a source that is open, and failed so often while it was read, stands for a file of these lines
-pub record StandsFor (name : Text) (known : Option Text) (failed_before failed : ℕ) (lines : List Text) (ending : Ending) : Type 0 where
+-- a source that is open, failed so often while it was read, and has this left, stands for a file of these lines
+pub record StandsFor (name : Text) (known rest : Option Text) (failed_before failed : ℕ) (lines : List Text) (ending : Ending) : Type 0 where
   pub reading : Reading
   pub is_reading : IsReadingOf (open_source name known) reading
+  pub is_left : AreLeft (open_source name known) reading (rest ∷ [])
   pub file : file_of name reading ≡ record { name = name; lines = lines; ending = ending }
   pub counted : failed ≡ count_more failed_before (failures_of reading)
 
@@ -39,6 +40,8 @@ pub record StandsFor (name : Text) (known : Option Text) (failed_before failed :
 pub record BeginsWith (name : Text) (known : Option Text) (lines : List Text) : Type 0 where
   pub reading : Reading
   pub is_reading : IsReadingOf (open_source name known) reading
+  pub none_fails : failures_of reading ≡ 0
+  pub is_left : (rest : Option Text) → AreLeft (open_source name known) reading (rest ∷ [])
   pub more : List Text
   pub named : (file_of name reading).name ≡ name
   pub has_lines : (file_of name reading).lines ≡ lines ++ more

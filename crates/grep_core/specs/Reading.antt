@@ -1,5 +1,6 @@
 -- How a source that is read once, from front to back, stands for a file.
-use Rattle.std.specs.Prelude.{◌≡◌, ℕ, ◌-◌, ◌^◌, nat_le, Bool, true, false, if◌then◌else◌, List, [], ◌++◌, length, take, Option, Some, IfSome}
+use Rattle.std.specs.Prelude.{◌≡◌, ℕ, ◌-◌, ◌^◌, nat_le, Bool, true, false, if◌then◌else◌, List, [], ◌∷◌, ◌++◌, length, take, Option, Some, IfSome}
+use Rattle.std.specs.Io.KnownBytes.{Consumes}
 use Rattle.re_syntax.specs.Bytes.{Text}
 use Rattle.re_syntax.specs.Lines.{lines_of, ended_lines_of}
 use Rattle.grep_core.specs.Files.{File, Ending, whole, missing, broken}
@@ -48,3 +49,14 @@ abbrev pub failures_of : Reading → ℕ
 failures_of not_opened = 1
 failures_of (fails_after bytes) = 1
 failures_of (ends_after bytes) = 0
+
+-- what the readers of the source had left when they were given back, after it did so: one reader, where it was opened;
+-- and where a read failed, the bytes that it gave and those that it has left are the source's
+abbrev pub AreLeft : Source → Reading → List (Option Text) → Type 0
+AreLeft source not_opened left = left ≡ []
+AreLeft source (fails_after bytes) left = (rest : Option Text) × (left ≡ rest ∷ []) × Consumes source.bytes rest bytes
+AreLeft source (ends_after bytes) left = (rest : Option Text) × (left ≡ rest ∷ [])
+
+-- one reader was given back, which had this left
+abbrev pub OneLeft : Option Text → List (Option Text) → Type 0
+OneLeft rest left = left ≡ rest ∷ []

@@ -5,7 +5,7 @@ use Rattle.std.specs.Io.KnownBytes.{Appends}
 use Rattle.re_syntax.specs.declared.syntax.Syntax.{Syntax}
 use Rattle.re_syntax.specs.Bytes.{Text}
 use Rattle.re_syntax.specs.Expression.{Expression}
-use Rattle.re_auto.specs.Meters.{Steps}
+use Rattle.re_search.specs.Meters.{Steps}
 use Rattle.grep_core.specs.declared.options.Options.{Options}
 use Rattle.grep_core.specs.declared.status.Status.{Status}
 use Rattle.grep_core.specs.declared.status.RunFault.{RunFault}
@@ -15,7 +15,7 @@ use Rattle.grep_core.specs.Choose.{IfHolds}
 use Rattle.grep_core.specs.Files.{File, whole, missing, HasSelected, AreMeant}
 use Rattle.grep_core.specs.Output.{Form, parts, lines, form, OutAs, Out, are_many, written}
 use Rattle.grep_core.specs.Messages.{FaultMet, Messages, StatusOf}
-use Rattle.grep_core.specs.Reading.{Source, Reading, IsReadingOf, file_of, failures_of}
+use Rattle.grep_core.specs.Reading.{Source, Reading, IsReadingOf, file_of, failures_of, AreLeft}
 use Rattle.grep_core.specs.Cost.{SearchesFiles}
 
 -- ---- devices
@@ -75,6 +75,15 @@ module _ (es : List Expression) (options : Options) where
       × IfHolds (IsTrue options.quiet × HasSelected es options file) (rest ≡ 0) (FailuresMet sources readings rest)
       × (n ≡ own + rest)
 
+  -- what the readers of the sources had left when they were given back, up to where a run stops, under `-q`
+  abbrev pub LeftMet : List Source → List Reading → List (Option Text) → Type 0
+  LeftMet [] readings left = left ≡ []
+  LeftMet (source ∷ sources) [] left = left ≡ []
+  LeftMet (source ∷ sources) (r ∷ readings) left =
+      (own : List (Option Text)) × (rest : List (Option Text)) × AreLeft source r own
+      × IfHolds (IsTrue options.quiet × HasSelected es options (file_of source.name r)) (rest ≡ []) (LeftMet sources readings rest)
+      × (left ≡ own ++ rest)
+
   -- the rows of a file's first lines; there are none yet under `-c`, `-l` and `-q`
   abbrev pub RowsAs : Form → Bool → File → List Text → Type 0
   RowsAs lines many file rows = OutAs es options many lines (file ∷ []) rows
@@ -89,9 +98,10 @@ first_lines n file = record { name = file.name; lines = take n file.lines; endin
 abbrev pub file_at : List File → ℕ → File
 file_at files k = get_or files k (record { name = []; lines = []; ending = missing })
 
--- ---- runs; the steps of each are no more than the search of the files costs
+-- ---- runs; the steps of each are no more than the search of the files costs, and `given` says of what readers may have
+-- left that readers that had this left were given back in the run
 
-module _ (es : List Expression) (options : Options) (sources : List Source) (old new : Devices) where
+module _ (es : List Expression) (options : Options) (sources : List Source) (given : List (Option Text) → Type 0) (old new : Devices) where
   -- a whole run: output, messages and status are those of the files for which the sources stand
   pub record Finishes (status : Status) : Type 0 where
     pub readings : List Reading
@@ -106,6 +116,9 @@ module _ (es : List Expression) (options : Options) (sources : List Source) (old
     pub failures : ℕ
     pub are_failures : FailuresMet es options sources readings failures
     pub counted : new.source_failures ≡ count_more old.source_failures failures
+    pub left : List (Option Text)
+    pub are_left : LeftMet es options sources readings left
+    pub gave_back : given left
     pub steps : SearchesFiles es options (length es) (files_of sources readings) old.steps new.steps
 
   -- a run that a failed write ended: what went out are beginnings of the output and of the messages
@@ -118,6 +131,14 @@ module _ (es : List Expression) (options : Options) (sources : List Source) (old
     pub are_messages : Messages es options (files_of sources readings) messages
     pub wrote : TakesFront old.out new.out output
     pub told : TakesFront old.messages new.messages messages
+    -- the devices of the sources that were met failed so often
+    pub met : ℕ
+    pub failures : ℕ
+    pub are_failures : FailuresMet es options (take met sources) readings failures
+    pub counted : new.source_failures ≡ count_more old.source_failures failures
+    pub left : List (Option Text)
+    pub are_left : LeftMet es options (take met sources) readings left
+    pub gave_back : given left
     pub steps : SearchesFiles es options (length es) (files_of sources readings) old.steps new.steps
 
   -- a run that want of memory ended behind the first n lines of source k: output and messages are those of the
@@ -135,6 +156,13 @@ module _ (es : List Expression) (options : Options) (sources : List Source) (old
     pub are_messages : Messages es options (take k (files_of sources readings)) messages
     pub wrote : TakesAll old.out new.out (before ++ rows)
     pub told : TakesAll old.messages new.messages messages
+    pub failures : ℕ
+    pub are_failures : FailuresMet es options (take k sources) readings failures
+    pub counted : new.source_failures ≡ count_more old.source_failures failures
+    pub left : List (Option Text)
+    pub rest : Option Text
+    pub are_left : LeftMet es options (take k sources) readings left
+    pub gave_back : given (left ++ rest ∷ [])
     pub steps : SearchesFiles es options (length es) (files_of sources readings) old.steps new.steps
 
   -- what a run answers: a fault of a write exactly where a write failed
@@ -147,6 +175,6 @@ module _ (es : List Expression) (options : Options) (sources : List Source) (old
   RunGives (Err (Memory k n)) = StopsBehind k n
 
 -- a run for patterns: it is one for the expressions that they mean
-abbrev pub Runs : Syntax → Options → List Text → List Source → Devices → Devices → Result Status RunFault → Type 0
-Runs syntax options patterns sources old new result =
-    (es : List Expression) × AreMeant syntax options patterns es × RunGives es options sources old new result
+abbrev pub Runs : Syntax → Options → List Text → List Source → (List (Option Text) → Type 0) → Devices → Devices → Result Status RunFault → Type 0
+Runs syntax options patterns sources given old new result =
+    (es : List Expression) × AreMeant syntax options patterns es × RunGives es options sources given old new result

@@ -1,5 +1,5 @@
 -- Expressions that stand for others: they hold on the same stretches, as the one choice of several expressions does for these.
-use Rattle.std.specs.Prelude.{ℕ, ◌≤◌, ◌↔◌, List, length, Any, Result}
+use Rattle.std.specs.Prelude.{◌≡◌, ℕ, ◌≤◌, ◌↔◌, List, Option, length, Any, Result}
 use Rattle.re_syntax.specs.Bytes.{Text}
 use Rattle.re_syntax.specs.Expression.{Expression}
 use Rattle.re_syntax.specs.Holds.{Holds}
@@ -16,4 +16,5 @@ IsSameChoice ds es = (line : Text) (i j : ℕ) → Any (λ d. Holds line d i j) 
 -- a run for expressions that are the same choice as others, and no more, is a run for these
 abbrev pub ServesForOthers : Options → Type 0
 ServesForOthers options = (ds es : List Expression) → IsSameChoice ds es → length ds ≤ length es
-    → (sources : List Source) (old new : Devices) (result : Result Status RunFault) → RunGives ds options sources old new result → RunGives es options sources old new result
+    → (sources : List Source) (left : List (Option Text)) (old new : Devices) (result : Result Status RunFault)
+    → RunGives ds options sources (λ given. given ≡ left) old new result → RunGives es options sources (λ given. given ≡ left) old new result

@@ -1,9 +1,9 @@
 -- What a search of one source does.
-use Rattle.std.specs.Prelude.{◌≡◌, ℕ, nat_lt, ◌≤◌, Bool, true, false, ◌||◌, IsTrue, ◌↔◌, List, [], ◌∷◌, ◌++◌, length, Result, Ok, Err, if◌then◌else◌}
+use Rattle.std.specs.Prelude.{◌≡◌, ℕ, nat_lt, ◌≤◌, Bool, true, false, ◌||◌, IsTrue, ◌↔◌, List, [], ◌∷◌, ◌++◌, length, Option, Result, Ok, Err, if◌then◌else◌}
 use Rattle.std.specs.Fmt.{decimal}
 use Rattle.re_syntax.specs.Bytes.{Text}
 use Rattle.re_syntax.specs.Expression.{Expression}
-use Rattle.re_auto.specs.Meters.{Steps}
+use Rattle.re_search.specs.Meters.{Steps}
 use Rattle.grep_core.specs.declared.options.Options.{Options}
 use Rattle.grep_core.specs.declared.search.FileEnd.{FileEnd}
 use Rattle.grep_core.specs.declared.search.FileEnd.TheVariants.{Missing, Whole, Broken, Left}
@@ -18,7 +18,7 @@ use Rattle.grep_core.specs.Row.{prefix}
 use Rattle.grep_core.specs.Files.{Ending, whole, missing, broken, HasSelected}
 use Rattle.grep_core.specs.Output.{Form, names, counts, form, OutAs}
 use Rattle.grep_core.specs.Messages.{message, FaultMet, Told}
-use Rattle.grep_core.specs.Reading.{Source, Reading, IsReadingOf, file_of, failures_of}
+use Rattle.grep_core.specs.Reading.{Source, Reading, IsReadingOf, file_of, failures_of, AreLeft}
 use Rattle.grep_core.specs.Run.{Writer, Devices, TakesAll, TakesFront, RowsAs, first_lines, count_more}
 use Rattle.grep_core.specs.Wanted.{name_shown}
 use Rattle.grep_core.specs.Cost.{SearchesLines}
@@ -64,33 +64,41 @@ told_of silent end name = if silent then [] else message (ending_of end) name
 abbrev pub status_by : Bool → Bool → Status
 status_by some faulty = if faulty then Error else if some then Selected else NoneSelected
 
--- `began` and `ended` are the steps that were counted before and after the search; there are no more than that of the file's lines costs
-module _ (es : List Expression) (options : Options) (many : Bool) (source : Source) where
+-- `began` and `ended` are the steps that were counted before and after the search; there are no more than that of the file's lines costs.
+-- `given` says of what readers may have left that readers were given back that had this left, in the search of the source
+module _ (es : List Expression) (options : Options) (many : Bool) (source : Source) (given : List (Option Text) → Type 0) where
+  -- how often the devices failed in the source, where a fault is met in it, and what its reader had left
+  pub record CountsSource (reading : Reading) (before after : ℕ) : Type 0 where
+    pub own : ℕ
+    pub are_own : IfHolds (FaultMet es options (file_of source.name reading)) (own ≡ failures_of reading) (own ≡ 0)
+    pub counted : after ≡ count_more before own
+    pub left : List (Option Text)
+    pub are_left : AreLeft source reading left
+    pub gave_back : given left
+
   -- a beginning of what is written of the source's file went out, and a write failed
-  pub record BreaksSource (old new : Writer) (began ended : Steps) : Type 0 where
+  pub record BreaksSource (failed_before failed : ℕ) (old new : Writer) (began ended : Steps) : Type 0 where
     pub reading : Reading
     pub is_reading : IsReadingOf source reading
+    pub failures : CountsSource reading failed_before failed
     pub rows : List Text
     pub are_rows : OutAs es options many (form options) (file_of source.name reading ∷ []) rows
     pub wrote : TakesFront old new rows
     pub counted : new.failures ≡ one_more old.failures
     pub steps : SearchesLines es options (length es) (file_of source.name reading).lines began ended
 
-  -- the rows of the first n lines of the source's file went out
-  pub record StopsSource (n : ℕ) (old new : Writer) (began ended : Steps) : Type 0 where
+  -- the rows of the first n lines of the source's file went out, and no device failed
+  pub record StopsSource (n failed_before failed : ℕ) (old new : Writer) (began ended : Steps) : Type 0 where
     pub reading : Reading
     pub is_reading : IsReadingOf source reading
+    pub none_failed : failed ≡ failed_before
+    pub rest : Option Text
+    pub gave_back : given (rest ∷ [])
     pub in_file : n ≤ length (file_of source.name reading).lines
     pub rows : List Text
     pub are_rows : RowsAs es options (form options) many (first_lines n (file_of source.name reading)) rows
     pub wrote : TakesAll old new rows
     pub steps : SearchesLines es options (length es) (file_of source.name reading).lines began ended
-
-  -- how often the devices failed in the source, where a fault is met in it
-  pub record CountsSource (reading : Reading) (before after : ℕ) : Type 0 where
-    pub own : ℕ
-    pub are_own : IfHolds (FaultMet es options (file_of source.name reading)) (own ≡ failures_of reading) (own ≡ 0)
-    pub counted : after ≡ count_more before own
 
   -- the source was searched: it stands for a file, of whose output the rows went out and the summary is left
   pub record SearchesSource (failed_before failed : ℕ) (old new : Writer) (began ended : Steps) (end : FileEnd) (selected : ℕ) : Type 0 where
@@ -124,6 +132,7 @@ module _ (es : List Expression) (options : Options) (many : Bool) (source : Sour
   pub record BreaksMessage (old new : Devices) : Type 0 where
     pub reading : Reading
     pub is_reading : IsReadingOf source reading
+    pub failures : CountsSource reading old.source_failures new.source_failures
     pub rows : List Text
     pub are_rows : OutAs es options many (form options) (file_of source.name reading ∷ []) rows
     pub wrote : TakesAll old.out new.out rows
@@ -136,6 +145,6 @@ module _ (es : List Expression) (options : Options) (many : Bool) (source : Sour
   -- what a search of source k answers
   abbrev pub SourceGives : ℕ → Devices → Devices → Result FileFound RunFault → Type 0
   SourceGives k old new (Ok found) = FinishesSource old new found.end found.selected
-  SourceGives k old new (Err Write) = BreaksSource old.out new.out old.steps new.steps × (new.messages ≡ old.messages)
+  SourceGives k old new (Err Write) = BreaksSource old.source_failures new.source_failures old.out new.out old.steps new.steps × (new.messages ≡ old.messages)
   SourceGives k old new (Err MessageWrite) = BreaksMessage old new
-  SourceGives k old new (Err (Memory at n)) = (at ≡ k) × StopsSource n old.out new.out old.steps new.steps × (new.messages ≡ old.messages)
+  SourceGives k old new (Err (Memory at n)) = (at ≡ k) × StopsSource n old.source_failures new.source_failures old.out new.out old.steps new.steps × (new.messages ≡ old.messages)

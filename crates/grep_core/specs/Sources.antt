@@ -1,5 +1,5 @@
 -- The sources of a run, each opened once and read from front to back.
-use Rattle.std.specs.Prelude.{◌≡◌, ℕ, true, false, List, [], get_or, Option, None, MatchOption, IfSome}
+use Rattle.std.specs.Prelude.{◌≡◌, ℕ, true, false, List, [], ◌++◌, get_or, Option, None, MatchOption, IfSome}
 use Rattle.re_syntax.specs.Bytes.{Text}
 use Rattle.grep_core.specs.Counted.{one_more}
 use Rattle.grep_core.specs.Reading.{Source}
@@ -14,3 +14,7 @@ abbrev pub Opens : {R : Type 0} → (R → Option Text) → (R → ℕ) → Sour
 Opens remaining failures source before after answer =
     MatchOption answer (IfSome source.opens (λ b. b ≡ false) × (after ≡ one_more before))
     (λ reader. IfSome source.opens (λ b. b ≡ true) × (remaining reader ≡ source.bytes) × (failures reader ≡ 0) × (after ≡ before))
+
+-- between the two states, readers that had these bytes left were given back, in this order
+abbrev pub GivesBack : {S : Type 0} → (S → List (Option Text) → Type 0) → S → S → List (Option Text) → Type 0
+GivesBack given_back old new left = (before : List (Option Text)) → given_back old before → given_back new (before ++ left)

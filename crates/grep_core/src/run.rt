@@ -3,7 +3,7 @@ ghost use Rattle.std.specs.Prelude.{◌≡◌, ◌+◌, ◌<◌, map, length, If
 ghost use Rattle.re_search.specs.Filters.{AreNeeded};
 ghost use Rattle.re_search.specs.Searching.{AllAnswer};
 ghost use Rattle.grep_core.specs.Run.{writer, RunGives};
-ghost use Rattle.grep_core.specs.Sources.{source_at};
+ghost use Rattle.grep_core.specs.Sources.{source_at, GivesBack};
 ghost use Rattle.grep_core.specs.Searched.{SourceGives};
 
 use crate::counted::CountedWrite;
@@ -37,7 +37,7 @@ fn run_source<S: Sources, M: LineMatch, W: CountedWrite, N: CountedWrite>(
     ensures listed { S.listed sources.new ≡ S.listed sources.old }
     ensures next { S.stands_at sources.new (k + 1) }
     ensures same_loan { S.loan sources.new ≡ S.loan sources.old }
-    ensures given { SourceGives (map M.expression matchers.old) options many (source_at (S.listed sources.old) k) k
+    ensures given { SourceGives (map M.expression matchers.old) options many (source_at (S.listed sources.old) k) (GivesBack S.given_back sources.old sources.new) k
         record {
           out = writer W.contents W.failures out.old;
           messages = writer N.contents N.failures messages.old;
@@ -104,7 +104,7 @@ pub fn search_all<S: Sources, M: LineMatch, W: CountedWrite, N: CountedWrite>(
     requires in_order { S.stands_at sources.old 0 }
     requires whole { AllAnswer options.now.line_regexp (map M.whole matchers.old) }
     ensures same_loan { S.loan sources.new ≡ S.loan sources.old }
-    ensures run { RunGives (map M.expression matchers.old) options.now (S.listed sources.old)
+    ensures run { RunGives (map M.expression matchers.old) options.now (S.listed sources.old) (GivesBack S.given_back sources.old sources.new)
         record {
           out = writer W.contents W.failures out.old;
           messages = writer N.contents N.failures messages.old;
@@ -148,7 +148,7 @@ pub fn search_filtered<S: Sources, M: LineMatch, W: CountedWrite, N: CountedWrit
     requires whole { AllAnswer options.now.line_regexp (map M.whole matchers.old) }
     requires needed { IfSome filter (λ f. AreNeeded f.now (map M.expression matchers.old)) }
     ensures same_loan { S.loan sources.new ≡ S.loan sources.old }
-    ensures run { RunGives (map M.expression matchers.old) options.now (S.listed sources.old)
+    ensures run { RunGives (map M.expression matchers.old) options.now (S.listed sources.old) (GivesBack S.given_back sources.old sources.new)
         record {
           out = writer W.contents W.failures out.old;
           messages = writer N.contents N.failures messages.old;

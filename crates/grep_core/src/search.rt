@@ -2,9 +2,9 @@
 ghost use Rattle.std.specs.Prelude.{◌≡◌, ℕ, ◌+◌, ◌-◌, ◌^◌, ◌<◌, [], nat_lt, map, length, Err, IfOk, IfSome, if◌then◌else◌};
 ghost use Rattle.re_search.specs.Filters.{AreNeeded};
 ghost use Rattle.re_search.specs.Searching.{AllAnswer};
-ghost use Rattle.grep_core.specs.Reading.{open_source};
+ghost use Rattle.grep_core.specs.Reading.{open_source, OneLeft};
 ghost use Rattle.grep_core.specs.Run.{writer};
-ghost use Rattle.grep_core.specs.Sources.{source_at};
+ghost use Rattle.grep_core.specs.Sources.{source_at, GivesBack};
 ghost use Rattle.grep_core.specs.Searched.{is_missing, is_fault, SearchesSource, BreaksSource, StopsSource};
 
 use crate::counted::{CountedRead, CountedWrite};
@@ -116,14 +116,15 @@ fn search_lines<R: CountedRead, M: LineMatch, W: CountedWrite>(
     requires whole { AllAnswer wanted.now.options.line_regexp (map M.whole matchers.old) }
     requires needed { IfSome filter (λ f. AreNeeded f.now (map M.expression matchers.old)) }
     ensures ok { IfOk result (λ found. SearchesSource (map M.expression matchers.old) wanted.now.options wanted.now.many
-        (open_source wanted.now.name.now (R.remaining lines.old.reader)) (R.failures lines.old.reader) (R.failures lines.new.reader)
+        (open_source wanted.now.name.now (R.remaining lines.old.reader)) (OneLeft (R.remaining lines.new.reader)) (R.failures lines.old.reader) (R.failures lines.new.reader)
         (writer W.contents W.failures out.old) (writer W.contents W.failures out.new)
         meter.old meter.new found.end found.selected) }
     ensures write { result ≡ Err SearchFault.Write → BreaksSource (map M.expression matchers.old) wanted.now.options wanted.now.many
-        (open_source wanted.now.name.now (R.remaining lines.old.reader))
+        (open_source wanted.now.name.now (R.remaining lines.old.reader)) (OneLeft (R.remaining lines.new.reader)) (R.failures lines.old.reader) (R.failures lines.new.reader)
         (writer W.contents W.failures out.old) (writer W.contents W.failures out.new) meter.old meter.new }
     ensures memory { (count : ℕ) → result ≡ Err (SearchFault.Memory count) → StopsSource (map M.expression matchers.old)
-        wanted.now.options wanted.now.many (open_source wanted.now.name.now (R.remaining lines.old.reader)) count
+        wanted.now.options wanted.now.many (open_source wanted.now.name.now (R.remaining lines.old.reader)) (OneLeft (R.remaining lines.new.reader)) count
+        (R.failures lines.old.reader) (R.failures lines.new.reader)
         (writer W.contents W.failures out.old) (writer W.contents W.failures out.new) meter.old meter.new }
     ensures same_expressions { map M.expression matchers.new ≡ map M.expression matchers.old }
     ensures same_wholes { map M.whole matchers.new ≡ map M.whole matchers.old }
@@ -179,14 +180,14 @@ pub fn search_source<S: Sources, M: LineMatch, W: CountedWrite>(
     ensures next { S.stands_at sources.new (k + 1) }
     ensures same_loan { S.loan sources.new ≡ S.loan sources.old }
     ensures ok { IfOk result (λ found. SearchesSource (map M.expression matchers.old) options many
-        (source_at (S.listed sources.old) k) (S.failures sources.old) (S.failures sources.new)
+        (source_at (S.listed sources.old) k) (GivesBack S.given_back sources.old sources.new) (S.failures sources.old) (S.failures sources.new)
         (writer W.contents W.failures out.old) (writer W.contents W.failures out.new)
         meter.old meter.new found.end found.selected) }
     ensures write { result ≡ Err SearchFault.Write → BreaksSource (map M.expression matchers.old) options many
-        (source_at (S.listed sources.old) k)
+        (source_at (S.listed sources.old) k) (GivesBack S.given_back sources.old sources.new) (S.failures sources.old) (S.failures sources.new)
         (writer W.contents W.failures out.old) (writer W.contents W.failures out.new) meter.old meter.new }
     ensures memory { (count : ℕ) → result ≡ Err (SearchFault.Memory count) → StopsSource (map M.expression matchers.old)
-        options many (source_at (S.listed sources.old) k) count
+        options many (source_at (S.listed sources.old) k) (GivesBack S.given_back sources.old sources.new) count (S.failures sources.old) (S.failures sources.new)
         (writer W.contents W.failures out.old) (writer W.contents W.failures out.new) meter.old meter.new }
     ensures same_expressions { map M.expression matchers.new ≡ map M.expression matchers.old }
     ensures same_wholes { map M.whole matchers.new ≡ map M.whole matchers.old }

@@ -1,8 +1,8 @@
 //! The sources that a run reads.
-ghost use Rattle.std.specs.Prelude.{◌≡◌, ℕ, ◌+◌, ◌<◌, List, length, ⊤};
+ghost use Rattle.std.specs.Prelude.{◌≡◌, ℕ, ◌+◌, ◌<◌, List, [], ◌∷◌, Option, length, ⊤};
 ghost use Rattle.grep_core.specs.Reading.{Source};
 ghost use Rattle.grep_core.specs.Run.{count_more};
-ghost use Rattle.grep_core.specs.Sources.{source_at, Opens};
+ghost use Rattle.grep_core.specs.Sources.{source_at, Opens, GivesBack};
 
 use crate::counted::CountedRead;
 
@@ -18,6 +18,11 @@ pub trait Sources {
 
     /// How many attempts to open a source, and reads of readers that were given back, have failed.
     ghost failures: { Self → ℕ };
+
+    /// What the readers that were given back had left, in order: any history of them that a caller
+    /// keeps. What is promised by it holds of what was read from each source before its reader was
+    /// given back.
+    ghost given_back: { Self → List (Option (List ℕ)) → Type 0 } = { λ _ _. ⊤ };
 
     /// The sources stand at this place: the one there may be opened next.
     ghost stands_at: { Self → ℕ → Type 0 } = { λ _ _. ⊤ };
@@ -42,6 +47,7 @@ pub trait Sources {
         requires in_order { stands_at self.old k }
         ensures listed { listed self.new ≡ listed self.old }
         ensures next { stands_at self.new (k + 1) }
+        ensures none_back { GivesBack given_back self.old self.new [] }
         ensures same_loan { loan self.new ≡ loan self.old }
         ensures given { Opens Self.Reader.remaining Self.Reader.failures (source_at (listed self.old) k)
             (failures self.old) (failures self.new) result };
@@ -50,6 +56,7 @@ pub trait Sources {
     fn close(&mut self, reader: Self::Reader)
         ensures listed { listed self.new ≡ listed self.old }
         ensures same_place { (k : ℕ) → stands_at self.old k → stands_at self.new k }
+        ensures back { GivesBack given_back self.old self.new (Self.Reader.remaining reader ∷ []) }
         ensures same_loan { loan self.new ≡ loan self.old }
         ensures counted { failures self.new ≡ count_more (failures self.old) (Self.Reader.failures reader) };
 

@@ -1,3 +1,5 @@
+mod memory;
+
 use super::*;
 use re_syntax::read_extended;
 use std::mem;

@@ -12,3 +12,4 @@ pub mod Rows
 pub mod Stages
 pub mod Walks
 pub mod CachedMatchers
+pub use Rattle.re_auto.specs.Meters

@@ -9,6 +9,7 @@ use Rattle.re_syntax.specs.Laws.{SpellsOne, HasOneSplit, HasOnePartList}
 use Rattle.re_syntax.proofs.BasicUnique.{whole-unique}
 use Rattle.re_syntax.proofs.ExtendedUnique.{whole-branches}
 use Rattle.re_syntax.proofs.LinesLaws.{AreLines-lines_of, lines_of-unique, AreListed-list_of, list_of-unique}
+use Rattle.re_syntax.proofs.PartsExist.{AreParts-exist}
 use Rattle.re_syntax.proofs.EndedLinesLaws.{AreEndedLines-ended_lines_of, ended_lines_of-unique}
 use Rattle.re_syntax.proofs.PartsLaws.{ArePartsFrom-unique}
 
@@ -43,4 +44,6 @@ has_one_split text = record {
 
 -- the law on parts
 pub has_one_part_list : (line : Text) → HasOnePartList line
-has_one_part_list line es whole ps qs p q = ArePartsFrom-unique es line whole ps qs 0 p q
+has_one_part_list line es whole =
+    let parts = AreParts-exist es line whole in
+    (parts.0, parts.1, λ qs are. ArePartsFrom-unique es line whole qs parts.0 0 are parts.1)

@@ -25,6 +25,6 @@ pub record HasOneSplit (text : Text) : Type 0 where
   pub listed : AreListed text (list_of text)
   pub not_listed_otherwise : (ts : List Text) → AreListed text ts → ts ≡ list_of text
 
--- two lists of the parts of a line are one
+-- a line has a list of its parts, and no other
 abbrev pub HasOnePartList : Text → Type 0
-HasOnePartList line = (es : List Expression) (whole : Bool) (ps qs : List (ℕ × ℕ)) → AreParts es line whole ps → AreParts es line whole qs → ps ≡ qs
+HasOnePartList line = (es : List Expression) (whole : Bool) → (ps : List (ℕ × ℕ)) × AreParts es line whole ps × ((qs : List (ℕ × ℕ)) → AreParts es line whole qs → qs ≡ ps)

@@ -19,7 +19,7 @@ pub fn has_one_split(_text: &[u8])
     ensures { HasOneSplit _text.now }
 {}
 
-/// A line has one list of parts, for all expressions.
+/// A line has a list of parts, for all expressions, and no other.
 #[tactic(auto, using(crate::proofs::SpelledUnique::has_one_part_list))]
 pub fn parts_are_unique(_line: &[u8])
     ensures { HasOnePartList _line.now }

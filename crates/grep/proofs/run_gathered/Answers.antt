@@ -6,7 +6,6 @@ returns g c = record {
   found = c.run_grep-found.result;
   out = c.run_grep-found.new.out;
   messages = writer g.M.CountedWrite.contents g.M.CountedWrite.failures c.run_grep-found.new.messages;
-  steps = c.run_grep-found.ensures.0;
-  command = c.run_grep-found.ensures.1;
+  command = c.run_grep-found.ensures;
   ends = c.finish.ensures;
 }

@@ -4,6 +4,7 @@ use crate::run_grep;
 use crate::tests::harness::{
     Devices, Row, UNLIMITED, assert_command, assert_written, commanded, file, folder,
 };
+use re_auto::fresh_meter;
 use std::test::Fail;
 
 const USAGE: &str = "usage: grep [-E|-F] [-cilnoqsvx] [-e LIST]... [-f FILE]... [LIST] [FILE...]\n";
@@ -241,6 +242,7 @@ fn no_words_are_refused(rt: HostRuntime) {
         &mut memory,
         &mut devices.out,
         &mut devices.messages,
+        &mut fresh_meter(),
     );
     let told = devices.outcome(status);
     assert_eq!(rt; told.answer, 2);

@@ -134,6 +134,7 @@ pub fn commanded<'a>(
         &mut memory,
         &mut devices.out,
         &mut devices.messages,
+        &mut fresh_meter(),
     );
     Ok(devices.outcome(status))
 }

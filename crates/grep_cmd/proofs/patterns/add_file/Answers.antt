@@ -1,4 +1,5 @@
-use Rattle.std.proofs.Common.{ap, ◌∙◌}
+use Rattle.std.proofs.Common.{[], ◌∷◌, ap, ◌∙◌}
+use Rattle.grep_core.proofs.SourceLaws.{gives_both}
 use Rattle.grep_core.specs.LineReader.{LineReader}
 use Rattle.grep_core.specs.Run.{count_more}
 use Rattle.grep_cmd.specs.Folder.{source_named}
@@ -22,3 +23,19 @@ returns-in-Ok-false-clause-ok g c =
     file_broken g.F.Reader.CountedRead.remaining g.F.Reader.CountedRead.failures (source_named (g.F.Files.folder c.args.files.now) c.args.word.now) c.in-Ok.lines.reader c.add_lines-read.new.lines.reader
     opened.0 (ap g.F.Reader.CountedRead.remaining same_reader ∙ opened.1) (ap g.F.Reader.CountedRead.failures same_reader ∙ opened.2) (g.F.Files.failures c.args.files.now) (g.F.Files.failures c.close-2.new.self) counted
     _ _ (rw c.in-Ok-false.field-0-test at c.in-Ok-false.ensures.ok)
+
+pub returns-in-Err-clause-back : goal.returns-in-Err-clause-back
+returns-in-Err-clause-back g c =
+    (_, gives_both g.F.Files.given_back c.args.files.now c.open_named.new.files c.close.new.self [] (g.F.Reader.CountedRead.remaining c.in-Err.reader ∷ []) c.open_named.ensures.none_back c.close.ensures.back)
+
+pub returns-in-Ok-true-clause-back : goal.returns-in-Ok-true-clause-back
+returns-in-Ok-true-clause-back g c =
+    (_, gives_both g.F.Files.given_back c.args.files.now c.open_named.new.files c.close-2.new.self [] (g.F.Reader.CountedRead.remaining c.into_reader.result ∷ []) c.open_named.ensures.none_back c.close-2.ensures.back)
+
+pub returns-in-Ok-false-clause-back : goal.returns-in-Ok-false-clause-back
+returns-in-Ok-false-clause-back g c =
+    (_, gives_both g.F.Files.given_back c.args.files.now c.open_named.new.files c.close-2.new.self [] (g.F.Reader.CountedRead.remaining c.into_reader.result ∷ []) c.open_named.ensures.none_back c.close-2.ensures.back)
+
+pub returns-in-Err-read-clause-back : goal.returns-in-Err-read-clause-back
+returns-in-Err-read-clause-back g c =
+    (_, gives_both g.F.Files.given_back c.args.files.now c.open_named.new.files c.close-2.new.self [] (g.F.Reader.CountedRead.remaining c.into_reader.result ∷ []) c.open_named.ensures.none_back c.close-2.ensures.back)

@@ -1,5 +1,6 @@
-use Rattle.std.proofs.Common.{◌+◌, map, drop, sym, ap, ◌∙◌, subst, arith}
+use Rattle.std.proofs.Common.{◌+◌, ◌++◌, map, drop, sym, ap, ◌∙◌, subst, arith}
 use Rattle.std.proofs.lemmas.List.{drop_all}
+use Rattle.grep_core.proofs.SourceLaws.{gives_both}
 use Rattle.grep_cmd.specs.Words.{given_source}
 use Rattle.grep_cmd.proofs.SourceLemmas.{SourcesSoFar, next_source, sources_more, sources_stop, sources_all}
 use Rattle.grep_cmd.proofs.patterns.read_patterns.Goals as goal
@@ -26,6 +27,7 @@ loop-source-preserved g c =
     record {
       so_far = subst (λ folder. SourcesSoFar start all folder (map given_source (drop (c.loop-source.source-index + 1) c.args.sources.now)) c.add_source.new.texts.items) (sym c.in-Ok.ensures.used) more;
       none_failed = c.in-Ok.ensures.none_failed ∙ s.none_failed;
+      back = (s.back.0 ++ c.add_source.ensures.back.0, gives_both g.F.Files.given_back c.args.files.now c.loop-source.files c.add_source.new.files s.back.0 c.add_source.ensures.back.0 s.back.1 c.add_source.ensures.back.1);
       same_loan = c.in-Ok.ensures.same_loan ∙ s.same_loan;
     }
 
@@ -36,3 +38,8 @@ returns-clause-ok g c =
     let now = g.F.Files.folder c.loop-source.files in
     let none = ap (map given_source) (drop_all c.loop-source.source-index c.args.sources.now (omega (arith, c.loop-source-test.false))) in
     sources_all start all now c.loop-source.texts.items (subst (λ left. SourcesSoFar start all now left c.loop-source.texts.items) none c.loop-source.invariant.so_far)
+
+pub returns-in-Err-clause-back : goal.returns-in-Err-clause-back
+returns-in-Err-clause-back g c =
+    let s = c.loop-source.invariant in
+    (s.back.0 ++ c.add_source.ensures.back.0, gives_both g.F.Files.given_back c.args.files.now c.loop-source.files c.add_source.new.files s.back.0 c.add_source.ensures.back.0 s.back.1 c.add_source.ensures.back.1)
