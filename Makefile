@@ -1,5 +1,7 @@
 # make            proves every crate, builds the programs into build/ and tries one of them
-# make test       the whole gate: proofs from nothing, edits that must fail, tests, programs
+# make gate       proofs from nothing, edits that must fail, tests, the program's stored run
+# make test       the gate, and then the program built anew and run on the rows of tests/
+# make test-program  runs the built program on the rows and devices of tests/ (wants Python 3.11)
 # make test-memory  runs the program, matchers and sessions with each of their allocations refused in turn (wants a C compiler)
 # make install    copies the programs and their manual pages below $(DESTDIR)$(PREFIX)
 # make clean      removes what make built; what rt keeps of its proofs stays
@@ -7,7 +9,7 @@
 PREFIX = /usr/local
 DESTDIR =
 
-.PHONY: all prove programs first-row test test-memory install clean
+.PHONY: all prove programs first-row gate test test-program test-memory install clean
 
 all: first-row
 
@@ -27,8 +29,15 @@ first-row: programs
 build/grep:
 	$(MAKE) programs
 
-test:
+gate:
 	rt ci
+
+test: gate
+	$(MAKE) programs
+	$(MAKE) test-program
+
+test-program: build/grep
+	python3 tests/run.py build/grep
 
 test-memory: build/grep
 	tools/refuse_allocations.sh

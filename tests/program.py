@@ -1,0 +1,84 @@
+"""The program under test: how it is run, what it answered, and the cases by which it is judged."""
+
+from __future__ import annotations
+
+import os
+import subprocess
+from collections.abc import Callable
+from dataclasses import dataclass
+from pathlib import Path
+from typing import Any
+
+SECONDS = 20
+"""A run that takes longer has failed."""
+
+Word = str | bytes
+
+
+class Skipped(Exception):
+    """A case that can't be tried here, and why."""
+
+
+@dataclass(frozen=True)
+class Answer:
+    """What a run wrote to standard output and to standard error, and its exit status."""
+
+    out: bytes = b""
+    err: bytes = b""
+    status: int = 0
+
+
+@dataclass(frozen=True)
+class Verdict:
+    """The answer that was wanted, and the one that was given."""
+
+    wanted: Answer
+    given: Answer
+
+
+@dataclass(frozen=True)
+class Bench:
+    """The program, and the folder in which it runs, which is empty at first."""
+
+    program: Path
+    folder: Path
+
+    def write(self, name: str, content: bytes) -> None:
+        """Writes a file, and the folders on its way."""
+        path = self.folder / name
+        path.parent.mkdir(parents=True, exist_ok=True)
+        path.write_bytes(content)
+
+    def start(self, *words: Word, called: Word = "grep", **options: Any) -> subprocess.Popen[bytes]:
+        """Starts the program. Streams that the options don't name are pipes."""
+        streams = {stream: subprocess.PIPE for stream in ("stdin", "stdout", "stderr")}
+        settings = {"cwd": self.folder, "executable": self.program, "bufsize": 0}
+        command = [os.fsencode(word) for word in (called, *words)]
+        return subprocess.Popen(command, **{**settings, **streams, **options})
+
+    def ask(self, *words: Word, stdin: bytes | int = b"", **options: Any) -> Answer:
+        """Runs the program to its end, on bytes or on a handle as standard input."""
+        if isinstance(stdin, int):
+            return finish(self.start(*words, stdin=stdin, **options))
+        return finish(self.start(*words, **options), stdin)
+
+
+@dataclass(frozen=True)
+class Case:
+    """A question to the program: where it stands, what it shows, and the judging of one run."""
+
+    source: str
+    name: str
+    judge: Callable[[Bench], Verdict]
+
+
+def finish(process: subprocess.Popen[bytes], stdin: bytes | None = None) -> Answer:
+    """Gives the rest of the input and waits for the end of the run. Streams that are no pipes
+    count as empty."""
+    with process:
+        try:
+            out, err = process.communicate(stdin, timeout=SECONDS)
+        except subprocess.TimeoutExpired:
+            process.kill()
+            raise
+    return Answer(out or b"", err or b"", process.returncode)
