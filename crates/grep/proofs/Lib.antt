@@ -1,1 +1,2 @@
-pub mod CountLemmas
+-- lemmas by subject; the answers to goals of functions lie in folders of their modules
+pub mod lemmas

@@ -2,9 +2,9 @@
 use Rattle.std.specs.Prelude.{◌≡◌, ℕ, nat_lt, List, [], ◌∷◌, ◌⊎◌, codes, Option, MatchBool}
 use Rattle.grep_core.specs.Buffer.{BufferedWriter, SendsAll, SendsSome, all_contents}
 use Rattle.grep_core.specs.Meters.{Steps}
-use Rattle.grep_core.specs.Run.{Writer, writer}
+use Rattle.grep_core.specs.Run.{Writer, writer, devices}
 use Rattle.grep_cmd.specs.Bytes.{Text}
-use Rattle.grep_cmd.specs.Command.{Tells, CommandGives}
+use Rattle.grep_cmd.specs.Command.{TellsLines, CommandGives}
 use Rattle.grep_cmd.specs.Folder.{Folder}
 use Rattle.grep_cmd.specs.Texts.{write_error}
 
@@ -13,7 +13,7 @@ words_refused = codes "grep: words must be UTF-8"
 
 -- a write error is told, but not where a message could not be written before
 abbrev pub TellsWriteError : Writer → Writer → Type 0
-TellsWriteError old new = MatchBool (nat_lt 0 old.failures) (new ≡ old) (Tells old new (write_error ∷ []))
+TellsWriteError old new = MatchBool (nat_lt 0 old.failures) (new ≡ old) (TellsLines old new (write_error ∷ []))
 
 -- standard output, gathered; standard error; how often a file could not be opened or read; and the steps that were counted
 pub record Streams (W : Type 0) : Type 0 where
@@ -21,6 +21,9 @@ pub record Streams (W : Type 0) : Type 0 where
   pub messages : Writer
   pub source_failures : ℕ
   pub steps : Steps
+
+abbrev pub streams : {W : Type 0} → BufferedWriter W → Writer → ℕ → Steps → Streams W
+streams out messages failures steps = record { out = out; messages = messages; source_failures = failures; steps = steps }
 
 module _ {W : Type 0} (contents : W → Option Text) (failures : W → ℕ) where
   -- where a write of the output failed before, nothing more is sent; otherwise all that waits goes out, and the status
@@ -42,7 +45,7 @@ module _ {W : Type 0} (contents : W → Option Text) (failures : W → ℕ) wher
     pub out : BufferedWriter W
     pub messages : Writer
     pub command : CommandGives folder given
-        record { out = gathered old.out; messages = old.messages; source_failures = old.source_failures; steps = old.steps }
-        record { out = gathered out; messages = messages; source_failures = new.source_failures; steps = new.steps }
+        (devices (gathered old.out) old.messages old.source_failures old.steps)
+        (devices (gathered out) messages new.source_failures new.steps)
         found words
     pub ends : EndsAs out new.out messages new.messages found status

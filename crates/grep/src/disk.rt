@@ -1,7 +1,7 @@
 //! The files of the system, and standard input.
 ghost use Rattle.std.specs.Prelude.{◌≡◌, false};
 ghost use Rattle.grep_core.specs.Run.{count_more};
-ghost use Rattle.grep.specs.Disk.{known_bytes, folder_of};
+ghost use Rattle.grep.specs.Working.Disk.{known_bytes, folder_of};
 
 use grep_cmd::Files;
 use grep_core::{CountedRead, Tally};

@@ -3,17 +3,12 @@ ghost use Rattle.std.specs.Prelude.{◌≡◌, [], ◌∷◌};
 ghost use Rattle.grep_core.specs.Output.{written};
 ghost use Rattle.grep_core.specs.Run.{writer};
 ghost use Rattle.grep_core.specs.Written.{Writes};
-ghost use Rattle.grep_cmd.specs.Command.{Tells};
+ghost use Rattle.grep_cmd.specs.Command.{TellsLines};
 ghost use Rattle.grep_cmd.specs.Texts.{out_of_memory, usage};
 ghost use Rattle.grep.specs.Exit.{words_refused, TellsWriteError, EndsAs};
 
+use grep_cmd::{FAILED, OUT_OF_MEMORY, USAGE, WRITE_ERROR};
 use grep_core::{Buffered, CountedWrite, WriteFault, write_line};
-
-/// The exit status of a program that failed (XCU grep, EXIT STATUS).
-const FAILED: u8 = 2;
-
-/// How the program is used (XCU grep, SYNOPSIS).
-const USAGE: &[u8] = b"usage: grep [-E|-F] [-cilnoqsvx] [-e LIST]... [-f FILE]... [LIST] [FILE...]";
 
 /// Writes how the program is used.
 fn write_usage<M: CountedWrite>(messages: &mut M) -> Result<(), WriteFault>
@@ -34,7 +29,7 @@ fn write_words_refused<M: CountedWrite>(messages: &mut M) -> Result<(), WriteFau
 /// again.
 pub fn refuse_words<M: CountedWrite>(messages: &mut M) -> u8
     ensures status { result ≡ 2 }
-    ensures told { Tells (writer M.contents M.failures messages.old) (writer M.contents M.failures messages.new)
+    ensures told { TellsLines (writer M.contents M.failures messages.old) (writer M.contents M.failures messages.new)
         (words_refused ∷ usage ∷ []) }
 {
     let _ = write_words_refused(messages);
@@ -45,10 +40,10 @@ pub fn refuse_words<M: CountedWrite>(messages: &mut M) -> u8
 /// again.
 pub fn refuse_memory<M: CountedWrite>(messages: &mut M) -> u8
     ensures status { result ≡ 2 }
-    ensures told { Tells (writer M.contents M.failures messages.old) (writer M.contents M.failures messages.new)
+    ensures told { TellsLines (writer M.contents M.failures messages.old) (writer M.contents M.failures messages.new)
         (out_of_memory ∷ []) }
 {
-    let _ = write_line(messages, b"grep: out of memory");
+    let _ = write_line(messages, OUT_OF_MEMORY);
     FAILED
 }
 
@@ -61,7 +56,7 @@ fn tell_write_error<M: CountedWrite>(messages: &mut M) -> u8
     if messages.failures() > 0 {
         return FAILED;
     }
-    let _ = write_line(messages, b"grep: write error");
+    let _ = write_line(messages, WRITE_ERROR);
     FAILED
 }
 

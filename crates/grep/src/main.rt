@@ -7,7 +7,7 @@ mod ending;
 ghost use Rattle.grep_core.specs.Run.{writer};
 ghost use Rattle.grep_core.specs.Sources.{GivesBack};
 ghost use Rattle.grep_cmd.specs.Words.{texts_of};
-ghost use Rattle.grep.specs.Exit.{ProgramGives};
+ghost use Rattle.grep.specs.Exit.{ProgramGives, streams};
 
 use crate::disk::DiskFiles;
 use crate::ending::{finish, refuse_memory, refuse_words};
@@ -29,18 +29,8 @@ fn run_gathered<F: Files, W: CountedWrite, M: CountedWrite>(
     meter: &mut Meter,
 ) -> u8
     ensures { ProgramGives W.contents W.failures (F.folder files.old) (GivesBack F.given_back files.old files.new) (texts_of words.now)
-        record {
-          out = out.old;
-          messages = writer M.contents M.failures messages.old;
-          source_failures = F.failures files.old;
-          steps = meter.old;
-        }
-        record {
-          out = out.new;
-          messages = writer M.contents M.failures messages.new;
-          source_failures = F.failures files.new;
-          steps = meter.new;
-        }
+        (streams out.old (writer M.contents M.failures messages.old) (F.failures files.old) meter.old)
+        (streams out.new (writer M.contents M.failures messages.new) (F.failures files.new) meter.new)
         result }
 {
     let found = run_grep(alloc, words, files, out, messages, meter);

@@ -1,11 +1,2 @@
-pub mod PieceLemmas
-pub mod WordLemmas
-pub mod UsageLemmas
-pub mod GatherLemmas
-pub mod SourceLemmas
-pub mod OperandLemmas
-pub mod TellingLemmas
-pub mod CommandLemmas
-pub mod CountLemmas
-pub mod ShowLaws
-pub mod ServingLemmas
+-- lemmas by subject; the answers to goals of functions lie in folders of their modules
+pub mod lemmas

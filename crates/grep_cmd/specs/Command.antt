@@ -14,7 +14,8 @@ use Rattle.grep_core.specs.declared.status.RunFault.TheVariants.{Write, MessageW
 use Rattle.grep_core.specs.Counted.{one_more}
 use Rattle.grep_core.specs.Run.{Writer, Devices, TakesAll, TakesFront, count_more, RunGives}
 use Rattle.grep_cmd.specs.Folder.{Folder, sources_named, searched}
-use Rattle.grep_core.specs.Matchers.{IsFirstRefused, most_patterns}
+use Rattle.re_syntax.specs.Profile.{most_patterns}
+use Rattle.grep_core.specs.Matchers.{IsFirstRefused}
 use Rattle.grep_cmd.specs.Patterns.{Unread, behind_all, GivePatterns, FirstUnread}
 use Rattle.grep_cmd.specs.Texts.{usage_texts, out_of_memory, write_error, too_many_patterns, pattern_refused}
 use Rattle.grep_cmd.specs.Words.{Asked, read}
@@ -26,14 +27,14 @@ status_number NoneSelected = 1
 status_number Error = 2
 
 -- the lines were written, or a beginning of them where a write failed
-abbrev pub Tells : Writer → Writer → List Text → Type 0
-Tells old new texts = TakesAll old new texts ⊎ (TakesFront old new texts × (new.failures ≡ one_more old.failures))
+abbrev pub TellsLines : Writer → Writer → List Text → Type 0
+TellsLines old new texts = TakesAll old new texts ⊎ (TakesFront old new texts × (new.failures ≡ one_more old.failures))
 
 -- the command ends with these messages and status 2; nothing more is written to the output, no step is counted, and so often the devices of files failed
 pub record GivesUp (old new : Devices) (texts : List Text) (failures status : ℕ) : Type 0 where
   pub is_error : status ≡ 2
   pub none_written : new.out ≡ old.out
-  pub told : Tells old.messages new.messages texts
+  pub told : TellsLines old.messages new.messages texts
   pub counted : new.source_failures ≡ count_more old.source_failures failures
   pub no_step : new.steps ≡ old.steps
 
@@ -61,7 +62,7 @@ module _ (asked : Asked) (folder : Folder) (texts : List Text) (given : List (Op
     pub gives_up : GivesUp old new (pattern_refused place fault ∷ []) 0 status
 
   -- all patterns are readable, and the files are searched for what they mean
-  pub record SearchesFiles : Type 0 where
+  pub record SearchesNamed : Type 0 where
     pub readable : All (IsReadable asked.syntax asked.options.ignore_case) texts
     pub es : List Expression
     pub are_meant : AreMeant asked.syntax asked.options texts es
@@ -69,7 +70,7 @@ module _ (asked : Asked) (folder : Folder) (texts : List Text) (given : List (Op
 
   -- the patterns are counted, then each is read in order, and then the files are searched
   abbrev pub DoesForPatterns : Type 0
-  DoesForPatterns = MatchBool (nat_lt most_patterns (length texts)) (GivesUp old new (too_many_patterns ∷ []) 0 status) (RefusesPattern ⊎ SearchesFiles)
+  DoesForPatterns = MatchBool (nat_lt most_patterns (length texts)) (GivesUp old new (too_many_patterns ∷ []) 0 status) (RefusesPattern ⊎ SearchesNamed)
 
   -- or memory was wanting before the search
   abbrev pub PatternsGive : Type 0

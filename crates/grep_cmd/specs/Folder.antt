@@ -24,13 +24,13 @@ abbrev pub standard_input_name : Text
 standard_input_name = codes "(standard input)"
 
 -- the name that output and messages show
-abbrev pub shown_name : Text → Text
-shown_name word = if is_standard word then standard_input_name else word
+abbrev pub display_name : Text → Text
+display_name word = if is_standard word then standard_input_name else word
 
 -- the source that a word names
 abbrev pub source_named : Folder → Text → Source
 source_named folder word = record {
-  name = shown_name word;
+  name = display_name word;
   opens = if is_standard word then Some true else folder.opens word;
   bytes = if is_standard word then folder.input else folder.bytes word;
 }

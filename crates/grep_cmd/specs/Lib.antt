@@ -1,4 +1,4 @@
--- what the public clauses cite of the crates below
+-- what these cite of the crates below
 pub use Rattle.re_syntax.specs.Bytes
 pub use Rattle.re_syntax.specs.Expression
 pub use Rattle.re_syntax.specs.Holds
@@ -7,14 +7,12 @@ pub use Rattle.re_syntax.specs.Spelled
 pub use Rattle.grep_core.specs.Files
 pub use Rattle.grep_core.specs.Meters
 pub use Rattle.grep_core.specs.Run
+-- what the contract of the whole command, or of the session, rests on
 pub mod Words
 pub mod Texts
-pub mod Pieces
 pub mod Folder
-pub mod Memory
 pub mod Patterns
-pub mod Gathered
-pub mod Operands
 pub mod Command
 pub mod Show
-pub mod Serving
+-- what else contracts are said in: of this crate as a library, and of its private functions
+pub mod Working

@@ -7,7 +7,7 @@ use Rattle.grep_core.specs.Messages.{cannot_open, read_error}
 use Rattle.grep_core.specs.Reading as reading
 use Rattle.grep_core.specs.Reading.{Reading, IsReadingOf, file_of, failures_of}
 use Rattle.grep_cmd.specs.Folder.{Folder, source_named, after_use}
-use Rattle.grep_cmd.specs.Words.{Source, list, file}
+use Rattle.grep_cmd.specs.Words.{PatternsFrom, list, file}
 
 -- a pattern file that was not read: the message on it, and how often the devices failed in it
 pub record Unread : Type 0 where
@@ -27,29 +27,29 @@ FileGives source given =
     × (given ≡ patterns_by (file_of source.name did).ending (file_of source.name did) (failures_of did))
 
 -- what a source of patterns gives: a list is parted by its newlines
-abbrev pub SourceGives : Folder → Source → Result (List Text) Unread → Type 0
-SourceGives folder (list text) given = given ≡ Ok (list_of text)
-SourceGives folder (file name) given = FileGives (source_named folder name) given
+abbrev pub GivesPatterns : Folder → PatternsFrom → Result (List Text) Unread → Type 0
+GivesPatterns folder (list text) given = given ≡ Ok (list_of text)
+GivesPatterns folder (file name) given = FileGives (source_named folder name) given
 
 -- what is known of files once the source of patterns was read
-abbrev pub behind : Folder → Source → Folder
+abbrev pub behind : Folder → PatternsFrom → Folder
 behind folder (list text) = folder
 behind folder (file name) = after_use folder name
 
-abbrev pub behind_all : Folder → List Source → Folder
+abbrev pub behind_all : Folder → List PatternsFrom → Folder
 behind_all folder [] = folder
 behind_all folder (source ∷ sources) = behind_all (behind folder source) sources
 
 -- sources, each of which is read, give these patterns in order
-abbrev pub GivePatterns : Folder → List Source → List Text → Type 0
+abbrev pub GivePatterns : Folder → List PatternsFrom → List Text → Type 0
 GivePatterns folder [] texts = texts ≡ []
 GivePatterns folder (source ∷ sources) texts =
-    (first : List Text) × (rest : List Text) × SourceGives folder source (Ok first)
+    (first : List Text) × (rest : List Text) × GivesPatterns folder source (Ok first)
     × GivePatterns (behind folder source) sources rest × (texts ≡ first ++ rest)
 
 -- the first source that is not read, behind some that are
-abbrev pub FirstUnread : Folder → List Source → Unread → Type 0
+abbrev pub FirstUnread : Folder → List PatternsFrom → Unread → Type 0
 FirstUnread folder [] fault = ⊥
 FirstUnread folder (source ∷ sources) fault =
-    SourceGives folder source (Err fault)
-    ⊎ ((first : List Text) × SourceGives folder source (Ok first) × FirstUnread (behind folder source) sources fault)
+    GivesPatterns folder source (Err fault)
+    ⊎ ((first : List Text) × GivesPatterns folder source (Ok first) × FirstUnread (behind folder source) sources fault)

@@ -20,27 +20,27 @@ use Rattle.grep_cmd.specs.declared.words.pieces.Meaning.{Meaning}
 use Rattle.grep_cmd.specs.declared.words.pieces.Meaning.TheVariants as meaning
 
 -- a pattern list, or the name of a pattern file
-pub data Source : Type 0 where
-  list : Text → Source
-  file : Text → Source
+pub data PatternsFrom : Type 0 where
+  list : Text → PatternsFrom
+  file : Text → PatternsFrom
 
 -- what a request asks for
 pub record Asked : Type 0 where
   pub syntax : Syntax
   pub options : Options
-  pub sources : List Source
+  pub sources : List PatternsFrom
   pub files : List Text
 
 -- an option with its argument, an operand, or a fault
 pub data Piece : Type 0 where
   flag : Flag → Piece
   reads_as : Syntax → Piece
-  source : Source → Piece
+  source : PatternsFrom → Piece
   operand : Text → Piece
   fault : UsageFault → Piece
 
 -- an option's argument as a source of patterns
-abbrev pub source_of : Argument → Text → Source
+abbrev pub source_of : Argument → Text → PatternsFrom
 source_of argument.List text = list text
 source_of argument.File text = file text
 
@@ -142,7 +142,7 @@ options_behind before [] = before
 options_behind before (flag f ∷ ps) = options_behind (with_flag f before) ps
 options_behind before (_ ∷ ps) = options_behind before ps
 
-abbrev pub sources_of : List Piece → List Source
+abbrev pub sources_of : List Piece → List PatternsFrom
 sources_of [] = []
 sources_of (source s ∷ ps) = s ∷ sources_of ps
 sources_of (_ ∷ ps) = sources_of ps
@@ -162,7 +162,7 @@ with_pieces before ps = record {
 }
 
 -- without `-e` and `-f` the first operand is the pattern list (XCU grep, OPERANDS)
-abbrev pub with_patterns : Asked → List Source → List Text → Result Asked UsageFault
+abbrev pub with_patterns : Asked → List PatternsFrom → List Text → Result Asked UsageFault
 with_patterns a (_ ∷ _) _ = Ok a
 with_patterns a [] (text ∷ files) = Ok (record a { sources = list text ∷ []; files = files })
 with_patterns a [] [] = Err NoPattern
@@ -196,7 +196,7 @@ nothing_asked = record {
 abbrev pub read : List Text → Result Asked UsageFault
 read words = reads_on nothing_asked (pieces words None)
 
-abbrev pub given_source : PatternSource → Source
+abbrev pub given_source : PatternSource → PatternsFrom
 given_source (given.List text) = list (string_bytes text)
 given_source (given.File name) = file (string_bytes name)
 

@@ -1,10 +1,10 @@
 //! The whole command (XCU grep).
 ghost use Rattle.std.specs.Prelude.{◌≡◌, ℕ, ◌<◌, nat_lt, IfSome, map, length};
 ghost use Rattle.re_syntax.specs.Lines.{lines_of};
-ghost use Rattle.re_search.specs.Filters.{AreNeeded};
-ghost use Rattle.re_search.specs.Reading.{matched_expression, wants_whole};
+ghost use Rattle.re_search.specs.Working.Filters.{AreNeeded};
+ghost use Rattle.re_search.specs.Working.Matchers.{matched_expression, wants_whole};
 ghost use Rattle.re_search.specs.Searching.{AllAnswer};
-ghost use Rattle.grep_core.specs.Run.{writer};
+ghost use Rattle.grep_core.specs.Run.{writer, devices};
 ghost use Rattle.grep_core.specs.Sources.{GivesBack};
 ghost use Rattle.grep_cmd.specs.Command.{SearchEnds, PatternsGive, RequestGives, CommandGives};
 ghost use Rattle.grep_cmd.specs.Folder.{searched, sources_named};
@@ -15,15 +15,13 @@ use crate::patterns::read_patterns;
 use crate::refusal::tell_refused;
 use crate::searchers::{Searchers, has_more_than, searchers_of};
 use crate::searching::search_files;
-use crate::telling::{FAILED, end_search, tell, tell_unread, tell_usage};
+use crate::telling::{end_search, tell, tell_unread, tell_usage};
+use crate::texts::{FAILED, OUT_OF_MEMORY};
 use crate::words::{Request, read_words};
 use grep_core::CountedWrite;
 use re_search::Meter;
-use re_syntax::FaultKind;
+use re_syntax::{FaultKind, MOST_PATTERNS};
 use std::alloc::Global;
-
-/// The greatest number of patterns.
-const MOST_PATTERNS: usize = 65535;
 
 /// Searches the files of a request, and answers the exit status.
 fn search_request<F: Files, W: CountedWrite, N: CountedWrite>(
@@ -39,18 +37,10 @@ fn search_request<F: Files, W: CountedWrite, N: CountedWrite>(
     requires needed { IfSome searchers.old.needed (λ strings. AreNeeded strings (map matched_expression searchers.old.matchers.items)) }
     ensures { SearchEnds (map matched_expression searchers.old.matchers.items) request.now.options
         (sources_named (F.folder files.old) (searched (texts_of request.now.files.items))) (GivesBack F.given_back files.old files.new)
-        record {
-          out = writer W.contents W.failures out.old;
-          messages = writer N.contents N.failures messages.old;
-          source_failures = F.failures files.old;
-          steps = meter.old;
-        }
-        record {
-          out = writer W.contents W.failures out.new;
-          messages = writer N.contents N.failures messages.new;
-          source_failures = F.failures files.new;
-          steps = meter.new;
-        }
+        (devices (writer W.contents W.failures out.old) (writer N.contents N.failures messages.old)
+        (F.failures files.old) meter.old)
+        (devices (writer W.contents W.failures out.new) (writer N.contents N.failures messages.new)
+        (F.failures files.new) meter.new)
         result }
 {
     let words = &request.files;
@@ -81,18 +71,10 @@ fn run_patterns<F: Files, W: CountedWrite, N: CountedWrite>(
     meter: &mut Meter,
 ) -> u8
     ensures { PatternsGive (asked request.now) (F.folder files.old) (lines_of texts.now) (GivesBack F.given_back files.old files.new)
-        record {
-          out = writer W.contents W.failures out.old;
-          messages = writer N.contents N.failures messages.old;
-          source_failures = F.failures files.old;
-          steps = meter.old;
-        }
-        record {
-          out = writer W.contents W.failures out.new;
-          messages = writer N.contents N.failures messages.new;
-          source_failures = F.failures files.new;
-          steps = meter.new;
-        }
+        (devices (writer W.contents W.failures out.old) (writer N.contents N.failures messages.old)
+        (F.failures files.old) meter.old)
+        (devices (writer W.contents W.failures out.new) (writer N.contents N.failures messages.new)
+        (F.failures files.new) meter.new)
         result }
 {
     if has_more_than(MOST_PATTERNS, texts) {
@@ -111,7 +93,7 @@ fn run_patterns<F: Files, W: CountedWrite, N: CountedWrite>(
         ),
         Err((place, fault)) => {
             if fault.kind == FaultKind::Memory {
-                tell(messages, b"grep: out of memory");
+                tell(messages, OUT_OF_MEMORY);
                 return FAILED;
             }
             tell_refused(messages, place, fault);
@@ -130,18 +112,10 @@ fn run_request<F: Files, W: CountedWrite, N: CountedWrite>(
     meter: &mut Meter,
 ) -> u8
     ensures { RequestGives (F.folder files.old) (GivesBack F.given_back files.old files.new)
-        record {
-          out = writer W.contents W.failures out.old;
-          messages = writer N.contents N.failures messages.old;
-          source_failures = F.failures files.old;
-          steps = meter.old;
-        }
-        record {
-          out = writer W.contents W.failures out.new;
-          messages = writer N.contents N.failures messages.new;
-          source_failures = F.failures files.new;
-          steps = meter.new;
-        }
+        (devices (writer W.contents W.failures out.old) (writer N.contents N.failures messages.old)
+        (F.failures files.old) meter.old)
+        (devices (writer W.contents W.failures out.new) (writer N.contents N.failures messages.new)
+        (F.failures files.new) meter.new)
         result (asked request.now) }
 {
     match read_patterns(alloc, files, &request.sources) {
@@ -188,18 +162,10 @@ pub fn run_grep<F: Files, W: CountedWrite, M: CountedWrite>(
     meter: &mut Meter,
 ) -> u8
     ensures { CommandGives (F.folder files.old) (GivesBack F.given_back files.old files.new)
-        record {
-          out = writer W.contents W.failures out.old;
-          messages = writer M.contents M.failures messages.old;
-          source_failures = F.failures files.old;
-          steps = meter.old;
-        }
-        record {
-          out = writer W.contents W.failures out.new;
-          messages = writer M.contents M.failures messages.new;
-          source_failures = F.failures files.new;
-          steps = meter.new;
-        }
+        (devices (writer W.contents W.failures out.old) (writer M.contents M.failures messages.old)
+        (F.failures files.old) meter.old)
+        (devices (writer W.contents W.failures out.new) (writer M.contents M.failures messages.new)
+        (F.failures files.new) meter.new)
         result (texts_of words.now) }
 {
     match read_words(alloc, words) {

@@ -2,7 +2,7 @@
 ghost use Rattle.std.specs.Prelude.{◌≡◌, ℕ, ⊤, List, [], ◌∷◌, Option};
 ghost use Rattle.grep_core.specs.Run.{count_more};
 ghost use Rattle.grep_core.specs.Sources.{Opens, GivesBack};
-ghost use Rattle.grep_cmd.specs.Folder.{Folder, file_named, input_used, is_standard, shown_name, source_named, after_use};
+ghost use Rattle.grep_cmd.specs.Folder.{Folder, file_named, input_used, is_standard, display_name, source_named, after_use};
 
 use grep_core::CountedRead;
 
@@ -94,8 +94,8 @@ fn is_standard(name: &str) -> bool
 }
 
 /// The name of the source that the word names, as output and messages show it.
-pub fn shown_name(name: &str) -> &[u8]
-    ensures { result.now ≡ shown_name name.now }
+pub fn display_name(name: &str) -> &[u8]
+    ensures { result.now ≡ display_name name.now }
 {
     if is_standard(name) {
         return b"(standard input)";

@@ -14,6 +14,7 @@ mod showing;
 mod telling;
 #[cfg(test)]
 mod tests;
+mod texts;
 mod usage;
 mod words;
 
@@ -21,5 +22,6 @@ pub use command::run_grep;
 pub use files::Files;
 pub use memory::{Content, MemoryFile, MemoryFiles, MemoryReader};
 pub use showing::show;
+pub use texts::{FAILED, OUT_OF_MEMORY, USAGE, WRITE_ERROR};
 pub use usage::write_usage_fault;
 pub use words::{PatternSource, Request, UsageFault, read_words};

@@ -2,7 +2,8 @@
 ghost use Rattle.std.specs.Prelude.{◌≡◌, ◌⊎◌, [], ◌∷◌, ◌++◌, IfOk, IfErr};
 ghost use Rattle.re_syntax.specs.Lines.{lines_of};
 ghost use Rattle.re_search.specs.Reading.{IsOutOfMemory};
-ghost use Rattle.grep_core.specs.Matchers.{AreMatchers, IsFirstRefused};
+ghost use Rattle.grep_core.specs.Matchers.{IsFirstRefused};
+ghost use Rattle.grep_core.specs.Working.MatcherLists.{AreMatchers};
 
 use grep_core::Options;
 use re_search::Matcher;

@@ -2,7 +2,7 @@
 ghost use Rattle.std.specs.Prelude.{◌≡◌, MatchOption, option_map, option_copied, find, bytes_eq};
 ghost use Rattle.grep_core.specs.Counted.{one_more};
 ghost use Rattle.grep_core.specs.Run.{count_more};
-ghost use Rattle.grep_cmd.specs.Memory.{content_named, fresh_reader};
+ghost use Rattle.grep_cmd.specs.Working.Memory.{content_named, fresh_reader};
 
 use crate::files::Files;
 use grep_core::{CountedRead, Limited, Sources, Tally};
@@ -86,7 +86,7 @@ impl<'f, 'a> MemoryFiles<'f, 'a> {
     }
 
     /// Counts the failures of a reader that is given back.
-    #[tactic(auto, using(crate::proofs::CountLemmas::many_counted))]
+    #[tactic(auto, using(crate::proofs::lemmas::CountLemmas::many_counted))]
     fn count_failures(&mut self, reader: MemoryReader<'a>)
         ensures files { self.new.files ≡ self.old.files }
         ensures input { self.new.input ≡ self.old.input }
@@ -114,7 +114,7 @@ fn content_named<'a>(files: &[MemoryFile<'a>], name: &str) -> Option<Content<'a>
 }
 
 impl<'a> Files for MemoryFiles<'_, 'a> {
-    ghost use Rattle.grep_cmd.specs.Memory.{folder_of};
+    ghost use Rattle.grep_cmd.specs.Working.Memory.{folder_of};
 
     type Reader = MemoryReader<'a>;
 
@@ -144,7 +144,7 @@ impl<'a> Files for MemoryFiles<'_, 'a> {
 
 impl<'a> Sources for MemoryFiles<'_, 'a> {
     ghost use Rattle.std.specs.Prelude.{map};
-    ghost use Rattle.grep_cmd.specs.Memory.{source_of};
+    ghost use Rattle.grep_cmd.specs.Working.Memory.{source_of};
 
     type Reader = MemoryReader<'a>;
 

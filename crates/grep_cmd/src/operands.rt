@@ -3,7 +3,7 @@ ghost use Rattle.std.specs.Prelude.{◌≡◌, ◌<◌, [], get_or, length};
 ghost use Rattle.grep_cmd.specs.Folder.{searched};
 ghost use Rattle.grep_cmd.specs.Words.{texts_of};
 
-use crate::files::{Files, open_named, shown_name};
+use crate::files::{Files, display_name, open_named};
 use grep_core::Sources;
 use std::snapshot::Snapshot;
 
@@ -66,7 +66,7 @@ fn word_at(words: &[String], k: usize) -> &str
 
 impl<F: Files> Sources for Operands<'_, F> {
     ghost use Rattle.grep_cmd.specs.Folder.{searched, sources_named};
-    ghost use Rattle.grep_cmd.specs.Operands.{StandsAt};
+    ghost use Rattle.grep_cmd.specs.Working.Operands.{StandsAt};
     ghost use Rattle.grep_cmd.specs.Words.{texts_of};
 
     type Reader = F::Reader;
@@ -86,7 +86,7 @@ impl<F: Files> Sources for Operands<'_, F> {
     }
 
     fn name(&self, k: usize) -> &[u8] {
-        shown_name(word_at(self.words, k))
+        display_name(word_at(self.words, k))
     }
 
     fn open(&mut self, k: usize) -> Option<F::Reader> {

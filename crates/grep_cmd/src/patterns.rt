@@ -2,11 +2,11 @@
 ghost use Rattle.std.specs.Prelude.{◌≡◌, List, Option, [], ◌∷◌, ◌++◌, IfOk, IfErr, OnErr, Err, map};
 ghost use Rattle.re_syntax.specs.Bytes.{Text};
 ghost use Rattle.re_syntax.specs.Lines.{newline, lines_of};
-ghost use Rattle.grep_core.specs.declared.lines.Stage.{Stage};
+ghost use Rattle.grep_core.specs.declared.input.lines.Stage.{Stage};
 ghost use Rattle.grep_core.specs.Sources.{GivesBack};
 ghost use Rattle.grep_cmd.specs.Folder.{source_named, after_use};
-ghost use Rattle.grep_cmd.specs.Patterns.{SourceGives, behind, behind_all, GivePatterns, FirstUnread};
-ghost use Rattle.grep_cmd.specs.Gathered.{AddsLines, ReadsFile, AddsSource, StopsFor};
+ghost use Rattle.grep_cmd.specs.Patterns.{GivesPatterns, behind, behind_all, GivePatterns, FirstUnread};
+ghost use Rattle.grep_cmd.specs.Working.Gathered.{AddsLines, ReadsFile, AddsSource, StopsFor};
 ghost use Rattle.grep_cmd.specs.Words.{given_source};
 
 use crate::files::{Files, open_named};
@@ -115,7 +115,7 @@ fn add_source<'a, F: Files>(
     ensures back { (left : List (Option Text)) × GivesBack F.given_back files.old files.new left }
     ensures ok { IfOk result (λ _. AddsSource (F.folder files.old) (given_source source.now) texts.old.items texts.new.items) }
     ensures none_failed { IfOk result (λ _. F.failures files.new ≡ F.failures files.old) }
-    ensures err { IfErr result (λ fault. StopsFor (λ unread. SourceGives (F.folder files.old) (given_source source.now) (Err unread))
+    ensures err { IfErr result (λ fault. StopsFor (λ unread. GivesPatterns (F.folder files.old) (given_source source.now) (Err unread))
         (F.failures files.old) (F.failures files.new) fault) }
 {
     match source {

@@ -4,7 +4,7 @@ ghost use Rattle.std.specs.Fmt.{decimal};
 ghost use Rattle.grep_core.specs.Row.{output_line};
 ghost use Rattle.grep_core.specs.Written.{Writes};
 ghost use Rattle.grep_core.specs.Run.{writer};
-ghost use Rattle.grep_cmd.specs.Command.{Tells};
+ghost use Rattle.grep_cmd.specs.Command.{TellsLines};
 ghost use Rattle.grep_cmd.specs.Texts.{kind_name, pattern_refused};
 
 use grep_core::{CountedWrite, WriteFault, push_all, write_count, write_decimal};
@@ -83,7 +83,7 @@ fn write_refused<M: CountedWrite>(
 /// tried again.
 pub fn tell_refused<M: CountedWrite>(messages: &mut M, place: usize, fault: PatternFault)
     requires { place < 2 ^ 64 - 1 }
-    ensures { Tells (writer M.contents M.failures messages.old) (writer M.contents M.failures messages.new) (pattern_refused place fault ∷ []) }
+    ensures { TellsLines (writer M.contents M.failures messages.old) (writer M.contents M.failures messages.new) (pattern_refused place fault ∷ []) }
 {
     let _ = write_refused(messages, place, fault);
 }

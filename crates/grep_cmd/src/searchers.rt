@@ -3,22 +3,20 @@ ghost use Rattle.std.specs.Prelude.{◌≡◌, ◌⊎◌, [], ◌∷◌, nat_lt,
 ghost use Rattle.re_syntax.specs.Lines.{lines_of};
 ghost use Rattle.re_syntax.specs.Spelled.{has_limit};
 ghost use Rattle.re_search.specs.declared.matcher.Matcher.TheVariants as m;
-ghost use Rattle.re_search.specs.Filters.{AreNeeded};
-ghost use Rattle.re_search.specs.Reading.{matched_expression, IsOutOfMemory};
+ghost use Rattle.re_search.specs.Working.Filters.{AreNeeded};
+ghost use Rattle.re_search.specs.Reading.{IsOutOfMemory};
+ghost use Rattle.re_search.specs.Working.Matchers.{matched_expression};
 ghost use Rattle.grep_core.specs.Matchers.{IsFirstRefused};
-ghost use Rattle.grep_cmd.specs.Serving.{ServeFor, IsStringFor};
+ghost use Rattle.grep_cmd.specs.Working.Serving.{ServeFor, IsStringFor};
 
 use crate::matchers::matchers_of;
 use grep_core::Options;
 use re_search::{FixedSet, Matcher, is_plain, needed_strings};
-use re_syntax::{FaultKind, PatternFault, Syntax, split_file};
+use re_syntax::{FaultKind, MOST_POSITIONS, PatternFault, Syntax, split_file};
 use std::alloc::{AllocError, Global};
 
 /// How many patterns may be looked for one after another; one pass for more of them is quicker.
 const FEW: usize = 7;
-
-/// The greatest number of positions of an expression, and so of bytes of a string that is folded.
-const MOST_POSITIONS: usize = 4096;
 
 /// What a search asks of each line.
 #[derive(Drop)]

@@ -1,8 +1,8 @@
 //! The search of the files that words name.
 ghost use Rattle.std.specs.Prelude.{IfSome, map};
-ghost use Rattle.re_search.specs.Filters.{AreNeeded};
+ghost use Rattle.re_search.specs.Working.Filters.{AreNeeded};
 ghost use Rattle.re_search.specs.Searching.{AllAnswer};
-ghost use Rattle.grep_core.specs.Run.{writer, RunGives};
+ghost use Rattle.grep_core.specs.Run.{writer, RunGives, devices};
 ghost use Rattle.grep_core.specs.Sources.{GivesBack};
 ghost use Rattle.grep_cmd.specs.Folder.{searched, sources_named};
 ghost use Rattle.grep_cmd.specs.Words.{texts_of};
@@ -33,18 +33,10 @@ pub fn search_files<F: Files, L: LineMatch, W: CountedWrite, N: CountedWrite>(
     requires needed { IfSome filter (λ f. AreNeeded f.now (map L.expression matchers.old)) }
     ensures { RunGives (map L.expression matchers.old) options.now
         (sources_named (F.folder files.old) (searched (texts_of words.now))) (GivesBack F.given_back files.old files.new)
-        record {
-          out = writer W.contents W.failures out.old;
-          messages = writer N.contents N.failures messages.old;
-          source_failures = F.failures files.old;
-          steps = meter.old;
-        }
-        record {
-          out = writer W.contents W.failures out.new;
-          messages = writer N.contents N.failures messages.new;
-          source_failures = F.failures files.new;
-          steps = meter.new;
-        }
+        (devices (writer W.contents W.failures out.old) (writer N.contents N.failures messages.old)
+        (F.failures files.old) meter.old)
+        (devices (writer W.contents W.failures out.new) (writer N.contents N.failures messages.new)
+        (F.failures files.new) meter.new)
         result }
 {
     let mut operands = Operands::new(&mut *files, words);

@@ -8,11 +8,9 @@ ghost use Rattle.grep_cmd.specs.Texts.{fault_text, usage_behind, usage_texts};
 #[cfg(test)]
 mod tests;
 
+use crate::texts::{OUT_OF_MEMORY, USAGE};
 use crate::words::UsageFault;
 use grep_core::{CountedWrite, WriteFault, push_all, write_line, write_row};
-
-/// How the command is used (XCU grep, SYNOPSIS).
-const USAGE: &[u8] = b"usage: grep [-E|-F] [-cilnoqsvx] [-e LIST]... [-f FILE]... [LIST] [FILE...]";
 
 /// Writes the line on an option without its argument.
 fn write_missing_argument<M: CountedWrite>(messages: &mut M, letter: char) -> Result<(), WriteFault>
@@ -46,7 +44,7 @@ fn write_fault<M: CountedWrite>(messages: &mut M, fault: UsageFault) -> Result<(
         UsageFault::MissingArgument(letter) => write_missing_argument(messages, letter),
         UsageFault::TwoSyntaxes => write_line(messages, b"grep: -E and -F together"),
         UsageFault::NoPattern => write_line(messages, b"grep: no pattern"),
-        UsageFault::Memory => write_line(messages, b"grep: out of memory"),
+        UsageFault::Memory => write_line(messages, OUT_OF_MEMORY),
     }
 }
 

@@ -1,7 +1,7 @@
 //! The words of grep, and what they ask for (XBD 12.2; XCU grep, SYNOPSIS, OPTIONS, OPERANDS).
 ghost use Rattle.std.specs.Prelude.{◌≡◌, ◌∷◌, [], IfOk, MatchResult};
 ghost use Rattle.grep_cmd.specs.Words.{AreRead, OrMemory, asked, completed, first_fault, may_follow, operand, source, source_of, texts_of, with_flag, with_pieces};
-ghost use Rattle.grep_cmd.specs.Pieces.{piece_of};
+ghost use Rattle.grep_cmd.specs.Working.Pieces.{piece_of};
 
 mod pieces;
 #[cfg(test)]

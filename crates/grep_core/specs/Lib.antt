@@ -1,4 +1,4 @@
--- what the public clauses cite of the crates below
+-- what these cite of the crates below
 pub use Rattle.re_syntax.specs.Bytes
 pub use Rattle.re_syntax.specs.Expression
 pub use Rattle.re_syntax.specs.Holds
@@ -7,14 +7,10 @@ pub use Rattle.re_syntax.specs.Lines
 pub use Rattle.re_syntax.specs.Spelled
 pub use Rattle.re_search.specs.Meters
 pub use Rattle.re_search.specs.Searching
-pub use Rattle.re_search.specs.Filters
+pub use Rattle.re_search.specs.Working.Filters
+-- what the contract of the whole command, or of the session, rests on
 pub mod Counted
-pub mod Limited
-pub mod LineReader
-pub mod Held
-pub mod Refilled
 pub mod Row
-pub mod Written
 pub mod Choose
 pub mod Files
 pub mod Output
@@ -22,12 +18,11 @@ pub mod Messages
 pub mod Reading
 pub mod Run
 pub mod Sources
-pub mod Pass
-pub mod Wanted
-pub mod OneLine
-pub mod Searched
 pub mod Cost
 pub mod Buffer
-pub mod Laws
+pub mod Written
 pub mod Matchers
-pub mod SameChoice
+-- what the public laws say of the definitions
+pub mod Laws
+-- what else contracts are said in: of this crate as a library, and of its private functions
+pub mod Working

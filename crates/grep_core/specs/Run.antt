@@ -35,6 +35,9 @@ pub record Devices : Type 0 where
   pub source_failures : ℕ
   pub steps : Steps
 
+abbrev pub devices : Writer → Writer → ℕ → Steps → Devices
+devices out messages failures steps = record { out = out; messages = messages; source_failures = failures; steps = steps }
+
 -- so many more failures, by a count that stays at the greatest u64
 abbrev pub count_more : ℕ → ℕ → ℕ
 count_more n zero = n

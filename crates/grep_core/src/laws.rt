@@ -6,13 +6,13 @@ use re_syntax::Syntax;
 
 /// All expressions and files have one output, one list of messages and one status, and the search
 /// of them has one cost.
-#[tactic(auto, using(crate::proofs::LawsHold::has_one_answer))]
+#[tactic(auto, using(crate::proofs::lemmas::LawsHold::has_one_answer))]
 pub fn has_one_answer(_options: Options)
     ensures { HasOneAnswer _options }
 {}
 
 /// Patterns mean at most one list of expressions.
-#[tactic(auto, using(crate::proofs::LawsHold::means_one))]
+#[tactic(auto, using(crate::proofs::lemmas::LawsHold::means_one))]
 pub fn means_one(_syntax: Syntax, _options: Options)
     ensures { MeansOne _syntax _options }
 {}

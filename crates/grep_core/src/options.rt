@@ -1,3 +1,8 @@
+//! The options of a run, and what they ask for.
+ghost use Rattle.std.specs.Prelude.{◌≡◌, ◌||◌};
+ghost use Rattle.grep_core.specs.Output.{form};
+ghost use Rattle.grep_core.specs.Working.Wanted.{form_of};
+
 /// The options of grep that are set or not (XCU grep, OPTIONS; `only_matching` after the GNU
 /// manual).
 #[derive(Clone, Copy, PartialEq, Eq, Debug, Default, Drop)]
@@ -43,4 +48,51 @@ pub enum Flag {
     InvertMatch,
     /// `-x`
     LineRegexp,
+}
+
+/// What the options ask for (XCU grep, STDOUT): `-q` goes before `-l`, `-l` before `-c`, and these
+/// before `-o`.
+#[derive(Clone, Copy, PartialEq, Eq, Debug, Drop)]
+pub enum Form {
+    /// Nothing is written.
+    Nothing,
+    /// The names of files with a selected line.
+    Names,
+    /// The number of selected lines of each file.
+    Counts,
+    /// The matched parts of the selected lines.
+    Parts,
+    /// The selected lines.
+    Lines,
+}
+
+impl Options {
+    /// What the options ask for.
+    pub fn form(self) -> Form
+        ensures { form_of result ≡ form self }
+    {
+        if self.quiet {
+            return Form::Nothing;
+        }
+        if self.files_with_matches {
+            return Form::Names;
+        }
+        if self.count {
+            return Form::Counts;
+        }
+        if self.only_matching {
+            if self.invert_match {
+                return Form::Nothing;
+            }
+            return Form::Parts;
+        }
+        Form::Lines
+    }
+
+    /// Whether a file is left at its first selected line.
+    pub fn leaves_early(self) -> bool
+        ensures { result ≡ (self.quiet || self.files_with_matches) }
+    {
+        self.quiet | self.files_with_matches
+    }
 }

@@ -1,20 +1,2 @@
-pub mod FindingLemmas
-pub mod SessionLemmas
-pub mod EditLemmas
-pub mod FoundLemmas
-pub mod EditLaws
-pub mod ColumnLemmas
-pub mod ReadingLemmas
-pub mod AgainLemmas
-pub mod DroppingLemmas
-pub mod AddingLemmas
-pub mod SurvivingLemmas
-pub mod FindsLemmas
-pub mod ChangeLemmas
-pub mod PatternLemmas
-pub mod NewPatternLemmas
-pub mod Writing
-pub mod LineSteps
-pub mod FileSteps
-pub mod KeptLaws
-pub mod HeadlineLaws
+-- lemmas by subject; the answers to goals of functions lie in folders of their modules
+pub mod lemmas

@@ -12,7 +12,8 @@ use Rattle.grep_core.specs.declared.options.Flag.TheVariants.{Count, IgnoreCase,
 use Rattle.grep_core.specs.declared.options.Options.{Options}
 use Rattle.grep_core.specs.Choose.{IfHolds}
 use Rattle.grep_core.specs.Files.{File, Inputs, whole, missing}
-use Rattle.grep_core.specs.Matchers.{IsFirstRefused, most_patterns}
+use Rattle.re_syntax.specs.Profile.{most_patterns}
+use Rattle.grep_core.specs.Matchers.{IsFirstRefused}
 use Rattle.grep_core.specs.Run.{file_at}
 use Rattle.grep_session.specs.declared.fault.EditFault.{EditFault}
 use Rattle.grep_session.specs.declared.fault.EditFault.TheVariants.{NoSuchFile, FileIsMissing, OutOfRange, LineHasNewline, NoSuchPattern, Pattern, TooManyPatterns, Memory}

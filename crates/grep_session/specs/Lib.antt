@@ -1,20 +1,10 @@
--- what the public clauses cite of the crates below
+-- what these cite of the crates below
 pub use Rattle.grep_core.specs.Files
--- what they cite here
+-- what the contract of the whole command, or of the session, rests on
 pub mod Edits
 pub mod Touched
 pub mod Headline
+-- what the public laws say of the definitions
 pub mod Laws
--- what is worked with: what a session keeps, and the clauses of private functions
-pub mod Finds
-pub mod Boxed
-pub mod Kept
-pub mod Sessions
-pub mod Splicing
-pub mod Found
-pub mod Reading
-pub mod Again
-pub mod Effects
-pub mod Dropping
-pub mod Report
-pub mod Changed
+-- what else contracts are said in: of this crate as a library, and of its private functions
+pub mod Working

@@ -15,7 +15,7 @@ use Rattle.grep_core.specs.declared.options.Options.{Options}
 use Rattle.grep_core.specs.Choose.{IfHolds, Chosen}
 use Rattle.grep_core.specs.Cost.{search_cost}
 use Rattle.grep_core.specs.Files.{Inputs, AreMeant, Matched}
-use Rattle.grep_core.specs.Matchers.{most_patterns}
+use Rattle.re_syntax.specs.Profile.{most_patterns}
 use Rattle.grep_session.specs.declared.fault.EditFault.{EditFault}
 use Rattle.grep_session.specs.Edits.{Edit, AddFile, AddMissing, DropFile, Splice, AddPatterns, DropPattern, SetFlag, SetSyntax, option_of, HasPlace, Applies}
 

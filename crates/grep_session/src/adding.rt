@@ -2,8 +2,8 @@
 ghost use Rattle.std.specs.Prelude.{◌≡◌, ◌-◌, ◌≤◌, length, map, drop, IfOk};
 ghost use Rattle.re_search.specs.Searching.{AllAnswer, AddsAtMost};
 ghost use Rattle.grep_core.specs.Cost.{search_cost};
-ghost use Rattle.grep_core.specs.Matchers.{most_patterns};
-ghost use Rattle.grep_session.specs.Kept.{AddsMatching};
+ghost use Rattle.re_syntax.specs.Profile.{most_patterns};
+ghost use Rattle.grep_session.specs.Working.Kept.{AddsMatching};
 
 use crate::finding::add_matching;
 use grep_core::Options;

@@ -3,13 +3,13 @@
 ghost use Rattle.std.specs.Prelude.{◌≡◌, ℕ, ◌≤◌, ◌++◌, List, [], length, map, MatchBool, ◌∷◌, IfOk, All, IfSome, nat_eq, nat_lt, vec_capacity};
 ghost use Rattle.std.specs.List.{AllZip, list_any};
 ghost use Rattle.re_syntax.specs.Expression.{Expression};
-ghost use Rattle.re_search.specs.Reading.{matched_expression, wants_whole};
+ghost use Rattle.re_search.specs.Working.Matchers.{matched_expression, wants_whole};
 ghost use Rattle.re_search.specs.Searching.{AllAnswer, AddsAtMost};
 ghost use Rattle.grep_session.specs.declared.change.Change.TheVariants.{Added, Dropped};
-ghost use Rattle.grep_session.specs.Changed.{HasChanged, IsWithin, ChangeCost, SearchesEach, SearchesOne};
-ghost use Rattle.grep_core.specs.Matchers.{most_patterns};
-ghost use Rattle.grep_session.specs.Found.{IsRight, IsFoundAgain, AddsRight, lines_of_files};
-ghost use Rattle.grep_session.specs.Kept.{IsKept, IsFileKept, kept_file, kept_lines, line_text};
+ghost use Rattle.grep_session.specs.Working.Changed.{HasChanged, IsWithin, ChangeCost, SearchesEach, SearchesOne};
+ghost use Rattle.re_syntax.specs.Profile.{most_patterns};
+ghost use Rattle.grep_session.specs.Working.Found.{IsRight, IsFoundAgain, AddsRight, lines_of_files};
+ghost use Rattle.grep_session.specs.Working.Kept.{IsKept, IsFileKept, kept_file, kept_lines, line_text};
 ghost use Rattle.grep_session.specs.Touched.{PartsCostOf};
 
 use crate::adding::add_later;

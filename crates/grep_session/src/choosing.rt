@@ -1,7 +1,7 @@
 //! Options by their names.
 ghost use Rattle.std.specs.Prelude.{◌≡◌, MatchBool};
 ghost use Rattle.grep_core.specs.declared.options.Flag.TheVariants.{OnlyMatching};
-ghost use Rattle.grep_session.specs.Effects.{HasEffect};
+ghost use Rattle.grep_session.specs.Working.Effects.{HasEffect};
 ghost use Rattle.grep_session.specs.Edits.{option_of, with_option};
 
 use grep_core::{Flag, Options};

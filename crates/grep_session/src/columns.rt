@@ -1,11 +1,11 @@
 //! What is found in all lines of all files anew.
 ghost use Rattle.std.specs.Prelude.{◌≡◌, ◌≤◌, ◌++◌, List, [], length, map, false, ◌∷◌, IfOk, All, IfSome, if◌then◌else◌};
 ghost use Rattle.std.specs.List.{AllZip};
-ghost use Rattle.re_search.specs.Reading.{matched_expression, wants_whole};
+ghost use Rattle.re_search.specs.Working.Matchers.{matched_expression, wants_whole};
 ghost use Rattle.re_search.specs.Searching.{AllAnswer};
-ghost use Rattle.grep_core.specs.Matchers.{most_patterns};
-ghost use Rattle.grep_session.specs.Found.{IsRight, IsReady, AddsRight, lines_of_files};
-ghost use Rattle.grep_session.specs.Kept.{SearchesKept, SearchesAllKept, kept_file, kept_lines, line_text};
+ghost use Rattle.re_syntax.specs.Profile.{most_patterns};
+ghost use Rattle.grep_session.specs.Working.Found.{IsRight, IsReady, AddsRight, lines_of_files};
+ghost use Rattle.grep_session.specs.Working.Kept.{SearchesKept, SearchesAllKept, kept_file, kept_lines, line_text};
 
 use crate::finding::{find_anew, find_with_parts};
 use crate::findings::Findings;

@@ -2,9 +2,9 @@
 ghost use Rattle.std.specs.Prelude.{◌≡◌, ◌<◌, List, length, map, false, All, ◌≤◌, vec_len, vec_capacity};
 ghost use Rattle.re_syntax.specs.Expression.{Expression};
 ghost use Rattle.grep_core.specs.declared.options.Options.{Options};
-ghost use Rattle.grep_session.specs.Kept.{IsKept, IsFileKept, kept_file, line_text};
+ghost use Rattle.grep_session.specs.Working.Kept.{IsKept, IsFileKept, kept_file, line_text};
 ghost use Rattle.std.specs.List.{remove, insert};
-ghost use Rattle.grep_session.specs.Dropping.{without};
+ghost use Rattle.grep_session.specs.Working.Dropping.{without};
 
 use crate::kept::{KeptFile, KeptLine};
 use re_search::Matcher;

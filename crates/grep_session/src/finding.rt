@@ -1,12 +1,12 @@
 //! What is found in lines, and kept.
 ghost use Rattle.std.specs.Prelude.{◌≡◌, ℕ, List, ◌+◌, ◌*◌, ◌≤◌, ◌<◌, ◌++◌, length, map, IfOk, IfErr, IfSome, true, [], ◌∷◌, All};
-ghost use Rattle.re_search.specs.Reading.{matched_expression, wants_whole};
+ghost use Rattle.re_search.specs.Working.Matchers.{matched_expression, wants_whole};
 ghost use Rattle.re_search.specs.Searching.{AllAnswer, AddsAtMost, FindsPart};
 ghost use Rattle.re_syntax.specs.Parts.{AreParts};
 ghost use Rattle.grep_core.specs.Cost.{search_cost};
-ghost use Rattle.grep_core.specs.Matchers.{most_patterns};
-ghost use Rattle.grep_session.specs.Found.{IsRight};
-ghost use Rattle.grep_session.specs.Kept.{AreMatching, AddsMatching, IsKept, SearchesKept, SearchesAllKept, span_places, line_text, ArePartsKept};
+ghost use Rattle.re_syntax.specs.Profile.{most_patterns};
+ghost use Rattle.grep_session.specs.Working.Found.{IsRight};
+ghost use Rattle.grep_session.specs.Working.Kept.{AreMatching, AddsMatching, IsKept, SearchesKept, SearchesAllKept, span_places, line_text, ArePartsKept};
 ghost use Rattle.grep_session.specs.Touched.{PartsCostOf};
 
 use crate::findings::Findings;

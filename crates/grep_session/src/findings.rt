@@ -1,8 +1,8 @@
 //! What the patterns find in a line, in as little memory as that takes.
 ghost use Rattle.std.specs.Prelude.{◌≡◌, IfOk};
-ghost use Rattle.grep_session.specs.Dropping.{without};
-ghost use Rattle.grep_session.specs.Boxed.{numbers_in, IsSmall};
-ghost use Rattle.grep_session.specs.Finds.{no_finds, finds_with};
+ghost use Rattle.grep_session.specs.Working.Dropping.{without};
+ghost use Rattle.grep_session.specs.Working.Boxed.{numbers_in, IsSmall};
+ghost use Rattle.grep_session.specs.Working.Finds.{no_finds, finds_with};
 
 use crate::numbers::drop_number;
 use re_search::Span;
@@ -24,8 +24,8 @@ pub struct Findings {
 }
 
 impl Model for Findings {
-    ghost use Rattle.grep_session.specs.Boxed.{finds_in, IsSmall};
-    ghost use Rattle.grep_session.specs.Finds.{Finds};
+    ghost use Rattle.grep_session.specs.Working.Boxed.{finds_in, IsSmall};
+    ghost use Rattle.grep_session.specs.Working.Finds.{Finds};
 
     ghost Value = { Finds };
 

@@ -5,8 +5,8 @@ ghost use Rattle.re_syntax.specs.Expression.{Expression};
 ghost use Rattle.grep_core.specs.declared.options.Options.{Options};
 ghost use Rattle.std.specs.Vec.Iter.{into_iter_items};
 ghost use Rattle.std.specs.Option.{option_map, unwrap_or};
-ghost use Rattle.grep_session.specs.Kept.{IsFileKept, kept_file, kept_lines};
-ghost use Rattle.grep_session.specs.Found.{IsRight, lines_of_files, next_line, with_found};
+ghost use Rattle.grep_session.specs.Working.Kept.{IsFileKept, kept_file, kept_lines};
+ghost use Rattle.grep_session.specs.Working.Found.{IsRight, lines_of_files, next_line, with_found};
 
 use crate::findings::Findings;
 use crate::kept::{KeptFile, KeptLine};

@@ -2,7 +2,7 @@
 ghost use Rattle.std.specs.Prelude.{◌≡◌, IfOk, All, length, if◌then◌else◌};
 ghost use Rattle.grep_core.specs.Output.{form, parts, written};
 ghost use Rattle.grep_core.specs.Written.{Writes};
-ghost use Rattle.grep_session.specs.Report.{line_rows, part_rows, rows_from, selected_count, is_selected, OnLine, PartsFit, selected_rows};
+ghost use Rattle.grep_session.specs.Working.Report.{line_rows, part_rows, rows_from, selected_count, is_selected, OnLine, PartsFit, selected_rows};
 
 use crate::kept::KeptLine;
 use grep_core::{CountedWrite, Form, Wanted, WriteFault, count_found};

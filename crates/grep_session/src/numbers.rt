@@ -1,7 +1,7 @@
 //! The numbers of patterns where one of these goes.
 ghost use Rattle.std.specs.Prelude.{◌≡◌, map, not, nat_eq};
 ghost use Rattle.std.specs.List.{filter};
-ghost use Rattle.grep_session.specs.Dropping.{lowered, without};
+ghost use Rattle.grep_session.specs.Working.Dropping.{lowered, without};
 
 /// The number that a pattern has when pattern `p` is gone.
 fn lowered(p: usize, number: usize) -> usize

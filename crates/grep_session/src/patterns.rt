@@ -1,10 +1,10 @@
 //! The texts of a pattern list, and their place in a session.
 ghost use Rattle.std.specs.Prelude.{◌≡◌, ◌≤◌, ◌<◌, ◌+◌, ◌++◌, ◌∷◌, [], length, map, vec_len, vec_capacity, MatchBool, IfOk, OnErr};
 ghost use Rattle.re_syntax.specs.Lines.{list_of};
-ghost use Rattle.grep_core.specs.Matchers.{most_patterns};
+ghost use Rattle.re_syntax.specs.Profile.{most_patterns};
 
 use re_search::Matcher;
-use re_syntax::split_list;
+use re_syntax::{MOST_PATTERNS, split_list};
 use std::alloc::{AllocError, Global};
 
 /// Adds a text.
@@ -26,9 +26,6 @@ pub fn texts_of(alloc: Global, list: &[u8]) -> Result<Vec<Vec<u8>>, AllocError>
     }
     Ok(texts)
 }
-
-/// How many patterns a session may have.
-const MOST_PATTERNS: usize = 65535;
 
 /// Whether a session of so many patterns would have too many with those of a list. No text is
 /// copied.

@@ -1,7 +1,8 @@
 //! The matchers of patterns.
 ghost use Rattle.std.specs.Prelude.{◌≡◌, ◌≤◌, ◌⊎◌, ◌++◌, ◌∷◌, [], map, IfOk, IfErr};
-ghost use Rattle.grep_core.specs.Matchers.{AreMatchers};
-ghost use Rattle.grep_session.specs.Reading.{RefusesFirst, told_at};
+ghost use Rattle.re_syntax.specs.Profile.{most_states};
+ghost use Rattle.grep_core.specs.Working.MatcherLists.{AreMatchers};
+ghost use Rattle.grep_session.specs.Working.Reading.{RefusesFirst, told_at};
 
 use crate::fault::EditFault;
 use grep_core::Options;
@@ -41,7 +42,7 @@ pub fn read_matchers(
     states: usize,
 ) -> Result<Vec<Matcher>, EditFault>
     requires some { 1 ≤ states }
-    requires few { states ≤ 65536 }
+    requires few { states ≤ most_states }
     ensures ok { IfOk result (λ matchers. AreMatchers syntax options.now (map (λ text. text.items) texts.now) matchers.items) }
     ensures err { IfErr result (RefusesFirst syntax options.now.ignore_case (map (λ text. text.items) texts.now)) }
 {

@@ -5,8 +5,8 @@ ghost use Rattle.re_syntax.specs.Expression.{Expression};
 ghost use Rattle.grep_core.specs.Messages.{StatusOf};
 ghost use Rattle.grep_core.specs.Output.{written};
 ghost use Rattle.grep_core.specs.Written.{Writes};
-ghost use Rattle.grep_session.specs.Kept.{kept_lines, kept_file, IsFileKept};
-ghost use Rattle.grep_session.specs.Report.{FileFits, rows_with, report_rows, told_from, any_selected, any_missing, status_by_files, Reports, Tells};
+ghost use Rattle.grep_session.specs.Working.Kept.{kept_lines, kept_file, IsFileKept};
+ghost use Rattle.grep_session.specs.Working.Report.{FileFits, rows_with, report_rows, told_from, any_selected, any_missing, status_by_files, Reports, TellsMessages};
 
 use crate::kept::KeptFile;
 use crate::lines::write_lines;
@@ -91,7 +91,7 @@ fn any_missing(files: &[KeptFile]) -> bool
 }
 
 /// The status by what is kept.
-#[tactic(auto, using(crate::proofs::KeptLaws::status_in_turn))]
+#[tactic(auto, using(crate::proofs::lemmas::KeptLaws::status_in_turn))]
 fn status_by_files(files: &[KeptFile], options: &Options) -> Status
     ensures { result ≡ status_by_files options.now files.now }
 {
@@ -138,7 +138,7 @@ pub fn write_messages<W: CountedWrite>(
     out: &mut W,
 ) -> Result<(), WriteFault>
     ensures { (es : List Expression) → All (IsFileKept es options.now) files.now
-        → Tells W.contents W.failures es options.now (map kept_file files.now) margin.now out.old out.new result }
+        → TellsMessages W.contents W.failures es options.now (map kept_file files.now) margin.now out.old out.new result }
 {
     tell_files(files, options, margin, out)
 }

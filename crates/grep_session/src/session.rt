@@ -3,8 +3,9 @@ ghost use Rattle.std.specs.Prelude.{◌≡◌, ◌≢◌, ◌≤◌, ◌<◌, Ok
 ghost use Rattle.grep_session.specs.declared.fault.EditFault.TheVariants.{Memory};
 ghost use Rattle.grep_session.specs.Edits.{Edit, AddFile, AddMissing, DropFile, Splice, AddPatterns, DropPattern, SetFlag, SetSyntax, EditGives, Applies, no_inputs, with_patterns};
 ghost use Rattle.std.specs.List.{remove};
+ghost use Rattle.re_syntax.specs.Profile.{most_states};
 ghost use Rattle.grep_session.specs.Touched.{TakesSteps, NeedsNoMemory, Touches, searched_by, parts_alone, all_lines};
-ghost use Rattle.grep_session.specs.Again.{ReadsAgain, AreReadable, read_as};
+ghost use Rattle.grep_session.specs.Working.Again.{ReadsAgain, AreReadable, read_as};
 
 mod reporting;
 
@@ -43,7 +44,7 @@ impl Model for Session {
 
     ghost Value = { Inputs };
 
-    ghost use Rattle.grep_session.specs.Sessions.{inputs_of, IsSession};
+    ghost use Rattle.grep_session.specs.Working.Sessions.{inputs_of, IsSession};
 
     ghost view = { inputs_of };
 
@@ -55,7 +56,7 @@ impl Session {
     /// many states.
     pub fn new(alloc: Global, states: usize) -> Session
         requires some { 1 ≤ states }
-        requires few { states ≤ 65536 }
+        requires few { states ≤ most_states }
         ensures { result ≡ no_inputs }
     {
         Session {

@@ -4,8 +4,8 @@ ghost use Rattle.std.specs.List.{splice};
 ghost use Rattle.std.specs.Option.{option_map};
 ghost use Rattle.re_syntax.specs.Lines.{HasNoNewline};
 ghost use Rattle.grep_session.specs.declared.fault.EditFault.TheVariants.{Memory};
-ghost use Rattle.grep_session.specs.Kept.{kept_lines, kept_file};
-ghost use Rattle.grep_session.specs.Splicing.{PlaceGives};
+ghost use Rattle.grep_session.specs.Working.Kept.{kept_lines, kept_file};
+ghost use Rattle.grep_session.specs.Working.Splicing.{PlaceGives};
 
 use crate::fault::EditFault;
 use crate::kept::{KeptFile, KeptLine};

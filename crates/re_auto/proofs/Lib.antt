@@ -1,22 +1,2 @@
-pub mod BitLemmas
-pub mod Numbered
-pub mod Chains
-pub mod Joining
-pub mod Turns
-pub mod Again
-pub mod Repeats
-pub mod Theorem
-pub mod Stepping
-pub mod LeastStarts
-pub mod WithoutPositions
-pub mod CountLaws
-pub mod RowLemmas
-pub mod PartLemmas
-pub mod Steps
-pub mod StartSteps
-pub mod AddedLemmas
-pub mod RepeatedLemmas
-pub mod ClassLemmas
-pub mod FillingLemmas
-pub mod WordLemmas
-pub mod BeginningLemmas
+-- lemmas by subject; the answers to goals of functions lie in folders of their modules
+pub mod lemmas

@@ -4,9 +4,9 @@ use Rattle.re_syntax.specs.Bytes.{Text}
 use Rattle.re_syntax.specs.Expression.{Expression}
 use Rattle.re_syntax.specs.Holds.{Holds}
 use Rattle.re_auto.specs.declared.mode.Mode.{Mode}
-use Rattle.re_auto.specs.Positions.{is_end, PartHolds, part_of}
-use Rattle.re_auto.specs.Stepping.{IsAfter}
-use Rattle.re_auto.specs.Starts.{Least, StartsAfter, IsNextStarts, Told, IsMatched, IsBest, better, IsSpent}
+use Rattle.re_auto.specs.Working.Positions.{is_end, PartHolds, part_of}
+use Rattle.re_auto.specs.Working.Stepping.{IsAfter}
+use Rattle.re_auto.specs.Working.Starts.{Least, StartsAfter, IsNextStarts, Told, IsMatched, IsBest, better, IsSpent}
 
 -- An expression holds on a stretch exactly where a chain of its positions reads the stretch's bytes, or the stretch is empty and the expression may be.
 abbrev pub PositionsTell : Type 0

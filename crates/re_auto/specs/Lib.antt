@@ -1,12 +1,6 @@
-pub mod Positions
-pub mod Stepping
-pub mod Starts
-pub mod Laws
+-- what the contract of the whole command, or of the session, rests on
 pub mod Meters
-pub mod Bits
-pub mod Beginnings
-pub mod Tables
-pub mod StateSets
-pub mod StartSets
-pub mod Building
-pub mod ByteClasses
+-- what the public laws say of the definitions
+pub mod Laws
+-- what else contracts are said in: of this crate as a library, and of its private functions
+pub mod Working

@@ -2,14 +2,15 @@
 ghost use Rattle.std.specs.Prelude.{◌≡◌, ℕ, suc, Bool, true, false, ◌<◌, ◌≤◌, ◌↔◌, Some, IsTrue, IfOk, IfErr, vec_len, length, slice_get, slice_index};
 ghost use Rattle.re_syntax.specs.Bytes.{Text};
 ghost use Rattle.re_syntax.specs.Expression.{expression_of};
-ghost use Rattle.re_syntax.specs.Holds.{Holds, most_positions, positions};
+ghost use Rattle.re_syntax.specs.Holds.{Holds, positions};
+ghost use Rattle.re_syntax.specs.Profile.{most_positions};
 ghost use Rattle.re_auto.specs.declared.mode.Mode.TheVariants.{Search};
-ghost use Rattle.re_auto.specs.Bits.{Has, Are};
+ghost use Rattle.re_auto.specs.Working.Bits.{Has, Are};
 ghost use Rattle.re_auto.specs.Meters.{many_built};
-ghost use Rattle.re_auto.specs.Positions.{part_of, is_begin, is_end};
-ghost use Rattle.re_auto.specs.Stepping.{MayBegin, IsNext};
-ghost use Rattle.re_auto.specs.Tables.{words_for, CanBegin, IsRefused};
-ghost use Rattle.re_auto.specs.StateSets.{IsMadeFor, IsNowhere, StandsAt, IsNextSet, IsAccepting, AreAlikeInClasses};
+ghost use Rattle.re_auto.specs.Working.Positions.{part_of, is_begin, is_end};
+ghost use Rattle.re_auto.specs.Working.Stepping.{MayBegin, IsNext};
+ghost use Rattle.re_auto.specs.Working.Tables.{words_for, CanBegin, IsRefused};
+ghost use Rattle.re_auto.specs.Working.StateSets.{IsMadeFor, IsNowhere, StandsAt, IsNextSet, IsAccepting, AreAlikeInClasses};
 
 mod one_word;
 
@@ -36,7 +37,7 @@ impl Model for Automaton {
     ghost use Rattle.re_syntax.specs.contracts.tree.Tree as e;
     ghost use Rattle.re_syntax.specs.Expression.{expression_of};
     ghost use Rattle.std.specs.Coded.{codes};
-    ghost use Rattle.re_auto.specs.Tables.{Tells};
+    ghost use Rattle.re_auto.specs.Working.Tables.{AreTablesOf};
 
     ghost Value = { Tree };
 
@@ -44,7 +45,7 @@ impl Model for Automaton {
 
     ghost view = { λ a. a.tree };
 
-    ghost invariant = { λ a. Tells (expression_of a.tree) a.tables };
+    ghost invariant = { λ a. AreTablesOf (expression_of a.tree) a.tables };
 }
 
 impl Automaton {

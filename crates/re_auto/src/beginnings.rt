@@ -1,6 +1,6 @@
 //! The bytes that a stretch inside a line can begin with.
 ghost use Rattle.std.specs.Prelude.{◌≡◌, ℕ, ◌+◌, false, ◌<◌, ◌≤◌, IfSome, MatchOption, length, slice_index, slice_index_or};
-ghost use Rattle.re_auto.specs.Beginnings.{IsMarked, IsFirstMarked, IsNextMark, Names};
+ghost use Rattle.re_auto.specs.Working.Beginnings.{IsMarked, IsFirstMarked, IsNextMark, Names};
 
 use memchr::{memchr, memchr2, memchr3};
 use std::marker::Model;
@@ -32,7 +32,7 @@ pub enum Few {
 
 impl Model for Beginnings {
     ghost use Rattle.std.specs.Prelude.{List, Bool};
-    ghost use Rattle.re_auto.specs.Beginnings.{Names};
+    ghost use Rattle.re_auto.specs.Working.Beginnings.{Names};
 
     ghost Value = { List Bool };
 

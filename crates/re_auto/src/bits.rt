@@ -1,8 +1,8 @@
 //! Sets of numbers, as words of 64 bits.
 ghost use Rattle.std.specs.Prelude.{◌≡◌, ℕ, ◌+◌, ◌*◌, ◌^◌, ◌<◌, ◌≤◌, ◌↔◌, ◌⊎◌, length, IsTrue};
 ghost use Rattle.std.specs.Int.{bit_at};
-ghost use Rattle.re_auto.specs.Bits.{row_of};
-ghost use Rattle.re_auto.specs.Bits.{Has, InWord};
+ghost use Rattle.re_auto.specs.Working.Bits.{row_of};
+ghost use Rattle.re_auto.specs.Working.Bits.{Has, InWord};
 
 /// Adds the members of `row`.
 #[inline(always)]

@@ -1,8 +1,8 @@
 //! Bytes by what takes them: those with equal rows share a class.
 ghost use Rattle.std.specs.Prelude.{◌≡◌, ℕ, ◌*◌, ◌<◌, ◌≤◌, ◌↔◌, IsTrue, IfOk, length};
-ghost use Rattle.re_auto.specs.Bits.{Has, row_of};
-ghost use Rattle.re_auto.specs.ByteClasses.{AreClasses, IsClassed};
-ghost use Rattle.re_auto.specs.Tables.{Marks};
+ghost use Rattle.re_auto.specs.Working.Bits.{Has, row_of};
+ghost use Rattle.re_auto.specs.Working.ByteClasses.{AreClasses, IsClassed};
+ghost use Rattle.re_auto.specs.Working.Tables.{Marks};
 
 use crate::bits;
 use std::alloc::{AllocError, Global};

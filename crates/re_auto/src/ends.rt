@@ -1,8 +1,8 @@
 //! The ends of a part of an expression: what its neighbours have to know of it.
 ghost use Rattle.std.specs.Prelude.{◌≡◌, ℕ, ◌<◌, ◌*◌, ◌↔◌, ◌⊎◌, IsTrue, IfOk, length};
-ghost use Rattle.re_auto.specs.Bits.{Has};
-ghost use Rattle.re_auto.specs.Building.{HasWidth, IsBlank, IsOne, IsSet, Shows, shown};
-ghost use Rattle.re_auto.specs.Positions.{either, in_turn, optional};
+ghost use Rattle.re_auto.specs.Working.Bits.{Has};
+ghost use Rattle.re_auto.specs.Working.Building.{HasWidth, IsBlank, IsOne, IsSet, Shows, shown};
+ghost use Rattle.re_auto.specs.Working.Positions.{either, in_turn, optional};
 
 use crate::bits;
 use crate::tables::Empty;

@@ -1,8 +1,9 @@
 //! From an expression to the tables of its automaton.
 ghost use Rattle.std.specs.Prelude.{◌≡◌, ◌≤◌, IfOk, IfErr};
 ghost use Rattle.re_syntax.specs.Expression.{expression_of};
-ghost use Rattle.re_syntax.specs.Holds.{positions, most_positions};
-ghost use Rattle.re_auto.specs.Tables.{IsRefused, Tells};
+ghost use Rattle.re_syntax.specs.Holds.{positions};
+ghost use Rattle.re_syntax.specs.Profile.{most_positions};
+ghost use Rattle.re_auto.specs.Working.Tables.{IsRefused, AreTablesOf};
 
 use crate::beginnings::Beginnings;
 use crate::build::BuildFault;
@@ -16,7 +17,7 @@ use std::alloc::{AllocError, Global};
 /// The tables of an expression. The errors are `TooLarge`, exactly where it has more than 4,096
 /// positions, which is known before any memory is taken, and `Memory`.
 pub fn build_tables(alloc: Global, tree: &Tree) -> Result<Tables, BuildFault>
-    ensures built { IfOk result (Tells (expression_of tree.now)) }
+    ensures built { IfOk result (AreTablesOf (expression_of tree.now)) }
     ensures refused { IfErr result (IsRefused (positions (expression_of tree.now))) }
 {
     let count = position_count(tree);
@@ -33,7 +34,7 @@ pub fn build_tables(alloc: Global, tree: &Tree) -> Result<Tables, BuildFault>
 fn fill_tables(alloc: Global, tree: &Tree, count: usize) -> Result<Tables, AllocError>
     requires is { count ≡ positions (expression_of tree.now) }
     requires few { count ≤ most_positions }
-    ensures { IfOk result (Tells (expression_of tree.now)) }
+    ensures { IfOk result (AreTablesOf (expression_of tree.now)) }
 {
     let mut rows = Rows::blank(alloc, count)?;
     let ends = rows.add(alloc, tree, count)?;

@@ -1,5 +1,5 @@
 ghost use Rattle.std.specs.Prelude.{IsTrue, ◌↔◌};
-ghost use Rattle.re_auto.specs.Stepping.{MayBegin};
+ghost use Rattle.re_auto.specs.Working.Stepping.{MayBegin};
 
 /// Where the stretches begin that are looked for.
 #[derive(Clone, Copy, PartialEq, Eq, Debug, Drop)]

@@ -2,7 +2,7 @@
 ghost use Rattle.std.specs.Prelude.{◌≡◌, ◌+◌, ◌*◌, ◌≤◌, ◌<◌, max, IfOk, map};
 ghost use Rattle.re_syntax.specs.Expression.{alt, cat, expression_of, repeat};
 ghost use Rattle.re_syntax.specs.Holds.{positions};
-ghost use Rattle.re_auto.specs.Building.{AreTurns, AreUpTo, HasRoom, IsAdded, IsAddedOf, IsOnce, IsTail, tail_copies, wanted_position};
+ghost use Rattle.re_auto.specs.Working.Building.{AreTurns, AreUpTo, HasRoom, IsAdded, IsAddedOf, IsOnce, IsTail, tail_copies, wanted_position};
 
 use crate::count::position_count;
 use crate::ends::Ends;

@@ -1,11 +1,11 @@
 //! The rows of an automaton's tables, while they are written.
 ghost use Rattle.std.specs.Prelude.{◌≡◌, ℕ, ◌+◌, ◌*◌, ◌<◌, ◌≤◌, ◌↔◌, ◌⊎◌, IfOk, length};
 ghost use Rattle.std.specs.Int.{bit_at};
-ghost use Rattle.re_syntax.specs.Holds.{most_positions};
+ghost use Rattle.re_syntax.specs.Profile.{most_positions};
 ghost use Rattle.re_syntax.specs.Sets.{members};
-ghost use Rattle.re_auto.specs.Bits.{Has, row_of};
-ghost use Rattle.re_auto.specs.Building.{Adds, AreBlankRows, HasRows, HasWidth, Shows, Wanted, crossing, shown};
-ghost use Rattle.re_auto.specs.Positions.{again, in_turn, one_position};
+ghost use Rattle.re_auto.specs.Working.Bits.{Has, row_of};
+ghost use Rattle.re_auto.specs.Working.Building.{Adds, AreBlankRows, HasRows, HasWidth, Shows, Wanted, crossing, shown};
+ghost use Rattle.re_auto.specs.Working.Positions.{again, in_turn, one_position};
 
 use crate::bits;
 use crate::ends::{Ends, blank_set};

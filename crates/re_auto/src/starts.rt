@@ -1,6 +1,6 @@
 //! Least starts on the way over a line.
 ghost use Rattle.std.specs.Prelude.{ℕ, ◌<◌, vec_len};
-ghost use Rattle.re_auto.specs.Bits.{Has};
+ghost use Rattle.re_auto.specs.Working.Bits.{Has};
 
 mod lowering;
 mod reading;
@@ -8,7 +8,7 @@ mod stepping;
 
 /// For each position of an automaton the least place of a line at which a stretch begins that can
 /// have come to it. What it stands for on a line and a place is `StartsAt` in
-/// `specs/StartSets.antt`.
+/// `specs/Working/StartSets.antt`.
 #[derive(Drop)]
 pub struct Starts {
     place: usize,

@@ -2,7 +2,7 @@
 ghost use Rattle.std.specs.Prelude.{◌≡◌, IsTrue, ◌↔◌, IfOk, IfErr};
 ghost use Rattle.re_syntax.specs.Expression.{expression_of};
 ghost use Rattle.re_auto.specs.declared.build.BuildFault.TheVariants.{Memory};
-ghost use Rattle.re_auto.specs.StateSets.{IsMadeFor, IsAlike, IsSame, IsNowhere};
+ghost use Rattle.re_auto.specs.Working.StateSets.{IsMadeFor, IsAlike, IsSame, IsNowhere};
 
 use crate::automaton::Automaton;
 use crate::bits;
@@ -10,7 +10,7 @@ use crate::build::BuildFault;
 use std::alloc::Global;
 
 /// A set of positions of an automaton, and a mark 'at the line's first place'. What it stands for
-/// on a line and a place is `StandsAt` in `specs/StateSets.antt`.
+/// on a line and a place is `StandsAt` in `specs/Working/StateSets.antt`.
 #[derive(PartialEq, Eq, Hash, Drop)]
 pub struct StateSet {
     pub(crate) words: Vec<u64>,

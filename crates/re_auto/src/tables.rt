@@ -3,7 +3,7 @@ ghost use Rattle.std.specs.Prelude.{Bool, IsTrue, ◌↔◌, ◌⊎◌};
 use crate::beginnings::Beginnings;
 
 /// What is known of an expression's positions, as words of bits: a row is a set of positions and
-/// has `width` words. `Tells` in `specs/Tables.antt` says what each table holds.
+/// has `width` words. `AreTablesOf` in `specs/Working/Tables.antt` says what each table holds.
 #[derive(Drop)]
 pub struct Tables {
     /// How many positions there are.
@@ -44,7 +44,7 @@ pub struct Empty {
 }
 
 impl Empty {
-    ghost use Rattle.re_auto.specs.Building.{empty_at};
+    ghost use Rattle.re_auto.specs.Working.Building.{empty_at};
 
     /// Nowhere.
     pub fn nowhere() -> Empty

@@ -1,15 +1,7 @@
-pub mod Searching
-pub mod Literals
-pub mod Needles
-pub mod Reading
-pub mod Simulated
-pub mod Simulations
-pub mod FixedSets
-pub mod Branches
-pub mod Filters
-pub mod Pairs
-pub mod Rows
-pub mod Stages
-pub mod Walks
-pub mod CachedMatchers
+-- what these cite of the crates below
 pub use Rattle.re_auto.specs.Meters
+-- what the contract of the whole command, or of the session, rests on
+pub mod Searching
+pub mod Reading
+-- what else contracts are said in: of this crate as a library, and of its private functions
+pub mod Working

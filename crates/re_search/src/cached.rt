@@ -3,11 +3,11 @@ ghost use Rattle.std.specs.Prelude.{◌≡◌, ℕ, ◌+◌, ◌-◌, ◌≤◌,
 ghost use Rattle.std.specs.NonZero.{non_zero_usize_get};
 ghost use Rattle.re_syntax.specs.Expression.{expression_of};
 ghost use Rattle.re_syntax.specs.Holds.{Matches};
-ghost use Rattle.re_search.specs.Needles.{IsNeeded};
+ghost use Rattle.re_search.specs.Working.Needles.{IsNeeded};
 ghost use Rattle.re_search.specs.Searching.{FindsPart, AddsAtMost};
-ghost use Rattle.re_search.specs.Rows.{IsBlank, IsRight, cache_of};
-ghost use Rattle.re_search.specs.CachedMatchers.{IsKnownFor};
-ghost use Rattle.re_search.specs.Stages.{Searches, Tells, IsReadied, mode_for};
+ghost use Rattle.re_search.specs.Working.Rows.{IsBlank, IsRight, cache_of};
+ghost use Rattle.re_search.specs.Working.CachedMatchers.{IsKnownFor};
+ghost use Rattle.re_search.specs.Working.Stages.{Searches, AnswersLine, IsReadied, mode_for};
 
 pub mod pace;
 pub mod pairs;
@@ -44,10 +44,10 @@ impl Model for Cached {
     ghost use Rattle.re_syntax.specs.contracts.tree.Tree as e;
     ghost use Rattle.re_auto.specs.contracts.state_set.StateSet as s;
     ghost use Rattle.std.specs.Coded.{codes};
-    ghost use Rattle.re_auto.specs.StateSets.{IsMadeFor};
-    ghost use Rattle.re_search.specs.Rows.{cache_of};
-    ghost use Rattle.re_search.specs.Stages.{mode_for};
-    ghost use Rattle.re_search.specs.CachedMatchers.{CachedMatcher, IsKnownFor};
+    ghost use Rattle.re_auto.specs.Working.StateSets.{IsMadeFor};
+    ghost use Rattle.re_search.specs.Working.Rows.{cache_of};
+    ghost use Rattle.re_search.specs.Working.Stages.{mode_for};
+    ghost use Rattle.re_search.specs.Working.CachedMatchers.{CachedMatcher, IsKnownFor};
 
     ghost Value = { CachedMatcher };
 
@@ -175,7 +175,7 @@ impl LineMatch for Cached {
         ensures same_expression { expression_of self.new.tree ≡ expression_of self.old.tree }
         ensures same_whole { self.new.whole ≡ self.old.whole }
         ensures steps { AddsAtMost (length line.now + 1) meter.old meter.new }
-        ensures counted { Tells (expression_of self.old.tree) self.old.whole line.now self.old.cache self.new.cache meter.old meter.new result }
+        ensures counted { AnswersLine (expression_of self.old.tree) self.old.whole line.now self.old.cache self.new.cache meter.old meter.new result }
         ensures same_most { self.new.most ≡ self.old.most }
     {
         if let Some(told) = self.simulated.settled(line) {

@@ -2,9 +2,9 @@
 ghost use Rattle.std.specs.Prelude.{◌≡◌, ◌++◌, [], ◌∷◌, IfOk, IfSome, All, Any, MatchOption, map};
 ghost use Rattle.re_syntax.specs.Expression.{Expression};
 ghost use Rattle.re_syntax.specs.Lines.{lines_of, newline, HasNoNewline};
-ghost use Rattle.re_search.specs.Filters.{AreNeeded, NeedsOneOf};
-ghost use Rattle.re_search.specs.Needles.{IsNeeded};
-ghost use Rattle.re_search.specs.Reading.{matched_expression};
+ghost use Rattle.re_search.specs.Working.Filters.{AreNeeded, NeedsOneOf};
+ghost use Rattle.re_search.specs.Working.Needles.{IsNeeded};
+ghost use Rattle.re_search.specs.Working.Matchers.{matched_expression};
 
 use crate::fixed_set::FixedSet;
 use crate::matcher::Matcher;

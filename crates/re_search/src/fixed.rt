@@ -2,7 +2,7 @@
 ghost use Rattle.std.specs.Prelude.{◌≡◌, ◌+◌, ◌-◌, ◌≤◌, ◌↔◌, [], ◌∷◌, true, false, IsTrue, IfOk, length};
 ghost use Rattle.re_syntax.specs.Holds.{Matches};
 ghost use Rattle.re_auto.specs.Meters.{many_built};
-ghost use Rattle.re_search.specs.Literals.{literal_expression};
+ghost use Rattle.re_search.specs.Working.Literals.{literal_expression};
 ghost use Rattle.re_search.specs.Searching.{FindsPart, AddsAtMost};
 
 use crate::line_match::LineMatch;
@@ -21,7 +21,7 @@ pub struct Fixed {
 }
 
 impl Model for Fixed {
-    ghost use Rattle.re_search.specs.Literals.{Literal};
+    ghost use Rattle.re_search.specs.Working.Literals.{Literal};
 
     ghost Value = { Literal };
 
@@ -83,7 +83,7 @@ impl Fixed {
 }
 
 impl LineMatch for Fixed {
-    ghost use Rattle.re_search.specs.Literals.{literal_expression};
+    ghost use Rattle.re_search.specs.Working.Literals.{literal_expression};
 
     ghost expression = { λ f. literal_expression f };
 

@@ -1,11 +1,11 @@
 //! Search for many fixed strings at once (XCU grep, option `-F`).
 ghost use Rattle.std.specs.Prelude.{◌≡◌, ℕ, ◌+◌, ◌-◌, ◌≤◌, ◌↔◌, [], ◌∷◌, true, false, IsTrue, IfOk, length, map};
-ghost use Rattle.re_search.specs.Branches.{AreAscending, HaveSame};
-ghost use Rattle.re_search.specs.FixedSets.{IsString};
+ghost use Rattle.re_search.specs.Working.Branches.{AreAscending, HaveSame};
+ghost use Rattle.re_search.specs.Working.FixedSets.{IsString};
 ghost use Rattle.re_syntax.specs.Holds.{Matches};
 ghost use Rattle.re_syntax.specs.Lines.{lines_of};
 ghost use Rattle.re_auto.specs.Meters.{many_built};
-ghost use Rattle.re_search.specs.Literals.{any_literal, keys};
+ghost use Rattle.re_search.specs.Working.Literals.{any_literal, keys};
 ghost use Rattle.re_search.specs.Searching.{FindsPart, AddsAtMost};
 
 mod growth;
@@ -39,8 +39,8 @@ impl Model for FixedSet {
     ghost use Rattle.std.specs.Prelude.{◌↔◌, IsTrue, [], ℕ, map};
     ghost use Rattle.re_syntax.specs.Bytes.{Text};
     ghost use Rattle.re_syntax.specs.Lines.{lines_of};
-    ghost use Rattle.re_search.specs.Literals.{Literals, keys};
-    ghost use Rattle.re_search.specs.FixedSets.{IsTable, IsTableOf, IsString};
+    ghost use Rattle.re_search.specs.Working.Literals.{Literals, keys};
+    ghost use Rattle.re_search.specs.Working.FixedSets.{IsTable, IsTableOf, IsString};
 
     ghost Value = { Literals };
 
@@ -159,7 +159,7 @@ fn has_empty(strings: &[&[u8]]) -> bool
 }
 
 impl LineMatch for FixedSet {
-    ghost use Rattle.re_search.specs.Literals.{any_literal};
+    ghost use Rattle.re_search.specs.Working.Literals.{any_literal};
 
     ghost expression = { λ f. any_literal f };
 

@@ -1,10 +1,12 @@
 //! Matchers made from the texts of patterns.
 ghost use Rattle.std.specs.Prelude.{◌≡◌, ◌+◌, ◌-◌, ◌≤◌, ◌↔◌, ◌⊎◌, [], ◌∷◌, not, false, IsTrue, IfOk, IfErr, IfSome, length};
 ghost use Rattle.re_syntax.specs.Expression.{expression_of};
-ghost use Rattle.re_syntax.specs.Holds.{Matches, most_positions, positions};
+ghost use Rattle.re_syntax.specs.Holds.{Matches, positions};
+ghost use Rattle.re_syntax.specs.Profile.{most_positions, most_states};
 ghost use Rattle.re_syntax.specs.Spelled.{IsSpelled, IsMeant, has_limit};
-ghost use Rattle.re_search.specs.Needles.{IsNeeded};
-ghost use Rattle.re_search.specs.Reading.{matched_expression, wants_whole, is_fixed, room_of, entries_of, CountsSteps, IsSmallFor, IsReadable, IsOutOfMemory, IsBuildFault, IsNotSpelled, IsRefusedFor};
+ghost use Rattle.re_search.specs.Working.Needles.{IsNeeded};
+ghost use Rattle.re_search.specs.Reading.{IsSmallFor, IsReadable, IsOutOfMemory, IsNotSpelled, IsRefusedFor};
+ghost use Rattle.re_search.specs.Working.Matchers.{matched_expression, wants_whole, is_fixed, room_of, entries_of, CountsSteps, IsBuildFault};
 ghost use Rattle.re_search.specs.Searching.{FindsPart, AddsAtMost};
 
 use crate::cached::Cached;
@@ -51,7 +53,7 @@ impl Matcher {
         whole: bool,
         states: usize,
     ) -> Result<Matcher, PatternFault>
-        requires { (1 ≤ states) × (states ≤ 65536) }
+        requires { (1 ≤ states) × (states ≤ most_states) }
         ensures meant { IfOk result (λ m. IsMeant syntax fold text.now (matched_expression m)) }
         ensures whole { IfOk result (λ m. wants_whole m ≡ whole) }
         ensures small { IfOk result (λ m. IsSmallFor syntax fold (matched_expression m)) }
@@ -92,7 +94,7 @@ impl Matcher {
 }
 
 impl LineMatch for Matcher {
-    ghost use Rattle.re_search.specs.Reading.{matched_expression, wants_whole};
+    ghost use Rattle.re_search.specs.Working.Matchers.{matched_expression, wants_whole};
 
     ghost expression = { matched_expression };
 

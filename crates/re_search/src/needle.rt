@@ -2,7 +2,7 @@
 ghost use Rattle.std.specs.Prelude.{◌≡◌, ◌≤◌, List, ◌++◌, IfOk, IfSome, length, map};
 ghost use Rattle.re_syntax.specs.Expression.{Expression, byte, cat, expression_of, one_of};
 ghost use Rattle.re_syntax.specs.Sets.{members};
-ghost use Rattle.re_search.specs.Needles.{IsNeedleFor};
+ghost use Rattle.re_search.specs.Working.Needles.{IsNeedleFor};
 
 use memchr::memmem::Finder;
 use re_syntax::{ByteSet, Tree};

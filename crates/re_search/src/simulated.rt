@@ -1,11 +1,12 @@
 //! Search by stepping an automaton over the line.
 ghost use Rattle.std.specs.Prelude.{◌≡◌, ◌+◌, ◌-◌, ◌≤◌, ◌↔◌, [], ◌∷◌, true, false, IsTrue, IfOk, IfErr, IfSome, length};
 ghost use Rattle.re_syntax.specs.Expression.{expression_of};
-ghost use Rattle.re_syntax.specs.Holds.{Matches, most_positions, positions};
-ghost use Rattle.re_auto.specs.Tables.{IsRefused};
-ghost use Rattle.re_search.specs.Needles.{IsNeeded};
-ghost use Rattle.re_auto.specs.StateSets.{IsMadeFor};
-ghost use Rattle.re_search.specs.Stages.{Cache, Searches, FinishesFrom, IsSettled, mode_for};
+ghost use Rattle.re_syntax.specs.Holds.{Matches, positions};
+ghost use Rattle.re_syntax.specs.Profile.{most_positions};
+ghost use Rattle.re_auto.specs.Working.Tables.{IsRefused};
+ghost use Rattle.re_search.specs.Working.Needles.{IsNeeded};
+ghost use Rattle.re_auto.specs.Working.StateSets.{IsMadeFor};
+ghost use Rattle.re_search.specs.Working.Stages.{Cache, Searches, FinishesFrom, IsSettled, mode_for};
 ghost use Rattle.re_search.specs.Searching.{FindsPart, AddsAtMost};
 
 mod least;
@@ -35,9 +36,9 @@ pub struct Simulated {
 impl Model for Simulated {
     ghost use Rattle.re_syntax.specs.Expression.{expression_of};
     ghost use Rattle.re_syntax.specs.contracts.tree.Tree as e;
-    ghost use Rattle.re_search.specs.Needles.{IsNeedleFor};
-    ghost use Rattle.re_search.specs.Simulated.{TreeMatcher};
-    ghost use Rattle.re_search.specs.Simulations.{AreSetsFor, AreStartsFor};
+    ghost use Rattle.re_search.specs.Working.Needles.{IsNeedleFor};
+    ghost use Rattle.re_search.specs.Working.Simulated.{TreeMatcher};
+    ghost use Rattle.re_search.specs.Working.Simulations.{AreSetsFor, AreStartsFor};
     ghost use Rattle.std.specs.Coded.{codes};
 
     ghost Value = { TreeMatcher };

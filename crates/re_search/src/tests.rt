@@ -4,6 +4,7 @@ ghost use Rattle.re_search.specs.Searching.{AllAnswer};
 use super::*;
 use re_auto::fresh_meter;
 use std::alloc::{AllocError, Global};
+use std::process::Abort;
 use std::test::Fail;
 
 fn fixed(alloc: Global, texts: &[&[u8]], whole: bool) -> Result<Vec<Fixed>, AllocError>
@@ -39,76 +40,113 @@ pub(crate) fn all_parts<M: LineMatch>(
 
 // For texts, whether the whole line has to be matched, and a line: whether some text matches the
 // line, and its parts.
-type Row<'a> = (&'a [&'a [u8]], bool, &'a [u8], bool, &'a [(usize, usize)]);
+type Row = (
+    &'static [&'static [u8]],
+    bool,
+    &'static [u8],
+    bool,
+    &'static [(usize, usize)],
+);
+
+static ROWS: [Row; 14] = [
+    (&[b"aa"], false, b"aaa", true, &[(0, 2)]),
+    (&[b"aa"], false, b"aaaa", true, &[(0, 2), (2, 4)]),
+    (
+        &[b"ab", b"abc", b"c"],
+        false,
+        b"abcc",
+        true,
+        &[(0, 3), (3, 4)],
+    ),
+    (
+        &[b"abc", b"ab", b"c"],
+        false,
+        b"abcc",
+        true,
+        &[(0, 3), (3, 4)],
+    ),
+    (&[b"b", b"ab"], false, b"ab", true, &[(0, 2)]),
+    (&[b""], false, b"x", true, &[]),
+    (&[b"", b"x"], false, b"x", true, &[(0, 1)]),
+    (&[b""], false, b"", true, &[]),
+    (&[b"aa"], true, b"aa", true, &[(0, 2)]),
+    (&[b"a", b"aa"], true, b"aa", true, &[(0, 2)]),
+    (&[b"a"], true, b"aa", false, &[]),
+    (&[b""], true, b"", true, &[]),
+    (&[b"ab", b"abcd"], false, b"abc", true, &[(0, 2)]),
+    (&[], false, b"a", false, &[]),
+];
+
+fn rows() -> &'static [Row] {
+    &ROWS
+}
+
+fn assert_line(rt: &impl Abort, alloc: Global, row: &Row) -> Result<(), Fail> {
+    let (texts, whole, line, is_selected, expected) = *row;
+    let mut matchers = fixed(alloc, texts, whole)?;
+    let verdict = is_matched(&mut matchers, line, &mut fresh_meter());
+    assert_eq!(rt; verdict, is_selected, "{line:?}");
+    let mut fresh = fixed(alloc, texts, whole)?;
+    let found = all_parts(alloc, &mut fresh, line)?;
+    assert_eq!(rt; found.as_slice(), expected, "{line:?}");
+    Ok(())
+}
 
 #[test]
 fn several_texts_have_their_parts(rt: HostRuntime) -> Result<(), Fail> {
-    let rows: [Row; 14] = [
-        (&[b"aa"], false, b"aaa", true, &[(0, 2)]),
-        (&[b"aa"], false, b"aaaa", true, &[(0, 2), (2, 4)]),
-        (
-            &[b"ab", b"abc", b"c"],
-            false,
-            b"abcc",
-            true,
-            &[(0, 3), (3, 4)],
-        ),
-        (
-            &[b"abc", b"ab", b"c"],
-            false,
-            b"abcc",
-            true,
-            &[(0, 3), (3, 4)],
-        ),
-        (&[b"b", b"ab"], false, b"ab", true, &[(0, 2)]),
-        (&[b""], false, b"x", true, &[]),
-        (&[b"", b"x"], false, b"x", true, &[(0, 1)]),
-        (&[b""], false, b"", true, &[]),
-        (&[b"aa"], true, b"aa", true, &[(0, 2)]),
-        (&[b"a", b"aa"], true, b"aa", true, &[(0, 2)]),
-        (&[b"a"], true, b"aa", false, &[]),
-        (&[b""], true, b"", true, &[]),
-        (&[b"ab", b"abcd"], false, b"abc", true, &[(0, 2)]),
-        (&[], false, b"a", false, &[]),
-    ];
-    for (texts, whole, line, is_selected, expected) in rows {
-        let mut matchers = fixed(rt.alloc(), texts, whole)?;
-        let verdict = is_matched(&mut matchers, line, &mut fresh_meter());
-        assert_eq!(rt; verdict, is_selected, "{line:?}");
-        let found = all_parts(rt.alloc(), &mut fixed(rt.alloc(), texts, whole)?, line)?;
-        assert_eq!(rt; found.as_slice(), expected, "{line:?}");
+    for row in rows() {
+        assert_line(&rt, rt.alloc(), row)?;
     }
     Ok(())
 }
 
 // For a text, whether the whole line has to be matched, a line and a place: the part, and the steps.
-type Search<'a> = (&'a [u8], bool, &'a [u8], usize, Option<(usize, usize)>, u64);
+type Search = (
+    &'static [u8],
+    bool,
+    &'static [u8],
+    usize,
+    Option<(usize, usize)>,
+    u64,
+);
+
+static SEARCHES: [Search; 14] = [
+    (b"aa", false, b"aaa", 0, Some((0, 2)), 4),
+    (b"aa", false, b"aaa", 1, Some((1, 3)), 3),
+    (b"aa", false, b"aaa", 2, None, 2),
+    (b"aa", false, b"aaa", 3, None, 1),
+    (b"ab", false, b"xxab", 0, Some((2, 4)), 5),
+    (b"abc", false, b"ab", 0, None, 3),
+    (b"\x00\xff", false, b"a\x00\xff\x00", 0, Some((1, 3)), 5),
+    (b"\xff", false, b"\x00\xff", 1, Some((1, 2)), 2),
+    (b"", false, b"x", 0, None, 2),
+    (b"aa", true, b"aa", 0, Some((0, 2)), 3),
+    (b"aa", true, b"aa", 1, None, 2),
+    (b"aa", true, b"aaa", 0, None, 4),
+    (b"", true, b"", 0, None, 1),
+    (b".*", false, b"a.*", 0, Some((1, 3)), 4),
+];
+
+fn searches() -> &'static [Search] {
+    &SEARCHES
+}
+
+fn assert_search(rt: &impl Abort, alloc: Global, row: &Search) -> Result<(), Fail> {
+    let (text, whole, line, from, expected, steps) = *row;
+    assert!(rt; from <= line.len(), "{line:?}");
+    let mut matcher = Fixed::new(alloc, text, whole)?;
+    let mut meter = fresh_meter();
+    let found = matcher.find(line, from, &mut meter);
+    let place = found.map(|part| (part.start, part.end));
+    assert_eq!(rt; place, expected, "{text:?} on {line:?} from {from}");
+    assert_eq!(rt; (meter.built(), meter.reused()), (steps, 0), "{line:?}");
+    Ok(())
+}
 
 #[test]
 fn a_text_is_found_in_so_many_steps(rt: HostRuntime) -> Result<(), Fail> {
-    let rows: [Search; 14] = [
-        (b"aa", false, b"aaa", 0, Some((0, 2)), 4),
-        (b"aa", false, b"aaa", 1, Some((1, 3)), 3),
-        (b"aa", false, b"aaa", 2, None, 2),
-        (b"aa", false, b"aaa", 3, None, 1),
-        (b"ab", false, b"xxab", 0, Some((2, 4)), 5),
-        (b"abc", false, b"ab", 0, None, 3),
-        (b"\x00\xff", false, b"a\x00\xff\x00", 0, Some((1, 3)), 5),
-        (b"\xff", false, b"\x00\xff", 1, Some((1, 2)), 2),
-        (b"", false, b"x", 0, None, 2),
-        (b"aa", true, b"aa", 0, Some((0, 2)), 3),
-        (b"aa", true, b"aa", 1, None, 2),
-        (b"aa", true, b"aaa", 0, None, 4),
-        (b"", true, b"", 0, None, 1),
-        (b".*", false, b"a.*", 0, Some((1, 3)), 4),
-    ];
-    for (text, whole, line, from, expected, steps) in rows {
-        let mut matcher = Fixed::new(rt.alloc(), text, whole)?;
-        let mut meter = fresh_meter();
-        let found = matcher.find(line, from, &mut meter);
-        let place = found.map(|part| (part.start, part.end));
-        assert_eq!(rt; place, expected, "{text:?} on {line:?} from {from}");
-        assert_eq!(rt; (meter.built(), meter.reused()), (steps, 0), "{line:?}");
+    for row in searches() {
+        assert_search(&rt, rt.alloc(), row)?;
     }
     Ok(())
 }

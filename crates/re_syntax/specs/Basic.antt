@@ -5,6 +5,7 @@ use Rattle.re_syntax.specs.Bytes.{Text, any_but_nul}
 use Rattle.re_syntax.specs.Expression.{Expression, one_of, begin, end, repeat, byte, sequence}
 use Rattle.re_syntax.specs.Brackets.{IsBracket}
 use Rattle.re_syntax.specs.Intervals.{Interval, IsAllowed}
+use Rattle.re_syntax.specs.Profile.{basic_escaped}
 use Rattle.re_syntax.specs.Escapes.{is_in, is_undefined}
 
 -- `*`, or an interval in `\{` and `\}` (XBD 9.3.6)
@@ -45,7 +46,7 @@ mutual
   pub data Atom : ItemPlace → ℕ → Text → Text → Expression → Type 0 where
     bracket : {p : ItemPlace} {t u : Text} {e : Expression} → IsBracket t u e → Atom p 0 t u e
     period : {p : ItemPlace} {u : Text} → Atom p 0 (codes "." ++ u) u (one_of any_but_nul)
-    escaped : {p : ItemPlace} {u : Text} (b : ℕ) → ¬ IsTrue (is_undefined (codes "(){<>`'+?|") b) → Atom p 0 (codes "\\" ++ b ∷ u) u (byte b)
+    escaped : {p : ItemPlace} {u : Text} (b : ℕ) → ¬ IsTrue (is_undefined basic_escaped b) → Atom p 0 (codes "\\" ++ b ∷ u) u (byte b)
     -- a `$` is not last
     ordinary : {p : ItemPlace} {u : Text} (b : ℕ) → IsTrue (is_ordinary p b) → (b ≡ 36 → ¬ IsAtEnd u) → Atom p 0 (b ∷ u) u (byte b)
     group : {p : ItemPlace} {h : ℕ} {t u : Text} {es : List Expression} → Items First h t (codes "\\)" ++ u) es → Atom p (suc h) (codes "\\(" ++ t) u (sequence es)

@@ -11,7 +11,8 @@ use Rattle.re_syntax.specs.EscapeFaults.{BeginsRefusedEscape}
 use Rattle.re_syntax.specs.Expression.{Expression}
 use Rattle.re_syntax.specs.Faults.{Ends, ShowsBracketFault, BeginsDuplication, OpensNoBracket}
 use Rattle.re_syntax.specs.IntervalFaults.{OpensDisallowed}
-use Rattle.re_syntax.specs.IntervalSteps.{HasNoInterval}
+use Rattle.re_syntax.specs.Intervals.{HasNoInterval}
+use Rattle.re_syntax.specs.Profile.{basic_refused}
 use Rattle.re_syntax.specs.Spelled.{IsSpelled}
 
 -- a `\{` that begins nothing of an interval's form
@@ -19,10 +20,6 @@ pub record OpensNoInterval (t : Text) : Type 0 where
   pub inside : Text
   pub opens : t ≡ codes "\\{" ++ inside
   pub none : HasNoInterval (codes "\\}") inside
-
--- the bytes that a backslash may not stand before, beside letters and digits
-abbrev pub refused_escapes : Text
-refused_escapes = codes "<>`'+?|"
 
 -- a `\(` behind which items go on up to the text's end
 pub record OpensUnclosed (t : Text) : Type 0 where
@@ -55,8 +52,8 @@ ShowsBasicFault BadInterval before t = OpensNoInterval t ⊎ OpensDisallowed (co
 ShowsBasicFault IntervalTooLarge before t = OpensDisallowed (codes "\\{") (codes "\\}") IntervalTooLarge t
 ShowsBasicFault NothingToRepeat before t = Begins (codes "\\{") t × HasNothingToRepeat before
 ShowsBasicFault TrailingBackslash before t = t ≡ codes "\\"
-ShowsBasicFault UndefinedEscape before t = BeginsRefusedEscape refused_escapes UndefinedEscape t
-ShowsBasicFault BackReference before t = BeginsRefusedEscape refused_escapes BackReference t
+ShowsBasicFault UndefinedEscape before t = BeginsRefusedEscape basic_refused UndefinedEscape t
+ShowsBasicFault BackReference before t = BeginsRefusedEscape basic_refused BackReference t
 ShowsBasicFault TooDeep before t = Begins (codes "\\(") t ⊎ BeginsDuplication Duplication t
 ShowsBasicFault TooLarge before t = ⊥
 ShowsBasicFault Memory before t = ⊥

@@ -4,8 +4,8 @@ use Rattle.std.specs.Prelude.{◌≡◌, ℕ, suc, max, Bool, true, not, ◌&&�
 use Rattle.re_syntax.specs.Bytes.{Text, any_but_nul}
 use Rattle.re_syntax.specs.Expression.{Expression, one_of, begin, end, repeat, byte, sequence, choice}
 use Rattle.re_syntax.specs.Brackets.{IsBracket}
-use Rattle.re_syntax.specs.Intervals.{Interval, IsAllowed}
-use Rattle.re_syntax.specs.IntervalSteps.{HasNoInterval}
+use Rattle.re_syntax.specs.Intervals.{Interval, IsAllowed, HasNoInterval}
+use Rattle.re_syntax.specs.Profile.{extended_refused}
 use Rattle.re_syntax.specs.Escapes.{is_in, is_undefined}
 
 -- `*`, `+`, `?`, or an interval in braces (XBD 9.4.6)
@@ -43,7 +43,7 @@ mutual
     bracket : {g : Bool} {t u : Text} {e : Expression} → IsBracket t u e → Atom g 0 t u e
     period : {g : Bool} {u : Text} → Atom g 0 (codes "." ++ u) u (one_of any_but_nul)
     dollar : {g : Bool} {u : Text} → Atom g 0 (codes "$" ++ u) u end
-    escaped : {g : Bool} {u : Text} (b : ℕ) → ¬ IsTrue (is_undefined (codes "<>`'") b) → Atom g 0 (codes "\\" ++ b ∷ u) u (byte b)
+    escaped : {g : Bool} {u : Text} (b : ℕ) → ¬ IsTrue (is_undefined extended_refused b) → Atom g 0 (codes "\\" ++ b ∷ u) u (byte b)
     -- a `{` begins no text of an interval's form
     ordinary : {g : Bool} {u : Text} (b : ℕ) → IsTrue (is_ordinary g b) → (b ≡ 123 → HasNoInterval (codes "}") u) → Atom g 0 (b ∷ u) u (byte b)
     group : {g : Bool} {h : ℕ} {t u : Text} {es : List Expression} → Branches true h t (codes ")" ++ u) es → Atom g (suc h) (codes "(" ++ t) u (choice es)

@@ -12,6 +12,7 @@ use Rattle.re_syntax.specs.Extended.{Duplication, Branches}
 use Rattle.re_syntax.specs.Faults.{Ends, ShowsBracketFault, BeginsDuplication, OpensNoBracket}
 use Rattle.re_syntax.specs.IntervalFaults.{OpensDisallowed}
 use Rattle.re_syntax.specs.Intervals.{ClosedInterval}
+use Rattle.re_syntax.specs.Profile.{extended_refused}
 use Rattle.re_syntax.specs.Spelled.{IsSpelled}
 
 -- the text begins with a duplication, or with an interval whose numbers are refused
@@ -37,10 +38,6 @@ pub record OpensUnclosed (t : Text) : Type 0 where
   pub opens : t ≡ codes "(" ++ inside
   pub goes_on : Branches true height inside [] members
 
--- the bytes that a backslash may not stand before, beside letters and digits
-abbrev pub refused_escapes : Text
-refused_escapes = codes "<>`'"
-
 -- the bytes where a fault shows: those before its place, and those from there on
 abbrev pub ShowsExtendedFault : FaultKind → Text → Text → Type 0
 ShowsExtendedFault UnclosedBracket before t = OpensNoBracket t
@@ -53,8 +50,8 @@ ShowsExtendedFault BadInterval before t = OpensDisallowed (codes "{") (codes "}"
 ShowsExtendedFault IntervalTooLarge before t = OpensDisallowed (codes "{") (codes "}") IntervalTooLarge t
 ShowsExtendedFault NothingToRepeat before t = OpensDuplication t × HasNothingToRepeat before
 ShowsExtendedFault TrailingBackslash before t = t ≡ codes "\\"
-ShowsExtendedFault UndefinedEscape before t = BeginsRefusedEscape refused_escapes UndefinedEscape t
-ShowsExtendedFault BackReference before t = BeginsRefusedEscape refused_escapes BackReference t
+ShowsExtendedFault UndefinedEscape before t = BeginsRefusedEscape extended_refused UndefinedEscape t
+ShowsExtendedFault BackReference before t = BeginsRefusedEscape extended_refused BackReference t
 ShowsExtendedFault TooDeep before t = Begins (codes "(") t ⊎ BeginsDuplication Duplication t
 ShowsExtendedFault TooLarge before t = ⊥
 ShowsExtendedFault Memory before t = ⊥

@@ -3,7 +3,8 @@ use Rattle.std.specs.Prelude.{◌≡◌, ℕ, ◌<◌, ◌≤◌, ◌++◌, Opti
 use Rattle.re_syntax.specs.declared.fault.FaultKind.{FaultKind}
 use Rattle.re_syntax.specs.declared.fault.FaultKind.TheVariants.{BadInterval, IntervalTooLarge}
 use Rattle.re_syntax.specs.Bytes.{Text}
-use Rattle.re_syntax.specs.Intervals.{ClosedInterval, most_repeats}
+use Rattle.re_syntax.specs.Intervals.{ClosedInterval}
+use Rattle.re_syntax.specs.Profile.{most_repeats}
 
 -- why an interval of these numbers is refused; a number that is too large goes first
 pub data IsDisallowed : FaultKind → ℕ → Option ℕ → Type 0 where

@@ -2,6 +2,7 @@
 use Rattle.std.specs.Prelude.{◌≡◌, ◌≢◌, ℕ, ◌+◌, ◌-◌, ◌*◌, ◌≤◌, min, [], ◌∷◌, ◌++◌, Option, Some, None, IsTrue, IfSome, codes}
 use Rattle.std.specs.List.{list_all}
 use Rattle.re_syntax.specs.declared.class.Class.TheVariants.{Digit}
+use Rattle.re_syntax.specs.Profile.{most_repeats}
 use Rattle.re_syntax.specs.Bytes.{Text, Begins, in_class}
 
 abbrev pub value_after : ℕ → Text → ℕ
@@ -21,10 +22,6 @@ pub data Interval : Text → ℕ → Option ℕ → Type 0 where
   exactly : (m : Text) → IsNumber m → Interval m (value m) (Some (value m))
   at_least : (m : Text) → IsNumber m → Interval (m ++ codes ",") (value m) None
   between : (m n : Text) → IsNumber m → IsNumber n → Interval (m ++ codes "," ++ n) (value m) (Some (value n))
-
--- RE_DUP_MAX
-abbrev pub most_repeats : ℕ
-most_repeats = 255
 
 -- both numbers are within the limit, and the first is not above the second
 pub record IsAllowed (least : ℕ) (most : Option ℕ) : Type 0 where
@@ -47,3 +44,7 @@ pub record IsNoPart (t : Text) : Type 0 where
 -- what a reader keeps of a number: one above the limit is as good as any other
 abbrev pub capped : ℕ → ℕ
 capped n = min n (most_repeats + 1)
+
+-- no interval stands there
+pub record HasNoInterval (close t : Text) : Type 0 where
+  pub none : (u : Text) (least : ℕ) (most : Option ℕ) → ¬ ClosedInterval close t u least most

@@ -1,4 +1,6 @@
+-- what the contract of the whole command, or of the session, rests on
 pub mod Bytes
+pub mod Profile
 pub mod Sets
 pub mod Expression
 pub mod Holds
@@ -11,18 +13,11 @@ pub mod Basic
 pub mod Extended
 pub mod Lines
 pub mod Spelled
-pub mod Splitting
-pub mod Cursors
-pub mod Ahead
-pub mod IntervalSteps
-pub mod BracketSteps
 pub mod IntervalFaults
 pub mod EscapeFaults
-pub mod EscapeSteps
-pub mod PieceSteps
-pub mod DuplicationSteps
 pub mod BasicFaults
-pub mod BasicSteps
 pub mod ExtendedFaults
-pub mod ExtendedSteps
+-- what the public laws say of the definitions
 pub mod Laws
+-- what else contracts are said in: of this crate as a library, and of its private functions
+pub mod Working

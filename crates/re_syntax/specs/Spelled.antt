@@ -5,12 +5,9 @@ use Rattle.re_syntax.specs.declared.syntax.Syntax.TheVariants.{Basic, Extended, 
 use Rattle.re_syntax.specs.Bytes.{Text}
 use Rattle.re_syntax.specs.Expression.{Expression, byte, sequence, choice}
 use Rattle.re_syntax.specs.Holds.{folded}
+use Rattle.re_syntax.specs.Profile.{most_levels}
 use Rattle.re_syntax.specs.Basic.{First, Items}
 use Rattle.re_syntax.specs.Extended.{Branches}
-
--- how deep groups and duplications may stand in one another
-abbrev pub most_levels : ℕ
-most_levels = 256
 
 -- the rules by which a text is read; a syntax without a rule spells nothing
 pub data IsSpelled : Syntax → Text → Expression → Type 0 where

@@ -1,6 +1,6 @@
 ghost use Rattle.std.specs.Prelude.{◌≡◌, ◌≤◌, Some, length, drop, slice_get, MatchOption};
 ghost use Rattle.re_syntax.specs.Bytes.{Begins};
-ghost use Rattle.re_syntax.specs.Ahead.{IsAfter};
+ghost use Rattle.re_syntax.specs.Working.Ahead.{IsAfter};
 
 /// The place behind these bytes, where they stand at this place of the text.
 pub fn after(text: &[u8], at: usize, bytes: &[u8]) -> Option<usize>

@@ -6,8 +6,8 @@ ghost use Rattle.re_syntax.specs.Basic.{ItemPlace, First, IsAtEnd};
 ghost use Rattle.re_syntax.specs.declared.syntax.Syntax.TheVariants.{Basic};
 ghost use Rattle.re_syntax.specs.Spelled.{IsSpelled, SpellsNoOther};
 ghost use Rattle.re_syntax.specs.BasicFaults.{HasNothingToRepeat, IsShownIn, IsNoBasic};
-ghost use Rattle.re_syntax.specs.PieceSteps.{IsRefused};
-ghost use Rattle.re_syntax.specs.BasicSteps.{OpensNoDuplication, DuplicationStands, HasBadInterval, AtomStands, HasNoAtom, HasItem, HasNoItem, HasNoTail, IsBehindTail, IsStart, SoFar, IsEnded, MayBegin, ItemStands, ItemsStand, HasNoItems};
+ghost use Rattle.re_syntax.specs.Working.PieceSteps.{IsRefused};
+ghost use Rattle.re_syntax.specs.Working.BasicSteps.{OpensNoDuplication, DuplicationStands, HasBadInterval, AtomStands, HasNoAtom, HasItem, HasNoItem, HasNoTail, IsBehindTail, IsStart, SoFar, IsEnded, MayBegin, ItemStands, ItemsStand, HasNoItems};
 
 use crate::ahead::after;
 use crate::bytes::ByteSet;
@@ -15,7 +15,8 @@ use crate::escape::read_escape;
 use crate::fault::{FaultKind, PatternFault};
 use crate::fixed::{out_of_memory, sequence_of};
 use crate::interval::{Counts, counts_fault, read_interval};
-use crate::pieces::{MOST_LEVELS, Piece, Pieces, joined, meant_by, read_bracket_atom, repeated};
+use crate::pieces::{Piece, Pieces, joined, meant_by, read_bracket_atom, repeated};
+use crate::profile::{BASIC_REFUSED, MOST_LEVELS};
 use crate::tree::Tree;
 use std::alloc::Global;
 
@@ -174,7 +175,7 @@ fn read_escaped(alloc: Global, text: &[u8], at: usize, levels: usize) -> Result<
             at,
         });
     }
-    let byte = read_escape(text, at, b"<>`'+?|")?;
+    let byte = read_escape(text, at, BASIC_REFUSED)?;
     Ok(Piece {
         tree: Tree::Set(ByteSet::only(byte)),
         height: 0,

@@ -4,8 +4,8 @@ ghost use Rattle.re_syntax.specs.Bytes.{Begins, class_name};
 ghost use Rattle.re_syntax.specs.Expression.{expression_of};
 ghost use Rattle.re_syntax.specs.Sets.{members};
 ghost use Rattle.re_syntax.specs.Brackets.{Point, Element, Rest, IsBracket, IsBracketUpTo, IsOnlyBracket};
-ghost use Rattle.re_syntax.specs.BracketSteps.{Stands, OpensNoClass, MayGoOn, HasNoPoint, HasNoRangeEnd, HasNoElement, HasNoList, HasNoBracket, IsShown, PassesHyphen};
-ghost use Rattle.re_syntax.specs.Cursors.{left, Passes};
+ghost use Rattle.re_syntax.specs.Working.BracketSteps.{Stands, OpensNoClass, MayGoOn, HasNoPoint, HasNoRangeEnd, HasNoElement, HasNoList, HasNoBracket, IsShown, PassesHyphen};
+ghost use Rattle.re_syntax.specs.Working.Cursors.{left, Passes};
 ghost use Rattle.re_syntax.specs.Faults.{IsNoBracket};
 
 use crate::bytes::ByteSet;
@@ -19,7 +19,7 @@ mod tests;
 
 /// Where in the list of a bracket expression an element stands.
 #[derive(Clone, Copy, PartialEq, Eq, Debug, Drop)]
-pub enum Place {
+pub enum ListPlace {
     /// It is the first.
     First,
     /// It follows a single point.
@@ -112,13 +112,13 @@ fn read_range_end(
 }
 
 /// Whether the point that comes next may begin a range: a hyphen only as the first of its list.
-fn may_begin_range(cursor: &Cursor, place: Place) -> bool
-    ensures { MatchBool result (Begins (codes "-") (left cursor.now) → place ≡ Place.First)
-        (Begins (codes "-") (left cursor.now) × (place ≢ Place.First)) }
+fn may_begin_range(cursor: &Cursor, place: ListPlace) -> bool
+    ensures { MatchBool result (Begins (codes "-") (left cursor.now) → place ≡ ListPlace.First)
+        (Begins (codes "-") (left cursor.now) × (place ≢ ListPlace.First)) }
 {
     match place {
-        Place::First => true,
-        Place::AfterPoint | Place::AfterRange => cursor.peek() != Some(b'-'),
+        ListPlace::First => true,
+        ListPlace::AfterPoint | ListPlace::AfterRange => cursor.peek() != Some(b'-'),
     }
 }
 
@@ -159,9 +159,9 @@ fn stray_hyphen(cursor: &Cursor, hyphen: usize, opening: usize) -> PatternFault
 /// A point alone, or a range of two points.
 fn read_point_or_range(
     cursor: &mut Cursor,
-    place: Place,
+    place: ListPlace,
     opening: usize,
-) -> Result<(ByteSet, Place), PatternFault>
+) -> Result<(ByteSet, ListPlace), PatternFault>
     requires opened { Stands (codes "[") opening cursor.old }
     requires no_class { OpensNoClass (left cursor.old) }
     requires goes_on { MayGoOn place (left cursor.old) }
@@ -172,13 +172,13 @@ fn read_point_or_range(
     let may_begin = may_begin_range(cursor, place);
     let first = read_point(cursor, opening)?;
     match skip_hyphen(cursor) {
-        None => Ok((ByteSet::only(first), Place::AfterPoint)),
+        None => Ok((ByteSet::only(first), ListPlace::AfterPoint)),
         Some(hyphen) => {
             if !may_begin {
                 return Err(stray_hyphen(cursor, hyphen, opening));
             }
             let last = read_range_end(cursor, first, hyphen, opening)?;
-            Ok((ByteSet::range(first, last), Place::AfterRange))
+            Ok((ByteSet::range(first, last), ListPlace::AfterRange))
         }
     }
 }
@@ -186,9 +186,9 @@ fn read_point_or_range(
 /// An element at a place of its list: the bytes that it adds, and the place behind it.
 fn read_element(
     cursor: &mut Cursor,
-    place: Place,
+    place: ListPlace,
     opening: usize,
-) -> Result<(ByteSet, Place), PatternFault>
+) -> Result<(ByteSet, ListPlace), PatternFault>
     requires opened { Stands (codes "[") opening cursor.old }
     requires goes_on { MayGoOn place (left cursor.old) }
     ensures read { IfOk result (λ found. Element place (left cursor.old) (left cursor.new) (members found.0) found.1) }
@@ -198,7 +198,7 @@ fn read_element(
     let from = cursor.place();
     if cursor.skip(b"[:") {
         return match take_class(cursor) {
-            Some(class) => Ok((ByteSet::class(class), Place::AfterRange)),
+            Some(class) => Ok((ByteSet::class(class), ListPlace::AfterRange)),
             None => Err(PatternFault {
                 kind: FaultKind::BadClass,
                 at: from,
@@ -207,7 +207,7 @@ fn read_element(
     }
     if cursor.skip(b"[=") {
         return match take_closed_byte(cursor, b"=]") {
-            Some(byte) => Ok((ByteSet::only(byte), Place::AfterRange)),
+            Some(byte) => Ok((ByteSet::only(byte), ListPlace::AfterRange)),
             None => Err(PatternFault {
                 kind: FaultKind::BadCollatingSymbol,
                 at: from,
@@ -220,11 +220,11 @@ fn read_element(
 /// The elements of a list and the `]` that closes it: the bytes that they add.
 fn read_list(cursor: &mut Cursor, opening: usize) -> Result<ByteSet, PatternFault>
     requires opened { Stands (codes "[") opening cursor.old }
-    ensures read { IfOk result (λ set. Rest Place.First (left cursor.old) (left cursor.new) (members set)) }
+    ensures read { IfOk result (λ set. Rest ListPlace.First (left cursor.old) (left cursor.new) (members set)) }
     ensures refused { IfErr result (HasNoList opening cursor.old) }
     ensures same_text { OnOk result (cursor.new.text ≡ cursor.old.text) }
 {
-    let (mut set, mut place) = read_element(cursor, Place::First, opening)?;
+    let (mut set, mut place) = read_element(cursor, ListPlace::First, opening)?;
     while !cursor.skip(b"]") {
         let (bytes, next) = read_element(cursor, place, opening)?;
         set = set.union(bytes);

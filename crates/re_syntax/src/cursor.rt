@@ -12,7 +12,7 @@ pub struct Cursor<'a> {
 impl<'a> Cursor<'a> {
     ghost use Rattle.std.specs.Prelude.{◌≡◌, ◌≤◌, [], ◌∷◌, length, MatchOption, MatchBool};
     ghost use Rattle.re_syntax.specs.Bytes.{Begins};
-    ghost use Rattle.re_syntax.specs.Cursors.{left, Passes, IsAt};
+    ghost use Rattle.re_syntax.specs.Working.Cursors.{left, Passes, IsAt};
 
     /// The place `at` of the text.
     pub fn new(text: &'a [u8], at: usize) -> Self

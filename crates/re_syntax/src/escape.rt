@@ -3,7 +3,7 @@ ghost use Rattle.std.specs.Prelude.{◌≡◌, IsTrue, IfOk, IfErr, MatchOption,
 ghost use Rattle.re_syntax.specs.Bytes.{Begins, in_class};
 ghost use Rattle.re_syntax.specs.Escapes.{is_undefined};
 ghost use Rattle.re_syntax.specs.EscapeFaults.{IsRefusedEscape};
-ghost use Rattle.re_syntax.specs.EscapeSteps.{EscapeStands, HasNoEscape};
+ghost use Rattle.re_syntax.specs.Working.EscapeSteps.{EscapeStands, HasNoEscape};
 
 use crate::ahead::byte_at;
 use crate::class::Class;

@@ -6,8 +6,8 @@ ghost use Rattle.re_syntax.specs.Extended.{Duplication};
 ghost use Rattle.re_syntax.specs.declared.syntax.Syntax.TheVariants.{Extended};
 ghost use Rattle.re_syntax.specs.Spelled.{IsSpelled, SpellsNoOther};
 ghost use Rattle.re_syntax.specs.ExtendedFaults.{OpensDuplication, IsStart, HasNothingToRepeat, IsShownIn, IsNoExtended};
-ghost use Rattle.re_syntax.specs.PieceSteps.{IsRefused};
-ghost use Rattle.re_syntax.specs.ExtendedSteps.{stops, IsNoSign, DuplicationStands, HasBadInterval, MayBegin, AtomStands, HasNoAtom, ItemStands, HasNoItems, IsNext, BranchStands, HasNoBranches, BranchesStand};
+ghost use Rattle.re_syntax.specs.Working.PieceSteps.{IsRefused};
+ghost use Rattle.re_syntax.specs.Working.ExtendedSteps.{stops, IsNoSign, DuplicationStands, HasBadInterval, MayBegin, AtomStands, HasNoAtom, ItemStands, HasNoItems, IsNext, BranchStands, HasNoBranches, BranchesStand};
 
 use crate::ahead::{after, byte_at};
 use crate::bytes::ByteSet;
@@ -15,7 +15,8 @@ use crate::escape::read_escape;
 use crate::fault::{FaultKind, PatternFault};
 use crate::fixed::sequence_of;
 use crate::interval::{Counts, counts_fault, read_interval};
-use crate::pieces::{MOST_LEVELS, Piece, Pieces, joined, meant_by, read_bracket_atom, repeated};
+use crate::pieces::{Piece, Pieces, joined, meant_by, read_bracket_atom, repeated};
+use crate::profile::{EXTENDED_REFUSED, MOST_LEVELS};
 use crate::tree::Tree;
 use std::alloc::Global;
 
@@ -155,7 +156,7 @@ fn read_atom(
         b'[' => read_bracket_atom(text, at),
         b'(' => read_group(alloc, text, at, in_group, levels),
         b'\\' => {
-            let byte = read_escape(text, at, b"<>`'")?;
+            let byte = read_escape(text, at, EXTENDED_REFUSED)?;
             Ok(Piece {
                 tree: Tree::Set(ByteSet::only(byte)),
                 height: 0,

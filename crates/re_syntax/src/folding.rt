@@ -9,7 +9,7 @@ use std::mem;
 /// `Set` or a `Not` is closed under case, so a complement is taken after that. The tree's parts are
 /// changed in their places, and no memory is taken.
 #[cycle(fold)]
-#[tactic(auto, using(crate::proofs::FoldedLaws::folded_laws))]
+#[tactic(auto, using(crate::proofs::lemmas::FoldedLaws::folded_laws))]
 pub fn fold(tree: Tree) -> Tree
     ensures { expression_of result ≡ folded (expression_of tree) }
 {

@@ -1,14 +1,12 @@
 //! Interval expressions (XBD 9.3.6 item 5, 9.4.6 item 5), apart from how a syntax opens them.
 ghost use Rattle.std.specs.Prelude.{◌≡◌, ◌≤◌, length, drop, MatchOption};
-ghost use Rattle.re_syntax.specs.Intervals.{IsNoPart, IsAllowed, value, capped};
+ghost use Rattle.re_syntax.specs.Intervals.{IsNoPart, IsAllowed, value, capped, HasNoInterval};
 ghost use Rattle.re_syntax.specs.IntervalFaults.{IsDisallowed};
-ghost use Rattle.re_syntax.specs.IntervalSteps.{AreDigits, HasNoDigit, IsDigitCount, NumberStands, IntervalStands, HasNoInterval};
+ghost use Rattle.re_syntax.specs.Working.IntervalSteps.{AreDigits, HasNoDigit, IsDigitCount, NumberStands, IntervalStands};
 
 use crate::ahead::after;
 use crate::fault::FaultKind;
-
-/// The greatest count that an interval may have, `RE_DUP_MAX`.
-pub const MOST_REPEATS: u16 = 255;
+use crate::profile::MOST_REPEATS;
 
 /// How often an expression is repeated: at least so many times, and at most so many where a number
 /// stands. Each count above `MOST_REPEATS` is given as the next number.

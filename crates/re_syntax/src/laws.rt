@@ -2,25 +2,25 @@
 ghost use Rattle.re_syntax.specs.Laws.{SpellsOne, BeginsWithOneBracket, HasOneSplit, HasOnePartList};
 
 /// A text spells at most one expression in each syntax.
-#[tactic(auto, using(crate::proofs::SpelledUnique::spells_one))]
+#[tactic(auto, using(crate::proofs::lemmas::SpelledUnique::spells_one))]
 pub fn spells_one(_text: &[u8])
     ensures { SpellsOne _text.now }
 {}
 
 /// A bracket expression is read in one way, whatever follows it.
-#[tactic(auto, using(crate::proofs::BracketsUnique::begins_with_one_bracket))]
+#[tactic(auto, using(crate::proofs::lemmas::BracketsUnique::begins_with_one_bracket))]
 pub fn brackets_are_unique(_text: &[u8])
     ensures { BeginsWithOneBracket _text.now }
 {}
 
 /// An input has one list of lines, and a pattern list one list of texts.
-#[tactic(auto, using(crate::proofs::SpelledUnique::has_one_split))]
+#[tactic(auto, using(crate::proofs::lemmas::SpelledUnique::has_one_split))]
 pub fn has_one_split(_text: &[u8])
     ensures { HasOneSplit _text.now }
 {}
 
 /// A line has a list of parts, for all expressions, and no other.
-#[tactic(auto, using(crate::proofs::SpelledUnique::has_one_part_list))]
+#[tactic(auto, using(crate::proofs::lemmas::SpelledUnique::has_one_part_list))]
 pub fn parts_are_unique(_line: &[u8])
     ensures { HasOnePartList _line.now }
 {}

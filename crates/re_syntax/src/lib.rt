@@ -15,6 +15,7 @@ mod folding;
 mod interval;
 mod laws;
 mod pieces;
+mod profile;
 #[cfg(test)]
 mod shapes;
 mod split;
@@ -32,6 +33,7 @@ pub use fault::{FaultKind, PatternFault};
 pub use fixed::read_fixed;
 pub use folding::fold;
 pub use laws::{brackets_are_unique, has_one_split, parts_are_unique, spells_one};
+pub use profile::{MOST_PATTERNS, MOST_POSITIONS};
 pub use split::{FilePatterns, Patterns, split_file, split_list};
 pub use syntax::Syntax;
 pub use tree::Tree;

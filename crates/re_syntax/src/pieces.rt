@@ -3,7 +3,7 @@ ghost use Rattle.std.specs.Prelude.{◌≡◌, ◌<◌, Some, IfOk, IfErr, slice
 ghost use Rattle.re_syntax.specs.Sets.{members};
 ghost use Rattle.re_syntax.specs.declared.fault.FaultKind.{FaultKind};
 ghost use Rattle.re_syntax.specs.Faults.{IsNoBracket};
-ghost use Rattle.re_syntax.specs.PieceSteps.{meant_bytes, IsBracketPiece, IsRepeated, IsJoined};
+ghost use Rattle.re_syntax.specs.Working.PieceSteps.{meant_bytes, IsBracketPiece, IsRepeated, IsJoined};
 
 use crate::bracket::read_bracket;
 use crate::bytes::ByteSet;
@@ -12,9 +12,6 @@ use crate::fixed::out_of_memory;
 use crate::interval::Counts;
 use crate::tree::Tree;
 use std::alloc::Global;
-
-/// How deep groups and duplications may stand in one another.
-pub const MOST_LEVELS: usize = 256;
 
 /// An atom, an item or a branch that was read.
 #[derive(Drop)]

@@ -3,7 +3,7 @@ ghost use Rattle.std.specs.Prelude.{◌≡◌, ◌∷◌, [], MatchOption, None}
 ghost use Rattle.std.specs.Str.{chars};
 ghost use Rattle.std.specs.Iterator.{YieldsFirstBy, YieldsFirstRef, item_count};
 ghost use Rattle.grep_cmd.specs.Words.{group, meaning_of, pieces, texts_of};
-ghost use Rattle.grep_cmd.specs.Pieces.{IsWord, piece_of, pieces_left, words_left};
+ghost use Rattle.grep_cmd.specs.Working.Pieces.{IsWord, piece_of, pieces_left, words_left};
 
 use crate::words::UsageFault;
 use grep_core::Flag;

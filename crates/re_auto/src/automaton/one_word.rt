@@ -3,12 +3,12 @@ ghost use Rattle.std.specs.Prelude.{◌≡◌, ℕ, suc, ◌<◌, ◌↔◌, ◌
 ghost use Rattle.re_syntax.specs.Bytes.{Text};
 ghost use Rattle.re_syntax.specs.Expression.{expression_of};
 ghost use Rattle.re_syntax.specs.Holds.{positions};
-ghost use Rattle.re_auto.specs.Bits.{InWord};
+ghost use Rattle.re_auto.specs.Working.Bits.{InWord};
 ghost use Rattle.re_auto.specs.Meters.{many_built};
-ghost use Rattle.re_auto.specs.Positions.{part_of};
-ghost use Rattle.re_auto.specs.Stepping.{MayBegin, IsNext};
-ghost use Rattle.re_auto.specs.StateSets.{IsMadeFor, StandsAt, IsNextSet};
-ghost use Rattle.re_auto.specs.Tables.{HasOneWord};
+ghost use Rattle.re_auto.specs.Working.Positions.{part_of};
+ghost use Rattle.re_auto.specs.Working.Stepping.{MayBegin, IsNext};
+ghost use Rattle.re_auto.specs.Working.StateSets.{IsMadeFor, StandsAt, IsNextSet};
+ghost use Rattle.re_auto.specs.Working.Tables.{HasOneWord};
 
 use crate::automaton::Automaton;
 use crate::bits;

@@ -3,11 +3,11 @@ ghost use Rattle.std.specs.Prelude.{◌≡◌, ℕ, ◌+◌, ◌*◌, ◌<◌, �
 ghost use Rattle.std.specs.Int.{bit_at};
 ghost use Rattle.re_syntax.specs.Expression.{expression_of};
 ghost use Rattle.re_syntax.specs.Holds.{positions};
-ghost use Rattle.re_auto.specs.Bits.{Has};
-ghost use Rattle.re_auto.specs.Positions.{part_of, is_begin};
-ghost use Rattle.re_auto.specs.Stepping.{MayBegin};
-ghost use Rattle.re_auto.specs.StartSets.{Carries, Brings, AreAlike, IsMadeForStarts};
-ghost use Rattle.re_auto.specs.Tables.{words_for};
+ghost use Rattle.re_auto.specs.Working.Bits.{Has};
+ghost use Rattle.re_auto.specs.Working.Positions.{part_of, is_begin};
+ghost use Rattle.re_auto.specs.Working.Stepping.{MayBegin};
+ghost use Rattle.re_auto.specs.Working.StartSets.{Carries, Brings, AreAlike, IsMadeForStarts};
+ghost use Rattle.re_auto.specs.Working.Tables.{words_for};
 
 use crate::automaton::Automaton;
 use crate::bits;

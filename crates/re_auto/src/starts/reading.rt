@@ -1,8 +1,8 @@
 //! The least start among the positions of a row.
 ghost use Rattle.std.specs.Prelude.{◌≡◌, ℕ, ◌+◌, ◌*◌, ◌<◌, ◌≤◌, ◌↔◌, ◌⊎◌, length, slice_index};
 ghost use Rattle.std.specs.Int.{bit_at};
-ghost use Rattle.re_auto.specs.Bits.{Has};
-ghost use Rattle.re_auto.specs.StartSets.{AtMost};
+ghost use Rattle.re_auto.specs.Working.Bits.{Has};
+ghost use Rattle.re_auto.specs.Working.StartSets.{AtMost};
 
 use crate::starts::Starts;
 

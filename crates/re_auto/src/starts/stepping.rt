@@ -5,9 +5,9 @@ ghost use Rattle.re_syntax.specs.Expression.{Expression, expression_of};
 ghost use Rattle.re_auto.specs.declared.build.BuildFault.TheVariants.{Memory};
 ghost use Rattle.re_auto.specs.declared.mode.Mode.{Mode};
 ghost use Rattle.re_auto.specs.Meters.{many_built};
-ghost use Rattle.re_auto.specs.Positions.{is_end};
-ghost use Rattle.re_auto.specs.Starts.{Least, IsMatched, IsSpent};
-ghost use Rattle.re_auto.specs.StartSets.{place_of, least_of, IsMadeForStarts, AreOfOneSize, AreSame, StartsAt, AreNext};
+ghost use Rattle.re_auto.specs.Working.Positions.{is_end};
+ghost use Rattle.re_auto.specs.Working.Starts.{Least, IsMatched, IsSpent};
+ghost use Rattle.re_auto.specs.Working.StartSets.{place_of, least_of, IsMadeForStarts, AreOfOneSize, AreSame, StartsAt, AreNext};
 
 use crate::automaton::Automaton;
 use crate::bits;

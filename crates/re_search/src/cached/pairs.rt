@@ -1,7 +1,7 @@
 //! Cells that show what a bounded cache holds.
 ghost use Rattle.std.specs.Prelude.{◌≡◌, ℕ, ◌+◌, ◌<◌, ◌≤◌, ◌⊎◌, [], ◌++◌, IfOk, OnOk, OnErr, length, replicate, slice_index};
 ghost use Rattle.std.specs.NonZero.{non_zero_usize_get};
-ghost use Rattle.re_search.specs.Pairs.{unknown, IsKeptOrLost, Mirrors};
+ghost use Rattle.re_search.specs.Working.Pairs.{unknown, IsKeptOrLost, Mirrors};
 
 use lru::LruCache;
 use std::alloc::{AllocError, Global};
@@ -20,7 +20,7 @@ pub struct Pairs {
 }
 
 impl Model for Pairs {
-    ghost use Rattle.re_search.specs.Pairs.{Held, Mirrors};
+    ghost use Rattle.re_search.specs.Working.Pairs.{Held, Mirrors};
 
     ghost Value = { Held };
 

@@ -5,11 +5,11 @@ ghost use Rattle.re_syntax.specs.Expression.{expression_of};
 ghost use Rattle.re_auto.specs.declared.state_set.StateSet.{StateSet as Set};
 ghost use Rattle.re_auto.specs.declared.mode.Mode.TheVariants.{Search};
 ghost use Rattle.re_auto.specs.Meters.{Steps, many_built};
-ghost use Rattle.re_auto.specs.StateSets.{IsMadeFor, IsNextSet, IsAccepting};
-ghost use Rattle.re_search.specs.Pairs.{unknown};
-ghost use Rattle.re_search.specs.Stages.{Stage, HoldsNoOther, IsPlain};
-ghost use Rattle.re_search.specs.Rows.{limit, IsRight, IsRowOf, IsRow, TellsNext, ComesTo, Lands, LandsAlone, cell_at, cache_of, row_under, walked};
-ghost use Rattle.re_search.specs.Walks.{LeadsOn, Arrives, Gives};
+ghost use Rattle.re_auto.specs.Working.StateSets.{IsMadeFor, IsNextSet, IsAccepting};
+ghost use Rattle.re_search.specs.Working.Pairs.{unknown};
+ghost use Rattle.re_search.specs.Working.Stages.{Stage, HoldsNoOther, IsPlain};
+ghost use Rattle.re_search.specs.Working.Rows.{limit, IsRight, IsRowOf, IsRow, TellsNext, ComesTo, Lands, LandsAlone, cell_at, cache_of, row_under, walked};
+ghost use Rattle.re_search.specs.Working.Walks.{LeadsOn, Arrives, Gives};
 
 use crate::cached::pace::Pace;
 use crate::cached::pairs::UNKNOWN;

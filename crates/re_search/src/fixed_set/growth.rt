@@ -1,7 +1,7 @@
 //! The tree of the beginnings of strings in order.
 ghost use Rattle.std.specs.Prelude.{◌≡◌, ℕ, ◌+◌, ◌^◌, ◌<◌, ◌≤◌, ◌++◌, [], ◌∷◌, List, All, IfOk, IfSome, length, map, slice_get};
 ghost use Rattle.re_search.specs.declared.fixed_set.growth.Branch.{Branch};
-ghost use Rattle.re_search.specs.Branches.{AreAscending, IsBranch, IsRow, AreRows, branch_at, text_at};
+ghost use Rattle.re_search.specs.Working.Branches.{AreAscending, IsBranch, IsRow, AreRows, branch_at, text_at};
 
 use std::alloc::{AllocError, Global};
 

@@ -1,6 +1,6 @@
 //! Bytes as strings are compared.
 ghost use Rattle.std.specs.Prelude.{◌≡◌};
-ghost use Rattle.re_search.specs.Literals.{key};
+ghost use Rattle.re_search.specs.Working.Literals.{key};
 
 /// The byte as strings are compared: an upper-case letter by its lower case where `fold` is set.
 #[inline]

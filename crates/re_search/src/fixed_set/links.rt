@@ -1,6 +1,6 @@
 //! The fallbacks of the nodes, and the strings that they end with.
 ghost use Rattle.std.specs.Prelude.{◌≡◌, ℕ, ◌+◌, ◌^◌, ◌<◌, ◌≤◌, ◌++◌, [], ◌∷◌, false, IfOk, length, slice_index};
-ghost use Rattle.re_search.specs.FixedSets.{IsTrie, IsTrieOf, AreStarts, AreStartsOf, AreFallbacks, AreFallbacksOf, AreOwn, AreLinked, AreLinkedFor, Labels, StandsFor, StepsOn, longer_ending};
+ghost use Rattle.re_search.specs.Working.FixedSets.{IsTrie, IsTrieOf, AreStarts, AreStartsOf, AreFallbacks, AreFallbacksOf, AreOwn, AreLinked, AreLinkedFor, Labels, StandsFor, StepsOn, longer_ending};
 
 use crate::fixed_set::keys::key_of;
 use crate::fixed_set::table::step;

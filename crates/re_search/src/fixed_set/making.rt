@@ -1,8 +1,8 @@
 //! The table of the steps for many fixed strings.
 ghost use Rattle.std.specs.Prelude.{◌≡◌, ℕ, ◌^◌, ◌<◌, ◌≤◌, List, IfOk, length, map, slice_index};
 ghost use Rattle.re_syntax.specs.Bytes.{Text};
-ghost use Rattle.re_search.specs.Branches.{AreAscending, branch_at, own_length, HaveSame};
-ghost use Rattle.re_search.specs.FixedSets.{IsTable, IsTableOf, IsTrie, IsTrieOf, AreOwn, Labels};
+ghost use Rattle.re_search.specs.Working.Branches.{AreAscending, branch_at, own_length, HaveSame};
+ghost use Rattle.re_search.specs.Working.FixedSets.{IsTable, IsTableOf, IsTrie, IsTrieOf, AreOwn, Labels};
 
 use crate::fixed_set::growth::{Branch, grow};
 use crate::fixed_set::links::{line_starts, links_of, starts_of};

@@ -1,8 +1,8 @@
 //! The steps over a line for many fixed strings.
 ghost use Rattle.std.specs.Prelude.{◌≡◌, ℕ, ◌+◌, ◌<◌, ◌≤◌, ◌↔◌, [], ◌∷◌, ◌++◌, IsTrue, Some, length, slice_index};
 ghost use Rattle.re_syntax.specs.Bytes.{Text};
-ghost use Rattle.re_search.specs.FixedSets.{IsTrie, IsTrieOf, IsTable, IsTableOf, IsString, AreFallbacks, AreFallbacksOf, AreStarts, Labels, Steps, StepsOn, Occurs, NoneBetween, StandsAtNode, IsBestOccurrence, better_ending};
-ghost use Rattle.re_search.specs.Literals.{keys};
+ghost use Rattle.re_search.specs.Working.FixedSets.{IsTrie, IsTrieOf, IsTable, IsTableOf, IsString, AreFallbacks, AreFallbacksOf, AreStarts, Labels, Steps, StepsOn, Occurs, NoneBetween, StandsAtNode, IsBestOccurrence, better_ending};
+ghost use Rattle.re_search.specs.Working.Literals.{keys};
 ghost use Rattle.re_search.specs.declared.span.Span.{Span};
 
 use crate::fixed_set::keys::key_of;

@@ -270,44 +270,55 @@ fn a_set_may_have_many_strings(rt: HostRuntime) -> Result<(), Fail> {
 
 // For strings, whether both cases of each letter are alike, whether the whole line has to be
 // matched, a line and a place: the part.
-type Search<'a> = (
-    &'a [u8],
+type Search = (
+    &'static [u8],
     bool,
     bool,
-    &'a [u8],
+    &'static [u8],
     usize,
     Option<(usize, usize)>,
 );
 
+static SEARCHES: [Search; 12] = [
+    (b"he\nshe\nHERS\n", true, false, b"USHERS", 0, Some((1, 4))),
+    (b"he\nshe\nHERS\n", true, false, b"USHERS", 2, Some((2, 6))),
+    (b"he\nshe\nhers\n", false, false, b"USHErs", 0, None),
+    (
+        b"he\nshe\nhers\n",
+        false,
+        false,
+        b"USHErshe",
+        0,
+        Some((5, 8)),
+    ),
+    (b"a[\nb@", true, false, b"xA{B`A[b@", 0, Some((5, 7))),
+    (b"a[\nb@", true, false, b"xA{B`A[b@", 6, Some((7, 9))),
+    (b"\xe4b\nx", true, false, b"\xc4B\xe4B", 0, Some((2, 4))),
+    (b"ab\nABC", true, true, b"aBc", 0, Some((0, 3))),
+    (b"ab\nABC", false, true, b"aBc", 0, None),
+    (b"ab\nABC", true, true, b"aBcd", 0, None),
+    (b"\nAb", true, false, b"xaB", 0, Some((1, 3))),
+    (b"\nab", true, true, b"", 0, None),
+];
+
+fn searches() -> &'static [Search] {
+    &SEARCHES
+}
+
+fn assert_search(rt: &impl Abort, alloc: Global, row: &Search) -> Result<(), Fail> {
+    let (texts, fold, whole, line, from, expected) = *row;
+    let mut matcher = FixedSet::new(alloc, texts, fold, whole)?;
+    assert!(rt; from <= line.len(), "{line:?}");
+    let found = matcher.find(line, from, &mut fresh_meter());
+    let place = found.map(|part| (part.start, part.end));
+    assert_eq!(rt; place, expected, "{texts:?} on {line:?} from {from}");
+    Ok(())
+}
+
 #[test]
 fn strings_are_found_in_either_case(rt: HostRuntime) -> Result<(), Fail> {
-    let rows: [Search; 12] = [
-        (b"he\nshe\nHERS\n", true, false, b"USHERS", 0, Some((1, 4))),
-        (b"he\nshe\nHERS\n", true, false, b"USHERS", 2, Some((2, 6))),
-        (b"he\nshe\nhers\n", false, false, b"USHErs", 0, None),
-        (
-            b"he\nshe\nhers\n",
-            false,
-            false,
-            b"USHErshe",
-            0,
-            Some((5, 8)),
-        ),
-        (b"a[\nb@", true, false, b"xA{B`A[b@", 0, Some((5, 7))),
-        (b"a[\nb@", true, false, b"xA{B`A[b@", 6, Some((7, 9))),
-        (b"\xe4b\nx", true, false, b"\xc4B\xe4B", 0, Some((2, 4))),
-        (b"ab\nABC", true, true, b"aBc", 0, Some((0, 3))),
-        (b"ab\nABC", false, true, b"aBc", 0, None),
-        (b"ab\nABC", true, true, b"aBcd", 0, None),
-        (b"\nAb", true, false, b"xaB", 0, Some((1, 3))),
-        (b"\nab", true, true, b"", 0, None),
-    ];
-    for (texts, fold, whole, line, from, expected) in rows {
-        let mut matcher = FixedSet::new(rt.alloc(), texts, fold, whole)?;
-        assert!(rt; from <= line.len(), "{line:?}");
-        let found = matcher.find(line, from, &mut fresh_meter());
-        let place = found.map(|part| (part.start, part.end));
-        assert_eq!(rt; place, expected, "{texts:?} on {line:?} from {from}");
+    for row in searches() {
+        assert_search(&rt, rt.alloc(), row)?;
     }
     Ok(())
 }

@@ -1,6 +1,6 @@
 //! The tree of the beginnings of some strings.
 ghost use Rattle.std.specs.Prelude.{◌≡◌, ℕ, ◌+◌, ◌<◌, ◌≤◌, [], ◌∷◌, ◌++◌, length, slice_index, MatchOption, IfSome};
-ghost use Rattle.re_search.specs.FixedSets.{IsTrie, IsTrieOf, IsFront, Labels};
+ghost use Rattle.re_search.specs.Working.FixedSets.{IsTrie, IsTrieOf, IsFront, Labels};
 
 use memchr::memchr;
 

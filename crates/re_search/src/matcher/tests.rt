@@ -2,14 +2,15 @@ use super::*;
 use crate::tests::all_parts;
 use re_auto::fresh_meter;
 use std::alloc::AllocError;
+use std::process::Abort;
 use std::test::Fail;
 
 // A pattern: its syntax and text, whether both cases of a letter are alike, and whether the whole
 // line has to be matched.
-type Pattern<'a> = (Syntax, &'a [u8], bool, bool);
+type Pattern = (Syntax, &'static [u8], bool, bool);
 
 // A pattern, a line, whether it is matched, and its parts.
-type Row<'a> = (Pattern<'a>, &'a [u8], bool, &'a [(usize, usize)]);
+type Row = (Pattern, &'static [u8], bool, &'static [(usize, usize)]);
 
 // All parts of the line for one matcher.
 fn parts_of_one(
@@ -20,207 +21,232 @@ fn parts_of_one(
     all_parts(alloc, &mut [matcher], line)
 }
 
+static ROWS: [Row; 38] = [
+    (
+        (Syntax::Basic, b"a*", false, false),
+        b"baaac",
+        true,
+        &[(1, 4)],
+    ),
+    (
+        (Syntax::Extended, b"ab|abcd|bc", false, false),
+        b"xabcde",
+        true,
+        &[(1, 5)],
+    ),
+    (
+        (Syntax::Extended, b"a{2,3}", false, false),
+        b"aaaaaaa",
+        true,
+        &[(0, 3), (3, 6)],
+    ),
+    (
+        (Syntax::Basic, b"[]a-]", false, false),
+        b"a]-b",
+        true,
+        &[(0, 1), (1, 2), (2, 3)],
+    ),
+    (
+        (Syntax::Basic, b"[^a]", true, false),
+        b"aAb",
+        true,
+        &[(2, 3)],
+    ),
+    (
+        (Syntax::Basic, b"[^a]", false, false),
+        b"aAb",
+        true,
+        &[(1, 2), (2, 3)],
+    ),
+    (
+        (Syntax::Extended, b"(^a|b)c", false, false),
+        b"ac",
+        true,
+        &[(0, 2)],
+    ),
+    (
+        (Syntax::Extended, b"(^a|b)c", false, false),
+        b"bc",
+        true,
+        &[(0, 2)],
+    ),
+    (
+        (Syntax::Extended, b"(^a|b)c", false, false),
+        b"xac",
+        false,
+        &[],
+    ),
+    (
+        (Syntax::Basic, b".", false, false),
+        b"\xff",
+        true,
+        &[(0, 1)],
+    ),
+    ((Syntax::Basic, b".", false, false), b"\x00", false, &[]),
+    (
+        (Syntax::Extended, b"(^a|b)*", false, true),
+        b"abb",
+        true,
+        &[(0, 3)],
+    ),
+    (
+        (Syntax::Extended, b"(^a|b)*", false, true),
+        b"bab",
+        false,
+        &[],
+    ),
+    ((Syntax::Extended, b"(^a|b)*", false, true), b"", true, &[]),
+    ((Syntax::Basic, b"^$", false, false), b"", true, &[]),
+    ((Syntax::Basic, b"^$", false, false), b"a", false, &[]),
+    ((Syntax::Extended, b"a^b", false, false), b"a^b", false, &[]),
+    ((Syntax::Extended, b"a^b", false, false), b"ab", false, &[]),
+    (
+        (Syntax::Basic, b"a^b", false, false),
+        b"a^b",
+        true,
+        &[(0, 3)],
+    ),
+    ((Syntax::Basic, b"a^b", false, false), b"ab", false, &[]),
+    (
+        (Syntax::Basic, b"^a", false, false),
+        b"aaa",
+        true,
+        &[(0, 1)],
+    ),
+    (
+        (Syntax::Basic, b"a$", false, false),
+        b"aaa",
+        true,
+        &[(2, 3)],
+    ),
+    ((Syntax::Basic, b"a*", false, true), b"aa", true, &[(0, 2)]),
+    ((Syntax::Basic, b"a*", false, true), b"", true, &[]),
+    ((Syntax::Basic, b"a*", false, true), b"aab", false, &[]),
+    ((Syntax::Basic, b"x*", false, false), b"y", true, &[]),
+    (
+        (Syntax::Basic, b"x*", false, false),
+        b"yxxyx",
+        true,
+        &[(1, 3), (4, 5)],
+    ),
+    (
+        (Syntax::Extended, b"b|ab*", false, false),
+        b"babbxb",
+        true,
+        &[(0, 1), (1, 4), (5, 6)],
+    ),
+    (
+        (Syntax::Basic, b"[\x7f\x80]", false, false),
+        b"\x00\x7f\x80\xff",
+        true,
+        &[(1, 2), (2, 3)],
+    ),
+    (
+        (Syntax::Basic, b".*", false, false),
+        b"\x01\x7f\x80\xff",
+        true,
+        &[(0, 4)],
+    ),
+    ((Syntax::Fixed, b"", false, false), b"x", true, &[]),
+    (
+        (Syntax::Fixed, b"a.", false, false),
+        b"aba.",
+        true,
+        &[(2, 4)],
+    ),
+    (
+        (Syntax::Fixed, b"a.", true, false),
+        b"abA.",
+        true,
+        &[(2, 4)],
+    ),
+    ((Syntax::Fixed, b"a.", false, false), b"abA.", false, &[]),
+    ((Syntax::Fixed, b"aB", true, true), b"Ab", true, &[(0, 2)]),
+    (
+        (Syntax::Fixed, b"\x00\xff", false, false),
+        b"\x00\x00\xff",
+        true,
+        &[(1, 3)],
+    ),
+    (
+        (Syntax::Fixed, b"\x00\xff", true, false),
+        b"\x00\x00\xff",
+        true,
+        &[(1, 3)],
+    ),
+    ((Syntax::Basic, b"ab", true, true), b"abx", false, &[]),
+];
+
+fn rows() -> &'static [Row] {
+    &ROWS
+}
+
+fn assert_line(rt: &impl Abort, alloc: Global, row: &Row) -> Result<(), Fail> {
+    let ((syntax, text, fold, whole), line, is_selected, expected) = *row;
+    let mut matcher = Matcher::new(alloc, text, syntax, fold, whole, 1)?;
+    let is_match = matcher.is_match(line, &mut fresh_meter());
+    assert_eq!(rt; is_match, is_selected, "{text:?} on {line:?}");
+    let found = parts_of_one(alloc, matcher, line)?;
+    assert_eq!(rt; found.as_slice(), expected, "{text:?} on {line:?}");
+    Ok(())
+}
+
 #[test]
 fn a_line_has_its_parts(rt: HostRuntime) -> Result<(), Fail> {
-    let rows: [Row; 38] = [
-        (
-            (Syntax::Basic, b"a*", false, false),
-            b"baaac",
-            true,
-            &[(1, 4)],
-        ),
-        (
-            (Syntax::Extended, b"ab|abcd|bc", false, false),
-            b"xabcde",
-            true,
-            &[(1, 5)],
-        ),
-        (
-            (Syntax::Extended, b"a{2,3}", false, false),
-            b"aaaaaaa",
-            true,
-            &[(0, 3), (3, 6)],
-        ),
-        (
-            (Syntax::Basic, b"[]a-]", false, false),
-            b"a]-b",
-            true,
-            &[(0, 1), (1, 2), (2, 3)],
-        ),
-        (
-            (Syntax::Basic, b"[^a]", true, false),
-            b"aAb",
-            true,
-            &[(2, 3)],
-        ),
-        (
-            (Syntax::Basic, b"[^a]", false, false),
-            b"aAb",
-            true,
-            &[(1, 2), (2, 3)],
-        ),
-        (
-            (Syntax::Extended, b"(^a|b)c", false, false),
-            b"ac",
-            true,
-            &[(0, 2)],
-        ),
-        (
-            (Syntax::Extended, b"(^a|b)c", false, false),
-            b"bc",
-            true,
-            &[(0, 2)],
-        ),
-        (
-            (Syntax::Extended, b"(^a|b)c", false, false),
-            b"xac",
-            false,
-            &[],
-        ),
-        (
-            (Syntax::Basic, b".", false, false),
-            b"\xff",
-            true,
-            &[(0, 1)],
-        ),
-        ((Syntax::Basic, b".", false, false), b"\x00", false, &[]),
-        (
-            (Syntax::Extended, b"(^a|b)*", false, true),
-            b"abb",
-            true,
-            &[(0, 3)],
-        ),
-        (
-            (Syntax::Extended, b"(^a|b)*", false, true),
-            b"bab",
-            false,
-            &[],
-        ),
-        ((Syntax::Extended, b"(^a|b)*", false, true), b"", true, &[]),
-        ((Syntax::Basic, b"^$", false, false), b"", true, &[]),
-        ((Syntax::Basic, b"^$", false, false), b"a", false, &[]),
-        ((Syntax::Extended, b"a^b", false, false), b"a^b", false, &[]),
-        ((Syntax::Extended, b"a^b", false, false), b"ab", false, &[]),
-        (
-            (Syntax::Basic, b"a^b", false, false),
-            b"a^b",
-            true,
-            &[(0, 3)],
-        ),
-        ((Syntax::Basic, b"a^b", false, false), b"ab", false, &[]),
-        (
-            (Syntax::Basic, b"^a", false, false),
-            b"aaa",
-            true,
-            &[(0, 1)],
-        ),
-        (
-            (Syntax::Basic, b"a$", false, false),
-            b"aaa",
-            true,
-            &[(2, 3)],
-        ),
-        ((Syntax::Basic, b"a*", false, true), b"aa", true, &[(0, 2)]),
-        ((Syntax::Basic, b"a*", false, true), b"", true, &[]),
-        ((Syntax::Basic, b"a*", false, true), b"aab", false, &[]),
-        ((Syntax::Basic, b"x*", false, false), b"y", true, &[]),
-        (
-            (Syntax::Basic, b"x*", false, false),
-            b"yxxyx",
-            true,
-            &[(1, 3), (4, 5)],
-        ),
-        (
-            (Syntax::Extended, b"b|ab*", false, false),
-            b"babbxb",
-            true,
-            &[(0, 1), (1, 4), (5, 6)],
-        ),
-        (
-            (Syntax::Basic, b"[\x7f\x80]", false, false),
-            b"\x00\x7f\x80\xff",
-            true,
-            &[(1, 2), (2, 3)],
-        ),
-        (
-            (Syntax::Basic, b".*", false, false),
-            b"\x01\x7f\x80\xff",
-            true,
-            &[(0, 4)],
-        ),
-        ((Syntax::Fixed, b"", false, false), b"x", true, &[]),
-        (
-            (Syntax::Fixed, b"a.", false, false),
-            b"aba.",
-            true,
-            &[(2, 4)],
-        ),
-        (
-            (Syntax::Fixed, b"a.", true, false),
-            b"abA.",
-            true,
-            &[(2, 4)],
-        ),
-        ((Syntax::Fixed, b"a.", false, false), b"abA.", false, &[]),
-        ((Syntax::Fixed, b"aB", true, true), b"Ab", true, &[(0, 2)]),
-        (
-            (Syntax::Fixed, b"\x00\xff", false, false),
-            b"\x00\x00\xff",
-            true,
-            &[(1, 3)],
-        ),
-        (
-            (Syntax::Fixed, b"\x00\xff", true, false),
-            b"\x00\x00\xff",
-            true,
-            &[(1, 3)],
-        ),
-        ((Syntax::Basic, b"ab", true, true), b"abx", false, &[]),
-    ];
-    for ((syntax, text, fold, whole), line, is_selected, expected) in rows {
-        let mut matcher = Matcher::new(rt.alloc(), text, syntax, fold, whole, 1)?;
-        let is_match = matcher.is_match(line, &mut fresh_meter());
-        assert_eq!(rt; is_match, is_selected, "{text:?} on {line:?}");
-        let found = parts_of_one(rt.alloc(), matcher, line)?;
-        assert_eq!(rt; found.as_slice(), expected, "{text:?} on {line:?}");
+    for row in rows() {
+        assert_line(&rt, rt.alloc(), row)?;
     }
     Ok(())
 }
 
 // A pattern, a line and a place: the part from there on, and the most steps that it may take.
-type Search<'a> = (Pattern<'a>, &'a [u8], usize, Option<(usize, usize)>, u64);
+type Search = (Pattern, &'static [u8], usize, Option<(usize, usize)>, u64);
+
+const CHOICE: Pattern = (Syntax::Extended, b"ab|abcd|bc", false, false);
+
+const WHOLE: Pattern = (Syntax::Basic, b"a*", false, true);
+
+const FIRST: Pattern = (Syntax::Basic, b"^a", false, false);
+
+static SEARCHES: [Search; 10] = [
+    (CHOICE, b"xabcde", 0, Some((1, 5)), 7),
+    (CHOICE, b"xabcde", 2, Some((2, 4)), 5),
+    (CHOICE, b"xabcde", 5, None, 2),
+    (CHOICE, b"xabcde", 6, None, 1),
+    (WHOLE, b"aa", 0, Some((0, 2)), 3),
+    (WHOLE, b"aa", 1, None, 2),
+    (WHOLE, b"", 0, None, 1),
+    (FIRST, b"aaa", 0, Some((0, 1)), 4),
+    (FIRST, b"aaa", 1, None, 3),
+    (
+        (Syntax::Fixed, b"aa", false, false),
+        b"aaa",
+        1,
+        Some((1, 3)),
+        3,
+    ),
+];
+
+fn searches() -> &'static [Search] {
+    &SEARCHES
+}
+
+fn assert_search(rt: &impl Abort, alloc: Global, row: &Search) -> Result<(), Fail> {
+    let ((syntax, text, fold, whole), line, from, expected, most) = *row;
+    let mut matcher = Matcher::new(alloc, text, syntax, fold, whole, 65_536)?;
+    let mut meter = fresh_meter();
+    assert!(rt; from <= line.len());
+    let found = matcher.find(line, from, &mut meter);
+    let place = found.map(|part| (part.start, part.end));
+    assert_eq!(rt; place, expected, "{text:?} on {line:?} from {from}");
+    assert!(rt; meter.built() <= most && meter.reused() == 0, "{line:?}");
+    Ok(())
+}
 
 #[test]
 fn a_part_is_found_in_so_many_steps(rt: HostRuntime) -> Result<(), Fail> {
-    let choice: Pattern = (Syntax::Extended, b"ab|abcd|bc", false, false);
-    let whole: Pattern = (Syntax::Basic, b"a*", false, true);
-    let first: Pattern = (Syntax::Basic, b"^a", false, false);
-    let rows: [Search; 10] = [
-        (choice, b"xabcde", 0, Some((1, 5)), 7),
-        (choice, b"xabcde", 2, Some((2, 4)), 5),
-        (choice, b"xabcde", 5, None, 2),
-        (choice, b"xabcde", 6, None, 1),
-        (whole, b"aa", 0, Some((0, 2)), 3),
-        (whole, b"aa", 1, None, 2),
-        (whole, b"", 0, None, 1),
-        (first, b"aaa", 0, Some((0, 1)), 4),
-        (first, b"aaa", 1, None, 3),
-        (
-            (Syntax::Fixed, b"aa", false, false),
-            b"aaa",
-            1,
-            Some((1, 3)),
-            3,
-        ),
-    ];
-    for ((syntax, text, fold, whole), line, from, expected, most) in rows {
-        let mut matcher = Matcher::new(rt.alloc(), text, syntax, fold, whole, 65_536)?;
-        let mut meter = fresh_meter();
-        assert!(rt; from <= line.len());
-        let found = matcher.find(line, from, &mut meter);
-        let place = found.map(|part| (part.start, part.end));
-        assert_eq!(rt; place, expected, "{text:?} on {line:?} from {from}");
-        assert!(rt; meter.built() <= most && meter.reused() == 0, "{line:?}");
+    for row in searches() {
+        assert_search(&rt, rt.alloc(), row)?;
     }
     Ok(())
 }
@@ -306,72 +332,87 @@ fn a_long_line_is_stepped_to_its_end(rt: HostRuntime) -> Result<(), Fail> {
 }
 
 // A pattern, a line and a place: the part from there on, and whether it is told without a step.
-type Needed<'a> = (Pattern<'a>, &'a [u8], usize, Option<(usize, usize)>, bool);
+type Needed = (Pattern, &'static [u8], usize, Option<(usize, usize)>, bool);
+
+const REPEATED: Pattern = (Syntax::Basic, b"x*ab", false, false);
+
+const NUMBERED: Pattern = (Syntax::Extended, b"ab[0-9]", false, false);
+
+const LEFT_OUT: Pattern = (Syntax::Extended, b"(ab)?c", false, false);
+
+const GROUPED: Pattern = (Syntax::Extended, b"x(ab|cd)y", false, false);
+
+static NEEDED: [Needed; 16] = [
+    (REPEATED, b"xxxaxb", 0, None, true),
+    (REPEATED, b"abxx", 1, None, true),
+    (REPEATED, b"cxxab", 0, Some((1, 5)), false),
+    (NUMBERED, b"xabx", 0, None, false),
+    (NUMBERED, b"abxab1", 0, Some((3, 6)), false),
+    (LEFT_OUT, b"xc", 0, Some((1, 2)), false),
+    (GROUPED, b"abcd", 0, None, true),
+    (GROUPED, b"xcdy", 0, Some((0, 4)), false),
+    (
+        (Syntax::Extended, b"ab|cd", false, false),
+        b"cd",
+        0,
+        Some((0, 2)),
+        false,
+    ),
+    (
+        (Syntax::Basic, b"[ab]x*", false, false),
+        b"bx",
+        0,
+        Some((0, 2)),
+        false,
+    ),
+    (
+        (Syntax::Basic, b"ab", false, false),
+        b"xabab",
+        2,
+        Some((3, 5)),
+        true,
+    ),
+    (
+        (Syntax::Basic, b"a", false, false),
+        b"xa",
+        0,
+        Some((1, 2)),
+        true,
+    ),
+    ((Syntax::Basic, b"ab", false, true), b"xab", 0, None, false),
+    ((Syntax::Basic, b"a*b", false, true), b"aa", 0, None, true),
+    (
+        (Syntax::Basic, b"ab", true, false),
+        b"xAb",
+        0,
+        Some((1, 3)),
+        false,
+    ),
+    ((Syntax::Basic, b"a-b", true, false), b"xab", 0, None, true),
+];
+
+fn needed() -> &'static [Needed] {
+    &NEEDED
+}
+
+fn assert_needed(rt: &impl Abort, alloc: Global, row: &Needed) -> Result<(), Fail> {
+    let ((syntax, text, fold, whole), line, from, expected, at_once) = *row;
+    let mut matcher = Matcher::new(alloc, text, syntax, fold, whole, 1)?;
+    let mut meter = fresh_meter();
+    assert!(rt; from <= line.len());
+    let part = matcher.find(line, from, &mut meter);
+    let place = part.map(|span| (span.start, span.end));
+    assert_eq!(rt; place, expected, "{text:?} on {line:?} from {from}");
+    let is_match = matcher.is_match(&line[from..], &mut meter);
+    assert_eq!(rt; is_match, expected.is_some(), "{text:?} on {line:?}");
+    assert_eq!(rt; meter.built() == 0, at_once, "{text:?} on {line:?}");
+    Ok(())
+}
 
 #[test]
 fn a_string_that_is_needed_is_looked_for_first(rt: HostRuntime) -> Result<(), Fail> {
-    let repeated: Pattern = (Syntax::Basic, b"x*ab", false, false);
-    let numbered: Pattern = (Syntax::Extended, b"ab[0-9]", false, false);
-    let left_out: Pattern = (Syntax::Extended, b"(ab)?c", false, false);
-    let grouped: Pattern = (Syntax::Extended, b"x(ab|cd)y", false, false);
-    let rows: [Needed; 16] = [
-        (repeated, b"xxxaxb", 0, None, true),
-        (repeated, b"abxx", 1, None, true),
-        (repeated, b"cxxab", 0, Some((1, 5)), false),
-        (numbered, b"xabx", 0, None, false),
-        (numbered, b"abxab1", 0, Some((3, 6)), false),
-        (left_out, b"xc", 0, Some((1, 2)), false),
-        (grouped, b"abcd", 0, None, true),
-        (grouped, b"xcdy", 0, Some((0, 4)), false),
-        (
-            (Syntax::Extended, b"ab|cd", false, false),
-            b"cd",
-            0,
-            Some((0, 2)),
-            false,
-        ),
-        (
-            (Syntax::Basic, b"[ab]x*", false, false),
-            b"bx",
-            0,
-            Some((0, 2)),
-            false,
-        ),
-        (
-            (Syntax::Basic, b"ab", false, false),
-            b"xabab",
-            2,
-            Some((3, 5)),
-            true,
-        ),
-        (
-            (Syntax::Basic, b"a", false, false),
-            b"xa",
-            0,
-            Some((1, 2)),
-            true,
-        ),
-        ((Syntax::Basic, b"ab", false, true), b"xab", 0, None, false),
-        ((Syntax::Basic, b"a*b", false, true), b"aa", 0, None, true),
-        (
-            (Syntax::Basic, b"ab", true, false),
-            b"xAb",
-            0,
-            Some((1, 3)),
-            false,
-        ),
-        ((Syntax::Basic, b"a-b", true, false), b"xab", 0, None, true),
-    ];
-    for ((syntax, text, fold, whole), line, from, expected, at_once) in rows {
-        let mut matcher = Matcher::new(rt.alloc(), text, syntax, fold, whole, 1)?;
-        let mut meter = fresh_meter();
-        assert!(rt; from <= line.len());
-        let part = matcher.find(line, from, &mut meter);
-        let place = part.map(|span| (span.start, span.end));
-        assert_eq!(rt; place, expected, "{text:?} on {line:?} from {from}");
-        let is_match = matcher.is_match(&line[from..], &mut meter);
-        assert_eq!(rt; is_match, expected.is_some(), "{text:?} on {line:?}");
-        assert_eq!(rt; meter.built() == 0, at_once, "{text:?} on {line:?}");
+    for row in needed() {
+        assert_needed(&rt, rt.alloc(), row)?;
     }
     Ok(())
 }

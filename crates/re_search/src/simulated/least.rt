@@ -5,9 +5,9 @@ ghost use Rattle.re_syntax.specs.Expression.{Expression, expression_of};
 ghost use Rattle.re_auto.specs.declared.build.BuildFault.TheVariants.{Memory};
 ghost use Rattle.re_auto.specs.declared.mode.Mode.TheVariants.{Search};
 ghost use Rattle.re_auto.specs.Meters.{many_built};
-ghost use Rattle.re_auto.specs.StartSets.{place_of};
+ghost use Rattle.re_auto.specs.Working.StartSets.{place_of};
 ghost use Rattle.re_search.specs.Searching.{FindsPart, AddsAtMost};
-ghost use Rattle.re_search.specs.Simulations.{AreStartsFor, IsBestSpan, Carries, better_span};
+ghost use Rattle.re_search.specs.Working.Simulations.{AreStartsFor, IsBestSpan, Carries, better_span};
 
 use crate::span::Span;
 use re_auto::{Automaton, BuildFault, Meter, Mode, Starts};

@@ -4,9 +4,9 @@ ghost use Rattle.re_syntax.specs.Expression.{expression_of};
 ghost use Rattle.re_auto.specs.declared.build.BuildFault.TheVariants.{Memory};
 ghost use Rattle.re_auto.specs.declared.mode.Mode.TheVariants.{Search, Whole};
 ghost use Rattle.re_auto.specs.Meters.{many_built};
-ghost use Rattle.re_auto.specs.StateSets.{IsMadeFor, IsNextSet};
-ghost use Rattle.re_search.specs.Simulations.{AreSetsFor};
-ghost use Rattle.re_search.specs.Stages.{Cache, Searches, FinishesFrom, GoesFrom};
+ghost use Rattle.re_auto.specs.Working.StateSets.{IsMadeFor, IsNextSet};
+ghost use Rattle.re_search.specs.Working.Simulations.{AreSetsFor};
+ghost use Rattle.re_search.specs.Working.Stages.{Cache, Searches, FinishesFrom, GoesFrom};
 
 use re_auto::{Automaton, BuildFault, Meter, Mode, StateSet};
 use std::alloc::Global;

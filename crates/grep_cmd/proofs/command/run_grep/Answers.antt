@@ -1,7 +1,7 @@
 use Rattle.grep_core.specs.Sources.{GivesBack}
 use Rattle.grep_cmd.specs.Words.{asked}
-use Rattle.grep_cmd.proofs.CommandLemmas.{words_read, words_refused}
-use Rattle.grep_cmd.proofs.TellingLemmas.{gives_up}
+use Rattle.grep_cmd.proofs.lemmas.CommandLemmas.{words_read, words_refused}
+use Rattle.grep_cmd.proofs.lemmas.TellingLemmas.{gives_up}
 use Rattle.grep_cmd.proofs.command.run_grep.Goals as goal
 
 pub returns-in-Ok : goal.returns-in-Ok

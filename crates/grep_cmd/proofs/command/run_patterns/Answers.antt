@@ -1,6 +1,6 @@
 use Rattle.std.proofs.Common.{refl, sym, ◌∙◌, inr}
-use Rattle.grep_cmd.proofs.CommandLemmas.{too_many, refuses, searches, kind_differs, not_memory, place_fits}
-use Rattle.grep_cmd.proofs.TellingLemmas.{gives_up}
+use Rattle.grep_cmd.proofs.lemmas.CommandLemmas.{too_many, refuses, searches, kind_differs, not_memory, place_fits}
+use Rattle.grep_cmd.proofs.lemmas.TellingLemmas.{gives_up}
 use Rattle.grep_cmd.proofs.command.run_patterns.Goals as goal
 
 pub returns-then-has_more_than : goal.returns-then-has_more_than

@@ -2,9 +2,9 @@ use Rattle.std.proofs.Common.{map, ap}
 use Rattle.re_syntax.specs.Lines.{lines_of}
 use Rattle.grep_core.specs.Run.{writer}
 use Rattle.grep_core.specs.Sources.{GivesBack}
-use Rattle.grep_core.proofs.SourceLaws.{gives_both}
+use Rattle.grep_core.proofs.lemmas.SourceLaws.{gives_both}
 use Rattle.grep_cmd.specs.Words.{asked, given_source}
-use Rattle.grep_cmd.proofs.CommandLemmas.{patterns_read, patterns_unread}
+use Rattle.grep_cmd.proofs.lemmas.CommandLemmas.{patterns_read, patterns_unread}
 use Rattle.grep_cmd.proofs.command.run_request.Goals as goal
 
 pub returns-in-Ok : goal.returns-in-Ok

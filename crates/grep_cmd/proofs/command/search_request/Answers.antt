@@ -1,8 +1,8 @@
 use Rattle.std.proofs.Common.{map}
-use Rattle.re_search.specs.Filters.{AreNeeded}
-use Rattle.re_search.specs.Reading.{matched_expression}
+use Rattle.re_search.specs.Working.Filters.{AreNeeded}
+use Rattle.re_search.specs.Working.Matchers.{matched_expression}
 use Rattle.grep_core.specs.Run.{writer}
-use Rattle.grep_cmd.proofs.ServingLemmas.{behind_reference}
+use Rattle.grep_cmd.proofs.lemmas.ServingLemmas.{behind_reference}
 use Rattle.grep_cmd.proofs.command.search_request.Goals as goal
 
 pub returns : goal.returns

@@ -1,6 +1,6 @@
 use Rattle.std.proofs.Common.{◌≡◌, rules, [], ◌∷◌, ◌++◌, length, refl, sym, ap, ◌∙◌, append_assoc}
 use Rattle.re_syntax.specs.Lines.{lines_of}
-use Rattle.grep_core.proofs.MatcherLemmas.{AreMatchers-push, refused_or_memory}
+use Rattle.grep_core.proofs.lemmas.MatcherLemmas.{AreMatchers-push, refused_or_memory}
 use Rattle.grep_cmd.proofs.matchers.matchers_of.Goals as goal
 
 pub returns-in-Err-clause-err : goal.returns-in-Err-clause-err

@@ -1,7 +1,7 @@
 use Rattle.std.proofs.Common.{◌≡◌, List, ◌++◌}
 use Rattle.re_syntax.specs.Bytes.{Text}
 use Rattle.re_syntax.specs.Lines.{lines_of}
-use Rattle.grep_core.specs.Matchers.{AreMatchers}
+use Rattle.grep_core.specs.Working.MatcherLists.{AreMatchers}
 use Rattle.grep_cmd.proofs.matchers.matchers_of.Given as goal
 
 -- some patterns have their matchers, and the others are left

@@ -1,9 +1,9 @@
 use Rattle.std.proofs.Common.{[], ◌∷◌, ap, ◌∙◌}
-use Rattle.grep_core.proofs.SourceLaws.{gives_both}
-use Rattle.grep_core.specs.LineReader.{LineReader}
+use Rattle.grep_core.proofs.lemmas.SourceLaws.{gives_both}
+use Rattle.grep_core.specs.Working.LineReader.{LineReader}
 use Rattle.grep_core.specs.Run.{count_more}
 use Rattle.grep_cmd.specs.Folder.{source_named}
-use Rattle.grep_cmd.proofs.SourceLemmas.{file_whole, file_broken}
+use Rattle.grep_cmd.proofs.lemmas.SourceLemmas.{file_whole, file_broken}
 use Rattle.grep_cmd.proofs.patterns.add_file.Goals as goal
 
 pub returns-in-Ok-true-clause-ok : goal.returns-in-Ok-true-clause-ok

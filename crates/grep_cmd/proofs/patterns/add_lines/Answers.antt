@@ -1,8 +1,8 @@
 use Rattle.std.proofs.Common.{◌≡◌, ◌≢◌, ◌≤◌, Err, ap, arith}
-use Rattle.grep_core.specs.declared.lines.Stage.TheVariants.{Ended}
+use Rattle.grep_core.specs.declared.input.lines.Stage.TheVariants.{Ended}
 use Rattle.grep_core.specs.Reading.{most_lines}
-use Rattle.grep_core.proofs.HandedLemmas.{still_open}
-use Rattle.grep_cmd.proofs.GatherLemmas.{so_far_none, so_far_line, all_added, some_added, most_added}
+use Rattle.grep_core.proofs.lemmas.HandedLemmas.{still_open}
+use Rattle.grep_cmd.proofs.lemmas.GatherLemmas.{so_far_none, so_far_line, all_added, some_added, most_added}
 use Rattle.grep_cmd.proofs.patterns.add_lines.Goals as goal
 
 pub loop-count-init : goal.loop-count-init

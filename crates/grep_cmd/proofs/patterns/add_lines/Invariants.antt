@@ -1,5 +1,5 @@
 use Rattle.std.proofs.Common.{◌-◌, ◌^◌}
-use Rattle.grep_cmd.proofs.GatherLemmas.{LinesSoFar}
+use Rattle.grep_cmd.proofs.lemmas.GatherLemmas.{LinesSoFar}
 use Rattle.grep_cmd.proofs.patterns.add_lines.Given as goal
 
 -- so many lines were added

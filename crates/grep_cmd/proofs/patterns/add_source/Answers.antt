@@ -1,8 +1,8 @@
 use Rattle.std.proofs.Common.{[], ◌∷◌, ◌++◌, sym, ap, ◌∙◌, subst}
 use Rattle.re_syntax.specs.Lines.{newline}
-use Rattle.grep_cmd.specs.Gathered.{AddsSource}
+use Rattle.grep_cmd.specs.Working.Gathered.{AddsSource}
 use Rattle.grep_cmd.specs.Words.{given_source}
-use Rattle.grep_cmd.proofs.SourceLemmas.{list_added}
+use Rattle.grep_cmd.proofs.lemmas.SourceLemmas.{list_added}
 use Rattle.grep_cmd.proofs.patterns.add_source.Goals as goal
 
 pub returns-in-Ok-clause-ok : goal.returns-in-Ok-clause-ok

@@ -1,8 +1,8 @@
 use Rattle.std.proofs.Common.{◌+◌, ◌++◌, map, drop, sym, ap, ◌∙◌, subst, arith}
 use Rattle.std.proofs.lemmas.List.{drop_all}
-use Rattle.grep_core.proofs.SourceLaws.{gives_both}
+use Rattle.grep_core.proofs.lemmas.SourceLaws.{gives_both}
 use Rattle.grep_cmd.specs.Words.{given_source}
-use Rattle.grep_cmd.proofs.SourceLemmas.{SourcesSoFar, next_source, sources_more, sources_stop, sources_all}
+use Rattle.grep_cmd.proofs.lemmas.SourceLemmas.{SourcesSoFar, next_source, sources_more, sources_stop, sources_all}
 use Rattle.grep_cmd.proofs.patterns.read_patterns.Goals as goal
 
 pub returns-in-Err-clause-err : goal.returns-in-Err-clause-err

@@ -2,7 +2,7 @@ use Rattle.std.proofs.Common.{◌≡◌, List, Option, drop, map}
 use Rattle.re_syntax.specs.Bytes.{Text}
 use Rattle.grep_core.specs.Sources.{GivesBack}
 use Rattle.grep_cmd.specs.Words.{given_source}
-use Rattle.grep_cmd.proofs.SourceLemmas.{SourcesSoFar}
+use Rattle.grep_cmd.proofs.lemmas.SourceLemmas.{SourcesSoFar}
 use Rattle.grep_cmd.proofs.patterns.read_patterns.Given as goal
 
 -- so many sources were read, and nothing failed

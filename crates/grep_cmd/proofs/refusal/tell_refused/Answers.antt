@@ -3,7 +3,7 @@ use Rattle.std.specs.Fmt.{decimal}
 use Rattle.re_syntax.specs.Lines.{newline}
 use Rattle.grep_core.specs.Written.{Writes}
 use Rattle.grep_cmd.specs.Texts.{kind_name, pattern_refused}
-use Rattle.grep_cmd.proofs.TellingLemmas.{tells_line, line_of_pieces}
+use Rattle.grep_cmd.proofs.lemmas.TellingLemmas.{tells_line, line_of_pieces}
 use Rattle.grep_cmd.proofs.refusal.tell_refused.Goals as goal
 
 pub returns : goal.returns

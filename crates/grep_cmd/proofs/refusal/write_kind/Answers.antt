@@ -1,7 +1,7 @@
 use Rattle.std.proofs.Common.{codes, subst}
 use Rattle.std.proofs.lemmas.Result.{err_from_is_err_and}
 use Rattle.grep_core.specs.Written.{Writes}
-use Rattle.grep_core.proofs.RowLemmas.{stops_early, writes_last}
+use Rattle.grep_core.proofs.lemmas.RowLemmas.{stops_early, writes_last}
 use Rattle.grep_cmd.specs.Texts.{kind_name}
 use Rattle.grep_cmd.proofs.refusal.write_kind.Goals as goal
 

@@ -1,6 +1,6 @@
 use Rattle.std.proofs.Common.{refl, sym, ap, ◌∙◌, [], ◌∷◌, ◌++◌, append_assoc}
 use Rattle.std.proofs.lemmas.List.Elements.{All-push}
-use Rattle.grep_cmd.specs.Serving.{IsStringFor}
+use Rattle.grep_cmd.specs.Working.Serving.{IsStringFor}
 use Rattle.grep_cmd.proofs.searchers.are_strings.Goals as goal
 
 pub loop-text-preserved : goal.loop-text-preserved

@@ -1,7 +1,7 @@
 use Rattle.std.proofs.Common.{◌≡◌, List, ◌++◌, All}
 use Rattle.re_syntax.specs.Bytes.{Text}
 use Rattle.re_syntax.specs.Lines.{lines_of}
-use Rattle.grep_cmd.specs.Serving.{IsStringFor}
+use Rattle.grep_cmd.specs.Working.Serving.{IsStringFor}
 use Rattle.grep_cmd.proofs.searchers.are_strings.Given as goal
 
 -- some patterns are strings, and the others are left

@@ -1,6 +1,6 @@
 use Rattle.std.proofs.Common.{length, sym, ◌∙◌, arith, ltb-true}
 use Rattle.re_syntax.specs.Lines.{lines_of}
-use Rattle.grep_cmd.proofs.ServingLemmas.{joined_serves}
+use Rattle.grep_cmd.proofs.lemmas.ServingLemmas.{joined_serves}
 use Rattle.grep_cmd.proofs.searchers.searchers_of.Goals as goal
 
 pub returns-then-are_strings-clause-ok : goal.returns-then-are_strings-clause-ok

@@ -1,6 +1,6 @@
 use Rattle.std.proofs.Common.{rules, map}
 use Rattle.grep_core.specs.Sources.{GivesBack}
-use Rattle.grep_core.proofs.GivenLaws.{RunGives-given}
+use Rattle.grep_core.proofs.lemmas.GivenLaws.{RunGives-given}
 use Rattle.grep_cmd.proofs.searching.search_files.Goals as goal
 
 pub returns : goal.returns

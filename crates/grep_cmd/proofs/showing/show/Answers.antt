@@ -2,7 +2,7 @@ use Rattle.std.proofs.Common.{[], subst}
 use Rattle.grep_core.specs.Row.{output_line}
 use Rattle.grep_core.specs.Written.{Writes}
 use Rattle.grep_cmd.specs.Show.{status_line}
-use Rattle.grep_cmd.proofs.ShowLaws.{shows_front, shows_middle, shows_all, tells_same}
+use Rattle.grep_cmd.proofs.lemmas.ShowLaws.{shows_front, shows_middle, shows_all, tells_same}
 use Rattle.grep_cmd.proofs.showing.show.Goals as goal
 
 pub returns-in_err-status : goal.returns-in_err-status

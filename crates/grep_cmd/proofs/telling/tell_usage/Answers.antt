@@ -1,4 +1,4 @@
-use Rattle.grep_cmd.proofs.TellingLemmas.{tells_lines}
+use Rattle.grep_cmd.proofs.lemmas.TellingLemmas.{tells_lines}
 use Rattle.grep_cmd.proofs.telling.tell_usage.Goals as goal
 
 pub returns : goal.returns

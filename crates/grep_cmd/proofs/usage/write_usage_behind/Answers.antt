@@ -2,7 +2,7 @@ use Rattle.std.proofs.Common.{[], sym, subst}
 use Rattle.grep_core.specs.Output.{written}
 use Rattle.grep_core.specs.Written.{Writes}
 use Rattle.grep_cmd.specs.Texts.{usage}
-use Rattle.grep_cmd.proofs.UsageLemmas.{usage_behind-other}
+use Rattle.grep_cmd.proofs.lemmas.UsageLemmas.{usage_behind-other}
 use Rattle.grep_cmd.proofs.usage.write_usage_behind.Goals as goal
 
 pub returns-in_default : goal.returns-in_default

@@ -2,7 +2,7 @@ use Rattle.std.proofs.Common.{[]}
 use Rattle.std.proofs.lemmas.Result.{err_from_is_err_and}
 use Rattle.grep_core.specs.Row.{output_line}
 use Rattle.grep_core.specs.Output.{written}
-use Rattle.grep_core.proofs.RowLemmas.{stops_early, writes_last}
+use Rattle.grep_core.proofs.lemmas.RowLemmas.{stops_early, writes_last}
 use Rattle.grep_cmd.specs.Texts.{fault_text, usage_behind}
 use Rattle.grep_cmd.proofs.usage.write_usage_fault.Goals as goal
 

@@ -1,7 +1,7 @@
 use Rattle.std.proofs.Common.{rules}
 use Rattle.grep_cmd.specs.Words.{texts_of}
-use Rattle.grep_cmd.specs.Pieces.{pieces_left}
-use Rattle.grep_cmd.proofs.WordLemmas.{reads_on-begins}
+use Rattle.grep_cmd.specs.Working.Pieces.{pieces_left}
+use Rattle.grep_cmd.proofs.lemmas.WordLemmas.{reads_on-begins}
 use Rattle.grep_cmd.proofs.words.read_words.Goals as goal
 
 pub loop-piece-init : goal.loop-piece-init

@@ -1,6 +1,6 @@
 use Rattle.std.proofs.Common.{◌≡◌}
 use Rattle.grep_cmd.specs.Words.{asked, read, reads_on, texts_of}
-use Rattle.grep_cmd.specs.Pieces.{pieces_left}
+use Rattle.grep_cmd.specs.Working.Pieces.{pieces_left}
 use Rattle.grep_cmd.proofs.words.read_words.Given as goal
 
 -- the request so far and the pieces that are left come to what the words ask for

@@ -1,6 +1,6 @@
 use Rattle.std.proofs.Common.{◌≡◌, ◌-◌, map, length, sym, subst, All}
 use Rattle.std.proofs.lemmas.List.Elements.{All-drop}
-use Rattle.grep_session.proofs.AddingLemmas.{map_lent, map_back}
+use Rattle.grep_session.proofs.lemmas.AddingLemmas.{map_lent, map_back}
 use Rattle.grep_session.proofs.adding.add_later.Goals as goal
 
 pub add_matching-requires-clause-whole : goal.add_matching-requires-clause-whole

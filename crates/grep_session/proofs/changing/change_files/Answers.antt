@@ -1,11 +1,11 @@
 use Rattle.std.proofs.Common.{map, ◌∙◌, sym, refl, subst, []}
 use Rattle.std.specs.List.{AllZip}
-use Rattle.grep_core.proofs.CostLaws.{same_length}
-use Rattle.grep_session.specs.Changed.{ChangeCost, IsWithin}
-use Rattle.grep_session.specs.Found.{IsRight}
-use Rattle.grep_session.specs.Kept.{IsFileKept, kept_file}
-use Rattle.grep_session.proofs.ColumnLemmas.{files_next, files_parted, right_more}
-use Rattle.grep_session.proofs.ChangeLemmas.{ChangeCost-exists, each_none, each_both, each_front, kept_at}
+use Rattle.grep_core.proofs.lemmas.CostLaws.{same_length}
+use Rattle.grep_session.specs.Working.Changed.{ChangeCost, IsWithin}
+use Rattle.grep_session.specs.Working.Found.{IsRight}
+use Rattle.grep_session.specs.Working.Kept.{IsFileKept, kept_file}
+use Rattle.grep_session.proofs.lemmas.ColumnLemmas.{files_next, files_parted, right_more}
+use Rattle.grep_session.proofs.lemmas.ChangeLemmas.{ChangeCost-exists, each_none, each_both, each_front, kept_at}
 use Rattle.grep_session.proofs.changing.change_files.Goals as goal
 
 pub loop-file-init : goal.loop-file-init

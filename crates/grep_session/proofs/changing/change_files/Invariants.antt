@@ -1,9 +1,9 @@
 use Rattle.std.proofs.Common.{◌≡◌, map, take, All, List}
 use Rattle.std.specs.List.{AllZip}
 use Rattle.re_syntax.specs.Expression.{Expression}
-use Rattle.grep_session.specs.Changed.{HasChanged, ChangeCost, SearchesEach}
-use Rattle.grep_session.specs.Found.{IsRight, lines_of_files}
-use Rattle.grep_session.specs.Kept.{IsFileKept, kept_file}
+use Rattle.grep_session.specs.Working.Changed.{HasChanged, ChangeCost, SearchesEach}
+use Rattle.grep_session.specs.Working.Found.{IsRight, lines_of_files}
+use Rattle.grep_session.specs.Working.Kept.{IsFileKept, kept_file}
 use Rattle.grep_session.proofs.changing.change_files.Given as goal
 
 -- the lines of the first files were searched

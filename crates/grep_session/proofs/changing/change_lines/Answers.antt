@@ -1,9 +1,9 @@
 use Rattle.std.proofs.Common.{map, ◌∙◌, sym, refl, subst}
-use Rattle.grep_core.proofs.CostLaws.{same_length}
-use Rattle.grep_session.specs.Changed.{ChangeCost, IsWithin}
-use Rattle.grep_session.specs.Kept.{IsKept, line_text}
-use Rattle.grep_session.proofs.ColumnLemmas.{map_next, map_parted, adds_right_next}
-use Rattle.grep_session.proofs.ChangeLemmas.{ChangeCost-exists, each_none, each_one, each_next, kept_at, adds_right_none}
+use Rattle.grep_core.proofs.lemmas.CostLaws.{same_length}
+use Rattle.grep_session.specs.Working.Changed.{ChangeCost, IsWithin}
+use Rattle.grep_session.specs.Working.Kept.{IsKept, line_text}
+use Rattle.grep_session.proofs.lemmas.ColumnLemmas.{map_next, map_parted, adds_right_next}
+use Rattle.grep_session.proofs.lemmas.ChangeLemmas.{ChangeCost-exists, each_none, each_one, each_next, kept_at, adds_right_none}
 use Rattle.grep_session.proofs.changing.change_lines.Goals as goal
 
 pub loop-line-init : goal.loop-line-init

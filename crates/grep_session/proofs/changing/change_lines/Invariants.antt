@@ -1,8 +1,8 @@
 use Rattle.std.proofs.Common.{◌≡◌, map, take, All, List}
 use Rattle.re_syntax.specs.Expression.{Expression}
-use Rattle.grep_session.specs.Changed.{HasChanged, ChangeCost, SearchesEach}
-use Rattle.grep_session.specs.Found.{AddsRight}
-use Rattle.grep_session.specs.Kept.{IsKept, line_text}
+use Rattle.grep_session.specs.Working.Changed.{HasChanged, ChangeCost, SearchesEach}
+use Rattle.grep_session.specs.Working.Found.{AddsRight}
+use Rattle.grep_session.specs.Working.Kept.{IsKept, line_text}
 use Rattle.grep_session.proofs.changing.change_lines.Given as goal
 
 -- the first lines were searched

@@ -1,8 +1,8 @@
 use Rattle.std.proofs.Common.{map, arith}
 use Rattle.std.proofs.lemmas.List.{length-map}
-use Rattle.grep_core.proofs.CostLaws.{adds_none}
+use Rattle.grep_core.proofs.lemmas.CostLaws.{adds_none}
 use Rattle.grep_session.specs.declared.change.Change.TheVariants.{Added}
-use Rattle.grep_session.proofs.ChangeLemmas.{changed_before_parts, changed_with_parts, came_verdict, comes_right, came_steps}
+use Rattle.grep_session.proofs.lemmas.ChangeLemmas.{changed_before_parts, changed_with_parts, came_verdict, comes_right, came_steps}
 use Rattle.grep_session.proofs.changing.find_with.Goals as goal
 
 pub returns-in_err-numbers-clause-steps : goal.returns-in_err-numbers-clause-steps

@@ -1,7 +1,7 @@
 use Rattle.std.proofs.Common.{map}
-use Rattle.grep_core.proofs.CostLaws.{adds_none}
+use Rattle.grep_core.proofs.lemmas.CostLaws.{adds_none}
 use Rattle.grep_session.specs.declared.change.Change.TheVariants.{Dropped}
-use Rattle.grep_session.proofs.ChangeLemmas.{changed_before_parts, changed_with_parts, went_verdict, goes_right}
+use Rattle.grep_session.proofs.lemmas.ChangeLemmas.{changed_before_parts, changed_with_parts, went_verdict, goes_right}
 use Rattle.grep_session.proofs.changing.find_without.Goals as goal
 
 pub returns-in_err-numbers-clause-steps : goal.returns-in_err-numbers-clause-steps

@@ -1,7 +1,7 @@
 use Rattle.std.proofs.Common.{◌∙◌, refl}
-use Rattle.grep_session.specs.Kept.{kept_file}
-use Rattle.grep_session.proofs.FindingLemmas.{searched_front}
-use Rattle.grep_session.proofs.ColumnLemmas.{files_next, files_parted, right_more, searched_both, lines_steps_as}
+use Rattle.grep_session.specs.Working.Kept.{kept_file}
+use Rattle.grep_session.proofs.lemmas.FindingLemmas.{searched_front}
+use Rattle.grep_session.proofs.lemmas.ColumnLemmas.{files_next, files_parted, right_more, searched_both, lines_steps_as}
 use Rattle.grep_session.proofs.columns.find_all.Goals as goal
 
 pub returns-in_err-find_in_file-clause-steps : goal.returns-in_err-find_in_file-clause-steps

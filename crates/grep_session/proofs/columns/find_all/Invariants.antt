@@ -1,7 +1,7 @@
 use Rattle.std.proofs.Common.{◌≡◌, length, map, take, if◌then◌else◌}
 use Rattle.std.specs.List.{AllZip}
-use Rattle.grep_session.specs.Found.{IsRight, lines_of_files}
-use Rattle.grep_session.specs.Kept.{SearchesAllKept, kept_file}
+use Rattle.grep_session.specs.Working.Found.{IsRight, lines_of_files}
+use Rattle.grep_session.specs.Working.Kept.{SearchesAllKept, kept_file}
 use Rattle.grep_session.proofs.columns.find_all.Given as goal
 
 -- the lines of the first files were searched

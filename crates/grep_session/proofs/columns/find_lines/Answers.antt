@@ -1,7 +1,7 @@
 use Rattle.std.proofs.Common.{◌∙◌}
-use Rattle.grep_session.specs.Kept.{line_text}
-use Rattle.grep_session.proofs.FindingLemmas.{searched_one, searched_next}
-use Rattle.grep_session.proofs.ColumnLemmas.{map_next, map_parted, adds_right_next, line_steps_as}
+use Rattle.grep_session.specs.Working.Kept.{line_text}
+use Rattle.grep_session.proofs.lemmas.FindingLemmas.{searched_one, searched_next}
+use Rattle.grep_session.proofs.lemmas.ColumnLemmas.{map_next, map_parted, adds_right_next, line_steps_as}
 use Rattle.grep_session.proofs.columns.find_lines.Goals as goal
 
 pub returns-in_err-one-clause-steps : goal.returns-in_err-one-clause-steps

@@ -1,6 +1,6 @@
 use Rattle.std.proofs.Common.{◌≡◌, length, map, take, if◌then◌else◌}
-use Rattle.grep_session.specs.Found.{AddsRight}
-use Rattle.grep_session.specs.Kept.{SearchesAllKept, line_text}
+use Rattle.grep_session.specs.Working.Found.{AddsRight}
+use Rattle.grep_session.specs.Working.Kept.{SearchesAllKept, line_text}
 use Rattle.grep_session.proofs.columns.find_lines.Given as goal
 
 -- the first lines were searched

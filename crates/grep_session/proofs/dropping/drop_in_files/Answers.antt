@@ -2,8 +2,8 @@ use Rattle.std.proofs.Common.{◌≡◌, ◌<◌, length, arith, refl, sym, subs
 use Rattle.std.proofs.Math.Seq.{map-set_same}
 use Rattle.std.proofs.lemmas.List.Elements.{AllWithin-more_set, AllWithin-from_all, All-from_all_within}
 use Rattle.std.specs.List.{AllWithin, remove}
-use Rattle.grep_session.specs.Kept.{IsFileKept, kept_file}
-use Rattle.grep_session.proofs.DroppingLemmas.{behind_set}
+use Rattle.grep_session.specs.Working.Kept.{IsFileKept, kept_file}
+use Rattle.grep_session.proofs.lemmas.DroppingLemmas.{behind_set}
 use Rattle.grep_session.proofs.dropping.drop_in_files.Goals as goal
 
 pub loop-file-init : goal.loop-file-init

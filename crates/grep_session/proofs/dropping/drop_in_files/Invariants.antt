@@ -2,7 +2,7 @@ use Rattle.std.proofs.Common.{◌≡◌, ◌<◌, List, length, map, false, All}
 use Rattle.std.specs.List.{AllWithin, remove}
 use Rattle.re_syntax.specs.Expression.{Expression}
 use Rattle.grep_core.specs.declared.options.Options.{Options}
-use Rattle.grep_session.specs.Kept.{IsFileKept, kept_file}
+use Rattle.grep_session.specs.Working.Kept.{IsFileKept, kept_file}
 use Rattle.grep_session.proofs.dropping.drop_in_files.Given as goal
 
 abbrev pub invariant-loop-file : goal.invariant-loop-file

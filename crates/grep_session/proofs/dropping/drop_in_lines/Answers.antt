@@ -2,8 +2,8 @@ use Rattle.std.proofs.Common.{◌≡◌, ◌<◌, length, get_or, arith, refl, s
 use Rattle.std.proofs.Math.Seq.{map-set_same}
 use Rattle.std.proofs.lemmas.List.Elements.{AllWithin-more_set, AllWithin-from_all, All-from_all_within}
 use Rattle.std.specs.List.{AllWithin, remove}
-use Rattle.grep_session.specs.Kept.{IsKept, line_text}
-use Rattle.grep_session.proofs.DroppingLemmas.{dropped_line, behind_set}
+use Rattle.grep_session.specs.Working.Kept.{IsKept, line_text}
+use Rattle.grep_session.proofs.lemmas.DroppingLemmas.{dropped_line, behind_set}
 use Rattle.grep_session.proofs.dropping.drop_in_lines.Goals as goal
 
 pub loop-line-init : goal.loop-line-init

@@ -1,8 +1,8 @@
 use Rattle.std.proofs.Common.{◌≡◌, ◌+◌, ◌≤◌, length, map, take, arith, sym, refl, ◌∙◌, take_all, length-take}
 use Rattle.std.proofs.lemmas.List.{length-map}
-use Rattle.re_search.proofs.Turns.{same_after, one_more, value_at, within, steps_more}
-use Rattle.grep_core.proofs.CostLaws.{adds_none, adds_for_more}
-use Rattle.grep_session.proofs.FindingLemmas.{adds_none_matching, adds_more_matching}
+use Rattle.re_search.proofs.lemmas.Turns.{same_after, one_more, value_at, within, steps_more}
+use Rattle.grep_core.proofs.lemmas.CostLaws.{adds_none, adds_for_more}
+use Rattle.grep_session.proofs.lemmas.FindingLemmas.{adds_none_matching, adds_more_matching}
 use Rattle.grep_session.proofs.finding.add_matching.Goals as goal
 
 pub loop-matcher-init : goal.loop-matcher-init

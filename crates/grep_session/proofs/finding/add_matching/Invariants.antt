@@ -1,6 +1,6 @@
 use Rattle.std.proofs.Common.{◌≡◌, ◌+◌, ◌*◌, length, map, take}
 use Rattle.re_search.specs.Searching.{AddsAtMost}
-use Rattle.grep_session.specs.Kept.{AddsMatching}
+use Rattle.grep_session.specs.Working.Kept.{AddsMatching}
 use Rattle.grep_session.proofs.finding.add_matching.Given as goal
 
 -- the numbers of the first matchers were added

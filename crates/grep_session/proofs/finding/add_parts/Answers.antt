@@ -2,8 +2,8 @@ use Rattle.std.proofs.Common.{◌≡◌, ◌*◌, length, map, arith, sym, refl,
 use Rattle.std.proofs.lemmas.List.{length-map}
 use Rattle.re_search.specs.Searching.{AddsAtMost}
 use Rattle.grep_core.specs.Cost.{search_cost}
-use Rattle.grep_core.proofs.CostLaws.{adds_none, same_length}
-use Rattle.grep_session.proofs.FindingLemmas.{SpansSoFar, spans_none, spans_next, spans_done, spans_cost, spans_more_cost}
+use Rattle.grep_core.proofs.lemmas.CostLaws.{adds_none, same_length}
+use Rattle.grep_session.proofs.lemmas.FindingLemmas.{SpansSoFar, spans_none, spans_next, spans_done, spans_cost, spans_more_cost}
 use Rattle.grep_session.proofs.finding.add_parts.Goals as goal
 
 pub loop-part-init : goal.loop-part-init

@@ -1,7 +1,7 @@
 use Rattle.std.proofs.Common.{◌≡◌, ◌-◌, ◌*◌, map, length}
 use Rattle.re_search.specs.Searching.{AddsAtMost}
 use Rattle.grep_core.specs.Cost.{search_cost}
-use Rattle.grep_session.proofs.FindingLemmas.{SpansSoFar}
+use Rattle.grep_session.proofs.lemmas.FindingLemmas.{SpansSoFar}
 use Rattle.grep_session.proofs.finding.add_parts.Given as goal
 
 -- the parts up to here are known

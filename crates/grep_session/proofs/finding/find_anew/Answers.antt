@@ -1,7 +1,7 @@
 use Rattle.std.proofs.Common.{◌≡◌, map, ap, ◌++◌, ◌∙◌, sym, subst}
-use Rattle.grep_session.specs.Kept.{AreMatching}
-use Rattle.grep_session.proofs.FindingLemmas.{searched_for_match, searched_for_parts}
-use Rattle.grep_session.proofs.FindsLemmas.{right_there}
+use Rattle.grep_session.specs.Working.Kept.{AreMatching}
+use Rattle.grep_session.proofs.lemmas.FindingLemmas.{searched_for_match, searched_for_parts}
+use Rattle.grep_session.proofs.lemmas.FindsLemmas.{right_there}
 use Rattle.grep_session.proofs.finding.find_anew.Goals as goal
 
 pub returns-in_err-add_matching-clause-steps : goal.returns-in_err-add_matching-clause-steps

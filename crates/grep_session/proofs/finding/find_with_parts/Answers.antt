@@ -1,10 +1,10 @@
 use Rattle.std.proofs.Common.{◌≡◌, length, map, sym, subst, arith}
 use Rattle.std.proofs.lemmas.Bool.Decides.{nat_tests}
 use Rattle.std.proofs.lemmas.List.{nil_from_length}
-use Rattle.grep_core.proofs.CostLaws.{adds_none}
-use Rattle.grep_session.specs.Found.{IsRight}
-use Rattle.grep_session.proofs.FindingLemmas.{parts_cost_exists}
-use Rattle.grep_session.proofs.FindsLemmas.{none_right, right_where}
+use Rattle.grep_core.proofs.lemmas.CostLaws.{adds_none}
+use Rattle.grep_session.specs.Working.Found.{IsRight}
+use Rattle.grep_session.proofs.lemmas.FindingLemmas.{parts_cost_exists}
+use Rattle.grep_session.proofs.lemmas.FindsLemmas.{none_right, right_where}
 use Rattle.grep_session.proofs.finding.find_with_parts.Goals as goal
 
 pub returns-then-is_empty-clause-ok : goal.returns-then-is_empty-clause-ok

@@ -1,7 +1,7 @@
 use Rattle.std.proofs.Common.{sym, subst, refl}
 use Rattle.std.proofs.lemmas.Bool.{false≢true}
 use Rattle.re_syntax.specs.Holds.{Matches}
-use Rattle.grep_session.proofs.FindingLemmas.{adds_one_matching, passes_one_matching}
+use Rattle.grep_session.proofs.lemmas.FindingLemmas.{adds_one_matching, passes_one_matching}
 use Rattle.grep_session.proofs.finding.note_matching.Goals as goal
 
 pub returns-then-not-is_match-clause-ok : goal.returns-then-not-is_match-clause-ok

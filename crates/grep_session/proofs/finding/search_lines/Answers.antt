@@ -2,9 +2,9 @@ use Rattle.std.proofs.Common.{◌≡◌, length, map, sym, ap, ◌++◌, ◌∷�
 use Rattle.std.proofs.lemmas.List.Elements.{All-push}
 use Rattle.std.proofs.lemmas.List.{map-append}
 use Rattle.std.specs.Vec.Iter.{into_iter_items}
-use Rattle.grep_session.specs.Kept.{IsKept, line_text}
-use Rattle.grep_core.proofs.CostLaws.{adds_none}
-use Rattle.grep_session.proofs.FindingLemmas.{PartsCost-exists, searched_one, searched_next, steps_as, one_taken, taken_first, none_taken}
+use Rattle.grep_session.specs.Working.Kept.{IsKept, line_text}
+use Rattle.grep_core.proofs.lemmas.CostLaws.{adds_none}
+use Rattle.grep_session.proofs.lemmas.FindingLemmas.{PartsCost-exists, searched_one, searched_next, steps_as, one_taken, taken_first, none_taken}
 use Rattle.grep_session.proofs.finding.search_lines.Goals as goal
 
 pub returns-in_err-line-clause-steps : goal.returns-in_err-line-clause-steps

@@ -1,6 +1,6 @@
 use Rattle.std.proofs.Common.{◌≡◌, ◌++◌, All, length, map}
 use Rattle.std.specs.Vec.Iter.{into_iter_items}
-use Rattle.grep_session.specs.Kept.{IsKept, SearchesAllKept, line_text}
+use Rattle.grep_session.specs.Working.Kept.{IsKept, SearchesAllKept, line_text}
 use Rattle.grep_session.proofs.finding.search_lines.Given as goal
 
 -- the lines that were taken were searched

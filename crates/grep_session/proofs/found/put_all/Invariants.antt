@@ -3,8 +3,8 @@ use Rattle.std.specs.List.{AllZip, AllWithin}
 use Rattle.std.specs.Vec.Iter.{into_iter_items}
 use Rattle.re_syntax.specs.Expression.{Expression}
 use Rattle.grep_core.specs.declared.options.Options.{Options}
-use Rattle.grep_session.specs.Kept.{IsFileKept, kept_file}
-use Rattle.grep_session.specs.Found.{IsRight, lines_of_files}
+use Rattle.grep_session.specs.Working.Kept.{IsFileKept, kept_file}
+use Rattle.grep_session.specs.Working.Found.{IsRight, lines_of_files}
 use Rattle.grep_session.proofs.found.put_all.Given as goal
 
 -- the lines of the first files have what was found in them

@@ -1,7 +1,7 @@
 use Rattle.std.proofs.Common.{◌≡◌, take, drop, length, get_or, arith, sym, refl, ap, ◌∙◌, add-one, slice_set}
 use Rattle.std.specs.Vec.Iter.{into_iter_items}
-use Rattle.grep_session.specs.Found.{next_line, with_found}
-use Rattle.grep_session.proofs.FoundLemmas.{with_found-none, with_found-more, with_found-all, drop_drop}
+use Rattle.grep_session.specs.Working.Found.{next_line, with_found}
+use Rattle.grep_session.proofs.lemmas.FoundLemmas.{with_found-none, with_found-more, with_found-all, drop_drop}
 use Rattle.grep_session.proofs.found.put_found.Goals as goal
 
 pub loop-line-init : goal.loop-line-init

@@ -1,6 +1,6 @@
 use Rattle.std.proofs.Common.{◌≡◌, take, drop}
 use Rattle.std.specs.Vec.Iter.{into_iter_items}
-use Rattle.grep_session.specs.Found.{with_found}
+use Rattle.grep_session.specs.Working.Found.{with_found}
 use Rattle.grep_session.proofs.found.put_found.Given as goal
 
 -- the first lines have what was found in them

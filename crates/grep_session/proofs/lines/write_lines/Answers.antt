@@ -1,7 +1,7 @@
 use Rattle.std.proofs.Common.{◌+◌, arith}
-use Rattle.grep_session.specs.Report.{rows_from}
-use Rattle.grep_session.proofs.Writing.{writes_err}
-use Rattle.grep_session.proofs.LineSteps.{count_on, count_few, line_on, line_stops}
+use Rattle.grep_session.specs.Working.Report.{rows_from}
+use Rattle.grep_session.proofs.lemmas.Writing.{writes_err}
+use Rattle.grep_session.proofs.lemmas.LineSteps.{count_on, count_few, line_on, line_stops}
 use Rattle.grep_session.proofs.lines.write_lines.Goals as goal
 
 pub returns-in_err-found-clause-rows : goal.returns-in_err-found-clause-rows

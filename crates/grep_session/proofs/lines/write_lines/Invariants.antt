@@ -1,6 +1,6 @@
 use Rattle.std.proofs.Common.{◌≡◌, ◌+◌, ◌≤◌, drop}
-use Rattle.grep_session.specs.Report.{rows_from, selected_count}
-use Rattle.grep_session.proofs.Writing.{WrittenUpTo}
+use Rattle.grep_session.specs.Working.Report.{rows_from, selected_count}
+use Rattle.grep_session.proofs.lemmas.Writing.{WrittenUpTo}
 use Rattle.grep_session.proofs.lines.write_lines.Given as goal
 
 -- the rows of the lines up to here were written

@@ -1,6 +1,6 @@
 use Rattle.std.proofs.Common.{drop}
-use Rattle.grep_session.specs.Report.{part_rows}
-use Rattle.grep_session.proofs.Writing.{WrittenUpTo}
+use Rattle.grep_session.specs.Working.Report.{part_rows}
+use Rattle.grep_session.proofs.lemmas.Writing.{WrittenUpTo}
 use Rattle.grep_session.proofs.lines.write_parts.Given as goal
 
 -- the parts up to here were written

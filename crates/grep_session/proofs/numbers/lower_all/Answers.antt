@@ -1,6 +1,6 @@
 use Rattle.std.proofs.Common.{◌++◌, map, take, drop, get_or, sym, ap, ◌∙◌, add-one, slice_set}
-use Rattle.grep_session.specs.Dropping.{lowered}
-use Rattle.grep_session.proofs.DroppingLemmas.{map_so_far, map_done}
+use Rattle.grep_session.specs.Working.Dropping.{lowered}
+use Rattle.grep_session.proofs.lemmas.DroppingLemmas.{map_so_far, map_done}
 use Rattle.grep_session.proofs.numbers.lower_all.Goals as goal
 
 pub loop-number-preserved : goal.loop-number-preserved

@@ -1,5 +1,5 @@
 use Rattle.std.proofs.Common.{◌≡◌, ◌++◌, map, take, drop}
-use Rattle.grep_session.specs.Dropping.{lowered}
+use Rattle.grep_session.specs.Working.Dropping.{lowered}
 use Rattle.grep_session.proofs.numbers.lower_all.Given as goal
 
 abbrev pub invariant-loop-number : goal.invariant-loop-number

@@ -1,10 +1,10 @@
 use Rattle.std.proofs.Common.{◌≡◌, length, map, take, refl, take_all, subst, arith}
-use Rattle.grep_core.specs.Matchers.{AreMatchers}
-use Rattle.grep_session.proofs.ColumnLemmas.{map_next, map_parted}
-use Rattle.grep_core.proofs.MatcherLemmas.{refused_or_memory}
-use Rattle.grep_session.proofs.ReadingLemmas.{told_refused}
-use Rattle.grep_core.proofs.MatcherLemmas.{AreMatchers-push}
-use Rattle.grep_core.proofs.MatcherLemmas.{AreMatchers-none}
+use Rattle.grep_core.specs.Working.MatcherLists.{AreMatchers}
+use Rattle.grep_session.proofs.lemmas.ColumnLemmas.{map_next, map_parted}
+use Rattle.grep_core.proofs.lemmas.MatcherLemmas.{refused_or_memory}
+use Rattle.grep_session.proofs.lemmas.ReadingLemmas.{told_refused}
+use Rattle.grep_core.proofs.lemmas.MatcherLemmas.{AreMatchers-push}
+use Rattle.grep_core.proofs.lemmas.MatcherLemmas.{AreMatchers-none}
 use Rattle.grep_session.proofs.reading.read_matchers.Goals as goal
 
 pub loop-text-init : goal.loop-text-init

@@ -1,5 +1,5 @@
 use Rattle.std.proofs.Common.{map, take}
-use Rattle.grep_core.specs.Matchers.{AreMatchers}
+use Rattle.grep_core.specs.Working.MatcherLists.{AreMatchers}
 use Rattle.grep_session.proofs.reading.read_matchers.Given as goal
 
 -- the first texts were read

@@ -1,7 +1,7 @@
 use Rattle.std.proofs.Common.{map, sym, subst}
 use Rattle.grep_core.specs.Messages.{StatusOf}
-use Rattle.grep_session.specs.Kept.{kept_file}
-use Rattle.grep_session.proofs.KeptLaws.{kept_status}
+use Rattle.grep_session.specs.Working.Kept.{kept_file}
+use Rattle.grep_session.proofs.lemmas.KeptLaws.{kept_status}
 use Rattle.grep_session.proofs.report.status.Goals as goal
 
 pub returns : goal.returns

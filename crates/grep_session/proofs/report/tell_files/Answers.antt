@@ -1,6 +1,6 @@
 use Rattle.std.proofs.Common.{◌&&◌, ap}
-use Rattle.grep_session.proofs.FileSteps.{told_further, told_stopped}
-use Rattle.grep_session.proofs.Writing.{writes_err}
+use Rattle.grep_session.proofs.lemmas.FileSteps.{told_further, told_stopped}
+use Rattle.grep_session.proofs.lemmas.Writing.{writes_err}
 use Rattle.grep_session.proofs.report.tell_files.Goals as goal
 
 pub returns-in_err-tell_fault : goal.returns-in_err-tell_fault

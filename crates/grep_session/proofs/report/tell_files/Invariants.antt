@@ -1,6 +1,6 @@
 use Rattle.std.proofs.Common.{drop}
-use Rattle.grep_session.specs.Report.{told_from}
-use Rattle.grep_session.proofs.Writing.{WrittenUpTo}
+use Rattle.grep_session.specs.Working.Report.{told_from}
+use Rattle.grep_session.proofs.lemmas.Writing.{WrittenUpTo}
 use Rattle.grep_session.proofs.report.tell_files.Given as goal
 
 -- the messages on the files up to here were written

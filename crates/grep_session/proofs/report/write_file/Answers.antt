@@ -1,7 +1,7 @@
 use Rattle.std.proofs.Common.{◌∙◌, ap}
 use Rattle.std.specs.Option.{option_map}
-use Rattle.grep_session.specs.Report.{selected_count}
-use Rattle.grep_session.proofs.FileSteps.{file_written}
+use Rattle.grep_session.specs.Working.Report.{selected_count}
+use Rattle.grep_session.proofs.lemmas.FileSteps.{file_written}
 use Rattle.grep_session.proofs.report.write_file.Goals as goal
 
 pub returns : goal.returns

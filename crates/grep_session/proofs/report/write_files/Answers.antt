@@ -1,6 +1,6 @@
 use Rattle.std.proofs.Common.{nat_le, length}
-use Rattle.grep_session.proofs.FileSteps.{output_on, output_stopped}
-use Rattle.grep_session.proofs.Writing.{writes_err}
+use Rattle.grep_session.proofs.lemmas.FileSteps.{output_on, output_stopped}
+use Rattle.grep_session.proofs.lemmas.Writing.{writes_err}
 use Rattle.grep_session.proofs.report.write_files.Goals as goal
 
 pub returns-in_err-write_file : goal.returns-in_err-write_file

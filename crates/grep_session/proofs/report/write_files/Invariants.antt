@@ -1,6 +1,6 @@
 use Rattle.std.proofs.Common.{drop}
-use Rattle.grep_session.specs.Report.{report_rows}
-use Rattle.grep_session.proofs.Writing.{WrittenUpTo}
+use Rattle.grep_session.specs.Working.Report.{report_rows}
+use Rattle.grep_session.proofs.lemmas.Writing.{WrittenUpTo}
 use Rattle.grep_session.proofs.report.write_files.Given as goal
 
 -- the output for the files up to here was written

@@ -1,5 +1,5 @@
-use Rattle.grep_session.specs.Report.{told_from}
-use Rattle.grep_session.proofs.KeptLaws.{kept_messages}
+use Rattle.grep_session.specs.Working.Report.{told_from}
+use Rattle.grep_session.proofs.lemmas.KeptLaws.{kept_messages}
 use Rattle.grep_session.proofs.report.write_messages.Goals as goal
 
 pub returns : goal.returns

@@ -1,9 +1,9 @@
 use Rattle.std.proofs.Common.{nat_le, length, map}
 use Rattle.grep_core.specs.Messages.{StatusOf}
-use Rattle.grep_session.specs.Kept.{kept_file}
-use Rattle.grep_session.specs.Report.{report_rows}
-use Rattle.grep_session.proofs.KeptLaws.{kept_output}
-use Rattle.grep_session.proofs.Writing.{writes_err, if_ok}
+use Rattle.grep_session.specs.Working.Kept.{kept_file}
+use Rattle.grep_session.specs.Working.Report.{report_rows}
+use Rattle.grep_session.proofs.lemmas.KeptLaws.{kept_output}
+use Rattle.grep_session.proofs.lemmas.Writing.{writes_err, if_ok}
 use Rattle.grep_session.proofs.report.write_report.Goals as goal
 
 pub returns-in_err-write_files : goal.returns-in_err-write_files

@@ -1,7 +1,7 @@
 use Rattle.std.proofs.Common.{All, ◌≡◌, take, arith, subst, take_all}
 use Rattle.std.proofs.lemmas.List.Elements.{All-map}
 use Rattle.re_syntax.specs.Lines.{HasNoNewline}
-use Rattle.grep_session.proofs.SessionLemmas.{fails_at}
+use Rattle.grep_session.proofs.lemmas.SessionLemmas.{fails_at}
 use Rattle.grep_session.proofs.splicing.any_newline.Goals as goal
 
 pub returns-then-has_newline : goal.returns-then-has_newline

@@ -1,6 +1,6 @@
 use Rattle.std.proofs.Common.{◌+◌, ap, ◌∙◌}
 use Rattle.std.specs.List.{splice}
-use Rattle.grep_session.proofs.SessionLemmas.{drained}
+use Rattle.grep_session.proofs.lemmas.SessionLemmas.{drained}
 use Rattle.grep_session.proofs.splicing.put_lines.Goals as goal
 
 pub returns-clause-ok : goal.returns-clause-ok

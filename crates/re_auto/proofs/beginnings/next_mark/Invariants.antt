@@ -1,5 +1,5 @@
 use Rattle.std.proofs.Common.{ℕ, ◌<◌, ◌≤◌, ◌-◌}
-use Rattle.re_auto.specs.Beginnings.{IsMarked}
+use Rattle.re_auto.specs.Working.Beginnings.{IsMarked}
 use Rattle.re_auto.proofs.beginnings.next_mark.Given as goal
 
 abbrev pub invariant-bytes : goal.invariant-bytes

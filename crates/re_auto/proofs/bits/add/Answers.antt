@@ -1,5 +1,5 @@
 use Rattle.std.proofs.Common.{arith}
-use Rattle.re_auto.proofs.BitLemmas.{or_has}
+use Rattle.re_auto.proofs.lemmas.BitLemmas.{or_has}
 use Rattle.re_auto.proofs.bits.add.Goals as goal
 
 pub returns-clause-added : goal.returns-clause-added

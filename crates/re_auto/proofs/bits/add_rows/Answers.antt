@@ -1,7 +1,7 @@
 use Rattle.std.proofs.Common.{arith, length}
-use Rattle.re_auto.specs.Bits.{Has}
-use Rattle.re_auto.specs.Bits.{row_of}
-use Rattle.re_auto.proofs.BitLemmas.{at_word, word_added, all_added, chained}
+use Rattle.re_auto.specs.Working.Bits.{Has}
+use Rattle.re_auto.specs.Working.Bits.{row_of}
+use Rattle.re_auto.proofs.lemmas.BitLemmas.{at_word, word_added, all_added, chained}
 use Rattle.re_auto.proofs.bits.add_rows.Goals as goal
 
 pub add_rows_of_word-requires-clause-rows : goal.add_rows_of_word-requires-clause-rows

@@ -1,7 +1,7 @@
 use Rattle.std.proofs.Common.{◌≡◌, ℕ, ◌*◌, ◌≤◌, length, ◌⊎◌}
 use Rattle.std.specs.Prelude.{◌↔◌}
-use Rattle.re_auto.specs.Bits.{Has}
-use Rattle.re_auto.specs.Bits.{row_of}
+use Rattle.re_auto.specs.Working.Bits.{Has}
+use Rattle.re_auto.specs.Working.Bits.{row_of}
 use Rattle.re_auto.proofs.bits.add_rows.Given as goal
 
 -- what is added already and what is left to add make up the whole

@@ -1,8 +1,8 @@
 use Rattle.std.proofs.Common.{arith, ◌+◌, ◌*◌, length, inl, refl, w64}
 use Rattle.std.specs.Int.{trailing_zeros}
-use Rattle.re_auto.specs.Bits.{Has}
-use Rattle.re_auto.specs.Bits.{row_of}
-use Rattle.re_auto.proofs.BitLemmas.{lowest, one_added, chained}
+use Rattle.re_auto.specs.Working.Bits.{Has}
+use Rattle.re_auto.specs.Working.Bits.{row_of}
+use Rattle.re_auto.proofs.lemmas.BitLemmas.{lowest, one_added, chained}
 use Rattle.re_auto.proofs.bits.add_rows_of_word.Goals as goal
 
 pub row-requires : goal.row-requires

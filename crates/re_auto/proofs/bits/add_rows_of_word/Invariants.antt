@@ -1,8 +1,8 @@
 use Rattle.std.proofs.Common.{◌≡◌, ℕ, ◌+◌, ◌*◌, ◌<◌, length, ◌⊎◌}
 use Rattle.std.specs.Prelude.{◌↔◌}
 use Rattle.std.specs.Int.{bit_at}
-use Rattle.re_auto.specs.Bits.{Has}
-use Rattle.re_auto.specs.Bits.{row_of}
+use Rattle.re_auto.specs.Working.Bits.{Has}
+use Rattle.re_auto.specs.Working.Bits.{row_of}
 use Rattle.re_auto.proofs.bits.add_rows_of_word.Given as goal
 
 -- what is added already and what is left to add make up the whole

@@ -1,5 +1,5 @@
 use Rattle.std.proofs.Common.{arith, refl}
-use Rattle.re_auto.proofs.BitLemmas.{all_zero}
+use Rattle.re_auto.proofs.lemmas.BitLemmas.{all_zero}
 use Rattle.re_auto.proofs.bits.clear.Goals as goal
 
 pub returns-clause-none : goal.returns-clause-none

@@ -1,4 +1,4 @@
-use Rattle.re_auto.proofs.BitLemmas.{has_bit}
+use Rattle.re_auto.proofs.lemmas.BitLemmas.{has_bit}
 use Rattle.re_auto.proofs.bits.has.Goals as goal
 
 pub returns : goal.returns

@@ -1,4 +1,4 @@
-use Rattle.re_auto.proofs.BitLemmas.{insert_has}
+use Rattle.re_auto.proofs.lemmas.BitLemmas.{insert_has}
 use Rattle.re_auto.proofs.bits.insert.Goals as goal
 
 pub returns-clause-inserted : goal.returns-clause-inserted

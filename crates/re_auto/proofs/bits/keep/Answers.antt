@@ -1,5 +1,5 @@
 use Rattle.std.proofs.Common.{arith}
-use Rattle.re_auto.proofs.BitLemmas.{and_has}
+use Rattle.re_auto.proofs.lemmas.BitLemmas.{and_has}
 use Rattle.re_auto.proofs.bits.keep.Goals as goal
 
 pub returns-clause-kept : goal.returns-clause-kept

@@ -1,5 +1,5 @@
 use Rattle.std.proofs.Common.{arith, refl, true≢false, sym}
-use Rattle.re_auto.proofs.BitLemmas.{common, no_common}
+use Rattle.re_auto.proofs.lemmas.BitLemmas.{common, no_common}
 use Rattle.re_auto.proofs.bits.meets.Goals as goal
 
 pub returns-then-a-k-ne0 : goal.returns-then-a-k-ne0

@@ -1,4 +1,4 @@
-use Rattle.re_auto.proofs.WordLemmas.{word_has}
+use Rattle.re_auto.proofs.lemmas.WordLemmas.{word_has}
 use Rattle.re_auto.proofs.bits.only_word.Goals as goal
 
 pub returns : goal.returns

@@ -1,4 +1,4 @@
-use Rattle.re_auto.proofs.WordLemmas.{written_has}
+use Rattle.re_auto.proofs.lemmas.WordLemmas.{written_has}
 use Rattle.re_auto.proofs.bits.put_word.Goals as goal
 
 pub returns-clause-put : goal.returns-clause-put

@@ -1,4 +1,4 @@
-use Rattle.re_auto.proofs.ClassLemmas.{new_class}
+use Rattle.re_auto.proofs.lemmas.ClassLemmas.{new_class}
 use Rattle.re_auto.proofs.classes.add_class.Goals as goal
 
 pub returns-in_ok-extend_from_slice : goal.returns-in_ok-extend_from_slice

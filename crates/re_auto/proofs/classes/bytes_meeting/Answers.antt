@@ -1,6 +1,6 @@
 use Rattle.std.proofs.Common.{arith, ℕ, length-set, ◌∙◌}
-use Rattle.re_auto.specs.Bits.{Has, row_of}
-use Rattle.re_auto.proofs.ClassLemmas.{one_marked}
+use Rattle.re_auto.specs.Working.Bits.{Has, row_of}
+use Rattle.re_auto.proofs.lemmas.ClassLemmas.{one_marked}
 use Rattle.re_auto.proofs.classes.bytes_meeting.Goals as goal
 
 pub bytes-preserved : goal.bytes-preserved

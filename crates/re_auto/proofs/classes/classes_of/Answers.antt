@@ -1,7 +1,7 @@
 use Rattle.std.proofs.Common.{rules, arith, ◌≡◌, ◌+◌, ◌*◌, ◌<◌, ◌++◌, ◌∷◌, [], length, length-append, max, get_or, sym, ap, ◌∙◌, subst}
-use Rattle.re_auto.specs.Bits.{row_of}
-use Rattle.re_auto.proofs.RowLemmas.{row_within}
-use Rattle.re_auto.proofs.ClassLemmas.{pushed}
+use Rattle.re_auto.specs.Working.Bits.{row_of}
+use Rattle.re_auto.proofs.lemmas.RowLemmas.{row_within}
+use Rattle.re_auto.proofs.lemmas.ClassLemmas.{pushed}
 use Rattle.re_auto.proofs.classes.classes_of.Goals as goal
 
 pub bytes-preserved : goal.bytes-preserved

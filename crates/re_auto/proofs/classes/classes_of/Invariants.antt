@@ -1,5 +1,5 @@
 use Rattle.std.proofs.Common.{◌≡◌, ℕ, ◌*◌, ◌<◌, ◌≤◌, length, get_or}
-use Rattle.re_auto.specs.Bits.{row_of}
+use Rattle.re_auto.specs.Working.Bits.{row_of}
 use Rattle.re_auto.proofs.classes.classes_of.Given as goal
 
 abbrev pub invariant-bytes : goal.invariant-bytes

@@ -1,7 +1,7 @@
 use Rattle.std.proofs.Common.{◌*◌, ◌∙◌, min, map, sym, ap}
 use Rattle.re_syntax.specs.Expression.{cat, expression_of}
 use Rattle.re_syntax.specs.Holds.{positions, copies}
-use Rattle.re_auto.proofs.CountLaws.{count-Alt, count-Repeat, counted_more, min_product}
+use Rattle.re_auto.proofs.lemmas.CountLaws.{count-Alt, count-Repeat, counted_more, min_product}
 use Rattle.re_auto.proofs.count.+count.Goals as goal
 
 pub count_all-members-preserved : goal.count_all-members-preserved

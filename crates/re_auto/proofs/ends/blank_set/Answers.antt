@@ -1,7 +1,7 @@
 use Rattle.std.proofs.Common.{subst, sym}
 use Rattle.std.proofs.lemmas.Result.{IfOk-weaker}
-use Rattle.re_auto.specs.Bits.{Are}
-use Rattle.re_auto.proofs.BitLemmas.{zeros_are}
+use Rattle.re_auto.specs.Working.Bits.{Are}
+use Rattle.re_auto.proofs.lemmas.BitLemmas.{zeros_are}
 use Rattle.re_auto.proofs.ends.blank_set.Goals as goal
 
 pub returns : goal.returns

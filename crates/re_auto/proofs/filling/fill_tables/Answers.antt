@@ -1,7 +1,7 @@
 use Rattle.std.proofs.Common.{subst}
 use Rattle.re_syntax.specs.Expression.{expression_of}
-use Rattle.re_auto.specs.ByteClasses.{AreClasses}
-use Rattle.re_auto.proofs.FillingLemmas.{tells}
+use Rattle.re_auto.specs.Working.ByteClasses.{AreClasses}
+use Rattle.re_auto.proofs.lemmas.FillingLemmas.{tells}
 use Rattle.re_auto.proofs.filling.fill_tables.Goals as goal
 
 pub returns : goal.returns

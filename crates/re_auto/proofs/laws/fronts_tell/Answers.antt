@@ -1,7 +1,7 @@
 use Rattle.std.proofs.Common.{IsTrue}
-use Rattle.re_auto.specs.Positions.{part_of}
-use Rattle.re_auto.proofs.Stepping.{fronts, fronts_back}
-use Rattle.re_auto.proofs.LeastStarts.{starts_fronts, starts_fronts_back}
+use Rattle.re_auto.specs.Working.Positions.{part_of}
+use Rattle.re_auto.proofs.lemmas.Stepping.{fronts, fronts_back}
+use Rattle.re_auto.proofs.lemmas.LeastStarts.{starts_fronts, starts_fronts_back}
 use Rattle.re_auto.proofs.laws.fronts_tell.Goals as goal
 
 pub returns-clause-sets : goal.returns-clause-sets

@@ -1,4 +1,4 @@
-use Rattle.re_auto.proofs.LeastStarts.{pass_begins, starts_stay, starts_tell, one_pass_is_enough, spent_is_over}
+use Rattle.re_auto.proofs.lemmas.LeastStarts.{pass_begins, starts_stay, starts_tell, one_pass_is_enough, spent_is_over}
 use Rattle.re_auto.proofs.laws.least_starts_are_enough.Goals as goal
 
 pub returns-clause-begin : goal.returns-clause-begin

@@ -1,7 +1,7 @@
 use Rattle.std.proofs.Common.{arith, ◌≡◌}
-use Rattle.re_auto.specs.Bits.{Has, row_of}
-use Rattle.re_auto.proofs.BitLemmas.{at_word, word_added, all_added, chained}
-use Rattle.re_auto.proofs.RowLemmas.{one_row}
+use Rattle.re_auto.specs.Working.Bits.{Has, row_of}
+use Rattle.re_auto.proofs.lemmas.BitLemmas.{at_word, word_added, all_added, chained}
+use Rattle.re_auto.proofs.lemmas.RowLemmas.{one_row}
 use Rattle.re_auto.proofs.rows.cross_rows.Goals as goal
 
 pub cross_word-requires-clause-rows : goal.cross_word-requires-clause-rows

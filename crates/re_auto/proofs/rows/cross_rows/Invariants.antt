@@ -1,6 +1,6 @@
 use Rattle.std.proofs.Common.{◌≡◌, ℕ, ◌+◌, ◌*◌, ◌≤◌, length, ◌⊎◌}
 use Rattle.std.specs.Prelude.{◌↔◌}
-use Rattle.re_auto.specs.Bits.{Has, row_of}
+use Rattle.re_auto.specs.Working.Bits.{Has, row_of}
 use Rattle.re_auto.proofs.rows.cross_rows.Given as goal
 
 -- what is added already and what is left to add make up the whole

@@ -1,8 +1,8 @@
 use Rattle.std.proofs.Common.{arith, ◌≡◌, ◌+◌, ◌*◌, inl}
 use Rattle.std.specs.Int.{trailing_zeros}
 use Rattle.std.proofs.Common.{w64}
-use Rattle.re_auto.specs.Bits.{Has, row_of}
-use Rattle.re_auto.proofs.BitLemmas.{lowest, one_added, chained}
+use Rattle.re_auto.specs.Working.Bits.{Has, row_of}
+use Rattle.re_auto.proofs.lemmas.BitLemmas.{lowest, one_added, chained}
 use Rattle.re_auto.proofs.rows.cross_word.Goals as goal
 
 pub add_to_row-requires-clause-room : goal.add_to_row-requires-clause-room

@@ -1,7 +1,7 @@
 use Rattle.std.proofs.Common.{◌≡◌, ℕ, ◌+◌, ◌*◌, ◌<◌, ◌≤◌, length, ◌⊎◌}
 use Rattle.std.specs.Prelude.{◌↔◌}
 use Rattle.std.specs.Int.{bit_at}
-use Rattle.re_auto.specs.Bits.{Has, row_of}
+use Rattle.re_auto.specs.Working.Bits.{Has, row_of}
 use Rattle.re_auto.proofs.rows.cross_word.Given as goal
 
 -- what is added already and what is left to add make up the whole

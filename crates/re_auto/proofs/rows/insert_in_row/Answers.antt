@@ -1,5 +1,5 @@
 use Rattle.std.proofs.Common.{arith, ◌≡◌, length, length-take, length-drop, drop, ◌*◌, ◌+◌, ◌-◌}
-use Rattle.re_auto.proofs.BitLemmas.{row_added}
+use Rattle.re_auto.proofs.lemmas.BitLemmas.{row_added}
 use Rattle.re_auto.proofs.rows.insert_in_row.Goals as goal
 
 pub returns-clause-added : goal.returns-clause-added

@@ -1,7 +1,7 @@
 use Rattle.std.proofs.Common.{arith, ◌≡◌, length, sym, ap, ◌∙◌}
 use Rattle.re_syntax.specs.Sets.{members}
-use Rattle.re_auto.specs.Bits.{Has, row_of}
-use Rattle.re_auto.proofs.RowLemmas.{row_within, marked, not_marked, same_truth, other_truth}
+use Rattle.re_auto.specs.Working.Bits.{Has, row_of}
+use Rattle.re_auto.proofs.lemmas.RowLemmas.{row_within, marked, not_marked, same_truth, other_truth}
 use Rattle.re_auto.proofs.rows.mark_takers.Goals as goal
 use Rattle.re_auto.proofs.rows.mark_takers.Goals.{then-has-wanted, else-has-wanted}
 

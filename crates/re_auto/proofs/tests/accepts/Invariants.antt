@@ -1,5 +1,5 @@
 use Rattle.re_syntax.specs.Expression.{expression_of}
-use Rattle.re_auto.specs.StateSets.{IsMadeFor}
+use Rattle.re_auto.specs.Working.StateSets.{IsMadeFor}
 use Rattle.re_auto.proofs.tests.accepts.Given as goal
 
 abbrev pub invariant-bytes : goal.invariant-bytes

@@ -1,6 +1,6 @@
 use Rattle.std.proofs.Common.{◌≡◌}
 use Rattle.re_syntax.specs.Expression.{expression_of}
-use Rattle.re_auto.specs.StartSets.{IsMadeForStarts, place_of}
+use Rattle.re_auto.specs.Working.StartSets.{IsMadeForStarts, place_of}
 use Rattle.re_auto.proofs.tests.told.Given as goal
 
 abbrev pub invariant-places : goal.invariant-places

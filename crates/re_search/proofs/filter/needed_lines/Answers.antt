@@ -1,10 +1,10 @@
 use Rattle.std.proofs.Common.{◌≡◌, arith, map, ◌++◌, [], ◌∷◌, sym, ap, ◌∙◌, subst, All}
 use Rattle.std.proofs.lemmas.List.Elements.{All-push, All-map}
 use Rattle.re_syntax.specs.Lines.{HasNoNewline, lines_of}
-use Rattle.re_syntax.proofs.LinesLaws.{lines_of-terminated}
-use Rattle.re_search.specs.Filters.{NeedsOneOf}
-use Rattle.re_search.specs.Reading.{matched_expression}
-use Rattle.re_search.proofs.FilterLaws.{terminated-push, needed_more}
+use Rattle.re_syntax.proofs.lemmas.LinesLaws.{lines_of-terminated}
+use Rattle.re_search.specs.Working.Filters.{NeedsOneOf}
+use Rattle.re_search.specs.Working.Matchers.{matched_expression}
+use Rattle.re_search.proofs.lemmas.FilterLaws.{terminated-push, needed_more}
 use Rattle.re_search.proofs.filter.needed_lines.Goals as goal
 
 pub matchers-preserved : goal.matchers-preserved

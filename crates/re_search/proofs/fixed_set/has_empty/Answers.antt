@@ -1,8 +1,8 @@
 use Rattle.std.proofs.Common.{◌≡◌, inl, inr, [], length, map, get_or, sym, ap, ◌∙◌, subst, arith}
 use Rattle.std.proofs.lemmas.List.{get_or-map}
 use Rattle.std.proofs.lemmas.Bool.{eqb-false}
-use Rattle.re_search.specs.Branches.{text_at}
-use Rattle.re_search.proofs.SetBranches.{split}
+use Rattle.re_search.specs.Working.Branches.{text_at}
+use Rattle.re_search.proofs.lemmas.SetBranches.{split}
 use Rattle.re_search.proofs.fixed_set.has_empty.Goals as goal
 
 pub places-preserved : goal.places-preserved

@@ -2,7 +2,7 @@ use Rattle.std.proofs.Common.{◌≡◌, List, ◌++◌, map, sym, ap, ◌∙◌
 use Rattle.std.proofs.lemmas.List.{append-nil}
 use Rattle.re_syntax.specs.Bytes.{Text}
 use Rattle.re_syntax.specs.Lines.{lines_of}
-use Rattle.re_search.proofs.SetSorted.{sorted_ascends, same_strings}
+use Rattle.re_search.proofs.lemmas.SetSorted.{sorted_ascends, same_strings}
 use Rattle.re_search.proofs.fixed_set.strings_of.Goals as goal
 
 pub returns-clause-ordered : goal.returns-clause-ordered

@@ -2,7 +2,7 @@ use Rattle.std.proofs.Common.{◌≡◌, ◌≢◌, ◌++◌, length, map, drop,
 use Rattle.std.proofs.lemmas.Bool.{eqb-false}
 use Rattle.std.proofs.lemmas.List.{take_rest, drop-map, length-map}
 use Rattle.re_syntax.specs.Expression.{byte, expression_of}
-use Rattle.re_search.proofs.NeededLaws.{run_is_needle, told_alike}
+use Rattle.re_search.proofs.lemmas.NeededLaws.{run_is_needle, told_alike}
 use Rattle.re_search.proofs.needle.among.Goals as goal
 
 pub returns : goal.returns

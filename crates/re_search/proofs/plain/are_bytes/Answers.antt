@@ -1,5 +1,5 @@
 use Rattle.std.proofs.Common.{arith}
-use Rattle.re_search.proofs.PlainLaws.{parts_are_bytes}
+use Rattle.re_search.proofs.lemmas.PlainLaws.{parts_are_bytes}
 use Rattle.re_search.proofs.plain.are_bytes.Goals as goal
 
 pub returns : goal.returns

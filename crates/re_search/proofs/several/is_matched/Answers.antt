@@ -1,7 +1,7 @@
 use Rattle.std.proofs.Common.{◌≡◌, map, take, arith, refl, take_all}
 use Rattle.std.proofs.lemmas.Bool.{false≢true}
 use Rattle.std.proofs.lemmas.List.{length-map}
-use Rattle.re_search.proofs.Turns.{same_after, one_more, value_at, within, none_more, one_matches, steps_more}
+use Rattle.re_search.proofs.lemmas.Turns.{same_after, one_more, value_at, within, none_more, one_matches, steps_more}
 use Rattle.re_search.proofs.several.is_matched.Goals as goal
 
 pub loop-matcher-preserved : goal.loop-matcher-preserved

@@ -1,6 +1,6 @@
 use Rattle.std.proofs.Common.{◌≡◌, map, take, arith, take_all}
 use Rattle.std.proofs.lemmas.List.{length-map}
-use Rattle.re_search.proofs.Turns.{same_after, one_more, value_at, within, part_more, steps_more}
+use Rattle.re_search.proofs.lemmas.Turns.{same_after, one_more, value_at, within, part_more, steps_more}
 use Rattle.re_search.proofs.several.parts.Goals as goal
 
 pub loop-matcher-preserved : goal.loop-matcher-preserved

@@ -1,5 +1,5 @@
 use Rattle.std.proofs.Common.{map}
-use Rattle.re_search.specs.Literals.{Literal}
+use Rattle.re_search.specs.Working.Literals.{Literal}
 use Rattle.re_search.specs.Searching.{AllAnswer}
 use Rattle.re_search.proofs.tests.fixed.Given as goal
 

@@ -1,5 +1,5 @@
-use Rattle.re_syntax.proofs.AheadLaws.{is_after}
-use Rattle.re_syntax.proofs.CursorsLaws.{begins-drop, begins_not}
+use Rattle.re_syntax.proofs.lemmas.AheadLaws.{is_after}
+use Rattle.re_syntax.proofs.lemmas.CursorsLaws.{begins-drop, begins_not}
 use Rattle.re_syntax.proofs.ahead.after.Goals as goal
 
 pub returns-then-starts_with : goal.returns-then-starts_with

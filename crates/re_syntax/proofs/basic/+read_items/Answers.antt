@@ -2,14 +2,14 @@ use Rattle.std.proofs.Common.{◌+◌, ◌-◌, ◌≢◌, get_or, drop, refl, a
 use Rattle.std.proofs.lemmas.Result.{err_from_is_err_and}
 use Rattle.re_syntax.specs.Expression.{one_of}
 use Rattle.re_syntax.specs.Bytes.{Begins}
-use Rattle.re_syntax.specs.BasicSteps.{DuplicationStands}
-use Rattle.re_syntax.specs.PieceSteps.{told}
-use Rattle.re_syntax.proofs.ExpressionLaws.{expression-Set}
-use Rattle.re_syntax.proofs.BasicEnds.{item_within, not_closing}
-use Rattle.re_syntax.proofs.Places.{ok_as, err_as, some_found, nothing_found, byte_here, front_here, refused_as}
-use Rattle.re_syntax.proofs.BasicAtoms.{no_escape_atom, no_interval_atom, single_stands, escaped_stands, shown_escape, bracket_atom, no_bracket_atom, shown_no_bracket}
-use Rattle.re_syntax.proofs.BasicGroups.{opening_within, opening_starts, group_stands, no_group_inside, no_group_end, opens_unclosed}
-use Rattle.re_syntax.proofs.BasicItems.{no_items_without_atom, item_of_atom, item_repeated, too_deep, shown_deep, no_items_bad, one_more, all_read, duplication_takes}
+use Rattle.re_syntax.specs.Working.BasicSteps.{DuplicationStands}
+use Rattle.re_syntax.specs.Working.PieceSteps.{told}
+use Rattle.re_syntax.proofs.lemmas.ExpressionLaws.{expression-Set}
+use Rattle.re_syntax.proofs.lemmas.BasicEnds.{item_within, not_closing}
+use Rattle.re_syntax.proofs.lemmas.Places.{ok_as, err_as, some_found, nothing_found, byte_here, front_here, refused_as}
+use Rattle.re_syntax.proofs.lemmas.BasicAtoms.{no_escape_atom, no_interval_atom, single_stands, escaped_stands, shown_escape, bracket_atom, no_bracket_atom, shown_no_bracket}
+use Rattle.re_syntax.proofs.lemmas.BasicGroups.{opening_within, opening_starts, group_stands, no_group_inside, no_group_end, opens_unclosed}
+use Rattle.re_syntax.proofs.lemmas.BasicItems.{no_items_without_atom, item_of_atom, item_repeated, too_deep, shown_deep, no_items_bad, one_more, all_read, duplication_takes}
 use Rattle.re_syntax.proofs.basic.+read_items.Goals as goal
 
 pub read_atom-bounds-text-at : goal.read_atom-bounds-text-at

@@ -1,6 +1,6 @@
 use Rattle.std.proofs.Common.{◌+◌, ◌-◌, ◌*◌, length}
-use Rattle.re_syntax.specs.BasicSteps.{SoFar}
-use Rattle.re_syntax.proofs.BasicItems.{ItemSoFar}
+use Rattle.re_syntax.specs.Working.BasicSteps.{SoFar}
+use Rattle.re_syntax.proofs.lemmas.BasicItems.{ItemSoFar}
 use Rattle.re_syntax.proofs.basic.+read_items.Given as goal
 
 -- each call is of a later one of these five, or has a level less

@@ -1,7 +1,7 @@
 use Rattle.std.proofs.Common.{drop}
-use Rattle.re_syntax.specs.BasicSteps.{HasItem, HasNoItem, HasNoTail, at_end, IsBehindTail}
-use Rattle.re_syntax.proofs.BasicEnds.{item_here, tail_here}
-use Rattle.re_syntax.proofs.Places.{none_found}
+use Rattle.re_syntax.specs.Working.BasicSteps.{HasItem, HasNoItem, HasNoTail, at_end, IsBehindTail}
+use Rattle.re_syntax.proofs.lemmas.BasicEnds.{item_here, tail_here}
+use Rattle.re_syntax.proofs.lemmas.Places.{none_found}
 use Rattle.re_syntax.proofs.basic.has_item.Goals as goal
 
 pub returns-then-is_at_end : goal.returns-then-is_at_end

@@ -1,7 +1,7 @@
 use Rattle.std.proofs.Common.{drop}
 use Rattle.re_syntax.specs.Basic.{IsAtEnd}
-use Rattle.re_syntax.proofs.BasicEnds.{at_text_end, at_group_end, not_at_end}
-use Rattle.re_syntax.proofs.Places.{either_found}
+use Rattle.re_syntax.proofs.lemmas.BasicEnds.{at_text_end, at_group_end, not_at_end}
+use Rattle.re_syntax.proofs.lemmas.Places.{either_found}
 use Rattle.re_syntax.proofs.basic.is_at_end.Goals as goal
 
 pub returns-then-at-text : goal.returns-then-at-text

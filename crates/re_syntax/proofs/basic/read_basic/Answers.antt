@@ -1,7 +1,7 @@
 use Rattle.std.proofs.Common.{inr}
 use Rattle.std.proofs.lemmas.Result.{err_from_is_err_and}
-use Rattle.re_syntax.proofs.SpelledUnique.{IsSpelled-unique}
-use Rattle.re_syntax.proofs.BasicGroups.{whole_read, not_whole, memory_or_none}
+use Rattle.re_syntax.proofs.lemmas.SpelledUnique.{IsSpelled-unique}
+use Rattle.re_syntax.proofs.lemmas.BasicGroups.{whole_read, not_whole, memory_or_none}
 use Rattle.re_syntax.proofs.basic.read_basic.Goals as goal
 
 pub returns-in_err-items-clause-refused : goal.returns-in_err-items-clause-refused

@@ -1,4 +1,4 @@
-use Rattle.re_syntax.proofs.BasicIntervals.{closing_no_part, star_stands, interval_stands, no_interval, bad_interval}
+use Rattle.re_syntax.proofs.lemmas.BasicIntervals.{closing_no_part, star_stands, interval_stands, no_interval, bad_interval}
 use Rattle.re_syntax.proofs.basic.read_duplication.Goals as goal
 
 pub read_interval-requires-clause-closes : goal.read_interval-requires-clause-closes

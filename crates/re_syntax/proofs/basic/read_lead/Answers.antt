@@ -1,7 +1,7 @@
 use Rattle.std.proofs.Common.{refl}
-use Rattle.re_syntax.proofs.ExpressionLaws.{expression-Begin}
-use Rattle.re_syntax.proofs.Places.{ok_as}
-use Rattle.re_syntax.proofs.BasicLeads.{without_lead, with_lead}
+use Rattle.re_syntax.proofs.lemmas.ExpressionLaws.{expression-Begin}
+use Rattle.re_syntax.proofs.lemmas.Places.{ok_as}
+use Rattle.re_syntax.proofs.lemmas.BasicLeads.{without_lead, with_lead}
 use Rattle.re_syntax.proofs.basic.read_lead.Goals as goal
 
 pub returns-in-None-clause-read : goal.returns-in-None-clause-read

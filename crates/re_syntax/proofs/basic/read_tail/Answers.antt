@@ -1,7 +1,7 @@
 use Rattle.std.proofs.Common.{refl}
-use Rattle.re_syntax.proofs.ExpressionLaws.{expression-End}
-use Rattle.re_syntax.proofs.BasicEnds.{ended_without_tail, ended_with_tail}
-use Rattle.re_syntax.proofs.Places.{ok_as}
+use Rattle.re_syntax.proofs.lemmas.ExpressionLaws.{expression-End}
+use Rattle.re_syntax.proofs.lemmas.BasicEnds.{ended_without_tail, ended_with_tail}
+use Rattle.re_syntax.proofs.lemmas.Places.{ok_as}
 use Rattle.re_syntax.proofs.basic.read_tail.Goals as goal
 
 pub returns-in-None-clause-read : goal.returns-in-None-clause-read

@@ -1,5 +1,5 @@
 use Rattle.std.proofs.Common.{inr}
-use Rattle.re_syntax.proofs.BracketNamed.{class_passed, equivalence_passed, no_class, class_shown, no_equivalence, equivalence_shown}
+use Rattle.re_syntax.proofs.lemmas.BracketNamed.{class_passed, equivalence_passed, no_class, class_shown, no_equivalence, equivalence_shown}
 use Rattle.re_syntax.proofs.bracket.read_element.Goals as goal
 
 pub returns-in-Some-clause-read : goal.returns-in-Some-clause-read

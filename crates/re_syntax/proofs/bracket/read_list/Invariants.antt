@@ -1,7 +1,7 @@
 use Rattle.std.proofs.Common.{◌≡◌, length}
-use Rattle.re_syntax.specs.Cursors.{left}
+use Rattle.re_syntax.specs.Working.Cursors.{left}
 use Rattle.re_syntax.specs.Sets.{members}
-use Rattle.re_syntax.proofs.BracketLists.{GoesOn}
+use Rattle.re_syntax.proofs.lemmas.BracketLists.{GoesOn}
 use Rattle.re_syntax.proofs.bracket.read_list.Given as goal
 
 -- the elements up to the cursor were read, and the set has what they add

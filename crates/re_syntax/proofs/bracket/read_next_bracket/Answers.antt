@@ -1,8 +1,8 @@
 use Rattle.std.proofs.Common.{◌∙◌}
 use Rattle.std.proofs.lemmas.Result.{err_from_is_err_and}
-use Rattle.re_syntax.proofs.ExpressionLaws.{expression-Set, expression-Not}
-use Rattle.re_syntax.proofs.BracketElements.{shown_along}
-use Rattle.re_syntax.proofs.BracketWhole.{passes_since, opening_stands, complement_stands, set_stands, no_complement, no_set}
+use Rattle.re_syntax.proofs.lemmas.ExpressionLaws.{expression-Set, expression-Not}
+use Rattle.re_syntax.proofs.lemmas.BracketElements.{shown_along}
+use Rattle.re_syntax.proofs.lemmas.BracketWhole.{passes_since, opening_stands, complement_stands, set_stands, no_complement, no_set}
 use Rattle.re_syntax.proofs.bracket.read_next_bracket.Goals as goal
 
 pub read_list-requires : goal.read_list-requires

@@ -1,5 +1,5 @@
 use Rattle.std.proofs.Common.{inl}
-use Rattle.re_syntax.proofs.BracketPoints.{symbol_passed, byte_passed, no_symbol, symbol_shown}
+use Rattle.re_syntax.proofs.lemmas.BracketPoints.{symbol_passed, byte_passed, no_symbol, symbol_shown}
 use Rattle.re_syntax.proofs.bracket.read_point.Goals as goal
 
 pub returns-in-Some-clause-read : goal.returns-in-Some-clause-read

@@ -1,6 +1,6 @@
 use Rattle.std.proofs.Common.{ap, ◌∙◌}
-use Rattle.re_syntax.specs.Cursors.{left}
-use Rattle.re_syntax.proofs.BracketPoints.{too_low}
+use Rattle.re_syntax.specs.Working.Cursors.{left}
+use Rattle.re_syntax.proofs.lemmas.BracketPoints.{too_low}
 use Rattle.re_syntax.proofs.bracket.read_range_end.Goals as goal
 
 pub returns-then-last-first-clause-refused : goal.returns-then-last-first-clause-refused

@@ -1,8 +1,8 @@
 use Rattle.std.proofs.Common.{ap, ◌∙◌, ◌++◌, codes, arith, below_more}
 use Rattle.re_syntax.specs.Bytes.{Begins, class_name}
-use Rattle.re_syntax.specs.Cursors.{left}
-use Rattle.re_syntax.proofs.ClassNames.{each_class}
-use Rattle.re_syntax.proofs.BracketPoints.{not_begins_along}
+use Rattle.re_syntax.specs.Working.Cursors.{left}
+use Rattle.re_syntax.proofs.lemmas.ClassNames.{each_class}
+use Rattle.re_syntax.proofs.lemmas.BracketPoints.{not_begins_along}
 use Rattle.re_syntax.proofs.bracket.take_class.Goals as goal
 
 pub loop-class-preserved : goal.loop-class-preserved

@@ -1,7 +1,7 @@
 use Rattle.std.proofs.Common.{◌≡◌, ℕ, ◌++◌, ◌<◌, codes, get_or}
 use Rattle.re_syntax.specs.declared.class.Class.TheVariants.{Upper}
 use Rattle.re_syntax.specs.Bytes.{Begins, class_name}
-use Rattle.re_syntax.specs.Cursors.{left}
+use Rattle.re_syntax.specs.Working.Cursors.{left}
 use Rattle.re_syntax.proofs.bracket.take_class.Given as goal
 
 -- the cursor stays, and no name of a class that was tried comes next

@@ -1,4 +1,4 @@
-use Rattle.re_syntax.proofs.EscapeLaws.{escape_stands, refused_escape, trailing_backslash}
+use Rattle.re_syntax.proofs.lemmas.EscapeLaws.{escape_stands, refused_escape, trailing_backslash}
 use Rattle.re_syntax.proofs.escape.read_escape.Goals as goal
 
 pub returns-in-None-clause-refused : goal.returns-in-None-clause-refused

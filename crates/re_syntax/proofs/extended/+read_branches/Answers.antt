@@ -1,13 +1,13 @@
 use Rattle.std.proofs.Common.{◌≡◌, ◌≢◌, ◌+◌, ◌-◌, inl, true, get_or, drop, refl, ap, ◌∙◌, arith, rules}
 use Rattle.std.proofs.lemmas.Result.{err_from_is_err_and}
 use Rattle.re_syntax.specs.Expression.{one_of}
-use Rattle.re_syntax.specs.PieceSteps.{told}
-use Rattle.re_syntax.specs.ExtendedSteps.{stops, DuplicationStands}
-use Rattle.re_syntax.proofs.ExpressionLaws.{expression-Set, expression-Begin, expression-End}
-use Rattle.re_syntax.proofs.ExtendedAtoms.{shown_escape, escaped_stands, no_escape_atom, bracket_atom, no_bracket_atom, shown_no_bracket, dollar_stands, single_stands}
-use Rattle.re_syntax.proofs.ExtendedItems.{no_items_without_atom, item_of_atom, item_read, item_repeated, duplication_takes, too_deep, shown_deep, no_items_opening, no_items_bad, anchor_next, item_next, none_so_far, one_more, branch_read}
-use Rattle.re_syntax.proofs.ExtendedBranches.{first_branch, next_branch, no_branches, bar_starts, branches_read, opening_within, opening_starts, group_stands, no_group_left, no_group_inside, no_group_end, opens_unclosed}
-use Rattle.re_syntax.proofs.Places.{ok_as, err_as, byte_here, front_here, refused_as}
+use Rattle.re_syntax.specs.Working.PieceSteps.{told}
+use Rattle.re_syntax.specs.Working.ExtendedSteps.{stops, DuplicationStands}
+use Rattle.re_syntax.proofs.lemmas.ExpressionLaws.{expression-Set, expression-Begin, expression-End}
+use Rattle.re_syntax.proofs.lemmas.ExtendedAtoms.{shown_escape, escaped_stands, no_escape_atom, bracket_atom, no_bracket_atom, shown_no_bracket, dollar_stands, single_stands}
+use Rattle.re_syntax.proofs.lemmas.ExtendedItems.{no_items_without_atom, item_of_atom, item_read, item_repeated, duplication_takes, too_deep, shown_deep, no_items_opening, no_items_bad, anchor_next, item_next, none_so_far, one_more, branch_read}
+use Rattle.re_syntax.proofs.lemmas.ExtendedBranches.{first_branch, next_branch, no_branches, bar_starts, branches_read, opening_within, opening_starts, group_stands, no_group_left, no_group_inside, no_group_end, opens_unclosed}
+use Rattle.re_syntax.proofs.lemmas.Places.{ok_as, err_as, byte_here, front_here, refused_as}
 use Rattle.re_syntax.proofs.extended.+read_branches.Goals as goal
 
 pub read_atom-returns-in_err-byte-in-92-clause-refused : goal.read_atom-returns-in_err-byte-in-92-clause-refused

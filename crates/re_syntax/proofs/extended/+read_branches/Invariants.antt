@@ -1,6 +1,6 @@
 use Rattle.std.proofs.Common.{◌+◌, ◌-◌, ◌*◌, length}
-use Rattle.re_syntax.proofs.ExtendedItems.{ItemSoFar, SoFar}
-use Rattle.re_syntax.proofs.ExtendedBranches.{BranchesSoFar}
+use Rattle.re_syntax.proofs.lemmas.ExtendedItems.{ItemSoFar, SoFar}
+use Rattle.re_syntax.proofs.lemmas.ExtendedBranches.{BranchesSoFar}
 use Rattle.re_syntax.proofs.extended.+read_branches.Given as goal
 
 -- each call is of a later one of these six, or has a level less

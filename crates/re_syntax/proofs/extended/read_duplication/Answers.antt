@@ -1,4 +1,4 @@
-use Rattle.re_syntax.proofs.ExtendedOpenings.{closing_no_part, none_at_end, sign_stands, none_without_brace, none_without_interval, interval_stands, bad_interval}
+use Rattle.re_syntax.proofs.lemmas.ExtendedOpenings.{closing_no_part, none_at_end, sign_stands, none_without_brace, none_without_interval, interval_stands, bad_interval}
 use Rattle.re_syntax.proofs.extended.read_duplication.Goals as goal
 
 pub read_interval-requires-clause-closes : goal.read_interval-requires-clause-closes

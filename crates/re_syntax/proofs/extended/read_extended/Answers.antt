@@ -1,6 +1,6 @@
 use Rattle.std.proofs.lemmas.Result.{err_from_is_err_and}
-use Rattle.re_syntax.proofs.SpelledUnique.{IsSpelled-unique}
-use Rattle.re_syntax.proofs.ExtendedBranches.{whole_read, memory_or_none}
+use Rattle.re_syntax.proofs.lemmas.SpelledUnique.{IsSpelled-unique}
+use Rattle.re_syntax.proofs.lemmas.ExtendedBranches.{whole_read, memory_or_none}
 use Rattle.re_syntax.proofs.extended.read_extended.Goals as goal
 
 pub returns-in_err-branches-clause-refused : goal.returns-in_err-branches-clause-refused

@@ -1,6 +1,6 @@
 use Rattle.std.proofs.Common.{sym, ap}
-use Rattle.re_syntax.specs.ExtendedSteps.{stops}
-use Rattle.re_syntax.proofs.Places.{byte_at}
+use Rattle.re_syntax.specs.Working.ExtendedSteps.{stops}
+use Rattle.re_syntax.proofs.lemmas.Places.{byte_at}
 use Rattle.re_syntax.proofs.extended.stops_at.Goals as goal
 
 pub returns-in-Some : goal.returns-in-Some

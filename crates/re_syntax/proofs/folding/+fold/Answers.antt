@@ -1,7 +1,7 @@
 use Rattle.std.proofs.Common.{ap, sym, ◌∙◌}
 use Rattle.re_syntax.specs.Expression.{expression_of}
 use Rattle.re_syntax.specs.Holds.{folded}
-use Rattle.re_syntax.proofs.FoldedLaws.{folded-Cat, folded-Alt, folded-Repeat}
+use Rattle.re_syntax.proofs.lemmas.FoldedLaws.{folded-Cat, folded-Alt, folded-Repeat}
 use Rattle.re_syntax.proofs.folding.+fold.Goals as goal
 
 pub fold-returns-in-Cat : goal.fold-returns-in-Cat

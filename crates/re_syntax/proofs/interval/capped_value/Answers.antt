@@ -1,6 +1,6 @@
 use Rattle.std.proofs.Common.{◌+◌, ◌-◌, ◌*◌, min, take, get_or, sym, ap, ◌∙◌}
 use Rattle.re_syntax.specs.Intervals.{capped, value}
-use Rattle.re_syntax.proofs.DigitsLaws.{value_after-take, capped-step}
+use Rattle.re_syntax.proofs.lemmas.DigitsLaws.{value_after-take, capped-step}
 use Rattle.re_syntax.proofs.interval.capped_value.Goals as goal
 
 pub loop-digit-preserved : goal.loop-digit-preserved

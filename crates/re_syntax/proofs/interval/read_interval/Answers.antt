@@ -1,4 +1,4 @@
-use Rattle.re_syntax.proofs.IntervalReading.{none_without_number, none_after_number, none_after_comma, none_after_numbers, stands_exactly, stands_at_least, stands_between}
+use Rattle.re_syntax.proofs.lemmas.IntervalReading.{none_without_number, none_after_number, none_after_comma, none_after_numbers, stands_exactly, stands_at_least, stands_between}
 use Rattle.re_syntax.proofs.interval.read_interval.Goals as goal
 
 pub returns-in_err-least : goal.returns-in_err-least

@@ -1,5 +1,5 @@
 use Rattle.std.proofs.Common.{sym, ◌∙◌}
-use Rattle.grep_cmd.proofs.OperandLemmas.{length-sources_named}
+use Rattle.grep_cmd.proofs.lemmas.OperandLemmas.{length-sources_named}
 use Rattle.grep_cmd.proofs.operands.OperandsSources.count.Goals as goal
 
 pub returns : goal.returns

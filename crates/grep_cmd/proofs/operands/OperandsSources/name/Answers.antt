@@ -1,7 +1,7 @@
 use Rattle.std.proofs.Common.{◌<◌, sym, ap, ◌∙◌, subst}
-use Rattle.grep_cmd.specs.Folder.{searched, shown_name}
+use Rattle.grep_cmd.specs.Folder.{searched, display_name}
 use Rattle.grep_cmd.specs.Words.{texts_of}
-use Rattle.grep_cmd.proofs.OperandLemmas.{length-sources_named, name-sources_named}
+use Rattle.grep_cmd.proofs.lemmas.OperandLemmas.{length-sources_named, name-sources_named}
 use Rattle.grep_cmd.proofs.operands.OperandsSources.name.Goals as goal
 
 pub word_at-requires : goal.word_at-requires
@@ -13,4 +13,4 @@ returns g c =
     let start = g.F.Files.folder c.args.self.now.start.value in
     let words = searched (texts_of c.args.self.now.words.now) in
     let inside = subst (λ n. c.args.k < n) (length-sources_named start words) c.requires in
-    c.shown_name.ensures ∙ ap shown_name c.word_at.ensures ∙ sym (name-sources_named start words c.args.k inside)
+    c.display_name.ensures ∙ ap display_name c.word_at.ensures ∙ sym (name-sources_named start words c.args.k inside)

@@ -1,8 +1,8 @@
 use Rattle.std.proofs.Common.{◌+◌, ◌<◌, sym, ap, ◌∙◌, subst}
 use Rattle.grep_cmd.specs.Folder.{searched, after_use}
-use Rattle.grep_cmd.specs.Operands.{StandsAt}
+use Rattle.grep_cmd.specs.Working.Operands.{StandsAt}
 use Rattle.grep_cmd.specs.Words.{texts_of}
-use Rattle.grep_cmd.proofs.OperandLemmas.{length-sources_named, StandsAt-next}
+use Rattle.grep_cmd.proofs.lemmas.OperandLemmas.{length-sources_named, StandsAt-next}
 use Rattle.grep_cmd.proofs.operands.OperandsSources.open.Goals as goal
 
 pub word_at-requires : goal.word_at-requires

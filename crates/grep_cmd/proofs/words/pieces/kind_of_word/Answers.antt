@@ -1,7 +1,7 @@
 use Rattle.std.proofs.Common.{◌∷◌, ap, ◌∙◌, rules}
 use Rattle.std.specs.Str.{chars}
 use Rattle.grep_cmd.specs.Words.{by_characters}
-use Rattle.grep_cmd.proofs.PieceLemmas.{word_of-end, word_of-other, by_characters-operand, by_characters-group}
+use Rattle.grep_cmd.proofs.lemmas.PieceLemmas.{word_of-end, word_of-other, by_characters-operand, by_characters-group}
 use Rattle.grep_cmd.proofs.words.pieces.kind_of_word.Goals as goal
 
 pub returns-then-eq : goal.returns-then-eq

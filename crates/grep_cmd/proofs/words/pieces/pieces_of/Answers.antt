@@ -1,6 +1,6 @@
 use Rattle.std.proofs.Common.{[], refl}
 use Rattle.grep_cmd.specs.Words.{pieces, texts_of}
-use Rattle.grep_cmd.proofs.PieceLemmas.{group-end}
+use Rattle.grep_cmd.proofs.lemmas.PieceLemmas.{group-end}
 use Rattle.grep_cmd.proofs.words.pieces.pieces_of.Goals as goal
 
 pub returns : goal.returns

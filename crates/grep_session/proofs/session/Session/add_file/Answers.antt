@@ -1,8 +1,8 @@
 use Rattle.std.proofs.Common.{map, inl, refl, ◌++◌, ◌∷◌, []}
-use Rattle.re_search.specs.Reading.{matched_expression}
+use Rattle.re_search.specs.Working.Matchers.{matched_expression}
 use Rattle.grep_session.specs.Edits.{AddFile, whole_file}
-use Rattle.grep_session.specs.Sessions.{inputs_of}
-use Rattle.grep_session.proofs.EditLemmas.{takes_lines}
+use Rattle.grep_session.specs.Working.Sessions.{inputs_of}
+use Rattle.grep_session.proofs.lemmas.EditLemmas.{takes_lines}
 use Rattle.grep_session.proofs.session.Session.add_file.Goals as goal
 
 pub returns-in-Err-clause-steps : goal.returns-in-Err-clause-steps

@@ -2,20 +2,21 @@ use Rattle.std.proofs.Common.{◌≡◌, ◌+◌, ◌≤◌, ◌<◌, ◌++◌, 
 use Rattle.std.proofs.lemmas.List.{length-map, length-append, map-append}
 use Rattle.std.specs.List.{AllZip}
 use Rattle.re_syntax.specs.Lines.{list_of}
-use Rattle.re_search.specs.Reading.{matched_expression, wants_whole, IsReadable}
+use Rattle.re_search.specs.Reading.{IsReadable}
+use Rattle.re_search.specs.Working.Matchers.{matched_expression, wants_whole}
 use Rattle.grep_core.specs.Files.{AreMeant}
-use Rattle.grep_core.proofs.CostLaws.{same_length}
+use Rattle.grep_core.proofs.lemmas.CostLaws.{same_length}
 use Rattle.grep_session.specs.declared.change.Change.TheVariants.{Added}
-use Rattle.grep_session.specs.Changed.{HasChanged}
+use Rattle.grep_session.specs.Working.Changed.{HasChanged}
 use Rattle.grep_session.specs.Edits.{AddPatterns, EditGives}
-use Rattle.grep_core.specs.Matchers.{most_patterns}
-use Rattle.grep_session.specs.Found.{IsRight, lines_of_files}
-use Rattle.grep_session.specs.Kept.{IsFileKept, kept_file}
-use Rattle.grep_core.specs.Matchers.{AreMatchers}
-use Rattle.grep_session.specs.Reading.{RefusesFirst}
-use Rattle.grep_session.specs.Sessions.{inputs_of}
-use Rattle.grep_session.proofs.EditLemmas.{AreMatchers-same}
-use Rattle.grep_session.proofs.NewPatternLemmas.{were_there, have_come, taken_off, AreMatchers-append, refuses_new, takes_new}
+use Rattle.re_syntax.specs.Profile.{most_patterns}
+use Rattle.grep_session.specs.Working.Found.{IsRight, lines_of_files}
+use Rattle.grep_session.specs.Working.Kept.{IsFileKept, kept_file}
+use Rattle.grep_core.specs.Working.MatcherLists.{AreMatchers}
+use Rattle.grep_session.specs.Working.Reading.{RefusesFirst}
+use Rattle.grep_session.specs.Working.Sessions.{inputs_of}
+use Rattle.grep_session.proofs.lemmas.EditLemmas.{AreMatchers-same}
+use Rattle.grep_session.proofs.lemmas.NewPatternLemmas.{were_there, have_come, taken_off, AreMatchers-append, refuses_new, takes_new}
 use Rattle.grep_session.proofs.session.Session.add_patterns.Goals as goal
 
 pub returns-in-Err-read_matchers-clause-gives : goal.returns-in-Err-read_matchers-clause-gives

@@ -1,9 +1,9 @@
 use Rattle.std.proofs.Common.{◌<◌, Ok, inl, length, map, arith, ap}
 use Rattle.std.proofs.lemmas.List.{length-map}
 use Rattle.grep_session.specs.Edits.{with_files}
-use Rattle.grep_session.specs.Kept.{kept_file}
-use Rattle.grep_session.specs.Sessions.{inputs_of}
-use Rattle.grep_session.proofs.SessionLemmas.{map-remove}
+use Rattle.grep_session.specs.Working.Kept.{kept_file}
+use Rattle.grep_session.specs.Working.Sessions.{inputs_of}
+use Rattle.grep_session.proofs.lemmas.SessionLemmas.{map-remove}
 use Rattle.grep_session.proofs.session.Session.drop_file.Goals as goal
 
 pub returns-clause-gives : goal.returns-clause-gives

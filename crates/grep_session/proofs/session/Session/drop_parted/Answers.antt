@@ -1,20 +1,20 @@
 use Rattle.std.proofs.Common.{◌≡◌, ◌+◌, ◌≤◌, ◌<◌, [], ◌∷◌, Ok, length, map, inl, refl, sym, ap, subst, ◌∙◌, arith, All, get_or}
 use Rattle.std.proofs.lemmas.List.{length-map, get_or-map}
 use Rattle.std.specs.List.{AllZip}
-use Rattle.re_search.specs.Reading.{matched_expression, wants_whole}
+use Rattle.re_search.specs.Working.Matchers.{matched_expression, wants_whole}
 use Rattle.re_search.specs.Searching.{AllAnswer}
 use Rattle.grep_core.specs.Files.{Inputs}
-use Rattle.grep_core.proofs.CostLaws.{same_length}
+use Rattle.grep_core.proofs.lemmas.CostLaws.{same_length}
 use Rattle.grep_session.specs.declared.change.Change.TheVariants.{Dropped}
-use Rattle.grep_session.specs.Changed.{HasChanged}
-use Rattle.grep_core.specs.Matchers.{most_patterns}
-use Rattle.grep_session.specs.Found.{IsRight, lines_of_files}
-use Rattle.grep_session.specs.Kept.{IsFileKept, kept_file}
-use Rattle.grep_session.specs.Sessions.{inputs_of}
-use Rattle.grep_session.proofs.EditLemmas.{AreMatchers-same}
-use Rattle.grep_session.proofs.SessionLemmas.{map-remove}
-use Rattle.grep_session.proofs.DroppingLemmas.{AreMatchers-remove, All-remove}
-use Rattle.grep_session.proofs.PatternLemmas.{takes_drop, put_back_same}
+use Rattle.grep_session.specs.Working.Changed.{HasChanged}
+use Rattle.re_syntax.specs.Profile.{most_patterns}
+use Rattle.grep_session.specs.Working.Found.{IsRight, lines_of_files}
+use Rattle.grep_session.specs.Working.Kept.{IsFileKept, kept_file}
+use Rattle.grep_session.specs.Working.Sessions.{inputs_of}
+use Rattle.grep_session.proofs.lemmas.EditLemmas.{AreMatchers-same}
+use Rattle.grep_session.proofs.lemmas.SessionLemmas.{map-remove}
+use Rattle.grep_session.proofs.lemmas.DroppingLemmas.{AreMatchers-remove, All-remove}
+use Rattle.grep_session.proofs.lemmas.PatternLemmas.{takes_drop, put_back_same}
 use Rattle.grep_session.proofs.session.Session.drop_parted.Goals as goal
 
 pub change_columns-requires-clause-whole : goal.change_columns-requires-clause-whole

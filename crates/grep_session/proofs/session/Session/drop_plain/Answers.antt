@@ -1,11 +1,11 @@
 use Rattle.std.proofs.Common.{◌≡◌, ◌+◌, ◌≤◌, ◌<◌, length, map, sym, ap, subst, ◌∙◌, arith, All}
 use Rattle.std.proofs.lemmas.List.{length-map}
-use Rattle.re_search.specs.Reading.{matched_expression}
+use Rattle.re_search.specs.Working.Matchers.{matched_expression}
 use Rattle.grep_core.specs.Files.{Inputs}
-use Rattle.grep_core.specs.Matchers.{most_patterns}
-use Rattle.grep_session.specs.Kept.{IsFileKept}
-use Rattle.grep_session.proofs.SessionLemmas.{map-remove}
-use Rattle.grep_session.proofs.DroppingLemmas.{AreMatchers-remove}
+use Rattle.re_syntax.specs.Profile.{most_patterns}
+use Rattle.grep_session.specs.Working.Kept.{IsFileKept}
+use Rattle.grep_session.proofs.lemmas.SessionLemmas.{map-remove}
+use Rattle.grep_session.proofs.lemmas.DroppingLemmas.{AreMatchers-remove}
 use Rattle.grep_session.proofs.session.Session.drop_plain.Goals as goal
 
 pub invariant_of-self : goal.invariant_of-self

@@ -1,8 +1,8 @@
 use Rattle.std.proofs.Common.{map, subst}
-use Rattle.re_search.specs.Reading.{matched_expression}
+use Rattle.re_search.specs.Working.Matchers.{matched_expression}
 use Rattle.grep_session.specs.Headline.{TellsInputs}
-use Rattle.grep_session.specs.Sessions.{inputs_of}
-use Rattle.grep_session.proofs.HeadlineLaws.{tells_inputs}
+use Rattle.grep_session.specs.Working.Sessions.{inputs_of}
+use Rattle.grep_session.proofs.lemmas.HeadlineLaws.{tells_inputs}
 use Rattle.grep_session.proofs.session.Session.messages.Goals as goal
 
 pub returns : goal.returns

@@ -1,16 +1,16 @@
 use Rattle.std.proofs.Common.{◌≡◌, ◌≤◌, Ok, map, inl, sym, ap, subst, ◌∙◌}
 use Rattle.std.specs.List.{AllZip}
-use Rattle.re_search.specs.Reading.{matched_expression, wants_whole}
+use Rattle.re_search.specs.Working.Matchers.{matched_expression, wants_whole}
 use Rattle.re_search.specs.Searching.{AllAnswer}
 use Rattle.grep_core.specs.Files.{Inputs}
-use Rattle.grep_core.proofs.CostLaws.{same_length}
-use Rattle.grep_session.specs.Again.{read_as}
-use Rattle.grep_core.specs.Matchers.{most_patterns}
-use Rattle.grep_session.specs.Found.{IsRight, lines_of_files}
-use Rattle.grep_session.specs.Kept.{kept_file}
-use Rattle.grep_session.specs.Sessions.{inputs_of}
-use Rattle.grep_session.proofs.EditLemmas.{AreMatchers-same}
-use Rattle.grep_session.proofs.AgainLemmas.{takes_parts, ready_files, AreMatchers-options}
+use Rattle.grep_core.proofs.lemmas.CostLaws.{same_length}
+use Rattle.grep_session.specs.Working.Again.{read_as}
+use Rattle.re_syntax.specs.Profile.{most_patterns}
+use Rattle.grep_session.specs.Working.Found.{IsRight, lines_of_files}
+use Rattle.grep_session.specs.Working.Kept.{kept_file}
+use Rattle.grep_session.specs.Working.Sessions.{inputs_of}
+use Rattle.grep_session.proofs.lemmas.EditLemmas.{AreMatchers-same}
+use Rattle.grep_session.proofs.lemmas.AgainLemmas.{takes_parts, ready_files, AreMatchers-options}
 use Rattle.grep_session.proofs.session.Session.part_again.Goals as goal
 
 pub find_columns-requires-clause-whole : goal.find_columns-requires-clause-whole

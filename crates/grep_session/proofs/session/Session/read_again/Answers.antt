@@ -1,14 +1,14 @@
 use Rattle.std.proofs.Common.{◌≡◌, ◌≤◌, Ok, Err, length, map, inl, sym, ap, subst, ◌∙◌}
 use Rattle.std.specs.List.{AllZip}
-use Rattle.re_search.specs.Reading.{matched_expression}
-use Rattle.grep_core.proofs.CostLaws.{same_length}
-use Rattle.grep_session.specs.Again.{ReadsAgain, read_as}
-use Rattle.grep_core.specs.Matchers.{most_patterns}
-use Rattle.grep_session.specs.Found.{IsRight, lines_of_files}
-use Rattle.grep_session.specs.Kept.{kept_file}
-use Rattle.grep_session.specs.Sessions.{inputs_of}
-use Rattle.grep_session.proofs.EditLemmas.{AreMatchers-same}
-use Rattle.grep_session.proofs.AgainLemmas.{takes_all, refuses_again}
+use Rattle.re_search.specs.Working.Matchers.{matched_expression}
+use Rattle.grep_core.proofs.lemmas.CostLaws.{same_length}
+use Rattle.grep_session.specs.Working.Again.{ReadsAgain, read_as}
+use Rattle.re_syntax.specs.Profile.{most_patterns}
+use Rattle.grep_session.specs.Working.Found.{IsRight, lines_of_files}
+use Rattle.grep_session.specs.Working.Kept.{kept_file}
+use Rattle.grep_session.specs.Working.Sessions.{inputs_of}
+use Rattle.grep_session.proofs.lemmas.EditLemmas.{AreMatchers-same}
+use Rattle.grep_session.proofs.lemmas.AgainLemmas.{takes_all, refuses_again}
 use Rattle.grep_session.proofs.session.Session.read_again.Goals as goal
 
 pub returns-in-Err-clause-gives : goal.returns-in-Err-clause-gives

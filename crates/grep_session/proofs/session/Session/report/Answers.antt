@@ -1,9 +1,9 @@
 use Rattle.std.proofs.Common.{map, subst}
-use Rattle.re_search.specs.Reading.{matched_expression}
+use Rattle.re_search.specs.Working.Matchers.{matched_expression}
 use Rattle.grep_session.specs.Headline.{ReportsInputs}
-use Rattle.grep_session.specs.Sessions.{inputs_of}
-use Rattle.grep_session.proofs.HeadlineLaws.{reports_inputs}
-use Rattle.grep_session.proofs.KeptLaws.{files_fit}
+use Rattle.grep_session.specs.Working.Sessions.{inputs_of}
+use Rattle.grep_session.proofs.lemmas.HeadlineLaws.{reports_inputs}
+use Rattle.grep_session.proofs.lemmas.KeptLaws.{files_fit}
 use Rattle.grep_session.proofs.session.Session.report.Goals as goal
 
 pub write_report-requires : goal.write_report-requires

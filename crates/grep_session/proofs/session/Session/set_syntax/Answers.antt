@@ -1,11 +1,11 @@
 use Rattle.std.proofs.Common.{◌≡◌, Ok, All, length, inl, inr, refl, sym, ap, subst, ◌∙◌}
 use Rattle.re_search.specs.Reading.{IsReadable}
 use Rattle.grep_core.specs.Files.{Inputs}
-use Rattle.grep_session.specs.Again.{ReadsAgain, AreReadable, read_as}
+use Rattle.grep_session.specs.Working.Again.{ReadsAgain, AreReadable, read_as}
 use Rattle.grep_session.specs.Edits.{Edit, SetSyntax, Applies}
 use Rattle.grep_session.specs.Touched.{TakesSteps, Touches, searched_by, all_lines}
-use Rattle.grep_session.specs.Sessions.{inputs_of}
-use Rattle.grep_session.proofs.AgainLemmas.{sets_syntax}
+use Rattle.grep_session.specs.Working.Sessions.{inputs_of}
+use Rattle.grep_session.proofs.lemmas.AgainLemmas.{sets_syntax}
 use Rattle.grep_session.proofs.session.Session.set_syntax.Goals as goal
 
 pub returns-then-is_same-clause-gives : goal.returns-then-is_same-clause-gives

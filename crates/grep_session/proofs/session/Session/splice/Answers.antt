@@ -1,12 +1,12 @@
 use Rattle.std.proofs.Common.{◌≡◌, ◌≤◌, Ok, IfSome, map, refl, sym, subst, ◌∙◌, ap, get_or, slice_set, All}
-use Rattle.re_search.specs.Reading.{matched_expression}
-use Rattle.grep_core.proofs.CostLaws.{same_length}
+use Rattle.re_search.specs.Working.Matchers.{matched_expression}
+use Rattle.grep_core.proofs.lemmas.CostLaws.{same_length}
 use Rattle.grep_session.specs.declared.kept.KeptFile.{KeptFile}
 use Rattle.grep_session.specs.Edits.{Splice, Applies, spliced, with_files}
-use Rattle.grep_core.specs.Matchers.{most_patterns}
-use Rattle.grep_session.specs.Kept.{IsKept, IsFileKept, kept_lines}
-use Rattle.grep_session.specs.Sessions.{inputs_of}
-use Rattle.grep_session.proofs.EditLemmas.{AreMatchers-same, takes_lines, applies_splice, in_kept, put, kept_put, files_put, files_same, files_kept}
+use Rattle.re_syntax.specs.Profile.{most_patterns}
+use Rattle.grep_session.specs.Working.Kept.{IsKept, IsFileKept, kept_lines}
+use Rattle.grep_session.specs.Working.Sessions.{inputs_of}
+use Rattle.grep_session.proofs.lemmas.EditLemmas.{AreMatchers-same, takes_lines, applies_splice, in_kept, put, kept_put, files_put, files_same, files_kept}
 use Rattle.grep_session.proofs.session.Session.splice.Goals as goal
 
 pub returns-in-Err-search_new-clause-steps : goal.returns-in-Err-search_new-clause-steps

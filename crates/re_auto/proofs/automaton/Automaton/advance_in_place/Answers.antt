@@ -2,12 +2,12 @@ use Rattle.std.proofs.Common.{refl, ◌≡◌, ◌∙◌, ap, length}
 use Rattle.std.specs.Vec.{with_items}
 use Rattle.std.proofs.lemmas.List.{with_items_is}
 use Rattle.re_syntax.specs.Expression.{expression_of}
-use Rattle.re_auto.specs.Positions.{part_of}
-use Rattle.re_auto.specs.Stepping.{IsNext}
-use Rattle.re_auto.specs.Bits.{Has}
-use Rattle.re_auto.specs.StateSets.{IsNextSet}
-use Rattle.re_auto.proofs.Steps.{stands_next, next_small}
-use Rattle.re_auto.proofs.WordLemmas.{next_of_word, turned}
+use Rattle.re_auto.specs.Working.Positions.{part_of}
+use Rattle.re_auto.specs.Working.Stepping.{IsNext}
+use Rattle.re_auto.specs.Working.Bits.{Has}
+use Rattle.re_auto.specs.Working.StateSets.{IsNextSet}
+use Rattle.re_auto.proofs.lemmas.Steps.{stands_next, next_small}
+use Rattle.re_auto.proofs.lemmas.WordLemmas.{next_of_word, turned}
 use Rattle.re_auto.proofs.automaton.Automaton.advance_in_place.Goals as goal
 
 is_written : (c : goal.After-add_built) → (with_items c.args.set.now.words c.put_word.new.into).items ≡ c.put_word.new.into

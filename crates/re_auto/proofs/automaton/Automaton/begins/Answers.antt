@@ -1,10 +1,10 @@
 use Rattle.std.proofs.Common.{true≢false, sym, ◌∙◌}
 use Rattle.re_syntax.specs.Expression.{expression_of}
-use Rattle.re_auto.specs.Tables.{Tells}
-use Rattle.re_auto.proofs.Steps.{nowhere_stays}
+use Rattle.re_auto.specs.Working.Tables.{AreTablesOf}
+use Rattle.re_auto.proofs.lemmas.Steps.{nowhere_stays}
 use Rattle.re_auto.proofs.automaton.Automaton.begins.Goals as goal
 
-known : (c : goal.After-has) → Tells (expression_of c.args.self.now) c.self.inside.tables
+known : (c : goal.After-has) → AreTablesOf (expression_of c.args.self.now) c.self.inside.tables
 known c = rw c.self.view_is at c.self.invariant
 
 pub returns-clause-can : goal.returns-clause-can

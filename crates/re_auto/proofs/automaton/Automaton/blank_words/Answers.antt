@@ -3,9 +3,9 @@ use Rattle.std.proofs.lemmas.Result.{IfOk-weaker}
 use Rattle.std.proofs.Math.ListN.{replicate}
 use Rattle.re_syntax.specs.Expression.{expression_of}
 use Rattle.re_syntax.specs.Holds.{positions}
-use Rattle.re_auto.specs.Bits.{Are}
-use Rattle.re_auto.specs.Tables.{Tells, words_for}
-use Rattle.re_auto.proofs.BitLemmas.{zeros_are}
+use Rattle.re_auto.specs.Working.Bits.{Are}
+use Rattle.re_auto.specs.Working.Tables.{AreTablesOf, words_for}
+use Rattle.re_auto.proofs.lemmas.BitLemmas.{zeros_are}
 use Rattle.re_auto.proofs.automaton.Automaton.blank_words.Goals as goal
 
 pub returns-clause-blank : goal.returns-clause-blank
@@ -14,7 +14,7 @@ returns-clause-blank c = IfOk-weaker c.vec.result _ _ (λ words zeros. subst (λ
     count : ℕ
     count = words_for (positions (expression_of c.args.self.now))
 
-    known : Tells (expression_of c.args.self.now) c.self.inside.tables
+    known : AreTablesOf (expression_of c.args.self.now) c.self.inside.tables
     known = rw c.self.view_is at c.self.invariant
 
     are : Are (replicate c.self.inside.tables.width 0) (λ _. ⊥) count

@@ -1,7 +1,7 @@
 use Rattle.re_syntax.specs.Expression.{expression_of}
-use Rattle.re_auto.specs.Positions.{part_of}
-use Rattle.re_auto.proofs.BitLemmas.{chained}
-use Rattle.re_auto.proofs.WordLemmas.{next_word}
+use Rattle.re_auto.specs.Working.Positions.{part_of}
+use Rattle.re_auto.proofs.lemmas.BitLemmas.{chained}
+use Rattle.re_auto.proofs.lemmas.WordLemmas.{next_word}
 use Rattle.re_auto.proofs.automaton.Automaton.step_word.Goals as goal
 
 pub returns : goal.returns

@@ -1,10 +1,10 @@
 use Rattle.std.proofs.Common.{arith, inl, w64}
 use Rattle.std.specs.Int.{trailing_zeros}
 use Rattle.re_syntax.specs.Expression.{expression_of}
-use Rattle.re_auto.specs.Bits.{InWord}
-use Rattle.re_auto.specs.Positions.{part_of}
-use Rattle.re_auto.proofs.BitLemmas.{lowest, one_added, none_left, chained}
-use Rattle.re_auto.proofs.WordLemmas.{in_either, bounded, second_as}
+use Rattle.re_auto.specs.Working.Bits.{InWord}
+use Rattle.re_auto.specs.Working.Positions.{part_of}
+use Rattle.re_auto.proofs.lemmas.BitLemmas.{lowest, one_added, none_left, chained}
+use Rattle.re_auto.proofs.lemmas.WordLemmas.{in_either, bounded, second_as}
 use Rattle.re_auto.proofs.automaton.Automaton.with_followers.Goals as goal
 
 pub bits-init : goal.bits-init

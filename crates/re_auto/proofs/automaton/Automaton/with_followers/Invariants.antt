@@ -2,8 +2,8 @@ use Rattle.std.proofs.Common.{◌≡◌, ℕ, ◌<◌, ◌⊎◌}
 use Rattle.std.specs.Prelude.{◌↔◌}
 use Rattle.std.specs.Int.{bit_at}
 use Rattle.re_syntax.specs.Expression.{expression_of}
-use Rattle.re_auto.specs.Bits.{InWord}
-use Rattle.re_auto.specs.Positions.{part_of}
+use Rattle.re_auto.specs.Working.Bits.{InWord}
+use Rattle.re_auto.specs.Working.Positions.{part_of}
 use Rattle.re_auto.proofs.automaton.Automaton.with_followers.Given as goal
 
 -- what is added already and what is left to add make up the whole

@@ -1,9 +1,9 @@
 use Rattle.std.proofs.Common.{slice_index}
 use Rattle.memchr.specs.Find.{is_byte, is_byte2, is_byte3}
-use Rattle.re_auto.specs.Beginnings.{Names}
+use Rattle.re_auto.specs.Working.Beginnings.{Names}
 use Rattle.re_auto.specs.declared.beginnings.Few.TheVariants.{One, Two, Three}
-use Rattle.re_auto.proofs.BeginningLemmas.{first_found, tells_one, tells_two, tells_three}
-use Rattle.re_auto.proofs.PartLemmas.{via}
+use Rattle.re_auto.proofs.lemmas.BeginningLemmas.{first_found, tells_one, tells_two, tells_three}
+use Rattle.re_auto.proofs.lemmas.PartLemmas.{via}
 use Rattle.re_auto.proofs.beginnings.Beginnings.next_from.Goals as goal
 
 pub returns-in-One : goal.returns-in-One

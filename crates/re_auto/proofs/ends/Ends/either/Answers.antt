@@ -1,5 +1,5 @@
 use Rattle.std.proofs.Common.{arith, true, false}
-use Rattle.re_auto.proofs.PartLemmas.{skipped}
+use Rattle.re_auto.proofs.lemmas.PartLemmas.{skipped}
 use Rattle.re_auto.proofs.ends.Ends.either.Goals as goal
 
 pub returns-clause-shows : goal.returns-clause-shows

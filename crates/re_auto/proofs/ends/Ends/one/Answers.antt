@@ -1,5 +1,5 @@
 use Rattle.std.proofs.Common.{true, false, refl}
-use Rattle.re_auto.proofs.PartLemmas.{never_holds}
+use Rattle.re_auto.proofs.lemmas.PartLemmas.{never_holds}
 use Rattle.re_auto.proofs.ends.Ends.one.Goals as goal
 
 pub returns : goal.returns

@@ -1,5 +1,5 @@
 use Rattle.std.proofs.Common.{true, false}
-use Rattle.re_auto.proofs.PartLemmas.{always}
+use Rattle.re_auto.proofs.lemmas.PartLemmas.{always}
 use Rattle.re_auto.proofs.ends.Ends.optional.Goals as goal
 
 pub returns-clause-shows : goal.returns-clause-shows

@@ -4,13 +4,13 @@ use Rattle.std.proofs.lemmas.Result.{IfOk-weaker}
 use Rattle.re_syntax.specs.Expression.{alt, cat, expression_of, empty, begin, end, repeat}
 use Rattle.re_syntax.specs.Holds.{positions}
 use Rattle.re_syntax.specs.declared.tree.Tree.{the_lemmas}
-use Rattle.re_syntax.proofs.ExpressionLaws.{expression-Empty, expression-Begin, expression-End}
-use Rattle.re_auto.specs.Building.{IsTail, IsAddedOf}
-use Rattle.re_auto.specs.Positions.{part_of}
-use Rattle.re_auto.proofs.Numbered.{part_numbered}
-use Rattle.re_auto.proofs.PartLemmas.{always, never_holds}
-use Rattle.re_auto.proofs.AddedLemmas.{blank_added, turn_added, branch_added, may_join, may_repeat, room_left, front, member_fits, branch_fits}
-use Rattle.re_auto.proofs.RepeatedLemmas.{turn_fits, turns_step, up_to_step, no_turns, no_more, bounded_added, unbounded_added, again_tail, any_added, never_added, once_added, maybe_added}
+use Rattle.re_syntax.proofs.lemmas.ExpressionLaws.{expression-Empty, expression-Begin, expression-End}
+use Rattle.re_auto.specs.Working.Building.{IsTail, IsAddedOf}
+use Rattle.re_auto.specs.Working.Positions.{part_of}
+use Rattle.re_auto.proofs.lemmas.Numbered.{part_numbered}
+use Rattle.re_auto.proofs.lemmas.PartLemmas.{always, never_holds}
+use Rattle.re_auto.proofs.lemmas.AddedLemmas.{blank_added, turn_added, branch_added, may_join, may_repeat, room_left, front, member_fits, branch_fits}
+use Rattle.re_auto.proofs.lemmas.RepeatedLemmas.{turn_fits, turns_step, up_to_step, no_turns, no_more, bounded_added, unbounded_added, again_tail, any_added, never_added, once_added, maybe_added}
 use Rattle.re_auto.proofs.rows.Rows.+add.Goals as goal
 
 pub add-returns-in-Empty : goal.add-returns-in-Empty

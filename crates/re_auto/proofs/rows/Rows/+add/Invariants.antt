@@ -1,6 +1,6 @@
 use Rattle.std.proofs.Common.{map, drop, ◌≤◌, length}
 use Rattle.re_syntax.specs.Expression.{alt, cat, expression_of}
-use Rattle.re_auto.specs.Building.{AreTurns, AreUpTo, IsAddedOf}
+use Rattle.re_auto.specs.Working.Building.{AreTurns, AreUpTo, IsAddedOf}
 use Rattle.re_auto.proofs.rows.Rows.+add.Given as goal
 
 abbrev pub invariant-add_sequence-members : goal.invariant-add_sequence-members

@@ -2,11 +2,11 @@ use Rattle.std.proofs.Common.{arith, ◌≡◌, ◌∙◌, ap, length}
 use Rattle.std.specs.Vec.{with_items}
 use Rattle.std.proofs.lemmas.List.{with_items_is}
 use Rattle.re_syntax.specs.Expression.{expression_of}
-use Rattle.re_auto.specs.Positions.{part_of}
-use Rattle.re_auto.specs.Starts.{IsNextStarts}
-use Rattle.re_auto.specs.StartSets.{least_of, AreNext}
-use Rattle.re_auto.proofs.Numbered.{part_numbered}
-use Rattle.re_auto.proofs.StartSteps.{next_starts, starts_next}
+use Rattle.re_auto.specs.Working.Positions.{part_of}
+use Rattle.re_auto.specs.Working.Starts.{IsNextStarts}
+use Rattle.re_auto.specs.Working.StartSets.{least_of, AreNext}
+use Rattle.re_auto.proofs.lemmas.Numbered.{part_numbered}
+use Rattle.re_auto.proofs.lemmas.StartSteps.{next_starts, starts_next}
 use Rattle.re_auto.proofs.starts.Starts.advance.Goals as goal
 
 written : (c : goal.After-add_built) → (with_items c.args.into.now.held c.clear.new.into).items ≡ c.clear.new.into

@@ -1,7 +1,7 @@
 use Rattle.std.proofs.Common.{arith, ◌∙◌}
 use Rattle.re_syntax.specs.Expression.{expression_of}
-use Rattle.re_auto.specs.StartSets.{Carries, Brings}
-use Rattle.re_auto.proofs.BitLemmas.{word_added, all_added, chained}
+use Rattle.re_auto.specs.Working.StartSets.{Carries, Brings}
+use Rattle.re_auto.proofs.lemmas.BitLemmas.{word_added, all_added, chained}
 use Rattle.re_auto.proofs.starts.Starts.carry.Goals as goal
 
 pub carry_word-requires-clause-small : goal.carry_word-requires-clause-small

@@ -1,8 +1,8 @@
 use Rattle.std.proofs.Common.{ℕ, ◌*◌, ◌≤◌, ◌⊎◌}
 use Rattle.std.specs.Prelude.{◌↔◌}
 use Rattle.re_syntax.specs.Expression.{expression_of}
-use Rattle.re_auto.specs.Bits.{Has}
-use Rattle.re_auto.specs.StartSets.{AreAlike, Carries, Brings}
+use Rattle.re_auto.specs.Working.Bits.{Has}
+use Rattle.re_auto.specs.Working.StartSets.{AreAlike, Carries, Brings}
 use Rattle.re_auto.proofs.starts.Starts.carry.Given as goal
 
 -- what is carried already and what is left to carry make up the whole

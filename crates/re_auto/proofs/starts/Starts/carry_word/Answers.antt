@@ -1,12 +1,12 @@
 use Rattle.std.proofs.Common.{arith, ◌∙◌, ◌<◌, ◌+◌, ◌*◌, inl, w64}
 use Rattle.std.proofs.lemmas.List.{get_or_read_under}
 use Rattle.re_syntax.specs.Expression.{expression_of}
-use Rattle.re_auto.specs.Bits.{Has}
-use Rattle.re_auto.specs.StartSets.{Carries, Brings}
-use Rattle.re_auto.proofs.BitLemmas.{at_word}
-use Rattle.re_auto.proofs.StartSteps.{one_row}
+use Rattle.re_auto.specs.Working.Bits.{Has}
+use Rattle.re_auto.specs.Working.StartSets.{Carries, Brings}
+use Rattle.re_auto.proofs.lemmas.BitLemmas.{at_word}
+use Rattle.re_auto.proofs.lemmas.StartSteps.{one_row}
 use Rattle.std.specs.Int.{trailing_zeros}
-use Rattle.re_auto.proofs.BitLemmas.{lowest, one_added, none_left, chained}
+use Rattle.re_auto.proofs.lemmas.BitLemmas.{lowest, one_added, none_left, chained}
 use Rattle.re_auto.proofs.starts.Starts.carry_word.Goals as goal
 
 pub bits-smaller : goal.bits-smaller

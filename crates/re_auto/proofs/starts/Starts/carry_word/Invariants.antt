@@ -2,7 +2,7 @@ use Rattle.std.proofs.Common.{◌≡◌, ℕ, ◌+◌, ◌*◌, ◌<◌, ◌⊎�
 use Rattle.std.specs.Prelude.{◌↔◌}
 use Rattle.std.specs.Int.{bit_at}
 use Rattle.re_syntax.specs.Expression.{expression_of}
-use Rattle.re_auto.specs.StartSets.{AreAlike, Carries, Brings}
+use Rattle.re_auto.specs.Working.StartSets.{AreAlike, Carries, Brings}
 use Rattle.re_auto.proofs.starts.Starts.carry_word.Given as goal
 
 -- what is carried already and what is left to carry make up the whole, which has none but members of `from`

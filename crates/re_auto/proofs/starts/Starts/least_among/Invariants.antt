@@ -1,7 +1,7 @@
 use Rattle.std.proofs.Common.{ℕ, ◌*◌, ◌≤◌, ◌⊎◌, get_or}
 use Rattle.std.specs.Prelude.{◌↔◌}
-use Rattle.re_auto.specs.Bits.{Has}
-use Rattle.re_auto.specs.StartSets.{AtMost}
+use Rattle.re_auto.specs.Working.Bits.{Has}
+use Rattle.re_auto.specs.Working.StartSets.{AtMost}
 use Rattle.re_auto.proofs.starts.Starts.least_among.Given as goal
 
 -- what is found already and what is left to see make up the whole

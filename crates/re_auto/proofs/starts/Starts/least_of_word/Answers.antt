@@ -1,8 +1,8 @@
 use Rattle.std.proofs.Common.{arith, ◌≤◌, ◌<◌, ◌+◌, ◌*◌, get_or, inl, w64}
 use Rattle.std.proofs.lemmas.List.{get_or_read_under}
-use Rattle.re_auto.specs.StartSets.{AtMost}
+use Rattle.re_auto.specs.Working.StartSets.{AtMost}
 use Rattle.std.specs.Int.{trailing_zeros}
-use Rattle.re_auto.proofs.BitLemmas.{lowest, one_added, none_left, chained}
+use Rattle.re_auto.proofs.lemmas.BitLemmas.{lowest, one_added, none_left, chained}
 use Rattle.re_auto.proofs.starts.Starts.least_of_word.Goals as goal
 
 pub bits-smaller : goal.bits-smaller

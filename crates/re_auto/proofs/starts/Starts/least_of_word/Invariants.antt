@@ -1,7 +1,7 @@
 use Rattle.std.proofs.Common.{◌≡◌, ℕ, ◌+◌, ◌*◌, ◌<◌, ◌≤◌, ◌⊎◌, get_or}
 use Rattle.std.specs.Prelude.{◌↔◌}
 use Rattle.std.specs.Int.{bit_at}
-use Rattle.re_auto.specs.StartSets.{AtMost}
+use Rattle.re_auto.specs.Working.StartSets.{AtMost}
 use Rattle.re_auto.proofs.starts.Starts.least_of_word.Given as goal
 
 -- what is found already and what is left to see make up the whole

@@ -1,8 +1,8 @@
 use Rattle.std.proofs.Common.{arith, ◌∙◌, ◌≡◌, ◌≤◌, get_or}
 use Rattle.std.specs.Prelude.{bit_and}
-use Rattle.re_auto.specs.Bits.{Has}
-use Rattle.re_auto.specs.StartSets.{Carries}
-use Rattle.re_auto.proofs.BitLemmas.{named_added, all_named, none_past, both_at_word, same_named, chained}
+use Rattle.re_auto.specs.Working.Bits.{Has}
+use Rattle.re_auto.specs.Working.StartSets.{Carries}
+use Rattle.re_auto.proofs.lemmas.BitLemmas.{named_added, all_named, none_past, both_at_word, same_named, chained}
 use Rattle.re_auto.proofs.starts.Starts.lower_row.Goals as goal
 
 pub lower_word-requires-clause-small : goal.lower_word-requires-clause-small

@@ -1,7 +1,7 @@
 use Rattle.std.proofs.Common.{◌≡◌, ℕ, ◌*◌, ◌≤◌, ◌⊎◌}
 use Rattle.std.specs.Prelude.{◌↔◌}
-use Rattle.re_auto.specs.Bits.{Has}
-use Rattle.re_auto.specs.StartSets.{AreAlike, Carries}
+use Rattle.re_auto.specs.Working.Bits.{Has}
+use Rattle.re_auto.specs.Working.StartSets.{AreAlike, Carries}
 use Rattle.re_auto.proofs.starts.Starts.lower_row.Given as goal
 
 -- what is given already and what is left to give make up the whole

@@ -1,7 +1,7 @@
 use Rattle.std.proofs.Common.{arith, ◌∙◌, ◌≡◌, ◌≤◌, ◌+◌, ◌*◌, inl, w64}
-use Rattle.re_auto.specs.StartSets.{Carries}
+use Rattle.re_auto.specs.Working.StartSets.{Carries}
 use Rattle.std.specs.Int.{trailing_zeros}
-use Rattle.re_auto.proofs.BitLemmas.{lowest, one_added, none_left, chained}
+use Rattle.re_auto.proofs.lemmas.BitLemmas.{lowest, one_added, none_left, chained}
 use Rattle.re_auto.proofs.starts.Starts.lower_word.Goals as goal
 
 pub bits-smaller : goal.bits-smaller

@@ -1,7 +1,7 @@
 use Rattle.std.proofs.Common.{◌≡◌, ℕ, ◌+◌, ◌*◌, ◌<◌, ◌≤◌, ◌⊎◌}
 use Rattle.std.specs.Prelude.{◌↔◌}
 use Rattle.std.specs.Int.{bit_at}
-use Rattle.re_auto.specs.StartSets.{AreAlike, Carries}
+use Rattle.re_auto.specs.Working.StartSets.{AreAlike, Carries}
 use Rattle.re_auto.proofs.starts.Starts.lower_word.Given as goal
 
 -- what is given already and what is left to give make up the whole

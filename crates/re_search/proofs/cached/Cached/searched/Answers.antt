@@ -1,8 +1,8 @@
 use Rattle.std.proofs.Common.{refl, inl}
 use Rattle.re_syntax.specs.Expression.{expression_of}
-use Rattle.re_search.specs.Stages.{mode_for}
-use Rattle.re_search.specs.Rows.{cache_of}
-use Rattle.re_search.proofs.StageLaws.{searches_readied}
+use Rattle.re_search.specs.Working.Stages.{mode_for}
+use Rattle.re_search.specs.Working.Rows.{cache_of}
+use Rattle.re_search.proofs.lemmas.StageLaws.{searches_readied}
 use Rattle.re_search.proofs.cached.Cached.searched.Goals as goal
 
 pub returns-then-not-is_ready-clause-searches : goal.returns-then-not-is_ready-clause-searches

@@ -1,6 +1,6 @@
 use Rattle.re_syntax.specs.Expression.{expression_of}
-use Rattle.re_search.specs.Stages.{IsSettled, mode_for}
-use Rattle.re_search.proofs.StageLaws.{settled_told, searches_told, searches_steps}
+use Rattle.re_search.specs.Working.Stages.{IsSettled, mode_for}
+use Rattle.re_search.proofs.lemmas.StageLaws.{settled_told, searches_told, searches_steps}
 use Rattle.re_search.proofs.cached.CachedLineMatch.is_match.Goals as goal
 
 pub returns-in-Some-clause-told : goal.returns-in-Some-clause-told

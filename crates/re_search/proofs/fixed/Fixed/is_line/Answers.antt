@@ -1,6 +1,6 @@
 use Rattle.std.proofs.Common.{◌≡◌, ◌∙◌, ap}
 use Rattle.std.specs.Str.{bytes_eq}
-use Rattle.re_search.proofs.OneText.{equals-decides}
+use Rattle.re_search.proofs.lemmas.OneText.{equals-decides}
 use Rattle.re_search.proofs.fixed.Fixed.is_line.Goals as goal
 
 pub returns : goal.returns

@@ -1,6 +1,6 @@
 use Rattle.std.proofs.Common.{◌<◌, length, arith}
 use Rattle.std.proofs.lemmas.List.{take_rest}
-use Rattle.re_search.proofs.OneText.{no_part, first_part}
+use Rattle.re_search.proofs.lemmas.OneText.{no_part, first_part}
 use Rattle.re_search.proofs.fixed.Fixed.occurrence.Goals as goal
 
 pub returns-in_err-start : goal.returns-in_err-start

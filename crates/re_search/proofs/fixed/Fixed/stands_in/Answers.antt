@@ -1,4 +1,4 @@
-use Rattle.re_search.proofs.OneText.{finds-decides}
+use Rattle.re_search.proofs.lemmas.OneText.{finds-decides}
 use Rattle.re_search.proofs.fixed.Fixed.stands_in.Goals as goal
 
 pub returns : goal.returns

@@ -1,5 +1,5 @@
 use Rattle.std.proofs.Common.{◌≡◌, false, sym, ap, ◌∙◌}
-use Rattle.re_search.specs.Literals.{Literal}
+use Rattle.re_search.specs.Working.Literals.{Literal}
 use Rattle.re_search.proofs.fixed.FixedLineMatch.find.Goals as goal
 
 pub returns-clause-told : goal.returns-clause-told

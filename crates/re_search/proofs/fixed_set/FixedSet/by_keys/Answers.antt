@@ -1,6 +1,6 @@
 use Rattle.std.proofs.Common.{rules, ◌≡◌, [], map, sym, ap, ◌∙◌}
 use Rattle.re_syntax.specs.Lines.{lines_of}
-use Rattle.re_search.specs.Literals.{keys}
+use Rattle.re_search.specs.Working.Literals.{keys}
 use Rattle.re_search.proofs.fixed_set.FixedSet.by_keys.Goals as goal
 
 pub invariant_of-result : goal.invariant_of-result

@@ -1,9 +1,9 @@
 use Rattle.std.proofs.Common.{rules, ◌≡◌, [], map, subst, sym, ap}
 use Rattle.std.specs.Prelude.{◌↔◌, IsTrue}
 use Rattle.re_syntax.specs.Lines.{lines_of}
-use Rattle.re_search.specs.FixedSets.{IsString}
-use Rattle.re_search.specs.Literals.{Literals, keys}
-use Rattle.re_search.proofs.SetMatches.{line_decides, no_bytes}
+use Rattle.re_search.specs.Working.FixedSets.{IsString}
+use Rattle.re_search.specs.Working.Literals.{Literals, keys}
+use Rattle.re_search.proofs.lemmas.SetMatches.{line_decides, no_bytes}
 use Rattle.re_search.proofs.fixed_set.FixedSet.is_line.Goals as goal
 
 pub returns-then-is_empty : goal.returns-then-is_empty

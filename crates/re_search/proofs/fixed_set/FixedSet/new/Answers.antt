@@ -1,7 +1,7 @@
 use Rattle.std.proofs.Common.{map, sym, ap, ◌∙◌}
 use Rattle.re_syntax.specs.Lines.{lines_of}
-use Rattle.re_search.specs.Literals.{keys}
-use Rattle.re_search.proofs.SetFolded.{lines_lowered, lines_plain}
+use Rattle.re_search.specs.Working.Literals.{keys}
+use Rattle.re_search.proofs.lemmas.SetFolded.{lines_lowered, lines_plain}
 use Rattle.re_search.proofs.fixed_set.FixedSet.new.Goals as goal
 
 pub by_keys-requires : goal.by_keys-requires

@@ -1,6 +1,6 @@
 use Rattle.re_syntax.specs.Lines.{lines_of}
-use Rattle.re_search.specs.Literals.{Literals}
-use Rattle.re_search.proofs.SetMatches.{best_is_part}
+use Rattle.re_search.specs.Working.Literals.{Literals}
+use Rattle.re_search.proofs.lemmas.SetMatches.{best_is_part}
 use Rattle.re_search.proofs.fixed_set.FixedSet.occurrence.Goals as goal
 
 pub returns : goal.returns

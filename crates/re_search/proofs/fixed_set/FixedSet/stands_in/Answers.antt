@@ -1,8 +1,8 @@
 use Rattle.std.proofs.Common.{refl, sym, ◌∙◌}
 use Rattle.std.proofs.lemmas.Bool.{false≢true}
 use Rattle.re_syntax.specs.Lines.{lines_of}
-use Rattle.re_search.specs.Literals.{Literals}
-use Rattle.re_search.proofs.SetMatches.{empty_matches, occurs_decides}
+use Rattle.re_search.specs.Working.Literals.{Literals}
+use Rattle.re_search.proofs.lemmas.SetMatches.{empty_matches, occurs_decides}
 use Rattle.re_search.proofs.fixed_set.FixedSet.stands_in.Goals as goal
 
 pub returns-then-self : goal.returns-then-self

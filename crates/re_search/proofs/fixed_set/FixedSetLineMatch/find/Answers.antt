@@ -1,5 +1,5 @@
 use Rattle.std.proofs.Common.{◌≡◌, true, false, sym, ap, ◌∙◌}
-use Rattle.re_search.specs.Literals.{Literals}
+use Rattle.re_search.specs.Working.Literals.{Literals}
 use Rattle.re_search.proofs.fixed_set.FixedSetLineMatch.find.Goals as goal
 
 pub returns-then-self-clause-told : goal.returns-then-self-clause-told

@@ -3,8 +3,8 @@ use Rattle.std.proofs.lemmas.List.{get_or_default}
 use Rattle.std.proofs.lemmas.List.Elements.{All-push}
 use Rattle.re_syntax.specs.Bytes.{Text}
 use Rattle.re_search.specs.declared.fixed_set.growth.Branch.{Branch}
-use Rattle.re_search.specs.Branches.{IsBranch, branch_at, no_branch, text_at}
-use Rattle.re_search.proofs.SetBranches.{split, run_behind, run_branch, run_text, child_more, found_still, found_last, run_found, row_done, longer}
+use Rattle.re_search.specs.Working.Branches.{IsBranch, branch_at, no_branch, text_at}
+use Rattle.re_search.proofs.lemmas.SetBranches.{split, run_behind, run_branch, run_text, child_more, found_still, found_last, run_found, row_done, longer}
 use Rattle.re_search.proofs.fixed_set.growth.expand.Goals as goal
 
 pub runs-preserved-in_ok-add_branch : goal.runs-preserved-in_ok-add_branch

@@ -1,6 +1,6 @@
 use Rattle.std.proofs.Common.{◌≡◌, ℕ, ◌<◌, ◌≤◌, ◌-◌, ◌++◌, ◌∷◌, [], List, All, map, length, slice_get, Some}
 use Rattle.re_search.specs.declared.fixed_set.growth.Branch.{Branch}
-use Rattle.re_search.specs.Branches.{text_at, rank, IsBranch, branch_at, branch_text}
+use Rattle.re_search.specs.Working.Branches.{text_at, rank, IsBranch, branch_at, branch_text}
 use Rattle.re_search.proofs.fixed_set.growth.expand.Given as goal
 
 abbrev pub invariant-runs : goal.invariant-runs

@@ -1,7 +1,7 @@
 use Rattle.std.proofs.Common.{rules, ◌≡◌, ◌<◌, ◌++◌, ◌∷◌, [], List, length, map, sym, ap, ◌∙◌, arith}
 use Rattle.std.proofs.lemmas.List.{length-map}
 use Rattle.re_syntax.specs.Bytes.{Text}
-use Rattle.re_search.proofs.SetBranches.{rows_at_first, rows_more}
+use Rattle.re_search.proofs.lemmas.SetBranches.{rows_at_first, rows_more}
 use Rattle.re_search.proofs.fixed_set.growth.grow.Goals as goal
 
 pub nodes-init : goal.nodes-init

@@ -1,5 +1,5 @@
 use Rattle.std.proofs.Common.{◌<◌, ◌-◌, ◌^◌, map, length}
-use Rattle.re_search.specs.Branches.{AreRows}
+use Rattle.re_search.specs.Working.Branches.{AreRows}
 use Rattle.re_search.proofs.fixed_set.growth.grow.Given as goal
 
 abbrev pub invariant-nodes : goal.invariant-nodes

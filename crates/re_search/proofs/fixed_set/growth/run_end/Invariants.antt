@@ -1,5 +1,5 @@
 use Rattle.std.proofs.Common.{◌≡◌, ℕ, ◌<◌, map, slice_get}
-use Rattle.re_search.specs.Branches.{text_at}
+use Rattle.re_search.specs.Working.Branches.{text_at}
 use Rattle.re_search.proofs.fixed_set.growth.run_end.Given as goal
 
 abbrev pub invariant-places : goal.invariant-places

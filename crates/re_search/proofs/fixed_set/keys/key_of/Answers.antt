@@ -1,6 +1,6 @@
 use Rattle.std.proofs.Common.{sym, ap, ◌∙◌}
-use Rattle.re_search.specs.Literals.{key}
-use Rattle.re_search.proofs.SetFolded.{key_plain, key_lower}
+use Rattle.re_search.specs.Working.Literals.{key}
+use Rattle.re_search.proofs.lemmas.SetFolded.{key_plain, key_lower}
 use Rattle.re_search.proofs.fixed_set.keys.key_of.Goals as goal
 
 pub returns-then-fold : goal.returns-then-fold

@@ -1,6 +1,6 @@
 use Rattle.std.proofs.Common.{◌≡◌, ◌+◌, ◌-◌, ◌<◌, ◌≤◌, slice_index, subst, arith}
-use Rattle.re_search.proofs.SetFolded.{start_of_plain}
-use Rattle.re_search.proofs.SetTries.{ascends}
+use Rattle.re_search.proofs.lemmas.SetFolded.{start_of_plain}
+use Rattle.re_search.proofs.lemmas.SetTries.{ascends}
 use Rattle.re_search.proofs.fixed_set.links.fallback.Goals as goal
 
 pub returns-clause-before : goal.returns-clause-before

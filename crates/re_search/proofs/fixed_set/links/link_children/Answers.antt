@@ -1,7 +1,7 @@
 use Rattle.std.proofs.Common.{rules, ◌≡◌, ◌+◌, ◌<◌, [], ◌∷◌, ◌++◌, length, slice_index, sym, ap, subst, ◌∙◌, arith, length-append}
-use Rattle.re_search.specs.FixedSets.{StandsFor, longer_ending}
-use Rattle.re_search.proofs.SetLinks.{linked_more, linked_right}
-use Rattle.re_search.proofs.SetSearch.{row_read}
+use Rattle.re_search.specs.Working.FixedSets.{StandsFor, longer_ending}
+use Rattle.re_search.proofs.lemmas.SetLinks.{linked_more, linked_right}
+use Rattle.re_search.proofs.lemmas.SetSearch.{row_read}
 use Rattle.re_search.proofs.fixed_set.links.link_children.Goals as goal
 
 pub children-preserved : goal.children-preserved

@@ -1,5 +1,5 @@
 use Rattle.std.proofs.Common.{false, ◌+◌, ◌≤◌, ◌-◌, length, slice_index}
-use Rattle.re_search.specs.FixedSets.{Labels, IsTrieOf, AreStartsOf, AreOwn, AreLinked, AreLinkedFor}
+use Rattle.re_search.specs.Working.FixedSets.{Labels, IsTrieOf, AreStartsOf, AreOwn, AreLinked, AreLinkedFor}
 use Rattle.re_search.proofs.fixed_set.links.link_children.Given as goal
 
 abbrev pub invariant-children : goal.invariant-children

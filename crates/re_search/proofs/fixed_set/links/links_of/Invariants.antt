@@ -1,5 +1,5 @@
 use Rattle.std.proofs.Common.{false, slice_index}
-use Rattle.re_search.specs.FixedSets.{Labels, IsTrieOf, AreStartsOf, AreOwn, AreLinked, AreLinkedFor}
+use Rattle.re_search.specs.Working.FixedSets.{Labels, IsTrieOf, AreStartsOf, AreOwn, AreLinked, AreLinkedFor}
 use Rattle.re_search.proofs.fixed_set.links.links_of.Given as goal
 
 abbrev pub invariant-nodes : goal.invariant-nodes

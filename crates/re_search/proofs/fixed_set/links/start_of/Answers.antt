@@ -1,6 +1,6 @@
 use Rattle.std.proofs.Common.{[], ◌∷◌, ◌++◌, sym, subst}
-use Rattle.re_search.specs.FixedSets.{IsFront, StandsFor, MayStandFor}
-use Rattle.re_search.proofs.SetSteps.{goes_on, nothing_left}
+use Rattle.re_search.specs.Working.FixedSets.{IsFront, StandsFor, MayStandFor}
+use Rattle.re_search.proofs.lemmas.SetSteps.{goes_on, nothing_left}
 use Rattle.re_search.proofs.fixed_set.links.start_of.Goals as goal
 
 pub returns-in-Some-clause-right : goal.returns-in-Some-clause-right

@@ -1,6 +1,6 @@
 use Rattle.std.proofs.Common.{ℕ, ◌<◌, ◌≤◌, ◌-◌, length, slice_index}
-use Rattle.re_search.specs.FixedSets.{Labels, IsTrieOf, StepsOn}
-use Rattle.re_search.specs.Literals.{key}
+use Rattle.re_search.specs.Working.FixedSets.{Labels, IsTrieOf, StepsOn}
+use Rattle.re_search.specs.Working.Literals.{key}
 use Rattle.re_search.proofs.fixed_set.links.starts_of.Given as goal
 
 abbrev pub invariant-bytes : goal.invariant-bytes

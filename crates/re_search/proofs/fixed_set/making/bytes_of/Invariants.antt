@@ -1,5 +1,5 @@
 use Rattle.std.proofs.Common.{◌≡◌, ℕ, ◌<◌, length, slice_index}
-use Rattle.re_search.specs.Branches.{branch_at}
+use Rattle.re_search.specs.Working.Branches.{branch_at}
 use Rattle.re_search.proofs.fixed_set.making.bytes_of.Given as goal
 
 abbrev pub invariant-places : goal.invariant-places

@@ -1,6 +1,6 @@
 use Rattle.std.proofs.Common.{rules, ◌≡◌, ℕ, ◌+◌, ◌<◌, ◌≤◌, inl, inr, [], ◌∷◌, ◌++◌, length, slice_index, sym, ap, ◌∙◌, arith, length-append}
-use Rattle.re_search.proofs.SetBranches.{split}
-use Rattle.re_search.proofs.SetSearch.{row_read}
+use Rattle.re_search.proofs.lemmas.SetBranches.{split}
+use Rattle.re_search.proofs.lemmas.SetSearch.{row_read}
 use Rattle.re_search.proofs.fixed_set.making.depths_of.Goals as goal
 
 pub nodes-preserved : goal.nodes-preserved

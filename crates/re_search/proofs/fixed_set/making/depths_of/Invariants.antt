@@ -1,5 +1,5 @@
 use Rattle.std.proofs.Common.{◌≡◌, ℕ, ◌<◌, ◌≤◌, length, slice_index}
-use Rattle.re_search.specs.FixedSets.{Labels, IsTrieOf}
+use Rattle.re_search.specs.Working.FixedSets.{Labels, IsTrieOf}
 use Rattle.re_search.proofs.fixed_set.making.depths_of.Given as goal
 
 abbrev pub invariant-nodes : goal.invariant-nodes

@@ -1,5 +1,5 @@
 use Rattle.std.proofs.Common.{map}
-use Rattle.re_search.proofs.SetTable.{nodes_right}
+use Rattle.re_search.proofs.lemmas.SetTable.{nodes_right}
 use Rattle.re_search.proofs.fixed_set.making.nodes_of.Goals as goal
 
 pub returns-clause-right : goal.returns-clause-right

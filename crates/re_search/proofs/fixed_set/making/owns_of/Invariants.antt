@@ -1,5 +1,5 @@
 use Rattle.std.proofs.Common.{◌≡◌, ℕ, ◌<◌, length, slice_index, map}
-use Rattle.re_search.specs.Branches.{branch_at, own_length}
+use Rattle.re_search.specs.Working.Branches.{branch_at, own_length}
 use Rattle.re_search.proofs.fixed_set.making.owns_of.Given as goal
 
 abbrev pub invariant-places : goal.invariant-places

@@ -1,5 +1,5 @@
 use Rattle.std.proofs.Common.{arith}
-use Rattle.re_search.specs.FixedSets.{Labels}
+use Rattle.re_search.specs.Working.FixedSets.{Labels}
 use Rattle.re_search.proofs.fixed_set.making.table_of.Goals as goal
 
 pub returns-clause-right : goal.returns-clause-right

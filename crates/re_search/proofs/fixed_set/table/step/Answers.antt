@@ -1,6 +1,6 @@
 use Rattle.std.proofs.Common.{◌≡◌, slice_index, arith}
-use Rattle.re_search.proofs.SetSteps.{may_at_first, goes_on, falls_back}
-use Rattle.re_search.proofs.SetTries.{ascends}
+use Rattle.re_search.proofs.lemmas.SetSteps.{may_at_first, goes_on, falls_back}
+use Rattle.re_search.proofs.lemmas.SetTries.{ascends}
 use Rattle.re_search.proofs.fixed_set.table.step.Goals as goal
 
 pub nodes-init : goal.nodes-init

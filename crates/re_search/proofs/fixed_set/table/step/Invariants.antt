@@ -1,6 +1,6 @@
 use Rattle.std.proofs.Common.{ℕ, ◌<◌, ◌≤◌, length}
 use Rattle.re_syntax.specs.Bytes.{Text}
-use Rattle.re_search.specs.FixedSets.{Labels, IsTrieOf, AreFallbacksOf, StandsFor, MayStandFor}
+use Rattle.re_search.specs.Working.FixedSets.{Labels, IsTrieOf, AreFallbacksOf, StandsFor, MayStandFor}
 use Rattle.re_search.proofs.fixed_set.table.step.Given as goal
 
 abbrev pub invariant-nodes : goal.invariant-nodes

@@ -1,6 +1,6 @@
 use Rattle.std.proofs.Common.{inl, inr, sym, ◌∙◌}
 use Rattle.std.proofs.lemmas.Result.{IfOk-weaker, IfErr-weaker}
-use Rattle.re_search.proofs.ReadingLaws.{string_means, refused_unreadable}
+use Rattle.re_search.proofs.lemmas.ReadingLaws.{string_means, refused_unreadable}
 use Rattle.re_search.proofs.matcher.Matcher.new.Goals as goal
 
 pub returns-then-is_limited-clause-unreadable : goal.returns-then-is_limited-clause-unreadable

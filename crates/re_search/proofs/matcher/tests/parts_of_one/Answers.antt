@@ -1,5 +1,5 @@
 use Rattle.std.proofs.Common.{zero, suc, Bool, [], ◌∷◌, refl, arith}
-use Rattle.re_search.specs.Reading.{wants_whole}
+use Rattle.re_search.specs.Working.Matchers.{wants_whole}
 use Rattle.re_search.specs.Searching.{AllAnswer}
 use Rattle.re_search.proofs.matcher.tests.parts_of_one.Goals as goal
 

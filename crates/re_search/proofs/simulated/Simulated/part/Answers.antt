@@ -1,7 +1,7 @@
 use Rattle.std.proofs.Common.{false}
 use Rattle.std.proofs.lemmas.List.{take_rest}
 use Rattle.re_syntax.specs.Expression.{expression_of}
-use Rattle.re_search.proofs.NeededLaws.{lacks_part, all_is_part}
+use Rattle.re_search.proofs.lemmas.NeededLaws.{lacks_part, all_is_part}
 use Rattle.re_search.proofs.simulated.Simulated.part.Goals as goal
 
 pub returns-in_err-start-clause-told : goal.returns-in_err-start-clause-told

@@ -1,5 +1,5 @@
 use Rattle.std.proofs.Common.{◌≡◌, false, sym, ap, ◌∙◌}
-use Rattle.re_search.specs.Simulated.{TreeMatcher}
+use Rattle.re_search.specs.Working.Simulated.{TreeMatcher}
 use Rattle.re_search.proofs.simulated.SimulatedLineMatch.find.Goals as goal
 
 pub returns-clause-told : goal.returns-clause-told

@@ -1,7 +1,7 @@
 use Rattle.std.proofs.Common.{[], refl}
 use Rattle.re_syntax.specs.Expression.{expression_of}
-use Rattle.re_search.specs.Stages.{Cache, mode_for}
-use Rattle.re_search.proofs.StageLaws.{settled_told, searches_told, searches_steps}
+use Rattle.re_search.specs.Working.Stages.{Cache, mode_for}
+use Rattle.re_search.proofs.lemmas.StageLaws.{settled_told, searches_told, searches_steps}
 use Rattle.re_search.proofs.simulated.SimulatedLineMatch.is_match.Goals as goal
 
 -- what a cache is that holds nothing

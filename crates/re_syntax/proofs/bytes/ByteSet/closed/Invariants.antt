@@ -1,7 +1,7 @@
 use Rattle.std.proofs.Common.{◌≡◌}
 use Rattle.re_syntax.specs.Bytes.{Bytes}
 use Rattle.re_syntax.specs.Sets.{members}
-use Rattle.re_syntax.proofs.ClosedLaws.{closed_below}
+use Rattle.re_syntax.proofs.lemmas.ClosedLaws.{closed_below}
 use Rattle.re_syntax.proofs.bytes.ByteSet.closed.Given as goal
 
 abbrev pub invariant-loop-byte : goal.invariant-loop-byte

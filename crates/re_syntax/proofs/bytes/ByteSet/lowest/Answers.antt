@@ -1,5 +1,5 @@
 use Rattle.std.proofs.Common.{arith}
-use Rattle.re_syntax.proofs.OneByte.{lowest_low, lowest_high}
+use Rattle.re_syntax.proofs.lemmas.OneByte.{lowest_low, lowest_high}
 use Rattle.re_syntax.proofs.bytes.ByteSet.lowest.Goals as goal
 
 pub returns-then-self-eq0 : goal.returns-then-self-eq0

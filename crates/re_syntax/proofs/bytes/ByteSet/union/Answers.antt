@@ -1,4 +1,4 @@
-use Rattle.re_syntax.proofs.UnionsLaws.{members-union}
+use Rattle.re_syntax.proofs.lemmas.UnionsLaws.{members-union}
 use Rattle.re_syntax.proofs.bytes.ByteSet.union.Goals as goal
 
 pub returns : goal.returns

@@ -1,5 +1,5 @@
 use Rattle.std.proofs.Common.{refl}
-use Rattle.re_syntax.proofs.CursorsLaws.{begins-drop, begins_not}
+use Rattle.re_syntax.proofs.lemmas.CursorsLaws.{begins-drop, begins_not}
 use Rattle.re_syntax.proofs.cursor.Cursor.skip.Goals as goal
 
 pub returns-then-follows-clause-skipped : goal.returns-then-follows-clause-skipped

@@ -1,7 +1,7 @@
 use Rattle.std.proofs.Common.{◌≡◌, ◌+◌, ◌-◌, ◌<◌, [], ◌∷◌, length, take, drop, rules, arith, sym, ap, ◌∙◌, add-one}
 use Rattle.std.proofs.lemmas.List.{take_rest}
 use Rattle.re_syntax.specs.Lines.{lines_of}
-use Rattle.re_syntax.proofs.SplittingLaws.{lines_of-at, lines_of-none, lines_of-empty, lines_of-behind}
+use Rattle.re_syntax.proofs.lemmas.SplittingLaws.{lines_of-at, lines_of-none, lines_of-empty, lines_of-behind}
 use Rattle.re_syntax.proofs.split.FilePatternsIterator.next.Goals as goal
 
 -- nothing is left

@@ -1,7 +1,7 @@
 use Rattle.std.proofs.Common.{◌∷◌, [], refl, ap, ◌∙◌, sym, rules}
 use Rattle.grep_cmd.specs.Words.{source, source_of, pieces}
-use Rattle.grep_cmd.specs.Pieces.{words_left}
-use Rattle.grep_cmd.proofs.PieceLemmas.{group-end, group-argument, group-wants, pieces-argument, pieces-no_argument}
+use Rattle.grep_cmd.specs.Working.Pieces.{words_left}
+use Rattle.grep_cmd.proofs.lemmas.PieceLemmas.{group-end, group-argument, group-wants, pieces-argument, pieces-no_argument}
 use Rattle.grep_cmd.proofs.words.pieces.WordPieces.option.Goals as goal
 
 pub returns-then-not-is_empty : goal.returns-then-not-is_empty

@@ -1,7 +1,7 @@
 use Rattle.std.proofs.Common.{◌≡◌, ◌++◌, replicate, sym, ap, ◌∙◌, subst}
 use Rattle.std.proofs.lemmas.List.{take-replicate}
-use Rattle.re_search.specs.Pairs.{unknown, Mirrors}
-use Rattle.re_search.proofs.PairLemmas.{mirrors_longer}
+use Rattle.re_search.specs.Working.Pairs.{unknown, Mirrors}
+use Rattle.re_search.proofs.lemmas.PairLemmas.{mirrors_longer}
 use Rattle.re_search.proofs.cached.pairs.Pairs.add_row.Goals as goal
 
 pub invariant_of-self-2 : goal.invariant_of-self-2

@@ -1,5 +1,5 @@
 use Rattle.std.proofs.Common.{sym, ◌∙◌, arith}
-use Rattle.re_search.proofs.PairLemmas.{lost_within, mirrors_lost, mirrors_kept}
+use Rattle.re_search.proofs.lemmas.PairLemmas.{lost_within, mirrors_lost, mirrors_kept}
 use Rattle.re_search.proofs.cached.pairs.Pairs.put.Goals as goal
 
 pub index_mut-requires : goal.index_mut-requires

@@ -2,11 +2,11 @@ use Rattle.std.proofs.Common.{◌≡◌, ◌++◌, ◌∷◌, [], ℕ, Some, len
 use Rattle.std.proofs.lemmas.List.{get_or_append_left}
 use Rattle.re_syntax.specs.Expression.{expression_of}
 use Rattle.re_auto.specs.declared.state_set.StateSet.{StateSet}
-use Rattle.re_auto.specs.StateSets.{IsSame}
-use Rattle.re_search.specs.Pairs.{unknown, Mirrors}
-use Rattle.re_search.proofs.SetKeys.{new_last, new_number}
-use Rattle.re_search.proofs.StageLaws.{same_trans}
-use Rattle.re_search.proofs.RowLaws.{made_same, mark_same, sound_longer, get_left, get_last}
+use Rattle.re_auto.specs.Working.StateSets.{IsSame}
+use Rattle.re_search.specs.Working.Pairs.{unknown, Mirrors}
+use Rattle.re_search.proofs.lemmas.SetKeys.{new_last, new_number}
+use Rattle.re_search.proofs.lemmas.StageLaws.{same_trans}
+use Rattle.re_search.proofs.lemmas.RowLaws.{made_same, mark_same, sound_longer, get_left, get_last}
 use Rattle.re_search.proofs.cached.table.Table.add.Goals as goal
 
 -- no set is the same as the one that is added

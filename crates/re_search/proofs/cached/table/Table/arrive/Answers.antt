@@ -1,11 +1,11 @@
 use Rattle.std.proofs.Common.{arith, ◌≡◌, ◌*◌, inl, inr, refl, sym, subst}
 use Rattle.re_syntax.specs.Expression.{expression_of}
-use Rattle.re_auto.specs.StateSets.{IsNowhere}
-use Rattle.re_search.specs.Stages.{Goes, Stage, IsPlain}
-use Rattle.re_search.specs.Rows.{IsRowOf, cache_of, row_under}
-use Rattle.re_search.proofs.StageLaws.{goes_to}
-use Rattle.re_search.proofs.RowLaws.{row_zero}
-use Rattle.re_search.proofs.WalkLaws.{under_low, under_high, is_whole, is_search}
+use Rattle.re_auto.specs.Working.StateSets.{IsNowhere}
+use Rattle.re_search.specs.Working.Stages.{Goes, Stage, IsPlain}
+use Rattle.re_search.specs.Working.Rows.{IsRowOf, cache_of, row_under}
+use Rattle.re_search.proofs.lemmas.StageLaws.{goes_to}
+use Rattle.re_search.proofs.lemmas.RowLaws.{row_zero}
+use Rattle.re_search.proofs.lemmas.WalkLaws.{under_low, under_high, is_whole, is_search}
 use Rattle.re_search.proofs.cached.table.Table.arrive.Goals as goal
 
 pub returns-then-place-line : goal.returns-then-place-line

@@ -2,9 +2,9 @@ use Rattle.std.proofs.Common.{arith, ◌≡◌, ◌<◌, ◌⊎◌, ℕ, inl, in
 use Rattle.std.proofs.lemmas.Bool.{false≢true}
 use Rattle.re_syntax.specs.Bytes.{Text}
 use Rattle.re_syntax.specs.Expression.{expression_of}
-use Rattle.re_auto.specs.StateSets.{IsAccepting}
-use Rattle.re_search.proofs.RowLaws.{mark_of_set}
-use Rattle.re_search.proofs.WalkLaws.{is_search}
+use Rattle.re_auto.specs.Working.StateSets.{IsAccepting}
+use Rattle.re_search.proofs.lemmas.RowLaws.{mark_of_set}
+use Rattle.re_search.proofs.lemmas.WalkLaws.{is_search}
 use Rattle.re_search.proofs.cached.table.Table.is_matched_at_once.Goals as goal
 
 positive : (line : Text) → (length line ≡ 0 → ⊥) → 0 < length line

@@ -1,12 +1,12 @@
 use Rattle.std.proofs.Common.{arith, ◌≡◌, ◌+◌, ◌*◌, ◌⊎◌, ℕ, slice_index, sym, ap, ◌∙◌, subst}
 use Rattle.std.proofs.lemmas.Option.{slice_get_within}
 use Rattle.re_syntax.specs.Expression.{expression_of}
-use Rattle.re_auto.specs.StateSets.{IsMadeFor, IsNextSet}
-use Rattle.re_search.specs.Pairs.{unknown, IsKeptOrLost}
-use Rattle.re_search.specs.Stages.{HoldsNoOther}
-use Rattle.re_search.specs.Rows.{IsRowOf, IsSoundTable, cache_of}
-use Rattle.re_search.proofs.RowLaws.{sound_held, tells_cell, set_of_row, row_small}
-use Rattle.re_search.proofs.WalkLaws.{holds_no_other}
+use Rattle.re_auto.specs.Working.StateSets.{IsMadeFor, IsNextSet}
+use Rattle.re_search.specs.Working.Pairs.{unknown, IsKeptOrLost}
+use Rattle.re_search.specs.Working.Stages.{HoldsNoOther}
+use Rattle.re_search.specs.Working.Rows.{IsRowOf, IsSoundTable, cache_of}
+use Rattle.re_search.proofs.lemmas.RowLaws.{sound_held, tells_cell, set_of_row, row_small}
+use Rattle.re_search.proofs.lemmas.WalkLaws.{holds_no_other}
 use Rattle.re_search.proofs.cached.table.Table.learn.Goals as goal
 
 pub advance-requires-clause-from : goal.advance-requires-clause-from

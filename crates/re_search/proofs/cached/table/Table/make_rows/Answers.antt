@@ -4,9 +4,9 @@ use Rattle.re_syntax.specs.Bytes.{Text}
 use Rattle.re_syntax.specs.Expression.{Expression, expression_of}
 use Rattle.re_auto.specs.declared.mode.Mode.{Mode}
 use Rattle.re_auto.specs.declared.state_set.StateSet.{StateSet}
-use Rattle.re_auto.specs.StateSets.{StandsAt}
-use Rattle.re_search.proofs.StageLaws.{nowhere_same, stands_same}
-use Rattle.re_search.proofs.RowLaws.{get_cases}
+use Rattle.re_auto.specs.Working.StateSets.{StandsAt}
+use Rattle.re_search.proofs.lemmas.StageLaws.{nowhere_same, stands_same}
+use Rattle.re_search.proofs.lemmas.RowLaws.{get_cases}
 use Rattle.re_search.proofs.cached.table.Table.make_rows.Goals as goal
 
 -- the set of a line's first place has its mark

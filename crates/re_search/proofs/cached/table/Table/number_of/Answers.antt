@@ -1,5 +1,5 @@
 use Rattle.std.proofs.Common.{◌≡◌, None, Some, sym, ◌∙◌}
-use Rattle.re_search.proofs.SetKeys.{found_set, no_set}
+use Rattle.re_search.proofs.lemmas.SetKeys.{found_set, no_set}
 use Rattle.re_search.proofs.cached.table.Table.number_of.Goals as goal
 
 pub returns-in-Some-clause-number : goal.returns-in-Some-clause-number

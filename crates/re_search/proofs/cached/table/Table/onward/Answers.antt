@@ -1,8 +1,8 @@
 use Rattle.std.proofs.Common.{arith, ◌+◌, ◌-◌, ◌<◌, length, sym, subst, add-one}
 use Rattle.std.proofs.lemmas.Option.{slice_get-get_or}
 use Rattle.re_syntax.specs.Expression.{expression_of}
-use Rattle.re_search.specs.Rows.{ComesTo, cache_of}
-use Rattle.re_search.proofs.WalkLaws.{walked_is, arrives_on}
+use Rattle.re_search.specs.Working.Rows.{ComesTo, cache_of}
+use Rattle.re_search.proofs.lemmas.WalkLaws.{walked_is, arrives_on}
 use Rattle.re_search.proofs.cached.table.Table.onward.Goals as goal
 
 pub returns-in-Some-clause-arrives : goal.returns-in-Some-clause-arrives

@@ -1,9 +1,9 @@
 use Rattle.std.proofs.Common.{arith, ◌≡◌, ◌*◌, length, inl, inr, refl, sym, ◌∙◌, subst}
 use Rattle.re_syntax.specs.Expression.{expression_of}
-use Rattle.re_search.specs.Rows.{ComesTo, IsRowOf, cache_of}
-use Rattle.re_search.proofs.StageLaws.{goes_nowhere}
-use Rattle.re_search.proofs.RowLaws.{row_inside, mark_of_row}
-use Rattle.re_search.proofs.WalkLaws.{first_stage, comes_first}
+use Rattle.re_search.specs.Working.Rows.{ComesTo, IsRowOf, cache_of}
+use Rattle.re_search.proofs.lemmas.StageLaws.{goes_nowhere}
+use Rattle.re_search.proofs.lemmas.RowLaws.{row_inside, mark_of_row}
+use Rattle.re_search.proofs.lemmas.WalkLaws.{first_stage, comes_first}
 use Rattle.re_search.proofs.cached.table.Table.search.Goals as goal
 
 pub returns-then-is_matched_at_once-clause-gives : goal.returns-then-is_matched_at_once-clause-gives

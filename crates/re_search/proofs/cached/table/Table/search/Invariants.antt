@@ -1,8 +1,8 @@
 use Rattle.std.proofs.Common.{length, ◌≡◌, ◌-◌, ◌*◌, ◌≤◌}
 use Rattle.re_syntax.specs.Expression.{expression_of}
-use Rattle.re_auto.specs.StateSets.{IsMadeFor}
-use Rattle.re_search.specs.Stages.{Stage}
-use Rattle.re_search.specs.Rows.{IsRight, IsRow, ComesTo, cache_of}
+use Rattle.re_auto.specs.Working.StateSets.{IsMadeFor}
+use Rattle.re_search.specs.Working.Stages.{Stage}
+use Rattle.re_search.specs.Working.Rows.{IsRight, IsRow, ComesTo, cache_of}
 use Rattle.re_search.proofs.cached.table.Table.search.Given as goal
 
 abbrev pub invariant-places : goal.invariant-places

@@ -1,9 +1,9 @@
 use Rattle.std.proofs.Common.{arith, ◌<◌, sym, ◌∙◌, subst}
 use Rattle.re_syntax.specs.Expression.{expression_of}
-use Rattle.re_search.specs.Pairs.{unknown}
-use Rattle.re_search.specs.Rows.{Lands, IsRow, cell_at, cache_of, row_under}
+use Rattle.re_search.specs.Working.Pairs.{unknown}
+use Rattle.re_search.specs.Working.Rows.{Lands, IsRow, cell_at, cache_of, row_under}
 use Rattle.re_auto.specs.Meters.{many_reused}
-use Rattle.re_search.proofs.WalkLaws.{lands_held, lands_learned, lands_alone, row_below}
+use Rattle.re_search.proofs.lemmas.WalkLaws.{lands_held, lands_learned, lands_alone, row_below}
 use Rattle.re_search.proofs.cached.table.Table.step.Goals as goal
 
 pub returns-then-walk-ne-UNKNOWN-clause-cell : goal.returns-then-walk-ne-UNKNOWN-clause-cell

@@ -1,7 +1,7 @@
 use Rattle.std.proofs.Common.{arith, ◌≡◌, suc, ◌+◌, ◌-◌, ◌<◌, slice_index, refl, sym, subst, add-one}
 use Rattle.re_syntax.specs.Expression.{expression_of}
-use Rattle.re_search.specs.Rows.{ComesTo, IsRow, cell_at, cache_of, walked}
-use Rattle.re_search.proofs.WalkLaws.{comes_on, walked_more}
+use Rattle.re_search.specs.Working.Rows.{ComesTo, IsRow, cell_at, cache_of, walked}
+use Rattle.re_search.proofs.lemmas.WalkLaws.{comes_on, walked_more}
 use Rattle.re_search.proofs.cached.table.Table.walk.Goals as goal
 
 pub places-preserved : goal.places-preserved

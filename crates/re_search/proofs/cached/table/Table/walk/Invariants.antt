@@ -1,8 +1,8 @@
 use Rattle.std.proofs.Common.{length, ◌-◌, ◌≡◌, ◌≤◌}
 use Rattle.re_syntax.specs.Expression.{expression_of}
 use Rattle.re_auto.specs.Meters.{Steps}
-use Rattle.re_search.specs.Stages.{Stage}
-use Rattle.re_search.specs.Rows.{IsRow, ComesTo, cache_of, walked}
+use Rattle.re_search.specs.Working.Stages.{Stage}
+use Rattle.re_search.specs.Working.Rows.{IsRow, ComesTo, cache_of, walked}
 use Rattle.re_search.proofs.cached.table.Table.walk.Given as goal
 
 abbrev pub invariant-places : goal.invariant-places

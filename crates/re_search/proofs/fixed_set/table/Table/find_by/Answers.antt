@@ -1,8 +1,8 @@
 use Rattle.std.proofs.Common.{◌≡◌, ◌<◌, length, slice_index, sym, subst, ◌∙◌, arith}
 use Rattle.std.proofs.lemmas.List.{length-map}
-use Rattle.re_search.specs.Literals.{key, keys}
-use Rattle.re_search.specs.FixedSets.{IsBestOccurrence}
-use Rattle.re_search.proofs.SetSearch.{nothing_read, row_read, best_at_first, best_on, best_settled}
+use Rattle.re_search.specs.Working.Literals.{key, keys}
+use Rattle.re_search.specs.Working.FixedSets.{IsBestOccurrence}
+use Rattle.re_search.proofs.lemmas.SetSearch.{nothing_read, row_read, best_at_first, best_on, best_settled}
 use Rattle.re_search.proofs.fixed_set.table.Table.find_by.Goals as goal
 
 pub places-init : goal.places-init

@@ -1,6 +1,6 @@
 use Rattle.std.proofs.Common.{◌<◌, ◌≤◌, ◌-◌, length}
-use Rattle.re_search.specs.FixedSets.{Labels, IsTableOf, StandsAtNode, IsBestOccurrence}
-use Rattle.re_search.specs.Literals.{keys}
+use Rattle.re_search.specs.Working.FixedSets.{Labels, IsTableOf, StandsAtNode, IsBestOccurrence}
+use Rattle.re_search.specs.Working.Literals.{keys}
 use Rattle.re_search.proofs.fixed_set.table.Table.find_by.Given as goal
 
 abbrev pub invariant-places : goal.invariant-places

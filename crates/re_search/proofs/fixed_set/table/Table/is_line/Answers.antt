@@ -2,10 +2,10 @@ use Rattle.std.proofs.Common.{◌≡◌, ◌<◌, [], ◌∷◌, ◌++◌, lengt
 use Rattle.std.specs.Prelude.{◌↔◌, IsTrue}
 use Rattle.std.proofs.lemmas.Bool.{false≢true}
 use Rattle.std.proofs.lemmas.List.{length-map}
-use Rattle.re_search.specs.FixedSets.{IsFront, IsString}
-use Rattle.re_search.specs.Literals.{key, keys}
-use Rattle.re_search.proofs.SetFolded.{key_at}
-use Rattle.re_search.proofs.SetSearch.{row_read, goes_on_in_line, ends_whole, all_read, one_more_byte}
+use Rattle.re_search.specs.Working.FixedSets.{IsFront, IsString}
+use Rattle.re_search.specs.Working.Literals.{key, keys}
+use Rattle.re_search.proofs.lemmas.SetFolded.{key_at}
+use Rattle.re_search.proofs.lemmas.SetSearch.{row_read, goes_on_in_line, ends_whole, all_read, one_more_byte}
 use Rattle.re_search.proofs.fixed_set.table.Table.is_line.Goals as goal
 
 pub returns-in_default : goal.returns-in_default

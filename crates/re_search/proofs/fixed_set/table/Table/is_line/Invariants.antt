@@ -1,6 +1,6 @@
 use Rattle.std.proofs.Common.{◌≡◌, ◌<◌, length, take}
-use Rattle.re_search.specs.FixedSets.{Labels, IsTableOf}
-use Rattle.re_search.specs.Literals.{keys}
+use Rattle.re_search.specs.Working.FixedSets.{Labels, IsTableOf}
+use Rattle.re_search.specs.Working.Literals.{keys}
 use Rattle.re_search.proofs.fixed_set.table.Table.is_line.Given as goal
 
 abbrev pub invariant-places : goal.invariant-places

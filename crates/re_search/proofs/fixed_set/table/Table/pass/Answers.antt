@@ -1,9 +1,9 @@
 use Rattle.std.proofs.Common.{◌≡◌, ap, length, slice_index, sym, subst, ◌∙◌, arith}
 use Rattle.std.proofs.lemmas.List.{length-map}
-use Rattle.re_search.specs.FixedSets.{Steps}
-use Rattle.re_search.specs.Literals.{key, keys}
-use Rattle.re_search.proofs.SetFolded.{key_at, start_of_key, passed_by_keys}
-use Rattle.re_search.proofs.SetSearch.{byte_read, root_stays, none_at_root}
+use Rattle.re_search.specs.Working.FixedSets.{Steps}
+use Rattle.re_search.specs.Working.Literals.{key, keys}
+use Rattle.re_search.proofs.lemmas.SetFolded.{key_at, start_of_key, passed_by_keys}
+use Rattle.re_search.proofs.lemmas.SetSearch.{byte_read, root_stays, none_at_root}
 use Rattle.re_search.proofs.fixed_set.table.Table.pass.Goals as goal
 
 pub returns-then-behind-place-clause-stands : goal.returns-then-behind-place-clause-stands

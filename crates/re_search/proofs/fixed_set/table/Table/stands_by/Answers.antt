@@ -1,8 +1,8 @@
 use Rattle.std.proofs.Common.{◌≡◌, ◌<◌, length, slice_index, refl, arith}
 use Rattle.std.proofs.lemmas.Bool.{false≢true}
 use Rattle.std.proofs.lemmas.List.{length-map}
-use Rattle.re_search.specs.Literals.{key, keys}
-use Rattle.re_search.proofs.SetSearch.{row_read, some_ends, none_up_to}
+use Rattle.re_search.specs.Working.Literals.{key, keys}
+use Rattle.re_search.proofs.lemmas.SetSearch.{row_read, some_ends, none_up_to}
 use Rattle.re_search.proofs.fixed_set.table.Table.stands_by.Goals as goal
 
 pub returns-then-index-gt0 : goal.returns-then-index-gt0

@@ -1,6 +1,6 @@
 use Rattle.std.proofs.Common.{ℕ, ◌<◌, ◌≤◌, ◌-◌, length}
-use Rattle.re_search.specs.FixedSets.{Labels, IsTableOf, Occurs, StandsAtNode}
-use Rattle.re_search.specs.Literals.{keys}
+use Rattle.re_search.specs.Working.FixedSets.{Labels, IsTableOf, Occurs, StandsAtNode}
+use Rattle.re_search.specs.Working.Literals.{keys}
 use Rattle.re_search.proofs.fixed_set.table.Table.stands_by.Given as goal
 
 abbrev pub invariant-places : goal.invariant-places

@@ -1,6 +1,6 @@
 use Rattle.std.proofs.Common.{◌≡◌, ◌+◌, length, slice_index, ap, ◌∙◌, arith}
 use Rattle.std.proofs.lemmas.Grind.{get_or_default_zero}
-use Rattle.re_search.proofs.SetTries.{not_between}
+use Rattle.re_search.proofs.lemmas.SetTries.{not_between}
 use Rattle.re_search.proofs.fixed_set.trie.Trie.child.Goals as goal
 
 pub returns-in_err-place-clause-told : goal.returns-in_err-place-clause-told

@@ -1,8 +1,8 @@
 use Rattle.std.proofs.Common.{◌≡◌, ◌-◌, length, arith}
 use Rattle.re_syntax.specs.Expression.{expression_of}
 use Rattle.re_auto.specs.declared.mode.Mode.TheVariants.{Search}
-use Rattle.re_search.proofs.Passing.{no_step}
-use Rattle.re_search.proofs.BestSpans.{carries_none, best_is_part}
+use Rattle.re_search.proofs.lemmas.Passing.{no_step}
+use Rattle.re_search.proofs.lemmas.BestSpans.{carries_none, best_is_part}
 use Rattle.re_search.proofs.simulated.least.StartPair.find.Goals as goal
 
 pub places-init : goal.places-init

@@ -1,8 +1,8 @@
 use Rattle.std.proofs.Common.{◌≡◌, ◌-◌, ◌≤◌, length}
 use Rattle.re_syntax.specs.Expression.{expression_of}
-use Rattle.re_auto.specs.StartSets.{place_of}
+use Rattle.re_auto.specs.Working.StartSets.{place_of}
 use Rattle.re_search.specs.Searching.{AddsAtMost}
-use Rattle.re_search.specs.Simulations.{AreStartsFor, Carries}
+use Rattle.re_search.specs.Working.Simulations.{AreStartsFor, Carries}
 use Rattle.re_search.proofs.simulated.least.StartPair.find.Given as goal
 
 abbrev pub invariant-places : goal.invariant-places

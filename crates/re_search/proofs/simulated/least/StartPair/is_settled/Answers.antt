@@ -1,4 +1,4 @@
-use Rattle.re_search.proofs.BestSpans.{settled}
+use Rattle.re_search.proofs.lemmas.BestSpans.{settled}
 use Rattle.re_search.proofs.simulated.least.StartPair.is_settled.Goals as goal
 
 pub returns-in-Some : goal.returns-in-Some

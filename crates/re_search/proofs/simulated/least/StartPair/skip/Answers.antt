@@ -1,7 +1,7 @@
 use Rattle.std.proofs.Common.{◌≡◌, None, refl, sym, ◌∙◌}
 use Rattle.re_syntax.specs.Expression.{expression_of}
 use Rattle.re_auto.specs.declared.mode.Mode.TheVariants.{Search}
-use Rattle.re_search.proofs.BestSpans.{none_of, carries_past}
+use Rattle.re_search.proofs.lemmas.BestSpans.{none_of, carries_past}
 use Rattle.re_search.proofs.simulated.least.StartPair.skip.Goals as goal
 
 pub returns-clause-carries : goal.returns-clause-carries

@@ -1,8 +1,8 @@
 use Rattle.std.proofs.Common.{◌≡◌, suc, ◌+◌, Some, None, refl, ap, ◌∙◌, add-one}
 use Rattle.re_syntax.specs.Expression.{expression_of}
-use Rattle.re_auto.specs.Starts.{better}
-use Rattle.re_search.specs.Simulations.{places}
-use Rattle.re_search.proofs.BestSpans.{better_places, carries_on}
+use Rattle.re_auto.specs.Working.Starts.{better}
+use Rattle.re_search.specs.Working.Simulations.{places}
+use Rattle.re_search.proofs.lemmas.BestSpans.{better_places, carries_on}
 use Rattle.re_search.proofs.simulated.least.StartPair.step.Goals as goal
 
 pub returns-in-Some-clause-carries : goal.returns-in-Some-clause-carries

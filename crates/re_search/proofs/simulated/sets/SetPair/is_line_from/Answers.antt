@@ -1,8 +1,8 @@
 use Rattle.std.proofs.Common.{refl}
 use Rattle.re_syntax.specs.Expression.{expression_of}
 use Rattle.re_auto.specs.declared.mode.Mode.TheVariants.{Whole}
-use Rattle.re_search.specs.Stages.{Stage}
-use Rattle.re_search.proofs.StageLaws.{goes_alike}
+use Rattle.re_search.specs.Working.Stages.{Stage}
+use Rattle.re_search.proofs.lemmas.StageLaws.{goes_alike}
 use Rattle.re_search.proofs.simulated.sets.SetPair.is_line_from.Goals as goal
 
 pub returns-clause-finishes : goal.returns-clause-finishes

@@ -1,7 +1,7 @@
 use Rattle.std.proofs.Common.{add-one}
 use Rattle.re_syntax.specs.Expression.{expression_of}
 use Rattle.re_auto.specs.declared.mode.Mode.TheVariants.{Search}
-use Rattle.re_search.proofs.StageLaws.{goes_to, goes_built}
+use Rattle.re_search.proofs.lemmas.StageLaws.{goes_to, goes_built}
 use Rattle.re_search.proofs.simulated.sets.SetPair.pass.Goals as goal
 
 pub returns-then-next-place-clause-goes : goal.returns-then-next-place-clause-goes

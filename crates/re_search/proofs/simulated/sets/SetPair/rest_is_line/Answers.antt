@@ -1,7 +1,7 @@
 use Rattle.std.proofs.Common.{◌≡◌, inl, inr, refl, arith, add-one}
 use Rattle.re_syntax.specs.Expression.{expression_of}
 use Rattle.re_auto.specs.declared.mode.Mode.TheVariants.{Search, Whole}
-use Rattle.re_search.proofs.StageLaws.{goes_built}
+use Rattle.re_search.proofs.lemmas.StageLaws.{goes_built}
 use Rattle.re_search.proofs.simulated.sets.SetPair.rest_is_line.Goals as goal
 
 pub places-preserved : goal.places-preserved

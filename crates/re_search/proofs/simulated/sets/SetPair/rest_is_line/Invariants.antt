@@ -1,8 +1,8 @@
 use Rattle.std.proofs.Common.{◌≡◌, []}
 use Rattle.re_syntax.specs.Expression.{expression_of}
 use Rattle.re_auto.specs.declared.mode.Mode.TheVariants.{Whole}
-use Rattle.re_search.specs.Simulations.{AreSetsFor}
-use Rattle.re_search.specs.Stages.{Cache, Stage, Goes}
+use Rattle.re_search.specs.Working.Simulations.{AreSetsFor}
+use Rattle.re_search.specs.Working.Stages.{Cache, Stage, Goes}
 use Rattle.re_search.proofs.simulated.sets.SetPair.rest_is_line.Given as goal
 
 abbrev pub invariant-places : goal.invariant-places

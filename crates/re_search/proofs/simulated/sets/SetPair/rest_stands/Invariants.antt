@@ -1,8 +1,8 @@
 use Rattle.std.proofs.Common.{◌≡◌, [], ◌-◌, ◌≤◌, length}
 use Rattle.re_syntax.specs.Expression.{expression_of}
 use Rattle.re_auto.specs.declared.mode.Mode.TheVariants.{Search}
-use Rattle.re_search.specs.Simulations.{AreSetsFor}
-use Rattle.re_search.specs.Stages.{Cache, Stage, Goes}
+use Rattle.re_search.specs.Working.Simulations.{AreSetsFor}
+use Rattle.re_search.specs.Working.Stages.{Cache, Stage, Goes}
 use Rattle.re_search.proofs.simulated.sets.SetPair.rest_stands.Given as goal
 
 abbrev pub invariant-places : goal.invariant-places

@@ -1,0 +1,5 @@
+pub mod Pieces
+pub mod Memory
+pub mod Gathered
+pub mod Operands
+pub mod Serving

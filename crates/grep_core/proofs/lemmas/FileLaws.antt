@@ -1,0 +1,59 @@
+-- The file for which a source stands, from the lines that were read of it.
+use Rattle.std.proofs.Common.{◌≡◌, ℕ, nat_eq, ◌+◌, ◌-◌, ◌≤◌, ◌⊎◌, inl, inr, Bool, ◌||◌, IsTrue, nat_le, List, [], ◌∷◌, ◌++◌, All, refl, sym, ap, subst, ◌∙◌, length, length-append, take, append_assoc, arith}
+use Rattle.std.proofs.Math.Seq.{take-append-add, take-append_seam}
+use Rattle.std.proofs.lemmas.Bool.{cases_Bool, cond-true, cond-false, le-leb, lt-leb}
+use Rattle.re_syntax.specs.Bytes.{Text}
+use Rattle.re_syntax.specs.Lines.{newline, put_before, lines_of, HasNoNewline, terminated}
+use Rattle.re_syntax.specs.Expression.{Expression}
+use Rattle.re_syntax.proofs.lemmas.LinesLaws.{lines_of-line, all_head, all_tail}
+use Rattle.grep_core.specs.declared.options.Options.{Options}
+use Rattle.grep_core.specs.Files.{File, Ending, whole, broken, HasSelected}
+use Rattle.grep_core.specs.Messages.{FaultMet, FaultMetBy}
+use Rattle.grep_core.specs.Reading.{most_lines, up_to_limit}
+use Rattle.grep_core.proofs.lemmas.MoreLines.{file_with}
+
+-- behind lines that a newline ends the lines of the rest follow
+pub lines_of-behind : (ts : List Text) (rest : Text) → All HasNoNewline ts → lines_of (terminated ts ++ rest) ≡ ts ++ lines_of rest
+lines_of-behind [] rest h = refl
+lines_of-behind (t ∷ ts) rest h =
+    ap lines_of (append_assoc t (newline ∷ terminated ts) rest) ∙ lines_of-line t (terminated ts ++ rest) (all_head t ts h) ∙ ap (λ us. t ∷ us) (lines_of-behind ts rest (all_tail t ts h))
+
+-- no more lines than can be counted are all lines of the file
+pub up_to_limit-few : (name : Text) (lines : List Text) (ending : Ending) → length lines ≤ most_lines → up_to_limit name lines ending ≡ file_with name lines ending
+up_to_limit-few name lines ending few = cond-true _ _ _ (le-leb (length lines) most_lines few)
+
+-- where one more line begins, that is a read error behind those that can be counted
+pub up_to_limit-over : (name : Text) (lines more : List Text) (line : Text) (ending : Ending) → length lines ≡ most_lines → up_to_limit name (lines ++ line ∷ more) ending ≡ file_with name lines broken
+up_to_limit-over name lines more line ending full =
+    let over : most_lines + 1 ≤ length (lines ++ line ∷ more) = rw (length-append lines (line ∷ more)) (omega (arith, full)) in
+    let kept : take most_lines (lines ++ line ∷ more) ≡ lines = ap (λ n. take n (lines ++ line ∷ more)) (sym full) ∙ take-append_seam lines (line ∷ more) in
+    cond-false _ _ _ (lt-leb (length (lines ++ line ∷ more)) most_lines (omega (arith, over))) ∙ ap (λ ls. file_with name ls broken) kept
+
+-- a file of which some lines were read begins with them, and a failed read is the only other ending that it can have
+pub up_to_limit-behind : (name : Text) (lines more : List Text) (ending : Ending) → length lines ≤ most_lines →
+    (kept : List Text) × (end : Ending) × (up_to_limit name (lines ++ more) ending ≡ file_with name (lines ++ kept) end) × ((end ≡ ending) ⊎ (end ≡ broken))
+up_to_limit-behind name lines more ending few =
+    elim (cases_Bool (nat_le (length (lines ++ more)) most_lines)) [
+      | inl within ↦ (more, ending, cond-true _ _ _ within, inl refl)
+      | inr over ↦ (take (most_lines - length lines) more, broken, cond-false _ _ _ over ∙ ap (λ ls. file_with name ls broken) kept, inr refl)
+    ]
+  where
+    kept : take most_lines (lines ++ more) ≡ lines ++ take (most_lines - length lines) more
+    kept =
+        let sum : most_lines ≡ length lines + (most_lines - length lines) = omega (arith, few) in
+        ap (λ n. take n (lines ++ more)) sum ∙ take-append-add lines more (most_lines - length lines)
+
+-- bytes have a first line
+lines_of-some : (b : ℕ) (rest : Text) → (line : Text) × (more : List Text) × (lines_of (b ∷ rest) ≡ line ∷ more)
+unfolding lines_of
+lines_of-some b rest = elim (cases_Bool (nat_eq b newline)) [ inl e ↦ ([], lines_of rest, cond-true _ _ _ e) | inr n ↦ before (lines_of rest) (cond-false _ _ _ n) ]
+  where
+    before : (ls : List Text) → lines_of (b ∷ rest) ≡ put_before b ls → (line : Text) × (more : List Text) × (lines_of (b ∷ rest) ≡ line ∷ more)
+    before [] e = (b ∷ [], [], e)
+    before (l ∷ ls) e = (b ∷ l, ls, e)
+
+module _ (es : List Expression) (options : Options) where
+  -- under `-q` and `-l` no fault is met behind a selected line
+  pub FaultMet-left : (file : File) → (file.ending ≡ whole) ⊎ (file.ending ≡ broken) → IsTrue (options.quiet || options.files_with_matches) → HasSelected es options file → FaultMet es options file → ⊥
+  FaultMet-left file (inl e) early has met = subst (λ end. FaultMetBy es options end file) e met
+  FaultMet-left file (inr e) early has met = subst (λ end. FaultMetBy es options end file) e met early has

@@ -1,0 +1,163 @@
+-- The output for one file, by the rows of its lines and how many are selected.
+use Rattle.std.proofs.Common.{◌≡◌, ℕ, ◌+◌, nat_lt, ◌<◌, ◌⊎◌, Bool, true, false, Decides, List, [], ◌∷◌, ◌++◌, length, Any, refl, sym, ap, subst, ◌∙◌, inl, inr, arith, append-nil, if◌then◌else◌}
+use Rattle.std.specs.List.{enumerate_from}
+use Rattle.std.proofs.lemmas.Bool.{false≢true, lt-ltb, ltb-true}
+use Rattle.std.proofs.lemmas.List.{length_push}
+use Rattle.re_syntax.specs.Bytes.{Text}
+use Rattle.re_syntax.specs.Expression.{Expression}
+use Rattle.re_syntax.proofs.lemmas.Decisions.{Any-none, Any-first, Any-later, Any-cases}
+use Rattle.grep_core.specs.declared.options.Options.{Options}
+use Rattle.grep_core.specs.declared.search.file.FileEnd.{FileEnd}
+use Rattle.grep_core.specs.declared.search.file.FileEnd.TheVariants.{Missing, Whole, Broken, Left}
+use Rattle.grep_core.specs.Choose.{IfHolds, Chosen}
+use Rattle.grep_core.specs.Files.{File, whole, Selected, HasSelected}
+use Rattle.grep_core.specs.Output.{Form, nothing, names, counts, parts, lines, OutAs, CountOf, RowsOf, PartRowsOf, SelectedLines}
+use Rattle.grep_core.specs.Run.{RowsAs}
+use Rattle.grep_core.specs.Working.Handed.{file_so_far}
+use Rattle.grep_core.specs.Working.OneLine.{LineRowsOf, RowsOfSelected}
+use Rattle.grep_core.specs.Working.Searched.{ending_of, count_line, summary_as}
+use Rattle.grep_core.proofs.lemmas.ChooseLaws.{EachGives-one}
+use Rattle.grep_core.proofs.lemmas.Exist.{OutAs-exist}
+use Rattle.grep_core.proofs.lemmas.MoreLines.{file_with, SelectedLines-end, SelectedLines-passed, RowsOf-end, RowsOf-passed, RowsOf-front, PartRowsOf-end, PartRowsOf-passed, PartRowsOf-front}
+use Rattle.grep_core.proofs.lemmas.Verdicts.{picked}
+
+-- a number that is greater than 0
+pub positive : (n : ℕ) → 0 < n → nat_lt 0 n ≡ true
+positive n h = lt-ltb 0 n h
+
+-- a verdict on whether a number is greater than 0
+decides_some : {P : Type 0} (n : ℕ) → (0 < n → P) → (P → 0 < n) → Decides (nat_lt 0 n) P
+decides_some n f g = ((λ e. f (ltb-true 0 n e)), (λ p. positive n (g p)))
+
+-- one more was chosen, where the verdict is true
+pub chosen_count : {A : Type 0} (chosen : List A) (x : A) (selected : ℕ) (found : Bool) → length chosen ≡ selected → length (chosen ++ picked found x) ≡ (if found then selected + 1 else selected)
+chosen_count chosen x selected true e = length_push chosen x ∙ ap (λ n. n + 1) e
+chosen_count chosen x selected false e = ap length (append-nil chosen) ∙ e
+
+-- a file by its name and its lines
+pub file_is : (file : File) (name : Text) (ls : List Text) → file.name ≡ name → file.lines ≡ ls → file ≡ file_with name ls file.ending
+file_is file name ls named has = λ i. record { name = named i; lines = has i; ending = file.ending }
+
+module _ (es : List Expression) (options : Options) (many : Bool) where
+  -- where a line was chosen, one is selected
+  some_chosen : (n : ℕ) (xs : List Text) (chosen : List (ℕ × Text)) → Chosen (λ l. Selected es options l.1) (enumerate_from n xs) chosen → 0 < length chosen → Any (Selected es options) xs
+  some_chosen n [] chosen h some = absurd (omega (arith, ap length h))
+  some_chosen n (x ∷ xs) chosen h some =
+      elim h.2 [
+        | inl here ↦ Any-first (Selected es options) x xs here.0
+        | inr not_here ↦ (let same : chosen ≡ h.1 = h.4 ∙ ap (λ f. f ++ h.1) not_here.1 in
+            Any-later (Selected es options) x xs (some_chosen (n + 1) xs h.1 h.3 (omega (arith, ap length same))))
+      ]
+
+  -- where a line is selected, one was chosen
+  chosen_some : (n : ℕ) (xs : List Text) (chosen : List (ℕ × Text)) → Chosen (λ l. Selected es options l.1) (enumerate_from n xs) chosen → Any (Selected es options) xs → 0 < length chosen
+  chosen_some n [] chosen h some = absurd (Any-none (Selected es options) some)
+  chosen_some n (x ∷ xs) chosen h some =
+      elim h.2 [
+        | inl here ↦ (let same : chosen ≡ (n, x) ∷ h.1 = h.4 ∙ ap (λ f. f ++ h.1) here.1 in omega (arith, ap length same))
+        | inr not_here ↦ (let same : chosen ≡ h.1 = h.4 ∙ ap (λ f. f ++ h.1) not_here.1 in
+            elim (Any-cases (Selected es options) x xs some) [
+              | inl s ↦ absurd (not_here.0 s)
+              | inr later ↦ (let rest = chosen_some (n + 1) xs h.1 h.3 later in omega (arith, ap length same, rest))
+            ])
+      ]
+
+  -- the number of chosen lines tells whether one is selected
+  pub chosen_tells : (name : Text) (xs : List Text) (chosen : List (ℕ × Text)) → SelectedLines es options many (file_so_far name xs) chosen → Decides (nat_lt 0 (length chosen)) (Any (Selected es options) xs)
+  chosen_tells name xs chosen h = decides_some (length chosen) (some_chosen 1 xs chosen h) (chosen_some 1 xs chosen h)
+
+  -- ---- one more line
+
+  pub rows_none : (name : Text) (shape : Form) → LineRowsOf es options many shape (file_so_far name []) []
+  rows_none name nothing = refl
+  rows_none name names = refl
+  rows_none name counts = refl
+  rows_none name parts = ([], refl, refl)
+  rows_none name lines = ([], refl, refl)
+
+  none_written : (rows out : List Text) {P : Type 0} → rows ≡ [] → IfHolds P (out ≡ []) (out ≡ []) → rows ++ out ≡ []
+  none_written rows out h (inl (p, e)) = λ i. h i ++ e i
+  none_written rows out h (inr (p, e)) = λ i. h i ++ e i
+
+  -- the rows of one more line come behind those of the lines before it
+  pub rows_line : (name : Text) (shape : Form) (xs : List Text) (line : Text) (rows out : List Text) → LineRowsOf es options many shape (file_so_far name xs) rows
+      → IfHolds (Selected es options line) (RowsOfSelected es options many shape name (length xs + 1) line out) (out ≡ []) → LineRowsOf es options many shape (file_so_far name (xs ++ line ∷ [])) (rows ++ out)
+  rows_line name nothing xs line rows out h k = none_written rows out h k
+  rows_line name names xs line rows out h k = none_written rows out h k
+  rows_line name counts xs line rows out h k = none_written rows out h k
+  rows_line name parts xs line rows out h (inl (s, e)) = PartRowsOf-end es options many name whole xs line rows out h s e
+  rows_line name parts xs line rows out h (inr (n, e)) =
+      subst (PartRowsOf es options many (file_so_far name (xs ++ line ∷ []))) (sym (ap (λ o. rows ++ o) e ∙ append-nil rows)) (PartRowsOf-passed es options many name whole xs line rows h n)
+  rows_line name lines xs line rows out h (inl (s, e)) =
+      subst (λ o. RowsOf es options many (file_so_far name (xs ++ line ∷ [])) (rows ++ o)) (sym e) (RowsOf-end es options many name whole xs line rows h s)
+  rows_line name lines xs line rows out h (inr (n, e)) =
+      subst (RowsOf es options many (file_so_far name (xs ++ line ∷ []))) (sym (ap (λ o. rows ++ o) e ∙ append-nil rows)) (RowsOf-passed es options many name whole xs line rows h n)
+
+  -- the selected lines of one more line, with its verdict
+  pub chosen_line : (name : Text) (xs : List Text) (line : Text) (chosen : List (ℕ × Text)) (found : Bool) → SelectedLines es options many (file_so_far name xs) chosen → Decides found (Selected es options line)
+      → SelectedLines es options many (file_so_far name (xs ++ line ∷ [])) (chosen ++ picked found (length xs + 1, line))
+  chosen_line name xs line chosen true h d = SelectedLines-end es options many name whole xs line chosen h (d.0 refl)
+  chosen_line name xs line chosen false h d =
+      subst (SelectedLines es options many (file_so_far name (xs ++ line ∷ []))) (sym (append-nil chosen)) (SelectedLines-passed es options many name whole xs line chosen h (λ s. false≢true (d.1 s)))
+
+  -- ---- the output for one file
+
+  -- the name of the file, where a line is selected
+  named_out : (file : File) (some : Bool) → Decides some (HasSelected es options file) → OutAs es options many names (file ∷ []) (if some then file.name ∷ [] else [])
+  named_out file true d = (file ∷ [], EachGives-one (λ x zs. IfHolds (HasSelected es options x) (zs ≡ x ∷ []) (zs ≡ [])) file (file ∷ []) (inl (d.0 refl, refl)), refl)
+  named_out file false d = ([], EachGives-one (λ x zs. IfHolds (HasSelected es options x) (zs ≡ x ∷ []) (zs ≡ [])) file [] (inr ((λ s. false≢true (d.1 s)), refl)), refl)
+
+  -- the count of a file that was read to its end
+  count_out : (name : Text) (ls : List Text) (end : FileEnd) (chosen : List (ℕ × Text)) → SelectedLines es options many (file_so_far name ls) chosen
+      → CountOf es options many (ending_of end) (file_with name ls (ending_of end)) (count_line many name end (length chosen))
+  count_out name ls Missing chosen h = refl
+  count_out name ls Whole chosen h = (chosen, h, refl)
+  count_out name ls Broken chosen h = (chosen, h, refl)
+  count_out name ls Left chosen h = (chosen, h, refl)
+
+  -- behind the rows of all lines the summary completes the output
+  pub output_all : (name : Text) (ls : List Text) (end : FileEnd) (shape : Form) (rows : List Text) (chosen : List (ℕ × Text)) → LineRowsOf es options many shape (file_so_far name ls) rows → SelectedLines es options many (file_so_far name ls) chosen
+      → OutAs es options many shape (file_with name ls (ending_of end) ∷ []) (rows ++ summary_as shape many name end (length chosen))
+  output_all name ls end nothing rows chosen h c = λ i. h i ++ []
+  output_all name ls end names rows chosen h c =
+      let file = file_with name ls (ending_of end) in
+      subst (λ r. OutAs es options many names (file ∷ []) (r ++ summary_as names many name end (length chosen))) (sym h) (named_out file (nat_lt 0 (length chosen)) (chosen_tells name ls chosen c))
+  output_all name ls end counts rows chosen h c =
+      let file = file_with name ls (ending_of end) in
+      subst (λ r. OutAs es options many counts (file ∷ []) (r ++ count_line many name end (length chosen))) (sym h) (EachGives-one (λ f out. CountOf es options many f.ending f out) file (count_line many name end (length chosen)) (count_out name ls end chosen c))
+  output_all name ls end parts rows chosen h c =
+      subst (OutAs es options many parts (file_with name ls (ending_of end) ∷ [])) (sym (append-nil rows)) (EachGives-one (PartRowsOf es options many) (file_with name ls (ending_of end)) rows h)
+  output_all name ls end lines rows chosen h c =
+      subst (OutAs es options many lines (file_with name ls (ending_of end) ∷ [])) (sym (append-nil rows)) (EachGives-one (RowsOf es options many) (file_with name ls (ending_of end)) rows h)
+
+  -- of a file that was left at a selected line only its name is written, if that
+  pub output_left : (file : File) (name : Text) (ls : List Text) (shape : Form) (rows : List Text) (selected : ℕ) → file.name ≡ name → (shape ≡ nothing) ⊎ (shape ≡ names) → LineRowsOf es options many shape (file_so_far name ls) rows
+      → Decides (nat_lt 0 selected) (HasSelected es options file) → OutAs es options many shape (file ∷ []) (rows ++ summary_as shape many name Left selected)
+  output_left file name ls nothing rows selected named early h d = λ i. h i ++ []
+  output_left file name ls names rows selected named early h d =
+      subst (λ r. OutAs es options many names (file ∷ []) (r ++ summary_as names many name Left selected)) (sym h)
+      (subst (λ n. OutAs es options many names (file ∷ []) (if nat_lt 0 selected then n ∷ [] else [])) named (named_out file (nat_lt 0 selected) d))
+  output_left file name ls counts rows selected named early h d = absurd (elim early [ inl e ↦ (let no : ⊥ = cc in no) | inr e ↦ (let no : ⊥ = cc in no) ])
+  output_left file name ls parts rows selected named early h d = absurd (elim early [ inl e ↦ (let no : ⊥ = cc in no) | inr e ↦ (let no : ⊥ = cc in no) ])
+  output_left file name ls lines rows selected named early h d = absurd (elim early [ inl e ↦ (let no : ⊥ = cc in no) | inr e ↦ (let no : ⊥ = cc in no) ])
+
+  -- the rows of a file's first lines are a beginning of its output
+  pub output_front : (file : File) (name : Text) (ls more : List Text) (shape : Form) (rows : List Text) → file.name ≡ name → file.lines ≡ ls ++ more → LineRowsOf es options many shape (file_so_far name ls) rows
+      → (rest : List Text) × OutAs es options many shape (file ∷ []) (rows ++ rest)
+  output_front file name ls more nothing rows named has h = let all = OutAs-exist es options many nothing (file ∷ []) in (all.0, subst (λ r. OutAs es options many nothing (file ∷ []) (r ++ all.0)) (sym h) all.1)
+  output_front file name ls more names rows named has h = let all = OutAs-exist es options many names (file ∷ []) in (all.0, subst (λ r. OutAs es options many names (file ∷ []) (r ++ all.0)) (sym h) all.1)
+  output_front file name ls more counts rows named has h = let all = OutAs-exist es options many counts (file ∷ []) in (all.0, subst (λ r. OutAs es options many counts (file ∷ []) (r ++ all.0)) (sym h) all.1)
+  output_front file name ls more parts rows named has h =
+      let all = PartRowsOf-front es options many name whole ls more rows h in
+      (all.0, subst (λ f. OutAs es options many parts (f ∷ []) (rows ++ all.0)) (sym (file_is file name (ls ++ more) named has)) (EachGives-one (PartRowsOf es options many) (file_with name (ls ++ more) file.ending) (rows ++ all.0) all.1))
+  output_front file name ls more lines rows named has h =
+      let all = RowsOf-front es options many name whole ls more rows h in
+      (all.0, subst (λ f. OutAs es options many lines (f ∷ []) (rows ++ all.0)) (sym (file_is file name (ls ++ more) named has)) (EachGives-one (RowsOf es options many) (file_with name (ls ++ more) file.ending) (rows ++ all.0) all.1))
+
+  -- the rows of a file that has these lines and no more
+  pub rows_as : (shape : Form) (file : File) (rows : List Text) → LineRowsOf es options many shape file rows → RowsAs es options shape many file rows
+  rows_as nothing file rows h = h
+  rows_as names file rows h = h
+  rows_as counts file rows h = h
+  rows_as parts file rows h = EachGives-one (PartRowsOf es options many) file rows h
+  rows_as lines file rows h = EachGives-one (RowsOf es options many) file rows h

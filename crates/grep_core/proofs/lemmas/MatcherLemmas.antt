@@ -1,0 +1,67 @@
+-- The matchers of patterns, one more at a time.
+use Rattle.std.proofs.Common.{◌≡◌, ℕ, ◌+◌, ◌<◌, List, [], ◌∷◌, ◌++◌, All, ◌⊎◌, inl, inr, length, map, take, get_or, refl, sym, ap, ◌∙◌, subst, arith}
+use Rattle.std.proofs.lemmas.List.{length_push, map-append}
+use Rattle.std.proofs.lemmas.List.Elements.{All-push}
+use Rattle.std.specs.List.{AllZip}
+use Rattle.re_syntax.specs.declared.fault.PatternFault.{PatternFault}
+use Rattle.re_syntax.specs.declared.syntax.Syntax.{Syntax}
+use Rattle.re_syntax.specs.Bytes.{Text}
+use Rattle.re_syntax.specs.Spelled.{IsMeant}
+use Rattle.re_search.specs.declared.matcher.Matcher.{Matcher}
+use Rattle.re_search.specs.Reading.{IsSmallFor, IsReadable, IsRefusedFor, IsOutOfMemory}
+use Rattle.re_search.specs.Working.Matchers.{matched_expression, wants_whole}
+use Rattle.grep_core.specs.declared.options.Options.{Options}
+use Rattle.grep_core.specs.Matchers.{IsFirstRefused}
+use Rattle.grep_core.specs.Working.MatcherLists.{AreMatchers}
+
+-- two lists, element by element, joined
+pub AllZip-append : {X Y : Type 0} (P : X → Y → Type 0) (xs vs : List X) (ys ws : List Y) → AllZip P xs ys → AllZip P vs ws → AllZip P (xs ++ vs) (ys ++ ws)
+AllZip-append P [] vs [] ws h k = k
+AllZip-append P [] vs (y ∷ ys) ws h k = absurd h
+AllZip-append P (x ∷ xs) vs [] ws h k = absurd h
+AllZip-append P (x ∷ xs) vs (y ∷ ys) ws h k = (h.0, AllZip-append P xs vs ys ws h.1 k)
+
+-- what stands behind the elements of a list
+at_end : (ts : List Text) (t : Text) (rest : List Text) → (take (length ts) (ts ++ t ∷ rest) ≡ ts) × (get_or (ts ++ t ∷ rest) (length ts) [] ≡ t) × (length ts < length (ts ++ t ∷ rest))
+at_end [] t rest = (refl, refl, omega arith)
+at_end (u ∷ ts) t rest = let h = at_end ts t rest in (ap (λ l. u ∷ l) h.0, h.1, omega (arith, h.2))
+
+module _ (syntax : Syntax) (options : Options) where
+  -- no pattern was read yet
+  pub AreMatchers-none : (texts : List Text) (matchers : List Matcher) → texts ≡ [] → matchers ≡ [] → AreMatchers syntax options texts matchers
+  AreMatchers-none texts matchers e f =
+      subst (λ ts. AreMatchers syntax options ts matchers) (sym e) (subst (AreMatchers syntax options []) (sym f) (record { meant = tt; wholes = λ i d h. absurd (let false : ⊥ = omega (arith, h) in false); readable = λ i d h. absurd (let false : ⊥ = omega (arith, h) in false); counted = refl }))
+
+  module _ (texts : List Text) (matchers : List Matcher) (text : Text) (s : AreMatchers syntax options texts matchers) where
+    -- one more was read
+    pub AreMatchers-push : (all : List Text) (new : List Matcher) (m : Matcher) → all ≡ texts ++ text ∷ [] → new ≡ matchers ++ m ∷ [] → IsMeant syntax options.ignore_case text (matched_expression m) → wants_whole m ≡ options.line_regexp → IsSmallFor syntax options.ignore_case (matched_expression m)
+        → AreMatchers syntax options all new
+    AreMatchers-push all new m both pushed meant whole small =
+        subst (λ ts. AreMatchers syntax options ts new) (sym both) (subst (AreMatchers syntax options (texts ++ text ∷ [])) (sym pushed) (record {
+          meant =
+              subst (AllZip (λ t e. IsMeant syntax options.ignore_case t e) (texts ++ text ∷ [])) (sym (map-append matched_expression matchers (m ∷ [])))
+              (AllZip-append (λ t e. IsMeant syntax options.ignore_case t e) texts (text ∷ []) (map matched_expression matchers) (matched_expression m ∷ []) s.meant (meant, tt));
+          wholes = subst (All (λ w. w ≡ options.line_regexp)) (sym (map-append wants_whole matchers (m ∷ []))) (All-push (λ w. w ≡ options.line_regexp) (map wants_whole matchers) (wants_whole m) s.wholes whole);
+          readable = All-push (IsReadable syntax options.ignore_case) texts text s.readable (matched_expression m, meant, small);
+          counted = length_push matchers m ∙ ap (λ n. n + 1) s.counted ∙ sym (length_push texts text);
+        }))
+
+    -- the next is refused
+    refused_next : (rest all : List Text) → texts ++ (text ∷ rest) ≡ all → (fault : PatternFault) → IsRefusedFor syntax options.ignore_case text fault → (IsReadable syntax options.ignore_case text → ⊥)
+        → IsFirstRefused syntax options.ignore_case all (length matchers) fault
+    refused_next rest all is fault shown none =
+        let h = at_end texts text rest in
+        subst (λ l. IsFirstRefused syntax options.ignore_case l (length matchers) fault) is (subst (λ n. IsFirstRefused syntax options.ignore_case (texts ++ text ∷ rest) n fault) (sym s.counted) (record {
+          in_texts = h.2;
+          readable_before = subst (All (IsReadable syntax options.ignore_case)) (sym h.0) s.readable;
+          unreadable = λ r. none (subst (IsReadable syntax options.ignore_case) h.1 r);
+          shown = subst (λ t. IsRefusedFor syntax options.ignore_case t fault) (sym h.1) shown;
+        }))
+
+    -- the next is refused, or memory ran out
+    pub refused_or_memory : (rest all : List Text) → texts ++ (text ∷ rest) ≡ all → (fault : PatternFault) → IsOutOfMemory fault ⊎ IsRefusedFor syntax options.ignore_case text fault
+        → IsOutOfMemory fault ⊎ (IsReadable syntax options.ignore_case text → ⊥) → (place : ℕ) → length matchers ≡ place → IsOutOfMemory fault ⊎ IsFirstRefused syntax options.ignore_case all place fault
+    refused_or_memory rest all is fault (inl memory) none place at = inl memory
+    refused_or_memory rest all is fault (inr shown) (inl memory) place at = inl memory
+    refused_or_memory rest all is fault (inr shown) (inr none) place at =
+        inr (subst (λ n. IsFirstRefused syntax options.ignore_case all n fault) at (refused_next rest all is fault shown none))

@@ -1,0 +1,44 @@
+-- What was written for one line.
+use Rattle.std.proofs.Common.{◌≡◌, ℕ, Bool, true, false, Decides, List, [], ◌∷◌, ◌++◌, Option, Result, Ok, Err, IfOk, OnErr, refl, sym, subst, inr}
+use Rattle.std.proofs.lemmas.Bool.{false≢true}
+use Rattle.re_syntax.specs.Bytes.{Text}
+use Rattle.re_syntax.specs.Expression.{Expression}
+use Rattle.grep_core.specs.declared.options.Options.{Options}
+use Rattle.grep_core.specs.Row.{output_line}
+use Rattle.grep_core.specs.Written.{Writes}
+use Rattle.grep_core.specs.Files.{Selected}
+use Rattle.grep_core.specs.Output.{lines, form, head_of}
+use Rattle.grep_core.specs.Run.{Writer, writer}
+use Rattle.grep_core.specs.Working.Handed.{file_so_far}
+use Rattle.grep_core.specs.Working.OneLine.{RowsOfSelected, WritesSelected, BreaksSelected, TakesLine}
+use Rattle.grep_core.proofs.lemmas.PassLemmas.{TakesAll-line, TakesFront-line}
+use Rattle.grep_core.proofs.lemmas.WriterLaws.{TakesAll-nothing}
+
+-- what holds anyway holds at an error
+pub err_with : {T E P : Type 0} (r : Result T E) → P → OnErr r P
+err_with (Ok v) p = tt
+err_with (Err e) p = p
+
+module _ {W : Type 0} (contents : W → Option Text) (failures : W → ℕ) (es : List Expression) (options : Options) (many : Bool) (name : Text) (number : ℕ) (line : Text) (a b : W) (asked : form options ≡ lines) where
+  -- the row of a selected line
+  abbrev head_and_line : Text
+  head_and_line = head_of es options many (file_so_far name []) number ++ line
+
+  line_row : RowsOfSelected es options many (form options) name number line (head_and_line ∷ [])
+  line_row = subst (λ shape. RowsOfSelected es options many shape name number line (head_and_line ∷ [])) (sym asked) refl
+
+  -- it went out
+  pub row_written : {T E : Type 0} (r : Result T E) → Writes contents failures a b (output_line [] head_and_line) r → IfOk r (λ _. WritesSelected es options many name number line (writer contents failures a) (writer contents failures b))
+  row_written (Ok v) w = record { rows = _; are_rows = line_row; wrote = TakesAll-line contents failures a b head_and_line w }
+  row_written (Err e) w = tt
+
+  -- a beginning of it did
+  pub row_broken : {T E : Type 0} (r : Result T E) → Writes contents failures a b (output_line [] head_and_line) r → OnErr r (BreaksSelected es options many name number line (writer contents failures a) (writer contents failures b))
+  row_broken (Ok v) w = tt
+  row_broken (Err e) w = record { rows = _; are_rows = line_row; wrote = TakesFront-line contents failures a b head_and_line w; counted = w.counted }
+
+-- a line that is not selected has no rows
+pub line_passed : (es : List Expression) (options : Options) (many : Bool) (name : Text) (number : ℕ) (line : Text) (w : Writer) (verdict : Bool) → verdict ≡ false → Decides verdict (Selected es options line)
+    → TakesLine es options many name number line w w false
+line_passed es options many name number line w true e d = absurd (false≢true (sym e))
+line_passed es options many name number line w false e d = record { rows = []; are_rows = inr ((λ s. false≢true (d.1 s)), refl); wrote = TakesAll-nothing w; told = d }

@@ -1,0 +1,188 @@
+-- A search of a source that was opened, by the search of its reader.
+use Rattle.std.proofs.Common.{◌≡◌, ℕ, zero, suc, ◌≤◌, ◌⊎◌, Bool, true, false, List, [], ◌∷◌, length, Option, Result, Ok, Err, IfSome, IfOk, refl, sym, ap, subst, ◌∙◌, inl, inr, arith}
+use Rattle.std.proofs.lemmas.Bool.{false≢true}
+use Rattle.re_syntax.specs.Bytes.{Text}
+use Rattle.re_syntax.specs.Expression.{Expression}
+use Rattle.re_syntax.proofs.lemmas.Decisions.{Any-none}
+use Rattle.re_search.specs.Meters.{Steps}
+use Rattle.grep_core.specs.declared.options.Options.{Options}
+use Rattle.grep_core.specs.declared.search.file.FileEnd.{FileEnd}
+use Rattle.grep_core.specs.declared.search.file.FileEnd.TheVariants.{Missing}
+use Rattle.grep_core.specs.declared.search.file.FileFound.{FileFound}
+use Rattle.grep_core.specs.Counted.{one_more}
+use Rattle.grep_core.specs.Choose.{Chosen}
+use Rattle.grep_core.specs.Working.LineReader.{LineReader}
+use Rattle.grep_core.specs.Files.{File, Selected}
+use Rattle.grep_core.specs.Output.{Form, nothing, names, counts, parts, lines, form, numbered}
+use Rattle.grep_core.specs.Reading.{Source, Reading, not_opened, fails_after, ends_after, open_source, IsReadingOf, file_of, failures_of, AreLeft, OneLeft}
+use Rattle.grep_core.specs.Run.{Writer, first_lines, count_more}
+use Rattle.grep_core.specs.Working.OneLine.{LineRowsOf}
+use Rattle.grep_core.specs.Working.Searched.{CountsSource, BreaksSource, StopsSource, SearchesSource}
+use Rattle.grep_core.proofs.lemmas.Verdicts.{decided_yes, decided_no}
+use Rattle.grep_core.proofs.lemmas.CostLaws.{searched_no_line, searched_first_lines}
+use Rattle.grep_core.proofs.lemmas.WriterLaws.{TakesAll-nothing}
+use Rattle.grep_core.proofs.lemmas.Readings.{IsReadingOf-exists}
+use Rattle.grep_core.proofs.lemmas.FileOutput.{rows_none, output_all, rows_as}
+
+-- a source that was opened and then read may have done what was read
+pub opened : (source : Source) (r : Reading) → IfSome source.opens (λ b. b ≡ true) → IsReadingOf (open_source source.name source.bytes) r → IsReadingOf source r
+opened source not_opened opens h = absurd (false≢true (sym h))
+opened source (fails_after bytes) opens h = (opens, h.1)
+opened source (ends_after bytes) opens h = (opens, h.1)
+
+-- what a reader counts from nothing on is counted on
+pub count_on : (n own : ℕ) → own ≤ 1 → count_more n (count_more 0 own) ≡ count_more n own
+count_on n own few = elim (cases_own own few) [ inl e ↦ ap (λ k. count_more n (count_more 0 k)) e ∙ ap (count_more n) (sym e) | inr e ↦ ap (λ k. count_more n (count_more 0 k)) e ∙ ap (count_more n) one ∙ ap (count_more n) (sym e) ]
+  where
+    cases_own : (k : ℕ) → k ≤ 1 → (k ≡ 0) ⊎ (k ≡ 1)
+    cases_own zero h = inl refl
+    cases_own (suc k) h = inr (omega (arith, h))
+
+    one : count_more 0 1 ≡ 1
+    one = omega arith
+
+-- a source fails at most once
+pub few_failures : (r : Reading) → failures_of r ≤ 1
+few_failures not_opened = omega arith
+few_failures (fails_after bytes) = omega arith
+few_failures (ends_after bytes) = omega arith
+
+-- what the reader of an open source had left is what that of the source had
+left_of : (source : Source) (r : Reading) (left : List (Option Text)) → AreLeft (open_source source.name source.bytes) r left → AreLeft source r left
+left_of source not_opened left h = h
+left_of source (fails_after bytes) left h = h
+left_of source (ends_after bytes) left h = h
+
+module _ (es : List Expression) (options : Options) (many : Bool) (source : Source) (given : List (Option Text) → Type 0) (rest : Option Text) (gives : given (rest ∷ []))
+    (before after failed : ℕ) (counted : after ≡ count_more before failed) where
+  -- what was counted of the reader from nothing on was counted of the source
+  counted_on : (reading : Reading) → CountsSource es options many (open_source source.name source.bytes) (OneLeft rest) reading 0 failed → CountsSource es options many source given reading before after
+  counted_on reading s = record {
+    own = s.own;
+    are_own = s.are_own;
+    counted = counted ∙ ap (count_more before) s.counted ∙ count_on before s.own few;
+    left = s.left;
+    are_left = left_of source reading s.left s.are_left;
+    gave_back = subst given (sym s.gave_back) gives;
+  }
+    where
+      few : s.own ≤ 1
+      few = elim s.are_own [ inl f ↦ omega (arith, f.1, few_failures reading) | inr f ↦ omega (arith, f.1) ]
+
+module _ (es : List Expression) (options : Options) (many : Bool) (source : Source) (given : List (Option Text) → Type 0) (rest : Option Text) (gives : given (rest ∷ []))
+    (opens : IfSome source.opens (λ b. b ≡ true)) (old new : Writer) (began ended : Steps) (before after failed : ℕ) (counted : after ≡ count_more before failed) where
+  -- a search of its reader was a search of the source
+  pub source_searched : (end : FileEnd) (selected : ℕ) → SearchesSource es options many (open_source source.name source.bytes) (OneLeft rest) 0 failed old new began ended end selected
+      → SearchesSource es options many source given before after old new began ended end selected
+  source_searched end selected s = record {
+    reading = s.reading;
+    is_reading = opened source s.reading opens s.is_reading;
+    failures = counted_on es options many source given rest gives before after failed counted s.reading s.failures;
+    some = s.some;
+    fault = s.fault;
+    ends = s.ends;
+    rows = s.rows;
+    are_rows = s.are_rows;
+    wrote = s.wrote;
+    steps = s.steps;
+  }
+
+  pub source_broken : BreaksSource es options many (open_source source.name source.bytes) (OneLeft rest) 0 failed old new began ended → BreaksSource es options many source given before after old new began ended
+  source_broken s = record {
+    reading = s.reading;
+    is_reading = opened source s.reading opens s.is_reading;
+    failures = counted_on es options many source given rest gives before after failed counted s.reading s.failures;
+    rows = s.rows;
+    are_rows = s.are_rows;
+    wrote = s.wrote;
+    counted = s.counted;
+    steps = s.steps;
+  }
+
+  pub source_stopped : (n : ℕ) → StopsSource es options many (open_source source.name source.bytes) (OneLeft rest) n 0 failed old new began ended → StopsSource es options many source given n before after old new began ended
+  source_stopped n s = record {
+    reading = s.reading;
+    is_reading = opened source s.reading opens s.is_reading;
+    none_failed = counted ∙ ap (count_more before) s.none_failed;
+    rest = s.rest;
+    gave_back = subst given (sym s.gave_back) gives;
+    in_file = s.in_file;
+    rows = s.rows;
+    are_rows = s.are_rows;
+    wrote = s.wrote;
+    steps = s.steps;
+  }
+
+module _ (es : List Expression) (options : Options) (many : Bool) (source : Source) (given : List (Option Text) → Type 0) (w : Writer) (steps : Steps) where
+  -- want of memory before a source was read
+  pub source_unread : (before after : ℕ) → after ≡ before → (rest : Option Text) → given (rest ∷ []) → StopsSource es options many source given 0 before after w w steps steps
+  source_unread before after same rest gives =
+      let some = IsReadingOf-exists source in
+      record {
+        reading = some.0;
+        is_reading = some.1;
+        none_failed = same;
+        rest = rest;
+        gave_back = gives;
+        in_file = omega arith;
+        rows = [];
+        are_rows = rows_as es options many (form options) (first_lines 0 (file_of source.name some.0)) [] (no_rows (form options) (first_lines 0 (file_of source.name some.0)) refl);
+        wrote = TakesAll-nothing w;
+        steps = searched_first_lines es options (length es) [] (file_of source.name some.0).lines steps steps (searched_no_line es options (length es) steps);
+      }
+    where
+      no_rows : (shape : Form) (file : File) → file.lines ≡ [] → LineRowsOf es options many shape file []
+      no_rows nothing file e = refl
+      no_rows names file e = refl
+      no_rows counts file e = refl
+      no_rows parts file e = ([], subst (λ ls. Chosen (λ l. Selected es options l.1) (numbered ls) []) (sym e) refl, refl)
+      no_rows lines file e = ([], subst (λ ls. Chosen (λ l. Selected es options l.1) (numbered ls) []) (sym e) refl, refl)
+
+  -- a source that could not be opened
+  pub source_missing : (before after : ℕ) → IfSome source.opens (λ b. b ≡ false) → after ≡ one_more before → given [] → SearchesSource es options many source given before after w w steps steps Missing 0
+  source_missing before after closed e gives = record {
+    reading = not_opened;
+    is_reading = closed;
+    failures = record { own = 1; are_own = inl (tt, refl); counted = e; left = []; are_left = refl; gave_back = gives };
+    some = decided_no (Any-none (Selected es options));
+    fault = decided_yes tt;
+    ends = λ _. refl;
+    rows = [];
+    are_rows = output_all es options many source.name [] Missing (form options) [] [] (rows_none es options many source.name (form options)) refl;
+    wrote = TakesAll-nothing w;
+    steps = searched_no_line es options (length es) steps;
+  }
+
+-- the reader that a source was opened with, and the lines made of it
+module _ {R : Type 0} (remaining : R → Option Text) (failures : R → ℕ) (es : List Expression) (options : Options) (many : Bool) (source : Source) (given : List (Option Text) → Type 0) (rest : Option Text) (gives : given (rest ∷ [])) (opens : IfSome source.opens (λ b. b ≡ true))
+    (reader : R) (bytes : remaining reader ≡ source.bytes) (fresh : failures reader ≡ 0) (start : LineReader R) (holds : start.reader ≡ reader) (name : Text) (named : name ≡ source.name) (old new : Writer) (began ended : Steps) where
+  same_source : open_source name (remaining start.reader) ≡ open_source source.name source.bytes
+  same_source = λ i. open_source (named i) ((ap remaining holds ∙ bytes) i)
+
+  fresh_start : failures start.reader ≡ 0
+  fresh_start = ap failures holds ∙ fresh
+
+  module _ (before after failed : ℕ) (counted : after ≡ count_more before failed) where
+    -- the search of the lines found this
+    pub found_in : {E : Type 0} (r : Result FileFound E)
+        → IfOk r (λ found. SearchesSource es options many (open_source name (remaining start.reader)) (OneLeft rest) (failures start.reader) failed old new began ended found.end found.selected)
+        → IfOk r (λ found. SearchesSource es options many source given before after old new began ended found.end found.selected)
+    found_in (Err e) s = tt
+    found_in (Ok found) s =
+        let at_source = subst (λ src. SearchesSource es options many src (OneLeft rest) (failures start.reader) failed old new began ended found.end found.selected) same_source s in
+        let from_none = subst (λ n. SearchesSource es options many (open_source source.name source.bytes) (OneLeft rest) n failed old new began ended found.end found.selected) fresh_start at_source in
+        source_searched es options many source given rest gives opens old new began ended before after failed counted found.end found.selected from_none
+
+    -- a write failed in it
+    pub broken_in : BreaksSource es options many (open_source name (remaining start.reader)) (OneLeft rest) (failures start.reader) failed old new began ended → BreaksSource es options many source given before after old new began ended
+    broken_in s =
+        let at_source = subst (λ src. BreaksSource es options many src (OneLeft rest) (failures start.reader) failed old new began ended) same_source s in
+        let from_none = subst (λ n. BreaksSource es options many (open_source source.name source.bytes) (OneLeft rest) n failed old new began ended) fresh_start at_source in
+        source_broken es options many source given rest gives opens old new began ended before after failed counted from_none
+
+    -- want of memory came behind n lines
+    pub stopped_in : (n : ℕ) → StopsSource es options many (open_source name (remaining start.reader)) (OneLeft rest) n (failures start.reader) failed old new began ended → StopsSource es options many source given n before after old new began ended
+    stopped_in n s =
+        let at_source = subst (λ src. StopsSource es options many src (OneLeft rest) n (failures start.reader) failed old new began ended) same_source s in
+        let from_none = subst (λ m. StopsSource es options many (open_source source.name source.bytes) (OneLeft rest) n m failed old new began ended) fresh_start at_source in
+        source_stopped es options many source given rest gives opens old new began ended before after failed counted n from_none

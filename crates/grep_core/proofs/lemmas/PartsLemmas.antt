@@ -1,0 +1,115 @@
+-- The parts of a line that were written, one more part at a time.
+use Rattle.std.proofs.Common.{◌≡◌, ℕ, ◌+◌, ◌*◌, ◌<◌, ◌≤◌, Bool, List, [], ◌∷◌, ◌++◌, Option, None, Some, IfSome, length, map, slice_range, refl, sym, ap, subst, ◌∙◌, append_assoc, append-nil, arith}
+use Rattle.std.proofs.lemmas.List.{map-append, length_push, length-append}
+use Rattle.re_syntax.specs.Bytes.{Text}
+use Rattle.re_syntax.specs.Expression.{Expression}
+use Rattle.re_syntax.specs.Parts.{IsFound, IsPart, ArePartsFrom, AreParts}
+use Rattle.re_syntax.proofs.lemmas.PartsLaws.{IsPart-unique}
+use Rattle.re_syntax.proofs.lemmas.PartsExist.{AreParts-exist}
+use Rattle.re_search.specs.Meters.{Steps}
+use Rattle.re_search.specs.Searching.{FindsPart, AddsAtMost}
+use Rattle.re_search.specs.declared.span.Span.{Span}
+use Rattle.grep_core.specs.declared.options.Options.{Options}
+use Rattle.grep_core.specs.Counted.{one_more}
+use Rattle.grep_core.specs.Output.{parts, form, head_of}
+use Rattle.grep_core.specs.Run.{Writer, TakesAll, TakesFront}
+use Rattle.grep_core.specs.Working.Handed.{file_so_far}
+use Rattle.grep_core.specs.Working.OneLine.{RowsOfSelected, WritesSelected, BreaksSelected}
+use Rattle.grep_core.specs.Cost.{search_cost, PartsAsked, AsksParts}
+use Rattle.grep_core.proofs.lemmas.CostLaws.{adds_none, adds_once_more, adds_for_more}
+use Rattle.grep_core.proofs.lemmas.WriterLaws.{TakesAll-nothing, TakesAll-more, TakesFront-more, TakesFront-longer}
+
+-- a part is not empty and lies within the line
+pub part_within : (es : List Expression) (line : Text) (whole : Bool) (from : ℕ) (found : Option Span) → FindsPart es line whole from found → IfSome found (λ part. (part.start < part.end) × (part.end ≤ length line))
+part_within es line whole from None none = tt
+part_within es line whole from (Some span) p = (p.found.not_empty, p.found.on_line)
+
+-- and begins no earlier than it was asked for
+pub part_ahead : (es : List Expression) (line : Text) (whole : Bool) (from : ℕ) (found : Option Span) → FindsPart es line whole from found → IfSome found (λ part. from ≤ part.start)
+part_ahead es line whole from None none = tt
+part_ahead es line whole from (Some span) p = p.found.begins
+
+module _ (es : List Expression) (options : Options) (many : Bool) (name : Text) (number : ℕ) (line : Text) where
+  -- the row of a part
+  abbrev pub part_row : ℕ × ℕ → Text
+  part_row p = head_of es options many (file_so_far name []) number ++ slice_range line p.0 p.1
+
+  -- the rows of the parts before a place were written, and these are the parts from there on
+  pub record PartsSoFar (from : ℕ) (old now : Writer) : Type 0 where
+    pub done : List (ℕ × ℕ)
+    pub left : List (ℕ × ℕ)
+    pub are_parts : AreParts es line options.line_regexp (done ++ left)
+    pub are_left : ArePartsFrom es line options.line_regexp from left
+    pub on_line : from ≤ length line
+    pub wrote : TakesAll old now (map part_row done)
+
+  pub parts_none : (w : Writer) (steps : Steps) (cost : ℕ) → 0 ≤ length line → (s : PartsSoFar 0 w w) × AddsAtMost (length s.done * cost) steps steps
+  parts_none w steps cost on =
+      let all = AreParts-exist es line options.line_regexp in
+      (record { done = []; left = all.0; are_parts = all.1; are_left = all.1; on_line = on; wrote = TakesAll-nothing w }, adds_none (0 * cost) steps)
+
+  -- the next part is the first of those that are left
+  next_left : (from i j : ℕ) (left : List (ℕ × ℕ)) → ArePartsFrom es line options.line_regexp from left → IsPart es line options.line_regexp from i j
+      → (rest : List (ℕ × ℕ)) × (left ≡ (i, j) ∷ rest) × ArePartsFrom es line options.line_regexp j rest
+  next_left from i j [] none p = absurd (none i j p.found)
+  next_left from i j ((k, l) ∷ rest) are p =
+      let same = IsPart-unique es line options.line_regexp from k l i j are.0 p in
+      (rest, (λ n. (same.0 n, same.1 n) ∷ rest), subst (λ m. ArePartsFrom es line options.line_regexp m rest) same.1 are.1)
+
+  none_left : (from : ℕ) (left : List (ℕ × ℕ)) → ArePartsFrom es line options.line_regexp from left → ((i j : ℕ) → IsFound es line options.line_regexp from i j → ⊥) → left ≡ []
+  none_left from [] are none = refl
+  none_left from ((k, l) ∷ rest) are none = absurd (none k l are.0.found)
+
+  module _ (asked : form options ≡ parts) where
+    -- the rows of all parts are the rows of the line
+    are_rows : (ps : List (ℕ × ℕ)) → AreParts es line options.line_regexp ps → RowsOfSelected es options many (form options) name number line (map part_row ps)
+    are_rows ps are = subst (λ shape. RowsOfSelected es options many shape name number line (map part_row ps)) (sym asked) (ps, are, refl)
+
+    -- no part is left
+    pub parts_done : (from : ℕ) (old now : Writer) → PartsSoFar from old now → ((i j : ℕ) → IsFound es line options.line_regexp from i j → ⊥) → WritesSelected es options many name number line old now
+    parts_done from old now s none = record {
+      rows = map part_row s.done;
+      are_rows = are_rows s.done (subst (AreParts es line options.line_regexp) (ap (λ l. s.done ++ l) (none_left from s.left s.are_left none) ∙ append-nil s.done) s.are_parts);
+      wrote = s.wrote;
+    }
+
+    -- a write failed within the row of the next part
+    pub parts_broken : (from i j : ℕ) (old mid now : Writer) → PartsSoFar from old mid → IsPart es line options.line_regexp from i j → TakesFront mid now (part_row (i, j) ∷ []) → now.failures ≡ one_more mid.failures
+        → BreaksSelected es options many name number line old now
+    parts_broken from i j old mid now s p front failed =
+        let next = next_left from i j s.left s.are_left p in
+        let all = s.done ++ s.left in
+        let rows_are : map part_row all ≡ (map part_row s.done ++ part_row (i, j) ∷ []) ++ map part_row next.0 =
+        ap (λ l. map part_row (s.done ++ l)) next.1 ∙ map-append part_row s.done ((i, j) ∷ next.0) ∙ sym (append_assoc (map part_row s.done) (part_row (i, j) ∷ []) (map part_row next.0)) in
+        record {
+          rows = map part_row all;
+          are_rows = are_rows all s.are_parts;
+          wrote = subst (TakesFront old now) (sym rows_are) (TakesFront-longer old now (map part_row s.done ++ part_row (i, j) ∷ []) (map part_row next.0) (TakesFront-more old mid now (map part_row s.done) (part_row (i, j) ∷ []) s.wrote front));
+          counted = failed ∙ ap one_more s.wrote.none_failed;
+        }
+
+  -- the row of the next part was written
+  pub parts_next : (from i j : ℕ) (old mid now : Writer) (begun spent after : Steps) (cost : ℕ) → (s : PartsSoFar from old mid) → AddsAtMost (length s.done * cost) begun spent → IsPart es line options.line_regexp from i j → TakesAll mid now (part_row (i, j) ∷ [])
+      → AddsAtMost cost spent after → (next : PartsSoFar j old now) × AddsAtMost (length next.done * cost) begun after
+  parts_next from i j old mid now begun spent after cost s few p took more =
+      let next = next_left from i j s.left s.are_left p in
+      let one_more : length (s.done ++ (i, j) ∷ []) ≡ length s.done + 1 = length_push s.done (i, j) in (
+        record {
+          done = s.done ++ (i, j) ∷ [];
+          left = next.0;
+          are_parts = subst (AreParts es line options.line_regexp) (ap (λ l. s.done ++ l) next.1 ∙ sym (append_assoc s.done ((i, j) ∷ []) next.0)) s.are_parts;
+          are_left = next.2;
+          on_line = p.found.on_line;
+          wrote = subst (TakesAll old now) (sym (map-append part_row s.done ((i, j) ∷ []))) (TakesAll-more old mid now (map part_row s.done) (part_row (i, j) ∷ []) s.wrote took);
+        },
+        subst (λ n. AddsAtMost (n * cost) begun after) (sym one_more) (adds_once_more (length s.done) cost begun spent after few more),
+      )
+
+  -- the parts were asked for once more than there are before a place
+  pub parts_asked : form options ≡ parts → (from : ℕ) (old now : Writer) (begun spent after : Steps) (matchers : ℕ) → (s : PartsSoFar from old now) → AddsAtMost (length s.done * search_cost matchers line) begun spent → AddsAtMost (search_cost matchers line) spent after
+      → AsksParts es options matchers line begun after
+  parts_asked asked from old now begun spent after matchers s few more = record {
+    times = length (s.done ++ s.left) + 1;
+    are_times = subst (λ shape. PartsAsked es options shape line (length (s.done ++ s.left) + 1)) (sym asked) (s.done ++ s.left, s.are_parts, refl);
+    few = adds_for_more (length s.done + 1) (length (s.done ++ s.left) + 1) (search_cost matchers line) begun after (omega (arith, length-append s.done s.left)) (adds_once_more (length s.done) (search_cost matchers line) begun spent after few more);
+  }

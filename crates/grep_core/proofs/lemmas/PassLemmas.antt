@@ -1,0 +1,37 @@
+-- The rows that were written for the lines handed out, one more line at a time.
+use Rattle.std.proofs.Common.{ℕ, ◌+◌, Bool, true, false, ◌||◌, Decides, List, [], ◌∷◌, ◌++◌, Option, refl, sym, ◌∙◌, subst, append-nil}
+use Rattle.std.specs.Io.KnownBytes.{Appends}
+use Rattle.re_syntax.specs.Bytes.{Text}
+use Rattle.re_syntax.specs.Expression.{Expression}
+use Rattle.grep_core.specs.declared.options.Options.{Options}
+use Rattle.grep_core.specs.Row.{output_line}
+use Rattle.grep_core.specs.Written.{GoesOut, StopsWithin}
+use Rattle.grep_core.specs.Run.{writer, TakesAll, TakesFront}
+
+-- ---- writers
+
+module _ {W : Type 0} (contents : W → Option Text) (failures : W → ℕ) where
+  -- one line went out
+  pub TakesAll-line : (a b : W) (text : Text) → GoesOut contents failures a b (output_line [] text) → TakesAll (writer contents failures a) (writer contents failures b) (text ∷ [])
+  TakesAll-line a b text g = record {
+    written_all = subst (Appends (contents a) (contents b)) (sym (append-nil (output_line [] text))) g.written;
+    none_failed = g.none_failed;
+  }
+
+  -- a beginning of one line went out
+  pub TakesFront-line : (a b : W) (text : Text) → StopsWithin contents failures a b (output_line [] text) → TakesFront (writer contents failures a) (writer contents failures b) (text ∷ [])
+  TakesFront-line a b text s = record {
+    front = s.front;
+    rest = s.rest;
+    cut = append-nil (output_line [] text) ∙ s.cut;
+    written_front = s.written;
+  }
+
+-- ---- rows
+
+-- the verdict on one of two
+pub or_tells : {P Q : Type 0} (a b : Bool) → Decides a P → Decides b Q → {S : Type 0} → (P → S) → (Q → S) → (S → (P → ⊥) → (Q → ⊥) → ⊥) → Decides (a || b) S
+or_tells true b p q f g none = ((λ _. f (p.0 refl)), (λ _. refl))
+or_tells false true p q f g none = ((λ _. g (q.0 refl)), (λ _. refl))
+or_tells false false p q f g none =
+    ((λ e. absurd (let no : ⊥ = cc in no)), (λ s. absurd (none s (λ x. let e = p.1 x in let no : ⊥ = cc in no) (λ y. let e = q.1 y in let no : ⊥ = cc in no))))

@@ -1,0 +1,463 @@
+-- A run over sources, one more source at a time, and how it comes to its end.
+use Rattle.std.proofs.Common.{◌≡◌, ℕ, zero, suc, ◌+◌, nat_lt, nat_le, ◌<◌, ◌≤◌, Bool, true, false, ◌||◌, ◌&&◌, IsTrue, Decides, List, [], ◌∷◌, ◌++◌, length, take, drop, get_or, Option, None, Ok, Err, Any, refl, sym, ap, subst, ◌∙◌, inl, inr, arith, append-nil, append_assoc}
+use Rattle.std.proofs.Math.Seq.{take-suc, take-append_seam, get_or-append_seam}
+use Rattle.std.proofs.lemmas.Bool.{false≢true, cond-true}
+use Rattle.std.proofs.lemmas.List.{length-append, length-take-le, take_all}
+use Rattle.re_syntax.specs.Bytes.{Text}
+use Rattle.re_syntax.specs.Expression.{Expression}
+use Rattle.re_syntax.proofs.lemmas.Decisions.{Any-none, Any-first, Any-later, Any-cases}
+use Rattle.grep_core.specs.declared.options.Options.{Options}
+use Rattle.grep_core.specs.declared.status.Status.TheVariants.{Selected as selected}
+use Rattle.grep_core.specs.declared.status.Status.{Status}
+use Rattle.grep_core.specs.declared.status.RunFault.{RunFault}
+use Rattle.grep_core.specs.declared.status.RunFault.TheVariants.{Write, MessageWrite, Memory}
+use Rattle.grep_core.specs.declared.search.file.FileEnd.{FileEnd}
+use Rattle.grep_core.specs.Counted.{one_more}
+use Rattle.grep_core.specs.Choose.{IfHolds}
+use Rattle.grep_core.specs.Files.{File, missing, HasSelected}
+use Rattle.grep_core.specs.Output.{Form, nothing, names, counts, parts, lines, form, OutAs, Out, are_many}
+use Rattle.grep_core.specs.Messages.{FaultMet, Stops, Told, Messages, AnySelected, StatusOf}
+use Rattle.grep_core.specs.Reading.{Source, Reading, IsReadingOf, file_of, failures_of, AreLeft}
+use Rattle.grep_core.specs.Run.{Writer, Devices, TakesAll, TakesFront, files_of, AreReadings, FailuresMet, LeftMet, RowsAs, first_lines, file_at, count_more, Finishes, BreaksOff, StopsBehind, RunGives}
+use Rattle.grep_core.specs.Sources.{source_at}
+use Rattle.grep_core.specs.Cost.{SearchesLines, SearchesFiles}
+use Rattle.grep_core.specs.Working.Searched.{is_fault, status_by, SourceGives, CountsSource, FinishesSource, BreaksSource, BreaksMessage, StopsSource}
+use Rattle.grep_core.proofs.lemmas.AnyLaws.{Any-left, Any-right, Any-append-cases, Any-single, none_more}
+use Rattle.grep_core.proofs.lemmas.CostLaws.{searched_without_steps, searched_one_file, searched_up_to}
+use Rattle.grep_core.proofs.lemmas.Decided.{dec_stops}
+use Rattle.grep_core.proofs.lemmas.Verdicts.{decided_no}
+use Rattle.grep_core.proofs.lemmas.MoreFiles.{OutAs-append, OutAs-front}
+use Rattle.grep_core.proofs.lemmas.MessageLaws.{Told-nothing, Told-append, Reached-all, Reached-stopped, Messages-reached, Messages-front}
+use Rattle.grep_core.proofs.lemmas.PassLemmas.{or_tells}
+use Rattle.grep_core.proofs.lemmas.Readings.{AreReadings-exist}
+use Rattle.grep_core.proofs.lemmas.SourceLaws.{AreReadings-append, files_of-append, length-files_of, count_more-add, FailuresMet-append, FailuresMet-stopped, FailuresMet-one, FailuresMet-longer, LeftMet-append, LeftMet-stopped, LeftMet-one, LeftMet-longer}
+use Rattle.grep_core.proofs.lemmas.StatusLaws.{StatusOf-stopped, StatusOf-error, StatusOf-selected, StatusOf-none}
+use Rattle.grep_core.proofs.lemmas.WriterLaws.{TakesAll-nothing, TakesAll-more, TakesFront-all, TakesFront-more, TakesFront-longer}
+
+-- ---- verdicts
+
+-- what each element that has P has, some element has
+any_mapped : {A : Type 0} (P Q : A → Type 0) → ((x : A) → P x → Q x) → (xs : List A) → Any P xs → Any Q xs
+any_mapped P Q f [] h = absurd (Any-none P h)
+any_mapped P Q f (x ∷ xs) h = elim (Any-cases P x xs h) [ inl p ↦ Any-first Q x xs (f x p) | inr l ↦ Any-later Q x xs (any_mapped P Q f xs l) ]
+
+-- the verdict on some element of a list and one more
+any_tells : {A : Type 0} (P : A → Type 0) (xs : List A) (x : A) (a b : Bool) → Decides a (Any P xs) → Decides b (P x) → Decides (a || b) (Any P (xs ++ x ∷ []))
+any_tells P xs x a b p q =
+    or_tells a b p q (Any-left P xs (x ∷ [])) (λ h. Any-right P xs (x ∷ []) (Any-first P x [] h))
+    (λ s none not_here. elim (Any-append-cases P xs (x ∷ []) s) [ inl l ↦ none l | inr r ↦ not_here (Any-single P x r) ])
+
+-- where the two are not both true, not both hold
+not_both : {P : Type 0} (quiet some : Bool) → (quiet && some) ≡ false → Decides some P → IsTrue quiet × P → ⊥
+not_both true true e d h = false≢true (sym e)
+not_both true false e d h = false≢true (d.1 h.1)
+not_both false some e d h = false≢true h.0
+
+-- where the two are both true, both hold
+both_hold : {P : Type 0} (quiet some : Bool) → (quiet && some) ≡ true → Decides some P → IsTrue quiet × P
+both_hold true true e d = (refl, d.0 refl)
+both_hold true false e d = absurd (false≢true e)
+both_hold false some e d = absurd (false≢true e)
+
+-- a list is what stands before a place, what stands there and the rest
+cut_at : {A : Type 0} (xs : List A) (k : ℕ) (d : A) → k < length xs → xs ≡ take k xs ++ get_or xs k d ∷ drop (suc k) xs
+cut_at [] k d h = absurd (omega (arith, h))
+cut_at (x ∷ xs) zero d h = refl
+cut_at (x ∷ xs) (suc k) d h = ap (λ l. x ∷ l) (cut_at xs k d (omega (arith, h)))
+
+module _ (es : List Expression) (options : Options) (many : Bool) where
+  -- output and messages for these sources were written, and the run goes on
+  pub record RunSoFar (before : List Source) (given : List (Option Text) → Type 0) (old new : Devices) (some faulty : Bool) : Type 0 where
+    pub readings : List Reading
+    pub are_readings : AreReadings before readings
+    pub output : List Text
+    pub is_output : OutAs es options many (form options) (files_of before readings) output
+    pub wrote : TakesAll old.out new.out output
+    pub messages : List Text
+    pub are_told : Told es options (files_of before readings) messages
+    pub told : TakesAll old.messages new.messages messages
+    pub goes_on : Any (Stops es options) (files_of before readings) → ⊥
+    pub some_told : Decides some (AnySelected es options (files_of before readings))
+    pub faulty_told : Decides faulty (Any (FaultMet es options) (files_of before readings))
+    pub failures : ℕ
+    pub are_failures : FailuresMet es options before readings failures
+    pub counted : new.source_failures ≡ count_more old.source_failures failures
+    pub left : List (Option Text)
+    pub are_left : LeftMet es options before readings left
+    pub gave_back : given left
+    pub steps : SearchesFiles es options (length es) (files_of before readings) old.steps new.steps
+
+  -- no source was read yet
+  pub run_none : (given : List (Option Text) → Type 0) → given [] → (d : Devices) → RunSoFar [] given d d false false
+  run_none given none d = record {
+    readings = [];
+    are_readings = tt;
+    output = [];
+    is_output = nothing_written (form options);
+    wrote = TakesAll-nothing d.out;
+    messages = [];
+    are_told = Told-nothing es options;
+    told = TakesAll-nothing d.messages;
+    goes_on = Any-none (Stops es options);
+    some_told = decided_no (Any-none (HasSelected es options));
+    faulty_told = decided_no (Any-none (FaultMet es options));
+    failures = 0;
+    are_failures = refl;
+    counted = refl;
+    left = [];
+    are_left = refl;
+    gave_back = none;
+    steps = searched_without_steps es options (length es) [] d.steps;
+  }
+    where
+      nothing_written : (shape : Form) → OutAs es options many shape [] []
+      nothing_written nothing = refl
+      nothing_written names = ([], refl, refl)
+      nothing_written counts = refl
+      nothing_written parts = refl
+      nothing_written lines = refl
+
+  -- what was given back before this source, in its search, and up to behind it
+  module _ (before : List Source) (source : Source) (given own_given all_given : List (Option Text) → Type 0) (join : (a b : List (Option Text)) → given a → own_given b → all_given (a ++ b))
+      (old mid : Devices) (some faulty : Bool) (s : RunSoFar before given old mid some faulty) where
+    -- one more source, at which the run does not stop
+    pub run_next : (new : Devices) (end : FileEnd) (found : ℕ) → FinishesSource es options many source own_given mid new end found → (options.quiet && nat_lt 0 found) ≡ false → RunSoFar (before ++ source ∷ []) all_given old new (some || nat_lt 0 found) (faulty || is_fault end)
+    run_next new end found f goes =
+        let file = file_of source.name f.reading in
+        let files = files_of before s.readings in
+        let all : files_of (before ++ source ∷ []) (s.readings ++ f.reading ∷ []) ≡ files ++ file ∷ [] = files_of-append before (source ∷ []) s.readings (f.reading ∷ []) s.are_readings in
+        let not_here : Stops es options file → ⊥ = not_both options.quiet (nat_lt 0 found) goes f.some in
+        record {
+          readings = s.readings ++ f.reading ∷ [];
+          are_readings = AreReadings-append before (source ∷ []) s.readings (f.reading ∷ []) s.are_readings (f.is_reading, tt);
+          output = s.output ++ f.rows;
+          is_output = subst (λ fs. OutAs es options many (form options) fs (s.output ++ f.rows)) (sym all) (OutAs-append es options many (form options) files (file ∷ []) s.output f.rows s.is_output f.are_rows);
+          wrote = TakesAll-more old.out mid.out new.out s.output f.rows s.wrote f.wrote;
+          messages = s.messages ++ f.messages;
+          are_told = subst (λ fs. Told es options fs (s.messages ++ f.messages)) (sym all) (Told-append es options files (file ∷ []) s.messages f.messages s.are_told f.are_messages);
+          told = TakesAll-more old.messages mid.messages new.messages s.messages f.messages s.told f.told;
+          goes_on = subst (λ fs. Any (Stops es options) fs → ⊥) (sym all) (none_more (Stops es options) files file s.goes_on not_here);
+          some_told = subst (λ fs. Decides (some || nat_lt 0 found) (AnySelected es options fs)) (sym all) (any_tells (HasSelected es options) files file some (nat_lt 0 found) s.some_told f.some);
+          faulty_told = subst (λ fs. Decides (faulty || is_fault end) (Any (FaultMet es options) fs)) (sym all) (any_tells (FaultMet es options) files file faulty (is_fault end) s.faulty_told f.fault);
+          failures = s.failures + f.failures.own;
+          are_failures = FailuresMet-append es options before (source ∷ []) s.readings (f.reading ∷ []) s.failures f.failures.own s.are_readings s.goes_on s.are_failures (FailuresMet-one es options source f.reading f.failures.own f.failures.are_own);
+          counted = f.failures.counted ∙ ap (λ n. count_more n f.failures.own) s.counted ∙ sym (count_more-add old.source_failures s.failures f.failures.own);
+          left = s.left ++ f.failures.left;
+          are_left = LeftMet-append es options before (source ∷ []) s.readings (f.reading ∷ []) s.left f.failures.left s.are_readings s.goes_on s.are_left (LeftMet-one es options source f.reading f.failures.left f.failures.are_left);
+          gave_back = join s.left f.failures.left s.gave_back f.failures.gave_back;
+          steps = subst (λ fs. SearchesFiles es options (length es) fs old.steps new.steps) (sym all) (searched_one_file es options (length es) files file old.steps mid.steps new.steps s.steps f.steps);
+        }
+
+    module _ (after : List Source) (is_many : many ≡ nat_le 2 (length (before ++ source ∷ after))) (r : Reading) (is_reading : IsReadingOf source r) where
+      -- what the sources behind this one did is any that they may have done
+      abbrev rest : (rs : List Reading) × AreReadings after rs
+      rest = AreReadings-exist after
+
+      abbrev readings : List Reading
+      readings = s.readings ++ r ∷ rest.0
+
+      abbrev file : File
+      file = file_of source.name r
+
+      abbrev first : List File
+      first = files_of before s.readings
+
+      abbrev behind : List File
+      behind = files_of after rest.0
+
+      abbrev all_sources : List Source
+      all_sources = before ++ source ∷ after
+
+      are_all : AreReadings all_sources readings
+      are_all = AreReadings-append before (source ∷ after) s.readings (r ∷ rest.0) s.are_readings (is_reading, rest.1)
+
+      all_files : files_of all_sources readings ≡ first ++ file ∷ behind
+      all_files = files_of-append before (source ∷ after) s.readings (r ∷ rest.0) s.are_readings
+
+      all_many : many ≡ are_many (files_of all_sources readings)
+      all_many = is_many ∙ ap (nat_le 2) (sym (length-files_of all_sources readings are_all))
+
+      -- the steps for the first sources and this one are within the cost of all
+      spent : (new : Devices) → SearchesLines es options (length es) file.lines mid.steps new.steps → SearchesFiles es options (length es) (files_of all_sources readings) old.steps new.steps
+      spent new steps = subst (λ fs. SearchesFiles es options (length es) fs old.steps new.steps) (sym all_files) (searched_up_to es options (length es) first file behind old.steps mid.steps new.steps s.steps steps)
+
+      -- how often the devices failed in the first sources
+      met_before : FailuresMet es options (take (length before) all_sources) readings s.failures
+      met_before =
+          subst (λ xs. FailuresMet es options xs readings s.failures) (sym (take-append_seam before (source ∷ after)))
+          (FailuresMet-longer es options before s.readings (r ∷ rest.0) s.failures s.are_readings s.are_failures)
+
+      -- and in this one
+      met_here : (own : ℕ) → IfHolds (FaultMet es options file) (own ≡ failures_of r) (own ≡ 0) → FailuresMet es options (take (length (before ++ source ∷ [])) all_sources) readings (s.failures + own)
+      met_here own are_own =
+          let these = before ++ source ∷ [] in
+          let here = FailuresMet-append es options before (source ∷ []) s.readings (r ∷ []) s.failures own s.are_readings s.goes_on s.are_failures (FailuresMet-one es options source r own are_own) in
+          let are = AreReadings-append before (source ∷ []) s.readings (r ∷ []) s.are_readings (is_reading, tt) in
+          let first_sources : take (length these) all_sources ≡ these = ap (take (length these)) (sym (append_assoc before (source ∷ []) after)) ∙ take-append_seam these after in
+          subst (λ xs. FailuresMet es options xs readings (s.failures + own)) (sym first_sources)
+          (subst (λ rs. FailuresMet es options these rs (s.failures + own)) (append_assoc s.readings (r ∷ []) rest.0) (FailuresMet-longer es options these (s.readings ++ r ∷ []) rest.0 (s.failures + own) are here))
+
+      -- what the readers of the first sources had left
+      left_before : LeftMet es options (take (length before) all_sources) readings s.left
+      left_before =
+          subst (λ xs. LeftMet es options xs readings s.left) (sym (take-append_seam before (source ∷ after)))
+          (LeftMet-longer es options before s.readings (r ∷ rest.0) s.left s.are_readings s.are_left)
+
+      -- and that of this one
+      left_here : (own : List (Option Text)) → AreLeft source r own → LeftMet es options (take (length (before ++ source ∷ [])) all_sources) readings (s.left ++ own)
+      left_here own is_left =
+          let these = before ++ source ∷ [] in
+          let here = LeftMet-append es options before (source ∷ []) s.readings (r ∷ []) s.left own s.are_readings s.goes_on s.are_left (LeftMet-one es options source r own is_left) in
+          let are = AreReadings-append before (source ∷ []) s.readings (r ∷ []) s.are_readings (is_reading, tt) in
+          let first_sources : take (length these) all_sources ≡ these = ap (take (length these)) (sym (append_assoc before (source ∷ []) after)) ∙ take-append_seam these after in
+          subst (λ xs. LeftMet es options xs readings (s.left ++ own)) (sym first_sources)
+          (subst (λ rs. LeftMet es options these rs (s.left ++ own)) (append_assoc s.readings (r ∷ []) rest.0) (LeftMet-longer es options these (s.readings ++ r ∷ []) rest.0 (s.left ++ own) are here))
+
+      counted_here : (new : Devices) (own : ℕ) → new.source_failures ≡ count_more mid.source_failures own → new.source_failures ≡ count_more old.source_failures (s.failures + own)
+      counted_here new own counted = counted ∙ ap (λ n. count_more n own) s.counted ∙ sym (count_more-add old.source_failures s.failures own)
+
+      -- the output for the first sources and this one is a beginning of the output
+      out_front : (rows : List Text) → OutAs es options many (form options) (file ∷ []) rows → (more : List Text) × Out es options (files_of all_sources readings) ((s.output ++ rows) ++ more)
+      out_front rows is =
+          let both = OutAs-append es options many (form options) first (file ∷ []) s.output rows s.is_output is in
+          let more = OutAs-front es options many (form options) (first ++ file ∷ []) behind (s.output ++ rows) both in
+          let regroup : (first ++ file ∷ []) ++ behind ≡ first ++ file ∷ behind = append_assoc first (file ∷ []) behind in (
+            more.0,
+            subst (λ m. OutAs es options m (form options) (files_of all_sources readings) ((s.output ++ rows) ++ more.0)) all_many
+                (subst (λ fs. OutAs es options many (form options) fs ((s.output ++ rows) ++ more.0)) (regroup ∙ sym all_files) more.1),
+          )
+
+      -- a write failed within the output for this source
+      breaks_out : (new : Devices) (rows : List Text) → OutAs es options many (form options) (file ∷ []) rows → TakesFront mid.out new.out rows → new.messages ≡ mid.messages
+          → CountsSource es options many source own_given r mid.source_failures new.source_failures → SearchesLines es options (length es) file.lines mid.steps new.steps
+          → BreaksOff es options all_sources all_given old new
+      breaks_out new rows is front same failed steps =
+          let out = out_front rows is in
+          let told = Messages-front es options first (file ∷ behind) s.messages s.goes_on s.are_told in
+          record {
+            readings = readings;
+            are_readings = are_all;
+            output = (s.output ++ rows) ++ out.0;
+            is_output = out.1;
+            messages = s.messages ++ told.0;
+            are_messages = subst (λ fs. Messages es options fs (s.messages ++ told.0)) (sym all_files) told.1;
+            wrote = TakesFront-longer old.out new.out (s.output ++ rows) out.0 (TakesFront-more old.out mid.out new.out s.output rows s.wrote front);
+            told = subst (λ w. TakesFront old.messages w (s.messages ++ told.0)) (sym same) (TakesFront-all old.messages mid.messages s.messages told.0 s.told);
+            met = length (before ++ source ∷ []);
+            failures = s.failures + failed.own;
+            are_failures = met_here failed.own failed.are_own;
+            counted = counted_here new failed.own failed.counted;
+            left = s.left ++ failed.left;
+            are_left = left_here failed.left failed.are_left;
+            gave_back = join s.left failed.left s.gave_back failed.gave_back;
+            steps = spent new steps;
+          }
+
+      -- what was told of the first sources and this one is a beginning of the messages
+      told_front : (messages : List Text) → Told es options (file ∷ []) messages → (more : List Text) × Messages es options (files_of all_sources readings) ((s.messages ++ messages) ++ more)
+      told_front messages tells =
+          elim (dec_stops es options file) [
+            | yes here ↦ (
+              [],
+              subst (λ fs. Messages es options fs ((s.messages ++ messages) ++ [])) (sym all_files) (subst (Messages es options (first ++ file ∷ behind)) (sym (append-nil (s.messages ++ messages)))
+                  (Messages-reached es options (first ++ file ∷ behind) (first ++ file ∷ []) (s.messages ++ messages) (Reached-stopped es options first behind file s.goes_on here) both)),
+            )
+            | no goes ↦ (let more = Messages-front es options (first ++ file ∷ []) behind (s.messages ++ messages) (none_more (Stops es options) first file s.goes_on goes) both in
+                (more.0, subst (λ fs. Messages es options fs ((s.messages ++ messages) ++ more.0)) (append_assoc first (file ∷ []) behind ∙ sym all_files) more.1))
+          ]
+        where
+          both : Told es options (first ++ file ∷ []) (s.messages ++ messages)
+          both = Told-append es options first (file ∷ []) s.messages messages s.are_told tells
+
+      -- a write failed within its message
+      breaks_told : (new : Devices) (rows messages : List Text) → OutAs es options many (form options) (file ∷ []) rows → TakesAll mid.out new.out rows
+          → Told es options (file ∷ []) messages → TakesFront mid.messages new.messages messages
+          → CountsSource es options many source own_given r mid.source_failures new.source_failures → SearchesLines es options (length es) file.lines mid.steps new.steps → BreaksOff es options all_sources all_given old new
+      breaks_told new rows messages is took tells front failed steps =
+          let out = out_front rows is in
+          let told = told_front messages tells in
+          record {
+            readings = readings;
+            are_readings = are_all;
+            output = (s.output ++ rows) ++ out.0;
+            is_output = out.1;
+            messages = (s.messages ++ messages) ++ told.0;
+            are_messages = told.1;
+            wrote = TakesFront-all old.out new.out (s.output ++ rows) out.0 (TakesAll-more old.out mid.out new.out s.output rows s.wrote took);
+            told = TakesFront-longer old.messages new.messages (s.messages ++ messages) told.0 (TakesFront-more old.messages mid.messages new.messages s.messages messages s.told front);
+            met = length (before ++ source ∷ []);
+            failures = s.failures + failed.own;
+            are_failures = met_here failed.own failed.are_own;
+            counted = counted_here new failed.own failed.counted;
+            left = s.left ++ failed.left;
+            are_left = left_here failed.left failed.are_left;
+            gave_back = join s.left failed.left s.gave_back failed.gave_back;
+            steps = spent new steps;
+          }
+
+      -- want of memory came behind n of its lines
+      stops : (new : Devices) (n : ℕ) (rows : List Text) → n ≤ length file.lines → RowsAs es options (form options) many (first_lines n file) rows → TakesAll mid.out new.out rows → new.messages ≡ mid.messages
+          → new.source_failures ≡ mid.source_failures → (last : Option Text) → own_given (last ∷ []) → SearchesLines es options (length es) file.lines mid.steps new.steps → StopsBehind es options all_sources all_given old new (length before) n
+      stops new n rows within are took same none_failed last gives steps =
+          let place : length first ≡ length before = length-files_of before s.readings s.are_readings in
+          let front : take (length before) (files_of all_sources readings) ≡ first =
+          ap (λ k. take k (files_of all_sources readings)) (sym place) ∙ ap (take (length first)) all_files ∙ take-append_seam first (file ∷ behind) in
+          let here : file_at (files_of all_sources readings) (length before) ≡ file =
+          ap (file_at (files_of all_sources readings)) (sym place) ∙ ap (λ fs. file_at fs (length first)) all_files ∙ get_or-append_seam first file behind (record { name = []; lines = []; ending = missing }) in
+          record {
+            readings = readings;
+            are_readings = are_all;
+            in_sources = omega (arith, length-append before (source ∷ after));
+            in_file = subst (λ f. n ≤ length f.lines) (sym here) within;
+            before = s.output;
+            is_before = subst (λ m. OutAs es options m (form options) (take (length before) (files_of all_sources readings)) s.output) all_many (subst (λ fs. OutAs es options many (form options) fs s.output) (sym front) s.is_output);
+            rows = rows;
+            are_rows = subst (λ m. RowsAs es options (form options) m (first_lines n (file_at (files_of all_sources readings) (length before))) rows) all_many (subst (λ f. RowsAs es options (form options) many (first_lines n f) rows) (sym here) are);
+            messages = s.messages;
+            are_messages = subst (λ fs. Messages es options fs s.messages) (sym front) (Messages-reached es options first first s.messages (Reached-all es options first s.goes_on) s.are_told);
+            wrote = TakesAll-more old.out mid.out new.out s.output rows s.wrote took;
+            told = subst (λ w. TakesAll old.messages w s.messages) (sym same) s.told;
+            failures = s.failures;
+            are_failures = met_before;
+            counted = none_failed ∙ s.counted;
+            left = s.left;
+            rest = last;
+            are_left = left_before;
+            gave_back = join s.left (last ∷ []) s.gave_back gives;
+            steps = spent new steps;
+          }
+
+      -- under `-q` a line of this source is selected
+      finishes_here : (new : Devices) (end : FileEnd) (found : ℕ) (rows messages : List Text) (own : ℕ) → Stops es options file → OutAs es options many (form options) (file ∷ []) rows → TakesAll mid.out new.out rows
+          → Told es options (file ∷ []) messages → TakesAll mid.messages new.messages messages → IfHolds (FaultMet es options file) (own ≡ failures_of r) (own ≡ 0)
+          → new.source_failures ≡ count_more mid.source_failures own → (own_left : List (Option Text)) → AreLeft source r own_left → own_given own_left → SearchesLines es options (length es) file.lines mid.steps new.steps → Finishes es options all_sources all_given old new selected
+      finishes_here new end found rows messages own here is took tells told are_own counted own_left is_left gives steps =
+          let quiet_form : form options ≡ nothing = cond-true _ _ _ here.0 in
+          let none_out : (xs : List File) → OutAs es options many (form options) xs [] = λ xs. subst (λ shape. OutAs es options many shape xs []) (sym quiet_form) refl in
+          let output = OutAs-append es options many (form options) (first ++ file ∷ []) behind (s.output ++ rows) [] (OutAs-append es options many (form options) first (file ∷ []) s.output rows s.is_output is) (none_out behind) in
+          let regroup : (first ++ file ∷ []) ++ behind ≡ first ++ file ∷ behind = append_assoc first (file ∷ []) behind in
+          let reached = Reached-stopped es options first behind file s.goes_on here in
+          let all_told = Messages-reached es options (first ++ file ∷ behind) (first ++ file ∷ []) (s.messages ++ messages) reached (Told-append es options first (file ∷ []) s.messages messages s.are_told tells) in
+          record {
+            readings = readings;
+            are_readings = are_all;
+            output = s.output ++ rows;
+            is_output = subst (λ m. OutAs es options m (form options) (files_of all_sources readings) (s.output ++ rows)) all_many
+                (subst (λ fs. OutAs es options many (form options) fs (s.output ++ rows)) (regroup ∙ sym all_files) (subst (OutAs es options many (form options) ((first ++ file ∷ []) ++ behind)) (append-nil (s.output ++ rows)) output));
+            messages = s.messages ++ messages;
+            are_messages = subst (λ fs. Messages es options fs (s.messages ++ messages)) (sym all_files) all_told;
+            is_status = subst (λ fs. StatusOf es options fs selected) (sym all_files) (StatusOf-stopped es options first behind file here.0 here.1);
+            wrote = TakesAll-more old.out mid.out new.out s.output rows s.wrote took;
+            told = TakesAll-more old.messages mid.messages new.messages s.messages messages s.told told;
+            failures = s.failures + own;
+            are_failures = FailuresMet-append es options before (source ∷ after) s.readings (r ∷ rest.0) s.failures own s.are_readings s.goes_on s.are_failures (FailuresMet-stopped es options source after r rest.0 own here are_own);
+            counted = counted_here new own counted;
+            left = s.left ++ own_left;
+            are_left = LeftMet-append es options before (source ∷ after) s.readings (r ∷ rest.0) s.left own_left s.are_readings s.goes_on s.are_left (LeftMet-stopped es options source after r rest.0 own_left here is_left);
+            gave_back = join s.left own_left s.gave_back gives;
+            steps = spent new steps;
+          }
+
+    -- ---- the answers, for the sources as they are listed
+
+    module _ (sources after : List Source) (cut : sources ≡ before ++ source ∷ after) (is_many : many ≡ nat_le 2 (length sources)) (new : Devices) where
+      many_here : many ≡ nat_le 2 (length (before ++ source ∷ after))
+      many_here = is_many ∙ ap (λ l. nat_le 2 (length l)) cut
+
+      pub run_unwritten : BreaksSource es options many source own_given mid.source_failures new.source_failures mid.out new.out mid.steps new.steps → new.messages ≡ mid.messages → BreaksOff es options sources all_given old new × (new.out.failures ≡ one_more old.out.failures) × (new.messages.failures ≡ old.messages.failures)
+      run_unwritten b same = (
+        subst (λ l. BreaksOff es options l all_given old new) (sym cut) (breaks_out after many_here b.reading b.is_reading new b.rows b.are_rows b.wrote same b.failures b.steps),
+        b.counted ∙ ap one_more s.wrote.none_failed,
+        ap (λ (w : Writer). w.failures) same ∙ s.told.none_failed,
+      )
+
+      pub run_untold : BreaksMessage es options many source own_given mid new → BreaksOff es options sources all_given old new × (new.out.failures ≡ old.out.failures) × (new.messages.failures ≡ one_more old.messages.failures)
+      run_untold b = (
+        subst (λ l. BreaksOff es options l all_given old new) (sym cut) (breaks_told after many_here b.reading b.is_reading new b.rows b.messages b.are_rows b.wrote b.are_messages b.told b.failures b.steps),
+        b.wrote.none_failed ∙ s.wrote.none_failed,
+        b.counted ∙ ap one_more s.told.none_failed,
+      )
+
+      pub run_out_of_memory : (k n : ℕ) → k ≡ length before → StopsSource es options many source own_given n mid.source_failures new.source_failures mid.out new.out mid.steps new.steps → new.messages ≡ mid.messages → StopsBehind es options sources all_given old new k n
+      run_out_of_memory k n place b same =
+          subst (λ j. StopsBehind es options sources all_given old new j n) (sym place)
+          (subst (λ l. StopsBehind es options l all_given old new (length before) n) (sym cut) (stops after many_here b.reading b.is_reading new n b.rows b.in_file b.are_rows b.wrote same b.none_failed b.rest b.gave_back b.steps))
+
+      pub run_stopped : (end : FileEnd) (found : ℕ) → FinishesSource es options many source own_given mid new end found → (options.quiet && nat_lt 0 found) ≡ true → Finishes es options sources all_given old new selected
+      run_stopped end found f both =
+          subst (λ l. Finishes es options l all_given old new selected) (sym cut)
+          (finishes_here after many_here f.reading f.is_reading new end found f.rows f.messages f.failures.own (both_hold options.quiet (nat_lt 0 found) both f.some) f.are_rows f.wrote f.are_messages f.told f.failures.are_own f.failures.counted f.failures.left f.failures.are_left f.failures.gave_back f.steps)
+
+      -- the search of the source was given up
+      pub run_fault : (k : ℕ) (fault : RunFault) → k ≡ length before → SourceGives es options many source own_given k mid new (Err fault) → RunGives es options sources all_given old new (Err fault)
+      run_fault k Write place h = run_unwritten h.0 h.1
+      run_fault k MessageWrite place h = run_untold h
+      run_fault k (Memory at n) place h = run_out_of_memory at n (h.0 ∙ place) h.1 h.2
+
+  -- all sources were read
+  pub run_all : (sources : List Source) (given : List (Option Text) → Type 0) (old new : Devices) (some faulty : Bool) → many ≡ nat_le 2 (length sources) → RunSoFar sources given old new some faulty → Finishes es options sources given old new (status_by some faulty)
+  run_all sources given old new some faulty is_many s =
+      let files = files_of sources s.readings in
+      record {
+        readings = s.readings;
+        are_readings = s.are_readings;
+        output = s.output;
+        is_output = subst (λ m. OutAs es options m (form options) files s.output) (is_many ∙ ap (nat_le 2) (sym (length-files_of sources s.readings s.are_readings))) s.is_output;
+        messages = s.messages;
+        are_messages = Messages-reached es options files files s.messages (Reached-all es options files s.goes_on) s.are_told;
+        is_status = status some faulty s.some_told s.faulty_told;
+        wrote = s.wrote;
+        told = s.told;
+        failures = s.failures;
+        are_failures = s.are_failures;
+        counted = s.counted;
+        left = s.left;
+        are_left = s.are_left;
+        gave_back = s.gave_back;
+        steps = s.steps;
+      }
+    where
+      -- under `-q` the run would have stopped at a selected line
+      none_quiet : IsTrue options.quiet → AnySelected es options (files_of sources s.readings) → ⊥
+      none_quiet quiet any = s.goes_on (any_mapped (HasSelected es options) (Stops es options) (λ file has. (quiet, has)) (files_of sources s.readings) any)
+
+      status : (a b : Bool) → Decides a (AnySelected es options (files_of sources s.readings)) → Decides b (Any (FaultMet es options) (files_of sources s.readings)) → StatusOf es options (files_of sources s.readings) (status_by a b)
+      status a true p q = StatusOf-error es options _ none_quiet (q.0 refl)
+      status true false p q = StatusOf-selected es options _ (λ h. false≢true (q.1 h)) (p.0 refl)
+      status false false p q = StatusOf-none es options _ (λ h. false≢true (q.1 h)) (λ h. false≢true (p.1 h))
+
+  -- ---- sources by their places
+
+  module _ (sources : List Source) (k : ℕ) (inside : k < length sources) (given own_given all_given : List (Option Text) → Type 0) (join : (a b : List (Option Text)) → given a → own_given b → all_given (a ++ b))
+      (old mid new : Devices) (some faulty : Bool) (s : RunSoFar (take k sources) given old mid some faulty) where
+    place : k ≡ length (take k sources)
+    place = sym (length-take-le k sources (omega (arith, inside)))
+
+    -- source k was searched, and the run goes on
+    pub run_further : (end : FileEnd) (found : ℕ) (here told fault : Bool) → FinishesSource es options many (source_at sources k) own_given mid new end found → here ≡ nat_lt 0 found → (options.quiet && here) ≡ false → told ≡ nat_lt 0 found → fault ≡ is_fault end
+        → RunSoFar (take (k + 1) sources) all_given old new (some || told) (faulty || fault)
+    run_further end found here told fault f here_is goes told_is fault_is =
+        let next = run_next (take k sources) (source_at sources k) given own_given all_given join old mid some faulty s new end found f (ap (λ b. options.quiet && b) (sym here_is) ∙ goes) in
+        let one : k + 1 ≡ suc k = omega arith in
+        let longer : take (k + 1) sources ≡ take k sources ++ source_at sources k ∷ [] = ap (λ n. take n sources) one ∙ take-suc sources k (record { name = []; opens = None; bytes = None }) inside in
+        let verdicts = subst (λ b. RunSoFar (take k sources ++ source_at sources k ∷ []) all_given old new (some || b) (faulty || is_fault end)) (sym told_is) next in
+        let both = subst (λ b. RunSoFar (take k sources ++ source_at sources k ∷ []) all_given old new (some || told) (faulty || b)) (sym fault_is) verdicts in
+        subst (λ l. RunSoFar l all_given old new (some || told) (faulty || fault)) (sym longer) both
+
+    module _ (is_many : many ≡ nat_le 2 (length sources)) where
+      -- under `-q` a line of it is selected
+      pub run_ends_at : (end : FileEnd) (found : ℕ) (here : Bool) → FinishesSource es options many (source_at sources k) own_given mid new end found → here ≡ nat_lt 0 found → (options.quiet && here) ≡ true → RunGives es options sources all_given old new (Ok selected)
+      run_ends_at end found here f here_is both =
+          run_stopped (take k sources) (source_at sources k) given own_given all_given join old mid some faulty s sources (drop (suc k) sources) (cut_at sources k _ inside) is_many new end found f (ap (λ b. options.quiet && b) (sym here_is) ∙ both)
+
+      -- its search was given up
+      pub run_given_up : (fault : RunFault) (ds : List Expression) (listed : List Source) → ds ≡ es → listed ≡ sources → SourceGives ds options many (source_at listed k) own_given k mid new (Err fault) → RunGives es options sources all_given old new (Err fault)
+      run_given_up fault ds listed same_expressions same_sources h =
+          let searched = subst (λ l. SourceGives es options many (source_at l k) own_given k mid new (Err fault)) same_sources (subst (λ xs. SourceGives xs options many (source_at listed k) own_given k mid new (Err fault)) same_expressions h) in
+          run_fault (take k sources) (source_at sources k) given own_given all_given join old mid some faulty s sources (drop (suc k) sources) (cut_at sources k _ inside) is_many new k fault place searched
+
+  -- all sources were searched
+  pub run_ends : (sources : List Source) (given : List (Option Text) → Type 0) (k : ℕ) (old new : Devices) (some faulty : Bool) (status : Status) → many ≡ nat_le 2 (length sources) → length sources ≤ k → RunSoFar (take k sources) given old new some faulty → status ≡ status_by some faulty
+      → RunGives es options sources given old new (Ok status)
+  run_ends sources given k old new some faulty status is_many over s is =
+      subst (Finishes es options sources given old new) (sym is) (run_all sources given old new some faulty is_many (subst (λ l. RunSoFar l given old new some faulty) (take_all k sources over) s))

@@ -1,0 +1,296 @@
+-- Expressions that hold on the same stretches give the same output, messages and status, and fewer of them cost no more.
+use Rattle.std.proofs.Common.{◌≡◌, ℕ, ◌+◌, ◌*◌, ◌≤◌, ◌↔◌, Bool, true, false, List, [], ◌∷◌, inl, inr, length, Any, MatchBool, Option, Result, Ok, Err, refl, arith, take}
+use Rattle.std.proofs.Math.Nat.{mul-le-mul_left, mul-le-mul_right}
+use Rattle.re_syntax.specs.Bytes.{Text}
+use Rattle.re_syntax.specs.Expression.{Expression, alt}
+use Rattle.re_syntax.specs.Holds.{Holds, Matches}
+use Rattle.re_syntax.specs.Parts.{IsFound, IsPart, ArePartsFrom}
+use Rattle.re_syntax.proofs.lemmas.Decisions.{Any-first, Any-later, Any-cases, Any-none}
+use Rattle.re_search.specs.Meters.{Steps}
+use Rattle.grep_core.specs.declared.options.Options.{Options}
+use Rattle.grep_core.specs.declared.status.Status.{Status}
+use Rattle.grep_core.specs.declared.status.RunFault.{RunFault}
+use Rattle.grep_core.specs.declared.status.RunFault.TheVariants.{Write, MessageWrite, Memory}
+use Rattle.grep_core.specs.Choose.{IfHolds, EachGives}
+use Rattle.grep_core.specs.Cost.{search_cost, PartsAsked, LinesCost, FilesCost, SearchesFiles}
+use Rattle.grep_core.specs.Files.{File, Ending, whole, missing, broken, Matched, Selected, HasSelected}
+use Rattle.grep_core.specs.Messages.{FaultMetBy, FaultMet, Stops, Reached, Message, Messages, AnySelected, StatusOf}
+use Rattle.grep_core.specs.Output.{Form, nothing, names, counts, parts, lines, form, SelectedLines, CountOf, RowsOf, PartsOfLine, PartRowsOf, OutAs}
+use Rattle.grep_core.specs.Reading.{Source, Reading, file_of}
+use Rattle.grep_core.specs.Run.{Devices, FailuresMet, LeftMet, RowsAs, Finishes, BreaksOff, StopsBehind, RunGives}
+use Rattle.grep_core.specs.Working.SameChoice.{IsSameChoice, ServesForOthers}
+
+-- ---- what holds of some element
+
+Any-map : {A : Type 0} (P Q : A → Type 0) → ((x : A) → P x → Q x) → (xs : List A) → Any P xs → Any Q xs
+Any-map P Q f xs h = (h.0, h.1, h.2, h.3, f h.1 h.4)
+
+-- a choice holds where some branch does
+pub alt-holds : (line : Text) (i j : ℕ) (es : List Expression) → Holds line (alt es) i j ↔ Any (λ e. Holds line e i j) es
+alt-holds line i j [] = (λ h. absurd h, λ a. absurd (Any-none (λ e. Holds line e i j) a))
+alt-holds line i j (e ∷ es) =
+    let P : Expression → Type 0 = λ d. Holds line d i j in
+    let rest = alt-holds line i j es in (
+      (λ h. elim h [ inl here ↦ Any-first P e es here | inr later ↦ Any-later P e es (rest.0 later) ]),
+      (λ a. elim (Any-cases P e es a) [ inl here ↦ inl here | inr later ↦ inr (rest.1 later) ]),
+    )
+
+-- one choice of all expressions is the same choice as they are
+pub alt-is_same : (es : List Expression) → IsSameChoice (alt es ∷ []) es
+alt-is_same es = λ line i j. (λ a. (alt-holds line i j es).0 (only line i j a), λ a. Any-first (λ e. Holds line e i j) (alt es) [] ((alt-holds line i j es).1 a))
+  where
+    only : (line : Text) (i j : ℕ) → Any (λ e. Holds line e i j) (alt es ∷ []) → Holds line (alt es) i j
+    only line i j a = elim (Any-cases (λ e. Holds line e i j) (alt es) [] a) [ inl h ↦ h | inr none ↦ absurd (Any-none (λ e. Holds line e i j) none) ]
+
+-- the other way around
+other_way : (ds es : List Expression) → IsSameChoice ds es → IsSameChoice es ds
+other_way ds es same = λ line i j. ((same line i j).1, (same line i j).0)
+
+-- ---- lines
+
+-- some expression matches the line on the stretch on which another does
+Any-Matches : (ds es : List Expression) → IsSameChoice ds es → (line : Text) (w : Bool) → Any (λ d. Matches d line w) ds → Any (λ e. Matches e line w) es
+Any-Matches ds es same line false a =
+    let (i, j, on_line, h) : (i j : ℕ) × (j ≤ length line) × Holds line a.1 i j = a.4 in
+    let b = (same line i j).0 (a.0, a.1, a.2, a.3, h) in
+    (b.0, b.1, b.2, b.3, (i, j, on_line, b.4))
+Any-Matches ds es same line true a = (same line 0 (length line)).0 a
+
+module _ (ds es : List Expression) (options : Options) (same : IsSameChoice ds es) where
+  IsFound-same : (line : Text) (w : Bool) (from i j : ℕ) → IsFound ds line w from i j → IsFound es line w from i j
+  IsFound-same line w from i j f = record { begins = f.begins; not_empty = f.not_empty; on_line = f.on_line; is_whole = f.is_whole; holds = (same line i j).0 f.holds }
+
+-- a file's line is selected by the one as by the others
+Selected-same : (ds es : List Expression) (options : Options) → IsSameChoice ds es → (line : Text) → Selected ds options line → Selected es options line
+Selected-same ds es options same line = go options.invert_match
+  where
+    go : (b : Bool) → MatchBool b (Matched ds options line → ⊥) (Matched ds options line) → MatchBool b (Matched es options line → ⊥) (Matched es options line)
+    go true h = λ m. h (Any-Matches es ds (other_way ds es same) line options.line_regexp m)
+    go false h = Any-Matches ds es same line options.line_regexp h
+
+IsPart-same : (ds es : List Expression) → IsSameChoice ds es → (options : Options) (line : Text) (w : Bool) (from i j : ℕ) → IsPart ds line w from i j → IsPart es line w from i j
+IsPart-same ds es same options line w from i j p = record {
+  found = IsFound-same ds es options same line w from i j p.found;
+  earliest = λ k l f. p.earliest k l (IsFound-same es ds options (other_way ds es same) line w from k l f);
+  longest = λ l f. p.longest l (IsFound-same es ds options (other_way ds es same) line w from i l f);
+}
+
+ArePartsFrom-same : (ds es : List Expression) → IsSameChoice ds es → (options : Options) (line : Text) (w : Bool) (from : ℕ) (ps : List (ℕ × ℕ)) → ArePartsFrom ds line w from ps → ArePartsFrom es line w from ps
+ArePartsFrom-same ds es same options line w from [] none = λ i j f. none i j (IsFound-same es ds options (other_way ds es same) line w from i j f)
+ArePartsFrom-same ds es same options line w from ((i, j) ∷ rest) p = (IsPart-same ds es same options line w from i j p.0, ArePartsFrom-same ds es same options line w j rest p.1)
+
+-- ---- lists of what is chosen
+
+IfHolds-map : {P Q A B C D : Type 0} → (P → Q) → (Q → P) → (A → C) → (B → D) → IfHolds P A B → IfHolds Q C D
+IfHolds-map to back f g (inl h) = inl (to h.0, f h.1)
+IfHolds-map to back f g (inr h) = inr ((λ q. h.0 (back q)), g h.1)
+
+EachGives-map : {A B : Type 0} (R S : A → List B → Type 0) → ((x : A) (ys : List B) → R x ys → S x ys) → (xs : List A) (ys : List B) → EachGives R xs ys → EachGives S xs ys
+EachGives-map R S f [] ys h = h
+EachGives-map R S f (x ∷ xs) ys h = (h.0, h.1, f x h.0 h.2, EachGives-map R S f xs h.1 h.3, h.4)
+
+module _ (options : Options) where
+  HasSelected-same : (ds es : List Expression) → IsSameChoice ds es → (file : File) → HasSelected ds options file → HasSelected es options file
+  HasSelected-same ds es same file h = Any-map (Selected ds options) (Selected es options) (Selected-same ds es options same) file.lines h
+
+  FaultMet-same : (ds es : List Expression) → IsSameChoice ds es → (file : File) → FaultMet ds options file → FaultMet es options file
+  FaultMet-same ds es same file = go file.ending
+    where
+      go : (ending : Ending) → FaultMetBy ds options ending file → FaultMetBy es options ending file
+      go whole h = h
+      go missing h = h
+      go broken h = λ early has. h early (HasSelected-same es ds (other_way ds es same) file has)
+
+  AnySelected-same : (ds es : List Expression) → IsSameChoice ds es → (files : List File) → AnySelected ds options files → AnySelected es options files
+  AnySelected-same ds es same files h = Any-map (HasSelected ds options) (HasSelected es options) (HasSelected-same ds es same) files h
+
+  AnyFault-same : (ds es : List Expression) → IsSameChoice ds es → (files : List File) → Any (FaultMet ds options) files → Any (FaultMet es options) files
+  AnyFault-same ds es same files h = Any-map (FaultMet ds options) (FaultMet es options) (FaultMet-same ds es same) files h
+
+  module _ (ds es : List Expression) (same : IsSameChoice ds es) where
+    -- where it is asked of the expressions, the answer is the same
+    for_stops : {A B C D : Type 0} (file : File) → (A → C) → (B → D) → IfHolds (Stops ds options file) A B → IfHolds (Stops es options file) C D
+    for_stops file f g = IfHolds-map (λ h. (h.0, HasSelected-same ds es same file h.1)) (λ h. (h.0, HasSelected-same es ds (other_way ds es same) file h.1)) f g
+
+    for_fault : {A B C D : Type 0} (file : File) → (A → C) → (B → D) → IfHolds (FaultMet ds options file) A B → IfHolds (FaultMet es options file) C D
+    for_fault file f g = IfHolds-map (FaultMet-same ds es same file) (FaultMet-same es ds (other_way ds es same) file) f g
+
+    -- ---- output
+
+    SelectedLines-same : (many : Bool) (file : File) (selected : List (ℕ × Text)) → SelectedLines ds options many file selected → SelectedLines es options many file selected
+    SelectedLines-same many file selected h =
+        EachGives-map _ _
+        (λ line zs. IfHolds-map (Selected-same ds es options same line.1) (Selected-same es ds options (other_way ds es same) line.1) (λ a. a) (λ b. b))
+        _ selected h
+
+    CountOf-same : (many : Bool) (ending : Ending) (file : File) (out : List Text) → CountOf ds options many ending file out → CountOf es options many ending file out
+    CountOf-same many missing file out h = h
+    CountOf-same many whole file out h = (h.0, SelectedLines-same many file h.0 h.1, h.2)
+    CountOf-same many broken file out h = (h.0, SelectedLines-same many file h.0 h.1, h.2)
+
+    PartsOfLine-same : (many : Bool) (file : File) (line : ℕ × Text) (out : List Text) → PartsOfLine ds options many file line out → PartsOfLine es options many file line out
+    PartsOfLine-same many file line out h = (h.0, ArePartsFrom-same ds es same options line.1 options.line_regexp 0 h.0 h.1, h.2)
+
+    OutAs-same : (many : Bool) (shape : Form) (files : List File) (out : List Text) → OutAs ds options many shape files out → OutAs es options many shape files out
+    OutAs-same many nothing files out h = h
+    OutAs-same many names files out h =
+        (h.0, EachGives-map _ _ (λ file zs. IfHolds-map (HasSelected-same ds es same file) (HasSelected-same es ds (other_way ds es same) file) (λ a. a) (λ b. b)) files h.0 h.1, h.2)
+    OutAs-same many counts files out h = EachGives-map _ _ (λ file rows. CountOf-same many file.ending file rows) files out h
+    OutAs-same many parts files out h =
+        EachGives-map (PartRowsOf ds options many) (PartRowsOf es options many)
+        (λ file rows r. (r.0, SelectedLines-same many file r.0 r.1, EachGives-map (PartsOfLine ds options many file) (PartsOfLine es options many file) (PartsOfLine-same many file) r.0 rows r.2))
+        files out h
+    OutAs-same many lines files out h =
+        EachGives-map (RowsOf ds options many) (RowsOf es options many) (λ file rows r. (r.0, SelectedLines-same many file r.0 r.1, r.2)) files out h
+
+    RowsAs-same : (shape : Form) (many : Bool) (file : File) (rows : List Text) → RowsAs ds options shape many file rows → RowsAs es options shape many file rows
+    RowsAs-same lines many file rows h = OutAs-same many lines (file ∷ []) rows h
+    RowsAs-same parts many file rows h = OutAs-same many parts (file ∷ []) rows h
+    RowsAs-same nothing many file rows h = h
+    RowsAs-same names many file rows h = h
+    RowsAs-same counts many file rows h = h
+
+    -- ---- messages and status
+
+    Reached-same : (files reached : List File) → Reached ds options files reached → Reached es options files reached
+    Reached-same [] reached h = h
+    Reached-same (file ∷ files) reached h = (h.0, h.1, for_stops file (λ a. a) (Reached-same files h.0) h.2)
+
+    Messages-same : (files : List File) (told : List Text) → Messages ds options files told → Messages es options files told
+    Messages-same files told = go options.no_messages
+      where
+        go : (b : Bool) → MatchBool b (told ≡ []) ((reached : List File) × Reached ds options files reached × EachGives (Message ds options) reached told)
+            → MatchBool b (told ≡ []) ((reached : List File) × Reached es options files reached × EachGives (Message es options) reached told)
+        go true h = h
+        go false h = (h.0, Reached-same files h.0 h.1, EachGives-map (Message ds options) (Message es options) (λ file told. for_fault file (λ a. a) (λ b. b)) h.0 told h.2)
+
+    StatusOf-same : (files : List File) (status : Status) → StatusOf ds options files status → StatusOf es options files status
+    StatusOf-same files status h =
+        IfHolds-map (λ q. (q.0, AnySelected-same ds es same files q.1)) (λ q. (q.0, AnySelected-same es ds (other_way ds es same) files q.1)) (λ a. a)
+        (λ rest. IfHolds-map (AnyFault-same ds es same files) (AnyFault-same es ds (other_way ds es same) files) (λ a. a)
+        (λ last. IfHolds-map (AnySelected-same ds es same files) (AnySelected-same es ds (other_way ds es same) files) (λ a. a) (λ b. b) last) rest)
+        h
+
+    FailuresMet-same : (sources : List Source) (readings : List Reading) (n : ℕ) → FailuresMet ds options sources readings n → FailuresMet es options sources readings n
+    FailuresMet-same [] readings n h = h
+    FailuresMet-same (source ∷ sources) [] n h = h
+    FailuresMet-same (source ∷ sources) (r ∷ readings) n h =
+        let file = file_of source.name r in
+        (h.0, h.1, for_fault file (λ a. a) (λ b. b) h.2, for_stops file (λ a. a) (FailuresMet-same sources readings h.1) h.3, h.4)
+
+    LeftMet-same : (sources : List Source) (readings : List Reading) (left : List (Option Text)) → LeftMet ds options sources readings left → LeftMet es options sources readings left
+    LeftMet-same [] readings left h = h
+    LeftMet-same (source ∷ sources) [] left h = h
+    LeftMet-same (source ∷ sources) (r ∷ readings) left h =
+        let file = file_of source.name r in
+        (h.0, h.1, h.2, for_stops file (λ a. a) (LeftMet-same sources readings h.1) h.3, h.4)
+
+    -- ---- steps
+
+    PartsAsked-same : (shape : Form) (line : Text) (times : ℕ) → PartsAsked ds options shape line times → PartsAsked es options shape line times
+    PartsAsked-same parts line times h = (h.0, ArePartsFrom-same ds es same options line options.line_regexp 0 h.0 h.1, h.2)
+    PartsAsked-same nothing line times h = h
+    PartsAsked-same names line times h = h
+    PartsAsked-same counts line times h = h
+    PartsAsked-same lines line times h = h
+
+    -- fewer matchers cost no more
+    module _ (few most : ℕ) (fewer : few ≤ most) where
+      line_cost : (times : ℕ) (line : Text) → (times + 1) * search_cost few line ≤ (times + 1) * search_cost most line
+      line_cost times line = mul-le-mul_left (times + 1) (mul-le-mul_right (length line + 1) fewer)
+
+      LinesCost-same : (text : List Text) (cost : ℕ) → LinesCost ds options few text cost → (more : ℕ) × LinesCost es options most text more × (cost ≤ more)
+      LinesCost-same [] cost h = (0, refl, omega (arith, h))
+      LinesCost-same (line ∷ text) cost h =
+          let rest = LinesCost-same text h.1 h.3 in
+          let own = line_cost h.0 line in
+          ((h.0 + 1) * search_cost most line + rest.0, (h.0, rest.0, PartsAsked-same (form options) line h.0 h.2, rest.1, refl), omega (arith, h.4, own, rest.2))
+
+      FilesCost-same : (files : List File) (cost : ℕ) → FilesCost ds options few files cost → (more : ℕ) × FilesCost es options most files more × (cost ≤ more)
+      FilesCost-same [] cost h = (0, refl, omega (arith, h))
+      FilesCost-same (file ∷ files) cost h =
+          let own = LinesCost-same file.lines h.0 h.2 in
+          let rest = FilesCost-same files h.1 h.3 in
+          (own.0 + rest.0, (own.0, rest.0, own.1, rest.1, refl), omega (arith, h.4, own.2, rest.2))
+
+      SearchesFiles-same : (files : List File) (old new : Steps) → SearchesFiles ds options few files old new → SearchesFiles es options most files old new
+      SearchesFiles-same files old new s =
+          let c = FilesCost-same files s.cost s.is_cost in
+          record { cost = c.0; is_cost = c.1; few = record { built = s.few.built; reused = s.few.reused; sum = omega (arith, c.2, s.few.sum) } }
+
+    -- ---- runs
+
+    module _ (fewer : length ds ≤ length es) (sources : List Source) (given : List (Option Text) → Type 0) (old new : Devices) where
+      Finishes-same : (status : Status) → Finishes ds options sources given old new status → Finishes es options sources given old new status
+      Finishes-same status f = record {
+        readings = f.readings;
+        are_readings = f.are_readings;
+        output = f.output;
+        is_output = OutAs-same _ (form options) _ f.output f.is_output;
+        messages = f.messages;
+        are_messages = Messages-same _ f.messages f.are_messages;
+        is_status = StatusOf-same _ status f.is_status;
+        wrote = f.wrote;
+        told = f.told;
+        failures = f.failures;
+        are_failures = FailuresMet-same sources f.readings f.failures f.are_failures;
+        counted = f.counted;
+        left = f.left;
+        are_left = LeftMet-same sources f.readings f.left f.are_left;
+        gave_back = f.gave_back;
+        steps = SearchesFiles-same (length ds) (length es) fewer _ old.steps new.steps f.steps;
+      }
+
+      BreaksOff-same : BreaksOff ds options sources given old new → BreaksOff es options sources given old new
+      BreaksOff-same b = record {
+        readings = b.readings;
+        are_readings = b.are_readings;
+        output = b.output;
+        is_output = OutAs-same _ (form options) _ b.output b.is_output;
+        messages = b.messages;
+        are_messages = Messages-same _ b.messages b.are_messages;
+        wrote = b.wrote;
+        told = b.told;
+        met = b.met;
+        failures = b.failures;
+        are_failures = FailuresMet-same (take b.met sources) b.readings b.failures b.are_failures;
+        counted = b.counted;
+        left = b.left;
+        are_left = LeftMet-same (take b.met sources) b.readings b.left b.are_left;
+        gave_back = b.gave_back;
+        steps = SearchesFiles-same (length ds) (length es) fewer _ old.steps new.steps b.steps;
+      }
+
+      StopsBehind-same : (k n : ℕ) → StopsBehind ds options sources given old new k n → StopsBehind es options sources given old new k n
+      StopsBehind-same k n s = record {
+        readings = s.readings;
+        are_readings = s.are_readings;
+        in_sources = s.in_sources;
+        in_file = s.in_file;
+        before = s.before;
+        is_before = OutAs-same _ (form options) _ s.before s.is_before;
+        rows = s.rows;
+        are_rows = RowsAs-same (form options) _ _ s.rows s.are_rows;
+        messages = s.messages;
+        are_messages = Messages-same _ s.messages s.are_messages;
+        wrote = s.wrote;
+        told = s.told;
+        failures = s.failures;
+        are_failures = FailuresMet-same (take k sources) s.readings s.failures s.are_failures;
+        counted = s.counted;
+        left = s.left;
+        rest = s.rest;
+        are_left = LeftMet-same (take k sources) s.readings s.left s.are_left;
+        gave_back = s.gave_back;
+        steps = SearchesFiles-same (length ds) (length es) fewer _ old.steps new.steps s.steps;
+      }
+
+      pub RunGives-same : (result : Result Status RunFault) → RunGives ds options sources given old new result → RunGives es options sources given old new result
+      RunGives-same (Ok status) f = Finishes-same status f
+      RunGives-same (Err Write) b = (BreaksOff-same b.0, b.1, b.2)
+      RunGives-same (Err MessageWrite) b = (BreaksOff-same b.0, b.1, b.2)
+      RunGives-same (Err (Memory k n)) s = StopsBehind-same k n s
+
+-- a run for expressions that are the same choice as others, and no more, is a run for these
+pub serves_for_others : (options : Options) → ServesForOthers options
+serves_for_others options = λ ds es same fewer sources left old new result. RunGives-same options ds es same fewer sources (λ given. given ≡ left) old new result

@@ -1,0 +1,108 @@
+-- One source is done: its summary and its message, behind the rows of its lines.
+use Rattle.std.proofs.Common.{◌≡◌, ℕ, Bool, true, false, Decides, IsTrue, List, [], ◌∷◌, ◌++◌, MatchBool, nat_le, length, refl, sym, ap, subst, ◌∙◌, inl, inr, Option}
+use Rattle.std.proofs.lemmas.Bool.{false≢true, cases_Bool, cond-true, cond-false}
+use Rattle.re_syntax.specs.Bytes.{Text}
+use Rattle.re_syntax.specs.Lines.{lines_of, ended_lines_of}
+use Rattle.re_syntax.specs.Expression.{Expression}
+use Rattle.re_search.specs.Meters.{Steps}
+use Rattle.grep_core.specs.declared.options.Options.{Options}
+use Rattle.grep_core.specs.declared.search.file.FileEnd.{FileEnd}
+use Rattle.grep_core.specs.declared.search.file.FileEnd.TheVariants.{Missing, Whole, Broken, Left}
+use Rattle.grep_core.specs.Counted.{one_more}
+use Rattle.grep_core.specs.Choose.{EachGives}
+use Rattle.grep_core.specs.Files.{File, Ending, whole, broken}
+use Rattle.grep_core.specs.Output.{form}
+use Rattle.grep_core.specs.Messages.{message, FaultMet, Message, Told}
+use Rattle.grep_core.specs.Reading.{Source, Reading, not_opened, fails_after, ends_after, most_lines, up_to_limit, file_of}
+use Rattle.grep_core.specs.Run.{Devices, Writer, TakesAll, TakesFront}
+use Rattle.grep_core.specs.Working.Searched.{is_fault, ending_of, summary_as, told_of, SearchesSource, FinishesSource, BreaksSource, BreaksMessage}
+use Rattle.grep_core.proofs.lemmas.ChooseLaws.{EachGives-one}
+use Rattle.grep_core.proofs.lemmas.WriterLaws.{TakesAll-more, TakesFront-more}
+
+limit_named : (name : Text) (ls : List Text) (ending : Ending) → (up_to_limit name ls ending).name ≡ name
+limit_named name ls ending =
+    elim (cases_Bool (nat_le (length ls) most_lines)) [ inl within ↦ ap (λ (f : File). f.name) (cond-true _ _ _ within) | inr over ↦ ap (λ (f : File). f.name) (cond-false _ _ _ over) ]
+
+-- the file for which a source stands has its name
+file_named : (name : Text) (r : Reading) → (file_of name r).name ≡ name
+file_named name not_opened = refl
+file_named name (fails_after bytes) = limit_named name (ended_lines_of bytes) broken
+file_named name (ends_after bytes) = limit_named name (lines_of bytes) whole
+
+module _ (es : List Expression) (options : Options) where
+  -- what is told of one file
+  one_told : (end : FileEnd) (file : File) (name : Text) → Decides (is_fault end) (FaultMet es options file) → (IsTrue (is_fault end) → file.ending ≡ ending_of end) → file.name ≡ name → Message es options file (message (ending_of end) name)
+  one_told Missing file name d e n = inl (d.0 refl, λ i. message (sym (e refl) i) (sym n i))
+  one_told Whole file name d e n = inr ((λ m. false≢true (d.1 m)), refl)
+  one_told Broken file name d e n = inl (d.0 refl, λ i. message (sym (e refl) i) (sym n i))
+  one_told Left file name d e n = inr ((λ m. false≢true (d.1 m)), refl)
+
+  -- and nothing under `-s`
+  file_told : (end : FileEnd) (file : File) (name : Text) → Message es options file (message (ending_of end) name) → Told es options (file ∷ []) (told_of options.no_messages end name)
+  file_told end file name m = by_flag options.no_messages
+    where
+      by_flag : (silent : Bool) → MatchBool silent (told_of silent end name ≡ []) (EachGives (Message es options) (file ∷ []) (told_of silent end name))
+      by_flag true = refl
+      by_flag false = EachGives-one (Message es options) file (message (ending_of end) name) m
+
+  module _ (many : Bool) (source : Source) (given : List (Option Text) → Type 0) (name : Text) (named : name ≡ source.name) (end : FileEnd) (found : ℕ) where
+    -- the summary could not be written
+    pub source_unwritten : (before after : ℕ) (old mid new : Writer) (began ended : Steps) → SearchesSource es options many source given before after old mid began ended end found → TakesFront mid new (summary_as (form options) many name end found) → new.failures ≡ one_more mid.failures
+        → BreaksSource es options many source given before after old new began ended
+    source_unwritten before after old mid new began ended s front failed =
+        let summary = summary_as (form options) many source.name end found in
+        let front_here = subst (λ n. TakesFront mid new (summary_as (form options) many n end found)) named front in
+        record {
+          reading = s.reading;
+          is_reading = s.is_reading;
+          failures = s.failures;
+          rows = s.rows ++ summary;
+          are_rows = s.are_rows;
+          wrote = TakesFront-more old mid new s.rows summary s.wrote front_here;
+          counted = failed ∙ ap one_more s.wrote.none_failed;
+          steps = s.steps;
+        }
+
+    module _ (old new : Devices) (mid : Writer) (s : SearchesSource es options many source given old.source_failures new.source_failures old.out mid old.steps new.steps end found)
+        (took : TakesAll mid new.out (summary_as (form options) many name end found)) where
+      abbrev summary : List Text
+      summary = summary_as (form options) many source.name end found
+
+      all_out : TakesAll old.out new.out (s.rows ++ summary)
+      all_out = TakesAll-more old.out mid new.out s.rows summary s.wrote (subst (λ n. TakesAll mid new.out (summary_as (form options) many n end found)) named took)
+
+      tells : Told es options (file_of source.name s.reading ∷ []) (told_of options.no_messages end source.name)
+      tells = file_told end (file_of source.name s.reading) source.name (one_told end (file_of source.name s.reading) source.name s.fault s.ends (file_named source.name s.reading))
+
+      -- all was written
+      pub source_done : TakesAll old.messages new.messages (told_of options.no_messages end name) → FinishesSource es options many source given old new end found
+      source_done told = record {
+        reading = s.reading;
+        is_reading = s.is_reading;
+        failures = s.failures;
+        some = s.some;
+        fault = s.fault;
+        rows = s.rows ++ summary;
+        are_rows = s.are_rows;
+        wrote = all_out;
+        messages = told_of options.no_messages end source.name;
+        are_messages = tells;
+        told = subst (λ n. TakesAll old.messages new.messages (told_of options.no_messages end n)) named told;
+        steps = s.steps;
+      }
+
+      -- the message could not be written
+      pub source_untold : TakesFront old.messages new.messages (told_of options.no_messages end name) → new.messages.failures ≡ one_more old.messages.failures → BreaksMessage es options many source given old new
+      source_untold told failed = record {
+        reading = s.reading;
+        is_reading = s.is_reading;
+        failures = s.failures;
+        rows = s.rows ++ summary;
+        are_rows = s.are_rows;
+        wrote = all_out;
+        messages = told_of options.no_messages end source.name;
+        are_messages = tells;
+        told = subst (λ n. TakesFront old.messages new.messages (told_of options.no_messages end n)) named told;
+        counted = failed;
+        steps = s.steps;
+      }

@@ -1,0 +1,29 @@
+use Rattle.std.proofs.Common.{◌≡◌, ◌≤◌, length, map, take}
+use Rattle.grep_core.specs.Run.{writer}
+use Rattle.grep_core.specs.Sources.{GivesBack}
+use Rattle.grep_core.proofs.lemmas.RunLaws.{RunSoFar}
+use Rattle.grep_core.proofs.search.run.search_filtered.Given as goal
+
+-- so many sources were run
+abbrev pub invariant-loop-k : goal.invariant-loop-k
+invariant-loop-k g l = record {
+  so_far : RunSoFar (map g.M.LineMatch.expression l.fn.matchers) l.options l.many (take l.k (g.S.Sources.listed l.fn.sources)) (GivesBack g.S.Sources.given_back l.fn.sources l.sources)
+      (record {
+        out = writer g.W.CountedWrite.contents g.W.CountedWrite.failures l.fn.out;
+        messages = writer g.N.CountedWrite.contents g.N.CountedWrite.failures l.fn.messages;
+        source_failures = g.S.Sources.failures l.fn.sources;
+        steps = l.fn.meter;
+      })
+      (record {
+        out = writer g.W.CountedWrite.contents g.W.CountedWrite.failures l.out;
+        messages = writer g.N.CountedWrite.contents g.N.CountedWrite.failures l.messages;
+        source_failures = g.S.Sources.failures l.sources;
+        steps = l.meter;
+      }) l.some l.faulty;
+  listed : g.S.Sources.listed l.sources ≡ g.S.Sources.listed l.fn.sources;
+  within : l.k ≤ length (g.S.Sources.listed l.fn.sources);
+  in_order : g.S.Sources.stands_at l.sources l.k;
+  same_loan : g.S.Sources.loan l.sources ≡ g.S.Sources.loan l.fn.sources;
+  same_expressions : map g.M.LineMatch.expression l.matchers ≡ map g.M.LineMatch.expression l.fn.matchers;
+  same_wholes : map g.M.LineMatch.whole l.matchers ≡ map g.M.LineMatch.whole l.fn.matchers;
+}

@@ -1,0 +1,10 @@
+pub mod Limited
+pub mod LineReader
+pub mod Held
+pub mod Refilled
+pub mod Handed
+pub mod Wanted
+pub mod OneLine
+pub mod Searched
+pub mod SameChoice
+pub mod MatcherLists

@@ -1,0 +1,41 @@
+-- The bytes that are held between two calls, and the line that was handed out.
+use Rattle.std.specs.Prelude.{◌≡◌, ℕ, ◌-◌, ◌≤◌, [], length, take, slice_range, ⊤}
+use Rattle.re_syntax.specs.Bytes.{Text}
+use Rattle.re_syntax.specs.Lines.{HasNoNewline}
+use Rattle.grep_core.specs.declared.input.window.Shown.{Shown}
+use Rattle.grep_core.specs.declared.input.window.Shown.TheVariants.{Nothing, Short, Long}
+
+-- ahead: taken from the reader and not handed out. line: handed out last
+pub record Held : Type 0 where
+  pub ahead : Text
+  pub line : Text
+
+-- but for the last 65,536 bytes, the bytes are the beginning of one line
+abbrev pub IsOneLineAndFew : Text → Type 0
+IsOneLineAndFew bytes = HasNoNewline (take (length bytes - 65536) bytes)
+
+-- what is kept of a line that goes on: nothing where the spilled bytes are the line handed out
+abbrev pub waiting : Shown → Text → Text
+waiting Nothing spill = spill
+waiting (Short from to) spill = spill
+waiting Long spill = []
+
+-- the line handed out last
+abbrev pub shown_line : Shown → Text → Text → Text
+shown_line Nothing spill buffer = []
+shown_line (Short from to) spill buffer = slice_range buffer from to
+shown_line Long spill buffer = spill
+
+-- the places of a line in the buffer are in order and within it
+abbrev pub ShownFits : Shown → Type 0
+ShownFits Nothing = ⊤
+ShownFits (Short from to) = (from ≤ to) × (to ≤ 65536)
+ShownFits Long = ⊤
+
+-- the buffer is whole, its places are in order, and what waits is the beginning of one line
+pub record IsSound (buffer : ℕ) (start end : ℕ) (shown : Shown) (spill : Text) : Type 0 where
+  pub full : buffer ≡ 65536
+  pub ordered : start ≤ end
+  pub within : end ≤ 65536
+  pub shown_fits : ShownFits shown
+  pub unfinished : HasNoNewline (waiting shown spill)

@@ -1,0 +1,56 @@
+-- What is written for one line of a file, and for a file's first lines.
+use Rattle.std.specs.Prelude.{◌≡◌, ℕ, Bool, IsTrue, ◌↔◌, List, [], ◌∷◌, ◌++◌}
+use Rattle.re_syntax.specs.Bytes.{Text}
+use Rattle.re_syntax.specs.Expression.{Expression}
+use Rattle.grep_core.specs.declared.options.Options.{Options}
+use Rattle.grep_core.specs.Counted.{one_more}
+use Rattle.grep_core.specs.Choose.{IfHolds}
+use Rattle.grep_core.specs.Files.{File, Selected}
+use Rattle.grep_core.specs.Output.{Form, parts, lines, form, head_of, RowsOf, PartsOfLine, PartRowsOf}
+use Rattle.grep_core.specs.Run.{Writer, TakesAll, TakesFront}
+use Rattle.grep_core.specs.Working.Handed.{file_so_far}
+
+module _ (es : List Expression) (options : Options) (many : Bool) where
+  -- the rows of a file's lines; there are none under `-c`, `-l` and `-q`
+  abbrev pub LineRowsOf : Form → File → List Text → Type 0
+  LineRowsOf lines file rows = RowsOf es options many file rows
+  LineRowsOf parts file rows = PartRowsOf es options many file rows
+  LineRowsOf _ file rows = rows ≡ []
+
+  -- the rows of a selected line
+  abbrev pub RowsOfSelected : Form → Text → ℕ → Text → List Text → Type 0
+  RowsOfSelected lines name number line rows = rows ≡ (head_of es options many (file_so_far name []) number ++ line) ∷ []
+  RowsOfSelected parts name number line rows = PartsOfLine es options many (file_so_far name []) (number, line) rows
+  RowsOfSelected _ name number line rows = rows ≡ []
+
+  -- the rows of a line
+  abbrev pub RowsOfLine : Text → ℕ → Text → List Text → Type 0
+  RowsOfLine name number line rows = IfHolds (Selected es options line) (RowsOfSelected (form options) name number line rows) (rows ≡ [])
+
+  module _ (name : Text) (number : ℕ) (line : Text) (old new : Writer) where
+    -- the rows of a selected line were written
+    pub record WritesSelected : Type 0 where
+      pub rows : List Text
+      pub are_rows : RowsOfSelected (form options) name number line rows
+      pub wrote : TakesAll old new rows
+
+    -- a beginning of the rows of a selected line was written, and a write failed
+    pub record BreaksSelected : Type 0 where
+      pub rows : List Text
+      pub are_rows : RowsOfSelected (form options) name number line rows
+      pub wrote : TakesFront old new rows
+      pub counted : new.failures ≡ one_more old.failures
+
+    -- the rows of a line were written, and `found` tells whether it is selected
+    pub record TakesLine (found : Bool) : Type 0 where
+      pub rows : List Text
+      pub are_rows : RowsOfLine name number line rows
+      pub wrote : TakesAll old new rows
+      pub told : IsTrue found ↔ Selected es options line
+
+    -- a beginning of the rows of a line was written, and a write failed
+    pub record BreaksLine : Type 0 where
+      pub rows : List Text
+      pub are_rows : RowsOfLine name number line rows
+      pub wrote : TakesFront old new rows
+      pub counted : new.failures ≡ one_more old.failures

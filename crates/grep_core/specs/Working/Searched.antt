@@ -1,0 +1,150 @@
+-- What a search of one source does.
+use Rattle.std.specs.Prelude.{◌≡◌, ℕ, nat_lt, ◌≤◌, Bool, true, false, ◌||◌, IsTrue, ◌↔◌, List, [], ◌∷◌, ◌++◌, length, Option, Result, Ok, Err, if◌then◌else◌}
+use Rattle.std.specs.Fmt.{decimal}
+use Rattle.re_syntax.specs.Bytes.{Text}
+use Rattle.re_syntax.specs.Expression.{Expression}
+use Rattle.re_search.specs.Meters.{Steps}
+use Rattle.grep_core.specs.declared.options.Options.{Options}
+use Rattle.grep_core.specs.declared.search.file.FileEnd.{FileEnd}
+use Rattle.grep_core.specs.declared.search.file.FileEnd.TheVariants.{Missing, Whole, Broken, Left}
+use Rattle.grep_core.specs.declared.search.file.FileFound.{FileFound}
+use Rattle.grep_core.specs.declared.status.RunFault.{RunFault}
+use Rattle.grep_core.specs.declared.status.RunFault.TheVariants.{Write, MessageWrite, Memory}
+use Rattle.grep_core.specs.declared.status.Status.{Status}
+use Rattle.grep_core.specs.declared.status.Status.TheVariants.{Selected, NoneSelected, Error}
+use Rattle.grep_core.specs.Counted.{one_more}
+use Rattle.grep_core.specs.Choose.{IfHolds}
+use Rattle.grep_core.specs.Row.{prefix}
+use Rattle.grep_core.specs.Files.{Ending, whole, missing, broken, HasSelected}
+use Rattle.grep_core.specs.Output.{Form, names, counts, form, OutAs}
+use Rattle.grep_core.specs.Messages.{message, FaultMet, Told}
+use Rattle.grep_core.specs.Reading.{Source, Reading, IsReadingOf, file_of, failures_of, AreLeft}
+use Rattle.grep_core.specs.Run.{Writer, Devices, TakesAll, TakesFront, RowsAs, first_lines, count_more}
+use Rattle.grep_core.specs.Working.Wanted.{name_shown}
+use Rattle.grep_core.specs.Cost.{SearchesLines}
+
+-- a file is left at its first selected line
+abbrev pub leaves_early : Options → Bool
+leaves_early options = options.quiet || options.files_with_matches
+
+-- a file that was not opened, or of which a read failed
+abbrev pub is_fault : FileEnd → Bool
+is_fault Missing = true
+is_fault Whole = false
+is_fault Broken = true
+is_fault Left = false
+
+abbrev pub ending_of : FileEnd → Ending
+ending_of Missing = missing
+ending_of Whole = whole
+ending_of Broken = broken
+ending_of Left = whole
+
+abbrev pub is_missing : FileEnd → Bool
+is_missing Missing = true
+is_missing Whole = false
+is_missing Broken = false
+is_missing Left = false
+
+-- the count of a file's selected lines; nothing for a file that was not opened
+abbrev pub count_line : Bool → Text → FileEnd → ℕ → List Text
+count_line many name end selected = if is_missing end then [] else (prefix (name_shown many name) ++ decimal selected) ∷ []
+
+-- what is written of a file behind the rows of its lines
+abbrev pub summary_as : Form → Bool → Text → FileEnd → ℕ → List Text
+summary_as names many name end selected = if nat_lt 0 selected then name ∷ [] else []
+summary_as counts many name end selected = count_line many name end selected
+summary_as _ many name end selected = []
+
+-- what is told of a file that ended so, and nothing under `-s`
+abbrev pub told_of : Bool → FileEnd → Text → List Text
+told_of silent end name = if silent then [] else message (ending_of end) name
+
+-- the status of a run that did not stop on its way: a fault goes before a selected line
+abbrev pub status_by : Bool → Bool → Status
+status_by some faulty = if faulty then Error else if some then Selected else NoneSelected
+
+-- `began` and `ended` are the steps that were counted before and after the search; there are no more than that of the file's lines costs.
+-- `given` says of what readers may have left that readers were given back that had this left, in the search of the source
+module _ (es : List Expression) (options : Options) (many : Bool) (source : Source) (given : List (Option Text) → Type 0) where
+  -- how often the devices failed in the source, where a fault is met in it, and what its reader had left
+  pub record CountsSource (reading : Reading) (before after : ℕ) : Type 0 where
+    pub own : ℕ
+    pub are_own : IfHolds (FaultMet es options (file_of source.name reading)) (own ≡ failures_of reading) (own ≡ 0)
+    pub counted : after ≡ count_more before own
+    pub left : List (Option Text)
+    pub are_left : AreLeft source reading left
+    pub gave_back : given left
+
+  -- a beginning of what is written of the source's file went out, and a write failed
+  pub record BreaksSource (failed_before failed : ℕ) (old new : Writer) (began ended : Steps) : Type 0 where
+    pub reading : Reading
+    pub is_reading : IsReadingOf source reading
+    pub failures : CountsSource reading failed_before failed
+    pub rows : List Text
+    pub are_rows : OutAs es options many (form options) (file_of source.name reading ∷ []) rows
+    pub wrote : TakesFront old new rows
+    pub counted : new.failures ≡ one_more old.failures
+    pub steps : SearchesLines es options (length es) (file_of source.name reading).lines began ended
+
+  -- the rows of the first n lines of the source's file went out, and no device failed
+  pub record StopsSource (n failed_before failed : ℕ) (old new : Writer) (began ended : Steps) : Type 0 where
+    pub reading : Reading
+    pub is_reading : IsReadingOf source reading
+    pub none_failed : failed ≡ failed_before
+    pub rest : Option Text
+    pub gave_back : given (rest ∷ [])
+    pub in_file : n ≤ length (file_of source.name reading).lines
+    pub rows : List Text
+    pub are_rows : RowsAs es options (form options) many (first_lines n (file_of source.name reading)) rows
+    pub wrote : TakesAll old new rows
+    pub steps : SearchesLines es options (length es) (file_of source.name reading).lines began ended
+
+  -- the source was searched: it stands for a file, of whose output the rows went out and the summary is left
+  pub record SearchesSource (failed_before failed : ℕ) (old new : Writer) (began ended : Steps) (end : FileEnd) (selected : ℕ) : Type 0 where
+    pub reading : Reading
+    pub is_reading : IsReadingOf source reading
+    pub failures : CountsSource reading failed_before failed
+    pub some : IsTrue (nat_lt 0 selected) ↔ HasSelected es options (file_of source.name reading)
+    pub fault : IsTrue (is_fault end) ↔ FaultMet es options (file_of source.name reading)
+    pub ends : IsTrue (is_fault end) → (file_of source.name reading).ending ≡ ending_of end
+    pub rows : List Text
+    pub are_rows : OutAs es options many (form options) (file_of source.name reading ∷ []) (rows ++ summary_as (form options) many source.name end selected)
+    pub wrote : TakesAll old new rows
+    pub steps : SearchesLines es options (length es) (file_of source.name reading).lines began ended
+
+  -- output and messages for the source's file were written
+  pub record FinishesSource (old new : Devices) (end : FileEnd) (selected : ℕ) : Type 0 where
+    pub reading : Reading
+    pub is_reading : IsReadingOf source reading
+    pub failures : CountsSource reading old.source_failures new.source_failures
+    pub some : IsTrue (nat_lt 0 selected) ↔ HasSelected es options (file_of source.name reading)
+    pub fault : IsTrue (is_fault end) ↔ FaultMet es options (file_of source.name reading)
+    pub rows : List Text
+    pub are_rows : OutAs es options many (form options) (file_of source.name reading ∷ []) rows
+    pub wrote : TakesAll old.out new.out rows
+    pub messages : List Text
+    pub are_messages : Told es options (file_of source.name reading ∷ []) messages
+    pub told : TakesAll old.messages new.messages messages
+    pub steps : SearchesLines es options (length es) (file_of source.name reading).lines old.steps new.steps
+
+  -- the output for the source's file was written, and a write failed within its message
+  pub record BreaksMessage (old new : Devices) : Type 0 where
+    pub reading : Reading
+    pub is_reading : IsReadingOf source reading
+    pub failures : CountsSource reading old.source_failures new.source_failures
+    pub rows : List Text
+    pub are_rows : OutAs es options many (form options) (file_of source.name reading ∷ []) rows
+    pub wrote : TakesAll old.out new.out rows
+    pub messages : List Text
+    pub are_messages : Told es options (file_of source.name reading ∷ []) messages
+    pub told : TakesFront old.messages new.messages messages
+    pub counted : new.messages.failures ≡ one_more old.messages.failures
+    pub steps : SearchesLines es options (length es) (file_of source.name reading).lines old.steps new.steps
+
+  -- what a search of source k answers
+  abbrev pub SourceGives : ℕ → Devices → Devices → Result FileFound RunFault → Type 0
+  SourceGives k old new (Ok found) = FinishesSource old new found.end found.selected
+  SourceGives k old new (Err Write) = BreaksSource old.source_failures new.source_failures old.out new.out old.steps new.steps × (new.messages ≡ old.messages)
+  SourceGives k old new (Err MessageWrite) = BreaksMessage old new
+  SourceGives k old new (Err (Memory at n)) = (at ≡ k) × StopsSource n old.source_failures new.source_failures old.out new.out old.steps new.steps × (new.messages ≡ old.messages)

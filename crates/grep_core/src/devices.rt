@@ -1,0 +1,5 @@
+//! Devices: what is read and written, with its failures counted.
+
+pub mod buffered;
+pub mod counted;
+pub mod limited;

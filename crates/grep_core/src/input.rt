@@ -1,0 +1,5 @@
+//! The input: its sources, and the lines of a reader.
+
+pub mod lines;
+pub mod sources;
+pub mod window;

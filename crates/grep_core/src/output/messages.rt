@@ -1,0 +1,27 @@
+//! Messages about files, on standard error (XCU grep, STDERR).
+ghost use Rattle.std.specs.Prelude.{[]};
+ghost use Rattle.grep_core.specs.Messages.{cannot_open, read_error};
+ghost use Rattle.grep_core.specs.Row.{output_line};
+ghost use Rattle.grep_core.specs.Written.{Writes};
+
+use crate::devices::counted::CountedWrite;
+use crate::output::push::WriteFault;
+use crate::output::rows::write_row;
+
+/// Writes the message on a file that could not be opened.
+///
+/// `WriteFault` comes where a write fails. It is not tried again.
+pub fn write_cannot_open<M: CountedWrite>(messages: &mut M, name: &[u8]) -> Result<(), WriteFault>
+    ensures { Writes M.contents M.failures messages.old messages.new (output_line [] (cannot_open name.now)) result }
+{
+    write_row(messages, b"grep: ", Some(name), None, b" cannot open")
+}
+
+/// Writes the message on a file whose read failed.
+///
+/// `WriteFault` comes where a write fails. It is not tried again.
+pub fn write_read_error<M: CountedWrite>(messages: &mut M, name: &[u8]) -> Result<(), WriteFault>
+    ensures { Writes M.contents M.failures messages.old messages.new (output_line [] (read_error name.now)) result }
+{
+    write_row(messages, b"grep: ", Some(name), None, b" read error")
+}

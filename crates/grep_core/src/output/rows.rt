@@ -1,0 +1,97 @@
+// Output lines, written part by part to any counted writer.
+ghost use Rattle.std.specs.Prelude.{[], ◌∷◌, ◌++◌};
+ghost use Rattle.std.specs.Fmt.{decimal};
+ghost use Rattle.std.specs.Option.{option_copied};
+ghost use Rattle.grep_core.specs.Row.{prefix, number_part, head, output_line};
+ghost use Rattle.grep_core.specs.Written.{Writes};
+ghost use Rattle.re_syntax.specs.Lines.{newline};
+
+use crate::devices::counted::CountedWrite;
+use crate::output::push::{WriteFault, push_all};
+use itoa::Buffer;
+
+/// Writes the name and a colon, where there is a name.
+#[tactic(auto, using(crate::proofs::lemmas::RowLemmas::writing))]
+pub fn write_prefix<W: CountedWrite>(out: &mut W, name: Option<&[u8]>) -> Result<(), WriteFault>
+    ensures { Writes W.contents W.failures out.old out.new (prefix (option_copied name.entry)) result }
+{
+    let Some(name) = name else {
+        return Ok(());
+    };
+    push_all(out, name)?;
+    push_all(out, b":")
+}
+
+/// Writes the number in decimal.
+pub fn write_decimal<W: CountedWrite>(out: &mut W, number: u64) -> Result<(), WriteFault>
+    ensures { Writes W.contents W.failures out.old out.new (decimal number) result }
+{
+    push_all(out, Buffer::new().format(number).as_bytes())
+}
+
+#[tactic(auto, using(crate::proofs::lemmas::RowLemmas::writing))]
+fn write_number_part<W: CountedWrite>(out: &mut W, number: Option<u64>) -> Result<(), WriteFault>
+    ensures { Writes W.contents W.failures out.old out.new (number_part number) result }
+{
+    let Some(number) = number else {
+        return Ok(());
+    };
+    write_decimal(out, number)?;
+    push_all(out, b":")
+}
+
+#[tactic(auto, using(crate::proofs::lemmas::RowLemmas::writing))]
+fn write_head<W: CountedWrite>(
+    out: &mut W,
+    name: Option<&[u8]>,
+    number: Option<u64>,
+) -> Result<(), WriteFault>
+    ensures { Writes W.contents W.failures out.old out.new (head (option_copied name.entry) number) result }
+{
+    write_prefix(out, name)?;
+    write_number_part(out, number)
+}
+
+/// Writes the text and a newline.
+///
+/// `WriteFault` comes where a write fails. It is not tried again.
+#[tactic(auto, using(crate::proofs::lemmas::RowLemmas::writing))]
+pub fn write_line<W: CountedWrite>(out: &mut W, text: &[u8]) -> Result<(), WriteFault>
+    ensures { Writes W.contents W.failures out.old out.new (output_line [] text.now) result }
+{
+    push_all(out, text)?;
+    push_all(out, b"\n")
+}
+
+#[tactic(auto, using(crate::proofs::lemmas::RowLemmas::writing))]
+fn write_headed<W: CountedWrite>(
+    out: &mut W,
+    name: Option<&[u8]>,
+    number: Option<u64>,
+    text: &[u8],
+) -> Result<(), WriteFault>
+    ensures { Writes W.contents W.failures out.old out.new
+        (head (option_copied name.entry) number ++ (text.now ++ newline ∷ [])) result }
+{
+    write_head(out, name, number)?;
+    write_line(out, text)
+}
+
+/// Writes one output line (XCU grep, STDOUT): the margin; the name and a colon, where there is a
+/// name; the number in decimal and a colon, where there is a number; the text and a newline.
+///
+/// `WriteFault` comes where a write fails. It is not tried again.
+#[tactic(auto, using(crate::proofs::lemmas::RowLemmas::writing))]
+pub fn write_row<W: CountedWrite>(
+    out: &mut W,
+    margin: &[u8],
+    name: Option<&[u8]>,
+    number: Option<u64>,
+    text: &[u8],
+) -> Result<(), WriteFault>
+    ensures { Writes W.contents W.failures out.old out.new
+        (output_line margin.now (head (option_copied name.entry) number ++ text.now)) result }
+{
+    push_all(out, margin)?;
+    write_headed(out, name, number, text)
+}

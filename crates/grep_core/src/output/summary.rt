@@ -1,0 +1,112 @@
+//! What is written of a file behind the rows of its lines, and how a run ends: for one pass over
+//! sources, and for files that are kept.
+ghost use Rattle.std.specs.Prelude.{◌≡◌};
+ghost use Rattle.grep_core.specs.Messages.{cannot_open, read_error};
+ghost use Rattle.grep_core.specs.Output.{form, written};
+ghost use Rattle.grep_core.specs.Row.{output_line};
+ghost use Rattle.grep_core.specs.Working.Searched.{summary_as, told_of, status_by};
+ghost use Rattle.grep_core.specs.Written.{Writes};
+
+use crate::devices::counted::CountedWrite;
+use crate::options::Form;
+use crate::output::counts::{write_count, write_name};
+use crate::output::messages::{write_cannot_open, write_read_error};
+use crate::output::push::{WriteFault, push_all};
+use crate::output::wanted::Wanted;
+use crate::search::file::{FileEnd, FileFound};
+use crate::status::Status;
+
+/// Writes what comes behind the rows of a file's lines: under `-l` the file's name, where a line
+/// is selected, and under `-c` the number of its selected lines, where it could be opened.
+///
+/// `WriteFault` comes where a write fails. It is not tried again.
+#[tactic(auto, using(crate::proofs::lemmas::WrittenLemmas::as_written))]
+pub fn write_summary<W: CountedWrite>(
+    wanted: &Wanted,
+    found: FileFound,
+    out: &mut W,
+    margin: &[u8],
+) -> Result<(), WriteFault>
+    ensures { Writes W.contents W.failures out.old out.new (written margin.now
+        (summary_as (form wanted.now.options) wanted.now.many wanted.now.name.now found.end found.selected)) result }
+{
+    match wanted.options.form() {
+        Form::Names => {
+            if found.has_selected() {
+                return write_name(out, margin, wanted.name);
+            }
+            Ok(())
+        }
+        Form::Counts => {
+            if found.end.is_missing() {
+                return Ok(());
+            }
+            write_count(out, margin, wanted.shown_name(), found.selected)
+        }
+        Form::Nothing => Ok(()),
+        Form::Parts => Ok(()),
+        Form::Lines => Ok(()),
+    }
+}
+
+#[tactic(auto, using(crate::proofs::lemmas::WrittenLemmas::as_written))]
+fn tell_missing<N: CountedWrite>(
+    name: &[u8],
+    messages: &mut N,
+    margin: &[u8],
+) -> Result<(), WriteFault>
+    ensures { Writes N.contents N.failures messages.old messages.new (output_line margin.now (cannot_open name.now)) result }
+{
+    push_all(messages, margin)?;
+    write_cannot_open(messages, name)
+}
+
+#[tactic(auto, using(crate::proofs::lemmas::WrittenLemmas::as_written))]
+fn tell_broken<N: CountedWrite>(
+    name: &[u8],
+    messages: &mut N,
+    margin: &[u8],
+) -> Result<(), WriteFault>
+    ensures { Writes N.contents N.failures messages.old messages.new (output_line margin.now (read_error name.now)) result }
+{
+    push_all(messages, margin)?;
+    write_read_error(messages, name)
+}
+
+/// Writes the message on a file that could not be opened or read, and none where
+/// that is asked for (option `-s`).
+///
+/// `WriteFault` comes where a write fails. It is not tried again.
+#[tactic(auto, using(crate::proofs::lemmas::WrittenLemmas::as_written))]
+pub fn tell_fault<N: CountedWrite>(
+    silent: bool,
+    name: &[u8],
+    end: FileEnd,
+    messages: &mut N,
+    margin: &[u8],
+) -> Result<(), WriteFault>
+    ensures { Writes N.contents N.failures messages.old messages.new (written margin.now (told_of silent end name.now)) result }
+{
+    if silent {
+        return Ok(());
+    }
+    match end {
+        FileEnd::Missing => tell_missing(name, messages, margin),
+        FileEnd::Broken => tell_broken(name, messages, margin),
+        FileEnd::Whole => Ok(()),
+        FileEnd::Left => Ok(()),
+    }
+}
+
+/// The status of a run that did not stop on its way.
+pub fn status_of(some: bool, faulty: bool) -> Status
+    ensures { result ≡ status_by some faulty }
+{
+    if faulty {
+        return Status::Error;
+    }
+    if some {
+        return Status::Selected;
+    }
+    Status::NoneSelected
+}

@@ -1,0 +1,66 @@
+//! What is asked of one file.
+ghost use Rattle.std.specs.Prelude.{◌≡◌, ◌++◌};
+ghost use Rattle.std.specs.Option.{option_copied};
+ghost use Rattle.grep_core.specs.Output.{shown_number};
+ghost use Rattle.grep_core.specs.Row.{head, output_line};
+ghost use Rattle.grep_core.specs.Working.Wanted.{name_shown};
+ghost use Rattle.grep_core.specs.Written.{Writes};
+
+use crate::devices::counted::CountedWrite;
+use crate::options::Options;
+use crate::output::push::WriteFault;
+use crate::output::rows::write_row;
+
+/// What is asked of one file.
+#[derive(Clone, Copy)]
+pub struct Wanted<'a> {
+    /// The options of the run.
+    pub options: Options,
+    /// Whether there are two files or more: rows and counts then begin with the file's name.
+    pub many: bool,
+    /// The file's name.
+    pub name: &'a [u8],
+}
+
+impl Wanted<'_> {
+    /// The name that rows and counts begin with.
+    pub fn shown_name(&self) -> Option<&[u8]>
+        ensures { option_copied result ≡ name_shown self.now.many self.now.name.now }
+    {
+        if self.many { Some(self.name) } else { None }
+    }
+
+    /// The line number that rows begin with.
+    pub fn shown_number(&self, number: u64) -> Option<u64>
+        ensures { result ≡ shown_number self.now.options number }
+    {
+        if self.options.line_number {
+            Some(number)
+        } else {
+            None
+        }
+    }
+
+    /// Writes an output line for a line of the file: the margin, the file's name and the line's
+    /// number as far as they are shown, and the text, which is the line or a part of it.
+    ///
+    /// `WriteFault` comes where a write fails. It is not tried again.
+    pub fn write_text<W: CountedWrite>(
+        &self,
+        number: u64,
+        text: &[u8],
+        out: &mut W,
+        margin: &[u8],
+    ) -> Result<(), WriteFault>
+        ensures { Writes W.contents W.failures out.old out.new (output_line margin.now
+            (head (name_shown self.now.many self.now.name.now) (shown_number self.now.options number) ++ text.now)) result }
+    {
+        write_row(
+            out,
+            margin,
+            self.shown_name(),
+            self.shown_number(number),
+            text,
+        )
+    }
+}

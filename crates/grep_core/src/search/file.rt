@@ -1,0 +1,214 @@
+//! The search of one source.
+ghost use Rattle.std.specs.Prelude.{◌≡◌, ℕ, ◌+◌, ◌-◌, ◌^◌, ◌<◌, [], nat_lt, map, length, Err, IfOk, IfSome, if◌then◌else◌};
+ghost use Rattle.re_search.specs.Working.Filters.{AreNeeded};
+ghost use Rattle.re_search.specs.Searching.{AllAnswer};
+ghost use Rattle.grep_core.specs.Reading.{open_source, OneLeft};
+ghost use Rattle.grep_core.specs.Run.{writer};
+ghost use Rattle.grep_core.specs.Sources.{source_at, GivesBack};
+ghost use Rattle.grep_core.specs.Working.Searched.{is_missing, is_fault, SearchesSource, BreaksSource, StopsSource};
+
+use crate::devices::counted::{CountedRead, CountedWrite};
+use crate::input::lines::{Lines, ReadFault, Stage};
+use crate::input::sources::Sources;
+use crate::options::Options;
+use crate::output::push::WriteFault;
+use crate::output::wanted::Wanted;
+use crate::search::line::search_line;
+use re_search::{FixedSet, LineMatch, Meter};
+use std::alloc::Global;
+
+/// How the search of a file came to its end.
+#[derive(Clone, Copy, PartialEq, Eq, Debug, Drop)]
+pub enum FileEnd {
+    /// The file could not be opened.
+    Missing,
+    /// All its lines were searched.
+    Whole,
+    /// A read failed, or there were more lines than can be numbered.
+    Broken,
+    /// It was left at its first selected line.
+    Left,
+}
+
+impl FileEnd {
+    /// Whether the file could not be opened.
+    pub fn is_missing(self) -> bool
+        ensures { result ≡ is_missing self }
+    {
+        match self {
+            FileEnd::Missing => true,
+            FileEnd::Whole => false,
+            FileEnd::Broken => false,
+            FileEnd::Left => false,
+        }
+    }
+
+    /// Whether the file could not be opened, or a read failed.
+    pub fn is_fault(self) -> bool
+        ensures { result ≡ is_fault self }
+    {
+        match self {
+            FileEnd::Missing => true,
+            FileEnd::Whole => false,
+            FileEnd::Broken => true,
+            FileEnd::Left => false,
+        }
+    }
+}
+
+/// What the search of a file found.
+#[derive(Clone, Copy, PartialEq, Eq, Debug, Drop)]
+pub struct FileFound {
+    /// How it came to its end.
+    pub end: FileEnd,
+    /// How many of the lines that were searched are selected.
+    pub selected: u64,
+}
+
+impl FileFound {
+    /// Whether a line is selected.
+    pub fn has_selected(self) -> bool
+        ensures { result ≡ nat_lt 0 self.selected }
+    {
+        self.selected > 0
+    }
+}
+
+/// Why a search of lines was given up.
+#[derive(Clone, Copy, PartialEq, Eq, Debug, Drop)]
+pub enum SearchFault {
+    Write,
+    /// A growth was refused behind so many lines.
+    Memory(u64),
+}
+
+impl From<WriteFault> for SearchFault {
+    ghost use Rattle.std.specs.Prelude.{◌≡◌};
+    ghost use Rattle.grep_core.specs.declared.search.file.SearchFault.{SearchFault};
+
+    ghost from_gives = { λ _ fault. fault ≡ SearchFault.Write };
+
+    fn from(_: WriteFault) -> SearchFault {
+        SearchFault::Write
+    }
+}
+
+/// One more, where a line was found.
+pub fn count_found(selected: u64, found: bool) -> u64
+    requires { selected < 2 ^ 64 - 1 }
+    ensures { result ≡ (if found then selected + 1 else selected) }
+{
+    if found { selected + 1 } else { selected }
+}
+
+/// Searches the lines of a reader, from the first on: writes the rows of the selected lines, and
+/// under `-q` and `-l` stops at the first.
+fn search_lines<R: CountedRead, M: LineMatch, W: CountedWrite>(
+    lines: &mut Lines<R>,
+    matchers: &mut [M],
+    filter: Option<&FixedSet>,
+    wanted: &Wanted,
+    out: &mut W,
+    meter: &mut Meter,
+) -> Result<FileFound, SearchFault>
+    requires none_ahead { lines.old.ahead ≡ [] }
+    requires still_open { lines.old.stage ≡ Stage.Open }
+    requires whole { AllAnswer wanted.now.options.line_regexp (map M.whole matchers.old) }
+    requires needed { IfSome filter (λ f. AreNeeded f.now (map M.expression matchers.old)) }
+    ensures ok { IfOk result (λ found. SearchesSource (map M.expression matchers.old) wanted.now.options wanted.now.many
+        (open_source wanted.now.name.now (R.remaining lines.old.reader)) (OneLeft (R.remaining lines.new.reader)) (R.failures lines.old.reader) (R.failures lines.new.reader)
+        (writer W.contents W.failures out.old) (writer W.contents W.failures out.new)
+        meter.old meter.new found.end found.selected) }
+    ensures write { result ≡ Err SearchFault.Write → BreaksSource (map M.expression matchers.old) wanted.now.options wanted.now.many
+        (open_source wanted.now.name.now (R.remaining lines.old.reader)) (OneLeft (R.remaining lines.new.reader)) (R.failures lines.old.reader) (R.failures lines.new.reader)
+        (writer W.contents W.failures out.old) (writer W.contents W.failures out.new) meter.old meter.new }
+    ensures memory { (count : ℕ) → result ≡ Err (SearchFault.Memory count) → StopsSource (map M.expression matchers.old)
+        wanted.now.options wanted.now.many (open_source wanted.now.name.now (R.remaining lines.old.reader)) (OneLeft (R.remaining lines.new.reader)) count
+        (R.failures lines.old.reader) (R.failures lines.new.reader)
+        (writer W.contents W.failures out.old) (writer W.contents W.failures out.new) meter.old meter.new }
+    ensures same_expressions { map M.expression matchers.new ≡ map M.expression matchers.old }
+    ensures same_wholes { map M.whole matchers.new ≡ map M.whole matchers.old }
+{
+    let early = wanted.options.leaves_early();
+    let mut count: u64 = 0;
+    let mut selected: u64 = 0;
+    loop {
+        match lines.next_line() {
+            Ok(true) if count < u64::MAX => {
+                count += 1;
+                let found = search_line(matchers, filter, wanted, count, lines.line(), out, meter)?;
+                selected = count_found(selected, found);
+                if found & early {
+                    let end = FileEnd::Left;
+                    return Ok(FileFound { end, selected });
+                }
+            }
+            Ok(false) => {
+                let end = FileEnd::Whole;
+                return Ok(FileFound { end, selected });
+            }
+            Ok(true) => {
+                let end = FileEnd::Broken;
+                return Ok(FileFound { end, selected });
+            }
+            Err(ReadFault::Device) => {
+                let end = FileEnd::Broken;
+                return Ok(FileFound { end, selected });
+            }
+            Err(ReadFault::Memory) => return Err(SearchFault::Memory(count)),
+        }
+    }
+}
+
+/// Opens the next source, searches its lines and gives its reader back.
+pub fn search_file<S: Sources, M: LineMatch, W: CountedWrite>(
+    alloc: Global,
+    sources: &mut S,
+    k: usize,
+    matchers: &mut [M],
+    filter: Option<&FixedSet>,
+    options: Options,
+    many: bool,
+    out: &mut W,
+    meter: &mut Meter,
+) -> Result<FileFound, SearchFault>
+    requires place { k < length (S.listed sources.old) }
+    requires in_order { S.stands_at sources.old k }
+    requires whole { AllAnswer options.line_regexp (map M.whole matchers.old) }
+    requires needed { IfSome filter (λ f. AreNeeded f.now (map M.expression matchers.old)) }
+    ensures listed { S.listed sources.new ≡ S.listed sources.old }
+    ensures next { S.stands_at sources.new (k + 1) }
+    ensures same_loan { S.loan sources.new ≡ S.loan sources.old }
+    ensures ok { IfOk result (λ found. SearchesSource (map M.expression matchers.old) options many
+        (source_at (S.listed sources.old) k) (GivesBack S.given_back sources.old sources.new) (S.failures sources.old) (S.failures sources.new)
+        (writer W.contents W.failures out.old) (writer W.contents W.failures out.new)
+        meter.old meter.new found.end found.selected) }
+    ensures write { result ≡ Err SearchFault.Write → BreaksSource (map M.expression matchers.old) options many
+        (source_at (S.listed sources.old) k) (GivesBack S.given_back sources.old sources.new) (S.failures sources.old) (S.failures sources.new)
+        (writer W.contents W.failures out.old) (writer W.contents W.failures out.new) meter.old meter.new }
+    ensures memory { (count : ℕ) → result ≡ Err (SearchFault.Memory count) → StopsSource (map M.expression matchers.old)
+        options many (source_at (S.listed sources.old) k) (GivesBack S.given_back sources.old sources.new) count (S.failures sources.old) (S.failures sources.new)
+        (writer W.contents W.failures out.old) (writer W.contents W.failures out.new) meter.old meter.new }
+    ensures same_expressions { map M.expression matchers.new ≡ map M.expression matchers.old }
+    ensures same_wholes { map M.whole matchers.new ≡ map M.whole matchers.old }
+{
+    let Some(reader) = sources.open(k) else {
+        let end = FileEnd::Missing;
+        return Ok(FileFound { end, selected: 0 });
+    };
+    let mut lines = match Lines::new(alloc, reader) {
+        Ok(lines) => lines,
+        Err(reader) => {
+            sources.close(reader);
+            return Err(SearchFault::Memory(0));
+        }
+    };
+    let wanted = Wanted {
+        options,
+        many,
+        name: sources.name(k),
+    };
+    let found = search_lines(&mut lines, matchers, filter, &wanted, out, meter);
+    sources.close(lines.into_reader());
+    found
+}

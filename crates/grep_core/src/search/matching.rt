@@ -1,0 +1,83 @@
+//! Whether a line is selected, and its parts, by several matchers.
+ghost use Rattle.std.specs.Prelude.{◌≡◌, ◌↔◌, ◌<◌, ◌≤◌, IsTrue, IfSome, IsSomeAnd, false, length, map};
+ghost use Rattle.re_search.specs.Working.Filters.{AreNeeded};
+ghost use Rattle.re_search.specs.Working.Literals.{any_literal};
+ghost use Rattle.re_search.specs.Searching.{AllAnswer, AddsAtMost, FindsPart};
+ghost use Rattle.re_syntax.specs.Holds.{Matches};
+ghost use Rattle.grep_core.specs.Cost.{search_cost};
+ghost use Rattle.grep_core.specs.Files.{Selected};
+
+use crate::options::Options;
+use re_search::{FixedSet, LineMatch, Meter, Span, is_matched, parts};
+
+/// Whether grep selects the line: some matcher matches it, and under `-v` none does (XCU grep,
+/// DESCRIPTION and option `-v`).
+pub fn is_selected<M: LineMatch>(
+    matchers: &mut [M],
+    options: Options,
+    line: &[u8],
+    meter: &mut Meter,
+) -> bool
+    requires { AllAnswer options.line_regexp (map M.whole matchers.old) }
+    ensures told { IsTrue result ↔ Selected (map M.expression matchers.old) options line.now }
+    ensures same_expressions { map M.expression matchers.new ≡ map M.expression matchers.old }
+    ensures same_wholes { map M.whole matchers.new ≡ map M.whole matchers.old }
+    ensures steps { AddsAtMost (search_cost (length matchers.old) line.now) meter.old meter.new }
+{
+    let matched = is_matched(matchers, line, meter);
+    matched != options.invert_match
+}
+
+/// Whether there is a filter, and none of its strings stands on the line.
+#[inline]
+fn is_ruled_out(filter: Option<&FixedSet>, line: &[u8]) -> bool
+    ensures { IsTrue result ↔ IsSomeAnd filter.entry (λ f. Matches (any_literal f.now) line.now false → ⊥) }
+{
+    let Some(filter) = filter else {
+        return false;
+    };
+    !filter.stands_in(line)
+}
+
+/// Whether grep selects the line, as [`is_selected`] tells it. Where a filter rules the line out no
+/// matcher is asked, and no step is counted.
+#[inline(always)]
+pub fn is_selected_behind<M: LineMatch>(
+    matchers: &mut [M],
+    filter: Option<&FixedSet>,
+    options: Options,
+    line: &[u8],
+    meter: &mut Meter,
+) -> bool
+    requires whole { AllAnswer options.line_regexp (map M.whole matchers.old) }
+    requires needed { IfSome filter (λ f. AreNeeded f.now (map M.expression matchers.old)) }
+    ensures told { IsTrue result ↔ Selected (map M.expression matchers.old) options line.now }
+    ensures same_expressions { map M.expression matchers.new ≡ map M.expression matchers.old }
+    ensures same_wholes { map M.whole matchers.new ≡ map M.whole matchers.old }
+    ensures steps { AddsAtMost (search_cost (length matchers.old) line.now) meter.old meter.new }
+{
+    if is_ruled_out(filter, line) {
+        return options.invert_match;
+    }
+    is_selected(matchers, options, line, meter)
+}
+
+/// The next part of the line that begins at `from` or later.
+pub fn next_part<M: LineMatch>(
+    matchers: &mut [M],
+    options: Options,
+    line: &[u8],
+    from: usize,
+    meter: &mut Meter,
+) -> Option<Span>
+    requires within { from ≤ length line.now }
+    requires whole { AllAnswer options.line_regexp (map M.whole matchers.old) }
+    ensures told { FindsPart (map M.expression matchers.old) line.now options.line_regexp from result }
+    ensures bounds { IfSome result (λ part. (part.start < part.end) × (part.end ≤ length line.now)) }
+    ensures ahead { IfSome result (λ part. from ≤ part.start) }
+    ensures same_expressions { map M.expression matchers.new ≡ map M.expression matchers.old }
+    ensures same_wholes { map M.whole matchers.new ≡ map M.whole matchers.old }
+    ensures steps { AddsAtMost (search_cost (length matchers.old) line.now) meter.old meter.new }
+{
+    parts(matchers, line, from, meter)
+}

@@ -1,0 +1,162 @@
+//! The one pass over all sources.
+ghost use Rattle.std.specs.Prelude.{◌≡◌, ◌+◌, ◌<◌, map, length, IfSome};
+ghost use Rattle.re_search.specs.Working.Filters.{AreNeeded};
+ghost use Rattle.re_search.specs.Searching.{AllAnswer};
+ghost use Rattle.grep_core.specs.Run.{writer, RunGives, devices};
+ghost use Rattle.grep_core.specs.Sources.{source_at, GivesBack};
+ghost use Rattle.grep_core.specs.Working.Searched.{SourceGives};
+
+use crate::devices::counted::CountedWrite;
+use crate::input::sources::Sources;
+use crate::options::Options;
+use crate::output::push::WriteFault;
+use crate::output::summary::{status_of, tell_fault, write_summary};
+use crate::output::wanted::Wanted;
+use crate::search::file::{FileFound, SearchFault, search_file};
+use crate::status::{RunFault, Status};
+use re_search::{FixedSet, LineMatch, Meter};
+use std::alloc::Global;
+
+/// Writes the output and the message for the next source.
+fn search_source<S: Sources, M: LineMatch, W: CountedWrite, N: CountedWrite>(
+    alloc: Global,
+    sources: &mut S,
+    k: usize,
+    matchers: &mut [M],
+    filter: Option<&FixedSet>,
+    options: Options,
+    many: bool,
+    out: &mut W,
+    messages: &mut N,
+    meter: &mut Meter,
+) -> Result<FileFound, RunFault>
+    requires place { k < length (S.listed sources.old) }
+    requires in_order { S.stands_at sources.old k }
+    requires whole { AllAnswer options.line_regexp (map M.whole matchers.old) }
+    requires needed { IfSome filter (λ f. AreNeeded f.now (map M.expression matchers.old)) }
+    ensures listed { S.listed sources.new ≡ S.listed sources.old }
+    ensures next { S.stands_at sources.new (k + 1) }
+    ensures same_loan { S.loan sources.new ≡ S.loan sources.old }
+    ensures given { SourceGives (map M.expression matchers.old) options many (source_at (S.listed sources.old) k) (GivesBack S.given_back sources.old sources.new) k
+        (devices (writer W.contents W.failures out.old) (writer N.contents N.failures messages.old)
+        (S.failures sources.old) meter.old)
+        (devices (writer W.contents W.failures out.new) (writer N.contents N.failures messages.new)
+        (S.failures sources.new) meter.new)
+        result }
+    ensures same_expressions { map M.expression matchers.new ≡ map M.expression matchers.old }
+    ensures same_wholes { map M.whole matchers.new ≡ map M.whole matchers.old }
+{
+    let found = match search_file(
+        alloc, sources, k, matchers, filter, options, many, out, meter,
+    ) {
+        Ok(found) => found,
+        Err(SearchFault::Write) => return Err(RunFault::Write),
+        Err(SearchFault::Memory(lines)) => return Err(RunFault::Memory { source: k, lines }),
+    };
+    let wanted = Wanted {
+        options,
+        many,
+        name: sources.name(k),
+    };
+    match write_summary(&wanted, found, out, b"") {
+        Ok(()) => {}
+        Err(WriteFault) => return Err(RunFault::Write),
+    }
+    match tell_fault(options.no_messages, wanted.name, found.end, messages, b"") {
+        Ok(()) => Ok(found),
+        Err(WriteFault) => Err(RunFault::MessageWrite),
+    }
+}
+
+/// One pass over all sources, in order, each opened at most once and read once from front to back
+/// (XCU grep): what is written are the output and the messages that grep's definition gives for
+/// the files for which the sources stand, and the answer is its status. Every reader is given
+/// back. The matchers are those of the patterns, and `-i` is theirs to heed.
+///
+/// Under `-q` nothing is read behind the first selected line, and under `-l` a source is left
+/// there; what is left unread may be anything that agrees with what is known of the source. A
+/// source of more than `u64::MAX` lines is broken behind that line.
+///
+/// The steps that the meter counts are at most those of one search of each line by each matcher,
+/// and where parts are written, of one more for each part of the line and one for its end.
+///
+/// `RunFault::Write` and `RunFault::MessageWrite` come where a write fails, and what went out are
+/// beginnings of the output and of the messages. `RunFault::Memory` comes where a growth is
+/// refused: what went out are the output and the messages for the sources before that one, and the
+/// rows of its first lines. No failed read, open or write is tried again.
+pub fn search_all<S: Sources, M: LineMatch, W: CountedWrite, N: CountedWrite>(
+    alloc: Global,
+    sources: &mut S,
+    matchers: &mut [M],
+    options: &Options,
+    out: &mut W,
+    messages: &mut N,
+    meter: &mut Meter,
+) -> Result<Status, RunFault>
+    requires in_order { S.stands_at sources.old 0 }
+    requires whole { AllAnswer options.now.line_regexp (map M.whole matchers.old) }
+    ensures same_loan { S.loan sources.new ≡ S.loan sources.old }
+    ensures run { RunGives (map M.expression matchers.old) options.now (S.listed sources.old) (GivesBack S.given_back sources.old sources.new)
+        (devices (writer W.contents W.failures out.old) (writer N.contents N.failures messages.old)
+        (S.failures sources.old) meter.old)
+        (devices (writer W.contents W.failures out.new) (writer N.contents N.failures messages.new)
+        (S.failures sources.new) meter.new)
+        result }
+    ensures same_expressions { map M.expression matchers.new ≡ map M.expression matchers.old }
+    ensures same_wholes { map M.whole matchers.new ≡ map M.whole matchers.old }
+{
+    search_filtered(
+        alloc, sources, matchers, None, options, out, messages, meter,
+    )
+}
+
+/// One pass over all sources, as [`search_all`] makes it, in which a filter, where there is one, is
+/// asked about each line before any matcher: strings of which some stands on each line that some
+/// matcher matches. Where none of them stands on a line no matcher is asked, which spares most of
+/// the work where there are many matchers and few lines that they match.
+///
+/// The output, the messages, the status and the bound on the steps are the same as without a
+/// filter. A look through the filter counts no step, as the search for a string that a matcher
+/// needs counts none within that matcher.
+pub fn search_filtered<S: Sources, M: LineMatch, W: CountedWrite, N: CountedWrite>(
+    alloc: Global,
+    sources: &mut S,
+    matchers: &mut [M],
+    filter: Option<&FixedSet>,
+    options: &Options,
+    out: &mut W,
+    messages: &mut N,
+    meter: &mut Meter,
+) -> Result<Status, RunFault>
+    requires in_order { S.stands_at sources.old 0 }
+    requires whole { AllAnswer options.now.line_regexp (map M.whole matchers.old) }
+    requires needed { IfSome filter (λ f. AreNeeded f.now (map M.expression matchers.old)) }
+    ensures same_loan { S.loan sources.new ≡ S.loan sources.old }
+    ensures run { RunGives (map M.expression matchers.old) options.now (S.listed sources.old) (GivesBack S.given_back sources.old sources.new)
+        (devices (writer W.contents W.failures out.old) (writer N.contents N.failures messages.old)
+        (S.failures sources.old) meter.old)
+        (devices (writer W.contents W.failures out.new) (writer N.contents N.failures messages.new)
+        (S.failures sources.new) meter.new)
+        result }
+    ensures same_expressions { map M.expression matchers.new ≡ map M.expression matchers.old }
+    ensures same_wholes { map M.whole matchers.new ≡ map M.whole matchers.old }
+{
+    let count = sources.count();
+    let many = count >= 2;
+    let mut some = false;
+    let mut faulty = false;
+    for k in 0..count {
+        let found = match search_source(
+            alloc, sources, k, matchers, filter, *options, many, out, messages, meter,
+        ) {
+            Ok(found) => found,
+            Err(fault) => return Err(fault),
+        };
+        if options.quiet & found.has_selected() {
+            return Ok(Status::Selected);
+        }
+        some |= found.has_selected();
+        faulty |= found.end.is_fault();
+    }
+    Ok(status_of(some, faulty))
+}

@@ -1,0 +1,181 @@
+-- All patterns were read again.
+use Rattle.std.proofs.Common.{◌≡◌, ℕ, ◌+◌, Bool, true, false, IsTrue, MatchBool, List, [], ◌∷◌, length, map, Option, None, Some, IfSome, Result, Ok, Err, All, inl, inr, refl, sym, ap, subst, ◌∙◌, arith}
+use Rattle.std.specs.Bool.{⊤}
+use Rattle.std.proofs.lemmas.Bool.{false≢true}
+use Rattle.std.proofs.lemmas.List.Elements.{All-weaker}
+use Rattle.std.specs.List.{AllZip}
+use Rattle.re_syntax.specs.Bytes.{Text}
+use Rattle.re_syntax.specs.Parts.{AreParts}
+use Rattle.re_syntax.specs.Spelled.{IsMeant}
+use Rattle.re_search.specs.declared.matcher.Matcher.{Matcher}
+use Rattle.re_search.specs.Searching.{AllAnswer}
+use Rattle.grep_session.specs.declared.kept.KeptFile.{KeptFile}
+use Rattle.grep_session.specs.declared.kept.KeptLine.{KeptLine}
+use Rattle.grep_session.specs.Working.Found.{IsReady}
+use Rattle.re_syntax.specs.declared.syntax.Syntax.{Syntax}
+use Rattle.re_syntax.specs.Expression.{Expression}
+use Rattle.re_search.specs.Reading.{IsReadable}
+use Rattle.re_search.specs.Working.Matchers.{matched_expression, wants_whole}
+use Rattle.grep_core.specs.Meters.{Steps}
+use Rattle.grep_core.specs.declared.options.Flag.{Flag}
+use Rattle.grep_core.specs.declared.options.Flag.TheVariants.{Count, IgnoreCase, FilesWithMatches, LineNumber, OnlyMatching, Quiet, NoMessages, InvertMatch, LineRegexp}
+use Rattle.grep_core.specs.declared.options.Options.{Options}
+use Rattle.grep_core.proofs.lemmas.CostLaws.{adds_none}
+use Rattle.grep_core.specs.Files.{Inputs, AreMeant}
+use Rattle.grep_session.specs.declared.fault.EditFault.{EditFault}
+use Rattle.grep_session.specs.declared.fault.EditFault.TheVariants.{NoSuchFile, FileIsMissing, OutOfRange, LineHasNewline, NoSuchPattern, Pattern, TooManyPatterns, Memory}
+use Rattle.grep_session.specs.Working.Again.{ReadsAgain, read_as}
+use Rattle.grep_session.specs.Edits.{Edit, SetFlag, SetSyntax, Applies, EditGives, option_of, with_option}
+use Rattle.grep_session.specs.Working.Effects.{ChangesVerdicts}
+use Rattle.grep_session.specs.Working.Kept.{AreMatching, IsKept, IsFileKept, SearchesAllKept, kept_lines, span_places}
+use Rattle.grep_core.specs.Working.MatcherLists.{AreMatchers}
+use Rattle.grep_session.specs.Working.Reading.{RefusesFirst}
+use Rattle.grep_session.specs.Touched.{TakesSteps, Touches, searched_by, parts_alone, all_lines, pairs_cost, NeedsNoMemory, is_of_output}
+
+-- all lines were searched anew
+pub takes_all : (edit : Edit) (old new : Inputs) (es : List Expression) (matchers : ℕ) (begun ended : Steps) → Applies edit old (Ok new) → Touches edit old (searched_by (length old.patterns) (all_lines old)) → AreMeant new.syntax new.options new.patterns es
+    → matchers ≡ length old.patterns → SearchesAllKept es new.options matchers (all_lines old) begun ended → TakesSteps edit old begun ended
+takes_all edit old new es matchers begun ended applies touches meant many s = record {
+  most = pairs_cost matchers (all_lines old) + s.parts;
+  is_most =
+      inr (
+        Ok new,
+        applies,
+        record {
+          es = es;
+          are_meant = meant;
+          touched = searched_by (length old.patterns) (all_lines old);
+          are_touched = touches;
+          parts = s.parts;
+          are_parts = s.are_parts;
+          is_sum = ap (λ n. pairs_cost n (all_lines old) + s.parts) many;
+        },
+      );
+  few = s.few;
+}
+
+-- some pattern was refused, or memory ran out
+pub refuses_again : (T : Type 0) (syntax : Syntax) (options : Options) (old : Inputs) (fault : EditFault) → RefusesFirst syntax options.ignore_case old.patterns fault → ReadsAgain {T = T} syntax options old old (Err fault)
+refuses_again T syntax options old fault (inl memory) = subst (λ f. ReadsAgain {T = T} syntax options old old (Err f)) (sym memory) refl
+refuses_again T syntax options old fault (inr told) =
+    let first = told.2 in
+    subst (λ f. ReadsAgain {T = T} syntax options old old (Err f)) (sym told.3) (inr ((λ all. first.unreadable (all told.0 [] first.in_texts)), (told.0, told.1, first, refl)), refl)
+
+-- another syntax
+pub sets_syntax : {T : Type 0} (syntax : Syntax) (old new : Inputs) (result : Result T EditFault) → ReadsAgain syntax old.options old new result → EditGives (SetSyntax syntax) old new result
+sets_syntax syntax old new (Ok done) h = h
+sets_syntax syntax old new (Err NoSuchFile) h = h
+sets_syntax syntax old new (Err FileIsMissing) h = h
+sets_syntax syntax old new (Err OutOfRange) h = h
+sets_syntax syntax old new (Err LineHasNewline) h = h
+sets_syntax syntax old new (Err NoSuchPattern) h = h
+sets_syntax syntax old new (Err (Pattern place fault)) h = h
+sets_syntax syntax old new (Err TooManyPatterns) h = h
+sets_syntax syntax old new (Err Memory) h = h
+
+-- no pattern, no pair
+pub pairs_cost-none : (lines : List Text) → pairs_cost 0 lines ≡ 0
+pairs_cost-none [] = refl
+pairs_cost-none (line ∷ lines) = let rest : pairs_cost 0 lines ≡ 0 = pairs_cost-none lines in omega (arith, rest)
+
+-- the parts of all lines were searched
+pub takes_parts : (edit : Edit) (old new : Inputs) (es : List Expression) (begun ended : Steps) → Applies edit old (Ok new) → Touches edit old (parts_alone (all_lines old)) → AreMeant new.syntax new.options new.patterns es
+    → SearchesAllKept es new.options 0 (all_lines old) begun ended → TakesSteps edit old begun ended
+takes_parts edit old new es begun ended applies touches meant s = record {
+  most = pairs_cost 0 (all_lines old) + s.parts;
+  is_most = inr (Ok new, applies, record { es = es; are_meant = meant; touched = parts_alone (all_lines old); are_touched = touches; parts = s.parts; are_parts = s.are_parts; is_sum = ap (λ n. n + s.parts) (pairs_cost-none (all_lines old)) });
+  few = s.few;
+}
+
+module _ (es : List Expression) (old new : Options) (same : new.line_regexp ≡ old.line_regexp) where
+  -- what is kept of a line tells which expressions match it
+  ready_line : (line : KeptLine) → IsKept es old line → IsReady false es new line
+  ready_line line k = subst (λ w. AreMatching line.text.items w 0 es line.found.numbers) (sym same) k.matching
+
+  pub ready_files : (files : List KeptFile) → All (IsFileKept es old) files → All (λ file. IfSome (kept_lines file) (All (IsReady false es new))) files
+  ready_files files all = All-weaker (IsFileKept es old) (λ file. IfSome (kept_lines file) (All (IsReady false es new))) (λ file. one (kept_lines file)) files all
+    where
+      one : (lines : Option (List KeptLine)) → IfSome lines (All (IsKept es old)) → IfSome lines (All (IsReady false es new))
+      one None h = tt
+      one (Some lines) h = All-weaker (IsKept es old) (IsReady false es new) ready_line lines h
+
+  -- under options that ask for no more parts it stays right
+  module _ (less : IsTrue new.only_matching → IsTrue old.only_matching) where
+    kept_line : (line : KeptLine) → IsKept es old line → IsKept es new line
+    kept_line line k = record { matching = ready_line line k; parts = by_flags new.only_matching old.only_matching less k.parts }
+      where
+        Kept : Bool → Bool → Type 0
+        Kept asked whole = MatchBool asked (AreParts es line.text.items whole (map span_places line.found.spans)) ⊤
+
+        by_flags : (n o : Bool) → (IsTrue n → IsTrue o) → Kept o old.line_regexp → Kept n new.line_regexp
+        by_flags true true f h = subst (Kept true) (sym same) h
+        by_flags true false f h = absurd (false≢true (f refl))
+        by_flags false o f h = tt
+
+    pub kept_files : (files : List KeptFile) → All (IsFileKept es old) files → All (IsFileKept es new) files
+    kept_files files all = All-weaker (IsFileKept es old) (IsFileKept es new) (λ file. one (kept_lines file)) files all
+      where
+        one : (lines : Option (List KeptLine)) → IfSome lines (All (IsKept es old)) → IfSome lines (All (IsKept es new))
+        one None h = tt
+        one (Some lines) h = All-weaker (IsKept es old) (IsKept es new) kept_line lines h
+
+-- the matchers are those of the patterns under such options too
+pub AreMatchers-options : (syntax : Syntax) (old new : Options) (texts : List Text) (matchers : List Matcher) → new.line_regexp ≡ old.line_regexp → new.ignore_case ≡ old.ignore_case → AreMatchers syntax old texts matchers → AreMatchers syntax new texts matchers
+AreMatchers-options syntax old new texts matchers whole case s = record {
+  meant = subst (λ fold. AllZip (λ text e. IsMeant syntax fold text e) texts (map matched_expression matchers)) (sym case) s.meant;
+  wholes = subst (λ w. AllAnswer w (map wants_whole matchers)) (sym whole) s.wholes;
+  readable = subst (λ fold. All (IsReadable syntax fold) texts) (sym case) s.readable;
+  counted = s.counted;
+}
+
+-- ---- an option
+
+-- another value of an option
+pub sets_flag : {T : Type 0} (flag : Flag) (on : Bool) (old new : Inputs) (result : Result T EditFault) → ReadsAgain old.syntax (with_option flag on old.options) old new result → EditGives (SetFlag flag on) old new result
+sets_flag flag on old new (Ok done) h = h
+sets_flag flag on old new (Err NoSuchFile) h = h
+sets_flag flag on old new (Err FileIsMissing) h = h
+sets_flag flag on old new (Err OutOfRange) h = h
+sets_flag flag on old new (Err LineHasNewline) h = h
+sets_flag flag on old new (Err NoSuchPattern) h = h
+sets_flag flag on old new (Err (Pattern place fault)) h = h
+sets_flag flag on old new (Err TooManyPatterns) h = h
+sets_flag flag on old new (Err Memory) h = h
+
+-- the value that an option has
+with_same : (flag : Flag) (options : Options) → with_option flag (option_of flag options) options ≡ options
+with_same Count options = refl
+with_same IgnoreCase options = refl
+with_same FilesWithMatches options = refl
+with_same LineNumber options = refl
+with_same OnlyMatching options = refl
+with_same Quiet options = refl
+with_same NoMessages options = refl
+with_same InvertMatch options = refl
+with_same LineRegexp options = refl
+
+-- options that read the patterns as before
+pub applies_flag : (flag : Flag) (on : Bool) (old : Inputs) → (with_option flag on old.options).ignore_case ≡ old.options.ignore_case → All (IsReadable old.syntax old.options.ignore_case) old.patterns
+    → Applies (SetFlag flag on) old (Ok (read_as old.syntax (with_option flag on old.options) old))
+applies_flag flag on old case readable = inl (subst (λ fold. All (IsReadable old.syntax fold) old.patterns) (sym case) readable, refl)
+
+-- an option that is set to what it is
+pub applies_same : (flag : Flag) (on : Bool) (old : Inputs) → option_of flag old.options ≡ on → All (IsReadable old.syntax old.options.ignore_case) old.patterns → Applies (SetFlag flag on) old (Ok old)
+applies_same flag on old same readable =
+    let options : with_option flag on old.options ≡ old.options = ap (λ b. with_option flag b old.options) (sym same) ∙ with_same flag old.options in
+    inl (subst (λ (o : Options). All (IsReadable old.syntax o.ignore_case) old.patterns) (sym options) readable, ap (λ o. Ok (record old { options = o })) (sym options))
+
+-- no step was taken
+pub takes_none : (edit : Edit) (old : Inputs) (steps : Steps) → TakesSteps edit old steps steps
+takes_none edit old steps = record { most = 0; is_most = inl refl; few = adds_none 0 steps }
+
+-- memory is needed
+pub needs_for_verdicts : (flag : Flag) (on : Bool) (old : Inputs) → ChangesVerdicts flag → (option_of flag old.options ≡ on → ⊥) → NeedsNoMemory (SetFlag flag on) old → ⊥
+needs_for_verdicts flag on old changes other (inl output) = changes.no_output output
+needs_for_verdicts flag on old changes other (inr (inl same)) = other same
+needs_for_verdicts flag on old changes other (inr (inr parts)) = changes.no_parts parts.0
+
+pub needs_for_parts : (flag : Flag) (on : Bool) (old : Inputs) → (flag ≡ OnlyMatching) × (on ≡ true) → (option_of flag old.options ≡ on → ⊥) → NeedsNoMemory (SetFlag flag on) old → ⊥
+needs_for_parts flag on old is other (inl output) = subst is_of_output is.0 output
+needs_for_parts flag on old is other (inr (inl same)) = other same
+needs_for_parts flag on old is other (inr (inr parts)) = false≢true (sym parts.1 ∙ is.1)

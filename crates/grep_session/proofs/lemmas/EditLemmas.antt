@@ -1,0 +1,108 @@
+-- What an edit makes of a session's inputs, and of what is kept.
+use Rattle.std.proofs.Common.{◌≡◌, ◌≢◌, ℕ, ◌+◌, ◌<◌, List, [], ◌++◌, length, map, take, drop, Option, Some, None, Ok, IfSome, inl, inr, refl, sym, ap, subst, ◌∙◌, All, get_or, slice_set, arith}
+use Rattle.std.proofs.Math.ListN.{set}
+use Rattle.std.proofs.Math.Seq.{map-set_same}
+use Rattle.std.proofs.lemmas.List.{map-set, get_or-map, length-map}
+use Rattle.std.proofs.lemmas.List.Elements.{All-append, All-take, All-drop, All-set}
+use Rattle.std.specs.List.{splice}
+use Rattle.std.specs.Option.{option_map}
+use Rattle.re_syntax.specs.declared.syntax.Syntax.{Syntax}
+use Rattle.re_syntax.specs.Bytes.{Text}
+use Rattle.re_syntax.specs.Expression.{Expression}
+use Rattle.re_syntax.specs.Lines.{HasNoNewline}
+use Rattle.re_search.specs.declared.matcher.Matcher.{Matcher}
+use Rattle.re_search.specs.Working.Matchers.{matched_expression, wants_whole}
+use Rattle.re_search.specs.Searching.{AllAnswer}
+use Rattle.grep_core.specs.Meters.{Steps}
+use Rattle.grep_core.specs.declared.options.Options.{Options}
+use Rattle.grep_core.specs.Files.{File, Inputs, AreMeant, whole, missing}
+use Rattle.grep_core.specs.Run.{file_at}
+use Rattle.grep_core.proofs.lemmas.CostLaws.{same_length}
+use Rattle.grep_session.specs.declared.kept.KeptFile.{KeptFile}
+use Rattle.grep_session.specs.declared.kept.KeptLine.{KeptLine}
+use Rattle.grep_session.specs.Edits.{Edit, Splice, Applies, with_files, spliced}
+use Rattle.grep_session.specs.Working.Kept.{IsKept, IsFileKept, SearchesAllKept, kept_file, kept_lines, file_with, line_text}
+use Rattle.grep_core.specs.Working.MatcherLists.{AreMatchers}
+use Rattle.grep_session.specs.Edits.{HasPlace}
+use Rattle.grep_session.specs.Touched.{TakesSteps, Touches, searched_by, pairs_cost}
+use Rattle.grep_session.proofs.lemmas.SessionLemmas.{map-splice}
+
+-- ---- matchers
+
+-- matchers that look the same stand for the same patterns
+pub AreMatchers-same : (syntax : Syntax) (options : Options) (texts : List Text) (old new : List Matcher) → AreMatchers syntax options texts old → map matched_expression new ≡ map matched_expression old → map wants_whole new ≡ map wants_whole old
+    → AreMatchers syntax options texts new
+AreMatchers-same syntax options texts old new s e w = record {
+  meant = subst (AreMeant syntax options texts) (sym e) s.meant;
+  wholes = subst (AllAnswer options.line_regexp) (sym w) s.wholes;
+  readable = s.readable;
+  counted = same_length matched_expression new old e ∙ s.counted;
+}
+
+-- ---- steps
+
+-- the lines that an edit puts in were searched
+pub takes_lines : (edit : Edit) (old : Inputs) (files : List File) (es : List Expression) (matchers : ℕ) (lines : List Text) (begun ended : Steps) → Applies edit old (Ok (with_files files old)) → Touches edit old (searched_by (length old.patterns) lines)
+    → AreMeant old.syntax old.options old.patterns es → matchers ≡ length old.patterns → SearchesAllKept es old.options matchers lines begun ended → TakesSteps edit old begun ended
+takes_lines edit old files es matchers lines begun ended applies touches meant many s = record {
+  most = pairs_cost matchers lines + s.parts;
+  is_most =
+      inr (
+        Ok (with_files files old),
+        applies,
+        record {
+          es = es;
+          are_meant = meant;
+          touched = searched_by (length old.patterns) lines;
+          are_touched = touches;
+          parts = s.parts;
+          are_parts = s.are_parts;
+          is_sum = ap (λ n. pairs_cost n lines + s.parts) many;
+        },
+      );
+  few = s.few;
+}
+
+-- ---- lines that give way
+
+pub applies_splice : (old : Inputs) (k start count : ℕ) (lines : List Text) → HasPlace old.files k start count → All HasNoNewline lines → Applies (Splice k start count lines) old (Ok (with_files (spliced old.files k start count lines) old))
+applies_splice old k start count lines p none =
+    inr ((λ h. absurd (let false : ⊥ = omega (arith, h, p.in_files) in false)), inr (p.opens, inr ((λ h. absurd (let false : ⊥ = omega (arith, h, p.in_file) in false)), inl (none, refl))))
+
+module _ (start count : ℕ) (new : List KeptLine) where
+  -- what the lines of a file become
+  abbrev pub put : Option (List KeptLine) → Option (List KeptLine)
+  put lines = option_map (λ l. splice l start (start + count) new) lines
+
+  file_put : (name : Text) (lines : Option (List KeptLine)) → (file_with name lines).ending ≢ missing
+      → file_with name (put lines) ≡ record (file_with name lines) { lines = splice (file_with name lines).lines start (start + count) (map line_text new) }
+  file_put name None opens = absurd (opens refl)
+  file_put name (Some lines) opens = ap (λ l. record { name = name; lines = l; ending = whole }) (map-splice line_text lines (splice lines start (start + count) new) new start (start + count) refl)
+
+  -- the files in one of which lines gave way
+  pub files_put : (files : List KeptFile) (k : ℕ) (d file : KeptFile) → k < length files → file.name.items ≡ (get_or files k d).name.items → kept_lines file ≡ put (kept_lines (get_or files k d)) → (file_at (map kept_file files) k).ending ≢ missing
+      → map kept_file (set files k file) ≡ spliced (map kept_file files) k start count (map line_text new)
+  files_put files k d file within name lines opens =
+      let old = get_or files k d in
+      let at : file_at (map kept_file files) k ≡ kept_file old = get_or-map kept_file files k d (record { name = []; lines = []; ending = missing }) within in
+      let one : kept_file file ≡ record (kept_file old) { lines = splice (kept_file old).lines start (start + count) (map line_text new) } =
+      (λ i. file_with (name i) (lines i)) ∙ file_put old.name.items (kept_lines old) (subst (λ (f : File). f.ending ≢ missing) at opens) in
+      map-set kept_file files k file ∙ ap (λ f. slice_set (map kept_file files) k f) (one ∙ ap (λ (f : File). record f { lines = splice f.lines start (start + count) (map line_text new) }) (sym at))
+
+  -- what is kept of them stays right
+  pub kept_put : (es : List Expression) (options : Options) (lines : Option (List KeptLine)) → IfSome lines (All (IsKept es options)) → All (IsKept es options) new → IfSome (put lines) (All (IsKept es options))
+  kept_put es options None h n = tt
+  kept_put es options (Some lines) h n =
+      All-append (IsKept es options) (take start lines) (new ++ drop (start + count) lines) (All-take (IsKept es options) start lines h) (All-append (IsKept es options) new (drop (start + count) lines) n (All-drop (IsKept es options) (start + count) lines h))
+
+-- a file that looks as before changes nothing
+pub files_same : (files : List KeptFile) (k : ℕ) (d file : KeptFile) → file.name.items ≡ (get_or files k d).name.items → kept_lines file ≡ kept_lines (get_or files k d) → map kept_file (set files k file) ≡ map kept_file files
+files_same files k d file name lines = map-set_same kept_file files k file d (λ i. file_with (name i) (lines i))
+
+-- a place among the files that contracts see is one among those that are kept
+pub in_kept : (files : List KeptFile) (k : ℕ) → k < length (map kept_file files) → k < length files
+in_kept files k h = omega (arith, h, length-map files kept_file)
+
+-- what is kept of the files stays right where it does so in one
+pub files_kept : (es : List Expression) (options : Options) (files : List KeptFile) (k : ℕ) (file : KeptFile) (lines : Option (List KeptLine)) → All (IsFileKept es options) files → kept_lines file ≡ lines → IfSome lines (All (IsKept es options)) → All (IsFileKept es options) (set files k file)
+files_kept es options files k file lines all same kept = All-set (IsFileKept es options) files k file (subst (λ l. IfSome l (All (IsKept es options))) (sym same) kept) all

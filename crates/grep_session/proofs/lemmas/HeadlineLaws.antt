@@ -1,0 +1,98 @@
+-- What the report, the messages and the status of a session are, from scratch; and that the accepted edits decide.
+use Rattle.std.proofs.Common.{◌≡◌, ℕ, List, [], ◌∷◌, ◌++◌, Option, Result, Ok, Err, refl, sym, subst, ◌∙◌}
+use Rattle.re_syntax.specs.Bytes.{Text}
+use Rattle.re_syntax.specs.Expression.{Expression}
+use Rattle.grep_core.specs.declared.status.Status.{Status}
+use Rattle.grep_core.specs.Files.{Inputs, AreMeant}
+use Rattle.grep_core.specs.Messages.{Messages, StatusOf}
+use Rattle.grep_core.specs.Output.{Out}
+use Rattle.grep_core.proofs.lemmas.Determined.{Out-determined, Messages-determined, StatusOf-determined}
+use Rattle.grep_core.proofs.lemmas.Exist.{Out-exist, Messages-exist, StatusOf-exist}
+use Rattle.grep_core.proofs.lemmas.LawsHold.{means_one}
+use Rattle.grep_session.specs.declared.fault.EditFault.{EditFault}
+use Rattle.grep_session.specs.declared.fault.EditFault.TheVariants.{NoSuchFile, FileIsMissing, OutOfRange, LineHasNewline, NoSuchPattern, Pattern, TooManyPatterns, Memory}
+use Rattle.grep_session.specs.Edits.{Edit, EditGives, no_inputs}
+use Rattle.grep_session.specs.Headline.{GrepGives, ReportsInputs, TellsInputs, IsStatusOfInputs, Attempt, ComesTo, with_accepted, accepted, Makes, AcceptedEditsDecide}
+use Rattle.grep_session.specs.Working.Report.{Reports, TellsMessages}
+use Rattle.grep_session.proofs.lemmas.EditLaws.{Applies-once}
+
+-- ---- the report, the messages and the status
+
+module _ (inputs : Inputs) (es : List Expression) (are_meant : AreMeant inputs.syntax inputs.options inputs.patterns es) where
+  gives_with : (out told : List Text) (status : Status) → Out es inputs.options inputs.files out → Messages es inputs.options inputs.files told → StatusOf es inputs.options inputs.files status → GrepGives inputs out told status
+  gives_with out told status is_output are_messages is_status = record { es = es; are_meant = are_meant; is_output = is_output; are_messages = are_messages; is_status = is_status }
+
+  module _ {W : Type 0} (contents : W → Option Text) (failures : W → ℕ) (margin : Text) (old new : W) where
+    pub reports_inputs : {E : Type 0} (result : Result Status E) → Reports contents failures es inputs.options inputs.files margin old new result → ReportsInputs contents failures inputs margin old new result
+    reports_inputs (Ok status) r =
+        let told = Messages-exist es inputs.options inputs.files in
+        record { out = r.out; told = told.0; status = status; gives = gives_with r.out told.0 status r.is_output told.1 r.is_status; wrote = r.wrote; answered = refl }
+    reports_inputs (Err fault) r =
+        let told = Messages-exist es inputs.options inputs.files in
+        let status = StatusOf-exist es inputs.options inputs.files in
+        record { out = r.out; told = told.0; status = status.0; gives = gives_with r.out told.0 status.0 r.is_output told.1 status.1; wrote = r.wrote; answered = tt }
+
+    pub tells_inputs : {T E : Type 0} (result : Result T E) → TellsMessages contents failures es inputs.options inputs.files margin old new result → TellsInputs contents failures inputs margin old new result
+    tells_inputs result t =
+        let out = Out-exist es inputs.options inputs.files in
+        let status = StatusOf-exist es inputs.options inputs.files in
+        record { out = out.0; told = t.told; status = status.0; gives = gives_with out.0 t.told status.0 out.1 t.are_messages status.1; wrote = t.wrote }
+
+  pub status_of_inputs : (status : Status) → StatusOf es inputs.options inputs.files status → IsStatusOfInputs inputs status
+  status_of_inputs status is =
+      let out = Out-exist es inputs.options inputs.files in
+      let told = Messages-exist es inputs.options inputs.files in
+      record { out = out.0; told = told.0; gives = gives_with out.0 told.0 status out.1 told.1 is }
+
+-- ---- lists of edits
+
+-- a refused edit changes nothing
+refused_same : (edit : Edit) (old new : Inputs) (fault : EditFault) → EditGives {T = Unit {0}} edit old new (Err fault) → new ≡ old
+refused_same edit old new NoSuchFile g = g.1
+refused_same edit old new FileIsMissing g = g.1
+refused_same edit old new OutOfRange g = g.1
+refused_same edit old new LineHasNewline g = g.1
+refused_same edit old new NoSuchPattern g = g.1
+refused_same edit old new (Pattern place fault) g = g.1
+refused_same edit old new TooManyPatterns g = g.1
+refused_same edit old new Memory g = g
+
+-- one attempt before the edits that were accepted
+attempt_first : (edit : Edit) (answer : Result (Unit {0}) EditFault) (edits : List Edit) (old between new : Inputs) → EditGives edit old between answer → Makes edits between new → Makes (with_accepted edit answer edits) old new
+attempt_first edit (Ok done) edits old between new g m = (between, g, m)
+attempt_first edit (Err fault) edits old between new g m = subst (λ i. Makes edits i new) (refused_same edit old between fault g) m
+
+leave_from : (tried : List Attempt) (old left : Inputs) → ComesTo tried old left → Makes (accepted tried) old left
+leave_from [] old left c = c
+leave_from (attempt ∷ more) old left c = attempt_first attempt.edit attempt.answer (accepted more) old c.0 left c.1 (leave_from more c.0 left c.2)
+
+-- edits that are accepted lead to one end
+one_end_from : (edits : List Edit) (old a b : Inputs) → Makes edits old a → Makes edits old b → a ≡ b
+one_end_from [] old a b p q = p ∙ sym q
+one_end_from (edit ∷ more) old a b p q =
+    let same : p.0 ≡ q.0 = Applies-once edit old (Ok p.0) (Ok q.0) p.1 q.1 in
+    one_end_from more q.0 a b (subst (λ i. Makes more i a) same p.2) q.2
+
+-- the last attempt, behind what the others came to
+last_from : (tried : List Attempt) (last : Attempt) (old new : Inputs) → ComesTo (tried ++ last ∷ []) old new → (left : Inputs) × ComesTo tried old left × EditGives last.edit left new last.answer
+last_from [] last old new c = (old, refl, subst (λ i. EditGives last.edit old i last.answer) (sym c.2) c.1)
+last_from (attempt ∷ more) last old new c =
+    let rest = last_from more last c.0 new c.2 in
+    (rest.0, (c.0, c.1, rest.1), rest.2)
+
+-- grep gives one thing for inputs
+pub one_report : (inputs : Inputs) (out more told tells : List Text) (status other : Status) → GrepGives inputs out told status → GrepGives inputs more tells other → (more ≡ out) × (tells ≡ told) × (other ≡ status)
+one_report inputs out more told tells status other g h =
+    let same : h.es ≡ g.es = means_one inputs.syntax inputs.options inputs.patterns h.es g.es h.are_meant g.are_meant in (
+      Out-determined g.es inputs.options inputs.files more out (subst (λ es. Out es inputs.options inputs.files more) same h.is_output) g.is_output,
+      Messages-determined g.es inputs.options inputs.files tells told (subst (λ es. Messages es inputs.options inputs.files tells) same h.are_messages) g.are_messages,
+      StatusOf-determined g.es inputs.options inputs.files other status (subst (λ es. StatusOf es inputs.options inputs.files other) same h.is_status) g.is_status,
+    )
+
+pub accepted_edits_decide : AcceptedEditsDecide
+accepted_edits_decide = record {
+  leave = (λ tried left. leave_from tried no_inputs left);
+  one_end = (λ edits a b. one_end_from edits no_inputs a b);
+  answers = (λ tried last new c. let found = last_from tried last no_inputs new c in (found.0, leave_from tried no_inputs found.0 found.1, found.2));
+  one_report = one_report;
+}

@@ -1,0 +1,92 @@
+-- Patterns come: whose matchers they have then, and the steps that takes.
+use Rattle.std.proofs.Common.{◌≡◌, ℕ, ◌+◌, ◌<◌, List, [], ◌∷◌, ◌++◌, Ok, Err, All, inl, inr, length, map, take, drop, refl, sym, ap, subst, ◌∙◌}
+use Rattle.std.proofs.lemmas.List.{map-append, length-append}
+use Rattle.std.proofs.lemmas.List.Elements.{All-append}
+use Rattle.std.specs.List.{take-map, drop-map}
+use Rattle.re_syntax.specs.declared.syntax.Syntax.{Syntax}
+use Rattle.re_syntax.specs.Bytes.{Text}
+use Rattle.re_syntax.specs.Expression.{Expression}
+use Rattle.re_syntax.specs.Lines.{list_of}
+use Rattle.re_syntax.specs.Spelled.{IsMeant}
+use Rattle.re_search.specs.declared.matcher.Matcher.{Matcher}
+use Rattle.re_search.specs.Reading.{IsReadable}
+use Rattle.re_search.specs.Working.Matchers.{matched_expression, wants_whole}
+use Rattle.grep_core.specs.Meters.{Steps}
+use Rattle.grep_core.specs.declared.options.Options.{Options}
+use Rattle.grep_core.specs.Files.{Inputs, AreMeant}
+use Rattle.grep_session.specs.declared.change.Change.TheVariants.{Added}
+use Rattle.grep_session.specs.declared.fault.EditFault.{EditFault}
+use Rattle.grep_session.specs.Working.Changed.{ChangeCost, SearchesEach}
+use Rattle.grep_session.specs.Edits.{AddPatterns, EditGives, with_patterns}
+use Rattle.re_syntax.specs.Profile.{most_patterns}
+use Rattle.grep_core.specs.Working.MatcherLists.{AreMatchers}
+use Rattle.grep_session.specs.Working.Reading.{RefusesFirst}
+use Rattle.grep_session.specs.Touched.{TakesSteps, all_lines, pairs_cost}
+use Rattle.grep_session.proofs.lemmas.ChangeLemmas.{CostOfEach-sum}
+use Rattle.grep_core.proofs.lemmas.MatcherLemmas.{AllZip-append}
+
+-- the first elements of two lists joined, and the others
+take_front : {X : Type 0} (xs ys : List X) → take (length xs) (xs ++ ys) ≡ xs
+take_front [] [] = refl
+take_front [] (y ∷ ys) = refl
+take_front (x ∷ xs) ys = ap (λ l. x ∷ l) (take_front xs ys)
+
+drop_front : {X : Type 0} (xs ys : List X) → drop (length xs) (xs ++ ys) ≡ ys
+drop_front [] [] = refl
+drop_front [] (y ∷ ys) = refl
+drop_front (x ∷ xs) ys = drop_front xs ys
+
+-- f of those that were there, and of those that came
+module _ {X Y : Type 0} (f : X → Y) (xs ys all : List X) (first : ℕ) (both : all ≡ xs ++ ys) (at : first ≡ length xs) where
+  pub were_there : map f xs ≡ take first (map f all)
+  were_there = sym (ap (λ n. take n (map f all)) at ∙ take-map f (length xs) all ∙ ap (λ l. map f (take (length xs) l)) both ∙ ap (map f) (take_front xs ys))
+
+  pub have_come : map f ys ≡ drop first (map f all)
+  have_come = sym (ap (λ n. drop n (map f all)) at ∙ drop-map f (length xs) all ∙ ap (λ l. map f (drop (length xs) l)) both ∙ ap (map f) (drop_front xs ys))
+
+  -- those that came are taken off
+  pub taken_off : (now new : List X) → map f now ≡ map f all → new ≡ take first now → map f new ≡ map f xs
+  taken_off now new same put = ap (map f) put ∙ sym (take-map f first now) ∙ ap (take first) same ∙ sym were_there
+
+-- the matchers of more patterns behind others
+pub AreMatchers-append : (syntax : Syntax) (options : Options) (texts others : List Text) (old more all : List Matcher) → all ≡ old ++ more → AreMatchers syntax options texts old → AreMatchers syntax options others more → AreMatchers syntax options (texts ++ others) all
+AreMatchers-append syntax options texts others old more all both a b = subst (AreMatchers syntax options (texts ++ others)) (sym both) (record {
+  meant =
+      subst (AreMeant syntax options (texts ++ others)) (sym (map-append matched_expression old more))
+      (AllZip-append (λ text e. IsMeant syntax options.ignore_case text e) texts others (map matched_expression old) (map matched_expression more) a.meant b.meant);
+  wholes = subst (All (λ w. w ≡ options.line_regexp)) (sym (map-append wants_whole old more)) (All-append (λ w. w ≡ options.line_regexp) (map wants_whole old) (map wants_whole more) a.wholes b.wholes);
+  readable = All-append (IsReadable syntax options.ignore_case) texts others a.readable b.readable;
+  counted = length-append old more ∙ (λ i. a.counted i + b.counted i) ∙ sym (length-append texts others);
+})
+
+module _ (list : Text) (old : Inputs) (few : most_patterns < length old.patterns + length (list_of list) → ⊥) where
+  -- some pattern was refused, or memory ran out
+  pub refuses_new : (T : Type 0) (fault : EditFault) → RefusesFirst old.syntax old.options.ignore_case (list_of list) fault → EditGives {T = T} (AddPatterns list) old old (Err fault)
+  refuses_new T fault (inl memory) = subst (λ f. EditGives {T = T} (AddPatterns list) old old (Err f)) (sym memory) refl
+  refuses_new T fault (inr told) =
+      let first = told.2 in
+      subst (λ f. EditGives {T = T} (AddPatterns list) old old (Err f)) (sym told.3) (inr (few, inr ((λ all. first.unreadable (all told.0 [] first.in_texts)), (told.0, told.1, first, refl))), refl)
+
+  -- all lines were searched by those that came, and the parts of those lines that one of them matches
+  pub takes_new : (first : ℕ) (es changed : List Expression) (begun ended : Steps) → All (IsReadable old.syntax old.options.ignore_case) (list_of list) → AreMeant old.syntax old.options (old.patterns ++ list_of list) es → AreMeant old.syntax old.options (list_of list) changed
+      → length changed ≡ length (list_of list) → SearchesEach (ChangeCost (Added first) changed es old.options) (all_lines old) begun ended → TakesSteps (AddPatterns list) old begun ended
+  takes_new first es changed begun ended readable meant new many s =
+      let sum = CostOfEach-sum (Added first) changed es old.options (all_lines old) s.cost s.is_cost in
+      record {
+        most = s.cost;
+        is_most =
+            inr (
+              Ok (with_patterns (old.patterns ++ list_of list) old),
+              inr (few, inl (readable, refl)),
+              record {
+                es = es;
+                are_meant = meant;
+                touched = record { patterns = length (list_of list); paired = all_lines old; lines = sum.0 };
+                are_touched = (changed, new, sum.0, sum.2, refl);
+                parts = sum.1;
+                are_parts = sum.3;
+                is_sum = sum.4 ∙ ap (λ n. pairs_cost n (all_lines old) + sum.1) many;
+              },
+            );
+        few = s.few;
+      }

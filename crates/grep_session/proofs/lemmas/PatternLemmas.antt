@@ -1,0 +1,79 @@
+-- A pattern goes where parts are kept: the steps that takes, and how it comes back.
+use Rattle.std.proofs.Common.{◌≡◌, ℕ, zero, suc, ◌+◌, ◌<◌, List, [], ◌∷◌, ◌++◌, Ok, inl, inr, length, map, take, drop, get_or, refl, sym, ap, subst, ◌∙◌, arith}
+use Rattle.std.proofs.lemmas.List.{map-append, length-map, get_or-map}
+use Rattle.std.specs.List.{AllZip, remove, insert, take-map, drop-map}
+use Rattle.re_syntax.specs.Expression.{Expression}
+use Rattle.re_syntax.specs.Holds.{Matches}
+use Rattle.re_syntax.specs.Spelled.{IsMeant}
+use Rattle.re_syntax.proofs.lemmas.Decisions.{Any-first}
+use Rattle.grep_core.specs.Meters.{Steps}
+use Rattle.grep_core.specs.Choose.{IfHolds, Chosen}
+use Rattle.grep_core.specs.Files.{Inputs, AreMeant, Matched}
+use Rattle.grep_core.proofs.lemmas.AnyLaws.{Any-single}
+use Rattle.grep_session.specs.declared.change.Change.TheVariants.{Dropped}
+use Rattle.grep_session.specs.Working.Changed.{HasChanged, ChangeCost, SearchesEach}
+use Rattle.grep_session.specs.Edits.{DropPattern, with_patterns}
+use Rattle.grep_session.specs.Touched.{TakesSteps, parts_alone, all_lines, pairs_cost}
+use Rattle.grep_session.proofs.lemmas.AgainLemmas.{pairs_cost-none}
+use Rattle.grep_session.proofs.lemmas.ChangeLemmas.{CostOfEach-sum}
+use Rattle.grep_session.proofs.lemmas.DroppingLemmas.{AllZip-remove}
+
+-- two lists at one place
+AllZip-at : {X Y : Type 0} (P : X → Y → Type 0) (xs : List X) (ys : List Y) (k : ℕ) (d : X) (e : Y) → AllZip P xs ys → k < length xs → P (get_or xs k d) (get_or ys k e)
+AllZip-at P [] ys k d e h l = absurd (let false : ⊥ = omega (arith, l) in false)
+AllZip-at P (x ∷ xs) [] k d e h l = absurd h
+AllZip-at P (x ∷ xs) (y ∷ ys) zero d e h l = h.0
+AllZip-at P (x ∷ xs) (y ∷ ys) (suc k) d e h l = AllZip-at P xs ys k d e h.1 (let less : k < length xs = omega (arith, l) in less)
+
+-- the elements with a property that is the same
+Chosen-as : {A : Type 0} (P Q : A → Type 0) → ((x : A) → P x → Q x) → ((x : A) → Q x → P x) → (xs ys : List A) → Chosen P xs ys → Chosen Q xs ys
+Chosen-as P Q there back [] ys c = c
+Chosen-as {A} P Q there back (x ∷ xs) ys c =
+    let one : IfHolds (Q x) (c.0 ≡ x ∷ []) (c.0 ≡ []) = elim c.2 [ inl h ↦ inl (there x h.0, h.1) | inr h ↦ inr ((λ q. h.0 (back x q)), h.1) ] in
+    (c.0, c.1, one, Chosen-as P Q there back xs c.1 c.3, c.4)
+
+-- the parts of the lines that it matched were searched
+pub takes_drop : (p : ℕ) (old : Inputs) (es before : List Expression) (e : Expression) (begun ended : Steps) → p < length old.patterns → AreMeant old.syntax old.options old.patterns before → HasChanged (Dropped p) es before (e ∷ []) → e ≡ get_or before p e
+    → SearchesEach (ChangeCost (Dropped p) (e ∷ []) es old.options) (all_lines old) begun ended → TakesSteps (DropPattern p) old begun ended
+takes_drop p old es before e begun ended within meant h is s =
+    let sum = CostOfEach-sum (Dropped p) (e ∷ []) es old.options (all_lines old) s.cost s.is_cost in
+    let none : pairs_cost 0 (all_lines old) ≡ 0 = pairs_cost-none (all_lines old) in
+    let one = AllZip-at (λ text e. IsMeant old.syntax old.options.ignore_case text e) old.patterns before p [] e meant within in
+    let chosen = Chosen-as (Matched (e ∷ []) old.options) (λ line. Matches e line old.options.line_regexp) (λ line m. Any-single (λ e. Matches e line old.options.line_regexp) e m) (λ line m. Any-first (λ e. Matches e line old.options.line_regexp) e [] m) (all_lines old) sum.0 sum.2 in
+    record {
+      most = s.cost;
+      is_most =
+          inr (
+            Ok (with_patterns (remove old.patterns p) old),
+            inl (within, refl),
+            record {
+              es = es;
+              are_meant = subst (AreMeant old.syntax old.options (remove old.patterns p)) (sym h.3) (AllZip-remove (λ text e. IsMeant old.syntax old.options.ignore_case text e) old.patterns before p meant);
+              touched = parts_alone sum.0;
+              are_touched = (e, subst (IsMeant old.syntax old.options.ignore_case (get_or old.patterns p [])) (sym is) one, sum.0, chosen, refl);
+              parts = sum.1;
+              are_parts = sum.3;
+              is_sum = sum.4 ∙ ap (λ n. n + sum.1) none;
+            },
+          );
+      few = s.few;
+    }
+
+-- an element that was taken out comes back
+insert_first : {X : Type 0} (xs : List X) (y : X) → insert xs 0 y ≡ y ∷ xs
+insert_first [] y = refl
+insert_first (x ∷ xs) y = refl
+
+insert_remove : {X : Type 0} (xs : List X) (p : ℕ) (y : X) → p < length xs → y ≡ get_or xs p y → insert (remove xs p) p y ≡ xs
+insert_remove [] p y h is = absurd (let false : ⊥ = omega (arith, h) in false)
+insert_remove (x ∷ xs) zero y h is = insert_first xs y ∙ ap (λ z. z ∷ xs) is
+insert_remove (x ∷ xs) (suc p) y h is = ap (λ l. x ∷ l) (insert_remove xs p y (let less : p < length xs = omega (arith, h) in less) is)
+
+map-insert : {X Y : Type 0} (f : X → Y) (xs : List X) (p : ℕ) (y : X) → map f (insert xs p y) ≡ insert (map f xs) p (f y)
+map-insert f xs p y = map-append f (take p xs) (y ∷ drop p xs) ∙ (λ i. sym (take-map f p xs) i ++ (f y ∷ sym (drop-map f p xs) i))
+
+-- f of all, where f of the others did not change
+pub put_back_same : {X Y : Type 0} (f : X → Y) (xs now new : List X) (p : ℕ) (gone : X) → p < length xs → gone ≡ get_or xs p gone → map f now ≡ remove (map f xs) p → new ≡ insert now p gone → map f new ≡ map f xs
+put_back_same f xs now new p gone h is left put =
+    let at : f gone ≡ get_or (map f xs) p (f gone) = ap f is ∙ sym (get_or-map f xs p gone (f gone) h) in
+    ap (map f) put ∙ map-insert f now p gone ∙ ap (λ l. insert l p (f gone)) left ∙ insert_remove (map f xs) p (f gone) (omega (arith, h, length-map xs f)) at

@@ -1,0 +1,12 @@
+pub mod Finds
+pub mod Boxed
+pub mod Kept
+pub mod Sessions
+pub mod Splicing
+pub mod Found
+pub mod Reading
+pub mod Again
+pub mod Effects
+pub mod Dropping
+pub mod Report
+pub mod Changed

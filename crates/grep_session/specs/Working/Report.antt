@@ -1,0 +1,154 @@
+-- What is written of files that are kept, as a function of what is kept.
+use Rattle.std.specs.Prelude.{◌==◌, ℕ, ◌+◌, ◌≤◌, Bool, false, ◌&&◌, not, IsTrue, List, [], ◌∷◌, ◌++◌, All, map, length, slice_range, Option, None, Some, if◌then◌else◌, Result, IfOk}
+use Rattle.std.specs.List.{list_any, flat_map}
+use Rattle.re_syntax.specs.Bytes.{Text}
+use Rattle.re_syntax.specs.Expression.{Expression}
+use Rattle.re_search.specs.declared.span.Span.{Span}
+use Rattle.grep_core.specs.declared.options.Options.{Options}
+use Rattle.grep_core.specs.declared.search.file.FileEnd.{FileEnd}
+use Rattle.grep_core.specs.declared.search.file.FileEnd.TheVariants.{Missing, Whole}
+use Rattle.grep_core.specs.declared.status.Status.{Status}
+use Rattle.grep_core.specs.declared.status.Status.TheVariants.{Selected as selected}
+use Rattle.grep_core.specs.Row.{head}
+use Rattle.grep_core.specs.Files.{File}
+use Rattle.grep_core.specs.Output.{Form, parts, lines, form, shown_number, Out, written}
+use Rattle.grep_core.specs.Messages.{Messages, StatusOf}
+use Rattle.grep_core.specs.Working.Searched.{is_fault, summary_as, told_of, status_by}
+use Rattle.grep_core.specs.Working.Wanted.{name_shown}
+use Rattle.grep_core.specs.Written.{Writes}
+use Rattle.grep_session.specs.declared.kept.KeptLine.{KeptLine}
+use Rattle.grep_session.specs.declared.kept.KeptFile.{KeptFile}
+use Rattle.grep_session.specs.Working.Kept.{line_text, kept_lines}
+
+-- ---- verdicts
+
+-- no pattern matches the line
+abbrev pub matches_none : KeptLine → Bool
+matches_none line = length line.found.numbers == 0
+
+-- grep selects the lines that are matched, and under `-v` the others
+abbrev pub is_selected : Options → KeptLine → Bool
+is_selected options line = if options.invert_match then matches_none line else not (matches_none line)
+
+abbrev pub some_selected : Options → List KeptLine → Bool
+some_selected options text = list_any (is_selected options) text
+
+abbrev pub has_selected_in : Options → Option (List KeptLine) → Bool
+has_selected_in options None = false
+has_selected_in options (Some text) = some_selected options text
+
+abbrev pub has_selected : Options → KeptFile → Bool
+has_selected options file = has_selected_in options (kept_lines file)
+
+abbrev pub end_with : Option (List KeptLine) → FileEnd
+end_with None = Missing
+end_with (Some text) = Whole
+
+abbrev pub end_of : KeptFile → FileEnd
+end_of file = end_with (kept_lines file)
+
+-- how many of the lines are selected
+abbrev pub selected_count : Options → List KeptLine → ℕ
+selected_count options [] = 0
+selected_count options (line ∷ more) = (if is_selected options line then 1 else 0) + selected_count options more
+
+-- ---- rows
+
+-- the stretch is one of a line of this text
+abbrev pub OnLine : Text → Span → Type 0
+OnLine text span = (span.start ≤ span.end) × (span.end ≤ length text)
+
+-- under `-o` the parts that are kept of a line are stretches of it
+abbrev pub PartsFit : Options → KeptLine → Type 0
+PartsFit options line = IsTrue options.only_matching → All (OnLine (line_text line)) line.found.spans
+
+abbrev pub LinesFit : Options → Option (List KeptLine) → Type 0
+LinesFit options None = Unit {0}
+LinesFit options (Some text) = All (PartsFit options) text
+
+abbrev pub FileFits : Options → KeptFile → Type 0
+FileFits options file = LinesFit options (kept_lines file)
+
+module _ (options : Options) (many : Bool) (name : Text) where
+  -- a row with this text for a line of this number
+  abbrev pub row : ℕ → Text → Text
+  row number text = head (name_shown many name) (shown_number options number) ++ text
+
+  -- the rows of the parts of a line
+  abbrev pub part_rows : ℕ → Text → List Span → List Text
+  part_rows number text spans = map (λ span. row number (slice_range text span.start span.end)) spans
+
+  -- the rows of a selected line, by what is asked for
+  abbrev pub selected_rows : Form → ℕ → KeptLine → List Text
+  selected_rows lines number line = row number (line_text line) ∷ []
+  selected_rows parts number line = part_rows number (line_text line) line.found.spans
+  selected_rows _ number line = []
+
+  module _ (shape : Form) where
+    abbrev pub line_rows_as : ℕ → KeptLine → List Text
+    line_rows_as number line = if is_selected options line then selected_rows shape number line else []
+
+    -- the rows of lines, the first of which has this number
+    abbrev pub rows_as : ℕ → List KeptLine → List Text
+    rows_as number [] = []
+    rows_as number (line ∷ more) = line_rows_as number line ++ rows_as (number + 1) more
+
+  abbrev pub line_rows : ℕ → KeptLine → List Text
+  line_rows number line = line_rows_as (form options) number line
+
+  abbrev pub rows_from : ℕ → List KeptLine → List Text
+  rows_from number text = rows_as (form options) number text
+
+  -- what is written of the lines of a file, and behind them
+  abbrev pub rows_with : Option (List KeptLine) → List Text
+  rows_with None = summary_as (form options) many name Missing 0
+  rows_with (Some text) = rows_from 1 text ++ summary_as (form options) many name Whole (selected_count options text)
+
+abbrev pub file_rows : Options → Bool → KeptFile → List Text
+file_rows options many file = rows_with options many file.name.items (kept_lines file)
+
+-- what is written of files
+abbrev pub report_rows : Options → Bool → List KeptFile → List Text
+report_rows options many files = flat_map (file_rows options many) files
+
+-- ---- messages and status
+
+-- what is told of files, up to one at which a run stops under `-q`
+abbrev pub told_as : Options → Bool → List KeptFile → List Text
+told_as options silent [] = []
+told_as options silent (file ∷ files) =
+    told_of silent (end_of file) file.name.items
+    ++ (if options.quiet && has_selected options file then [] else told_as options silent files)
+
+abbrev pub told_from : Options → List KeptFile → List Text
+told_from options files = told_as options options.no_messages files
+
+-- the file cannot be opened
+abbrev pub is_faulty : KeptFile → Bool
+is_faulty file = is_fault (end_of file)
+
+abbrev pub any_selected : Options → List KeptFile → Bool
+any_selected options files = list_any (has_selected options) files
+
+abbrev pub any_missing : List KeptFile → Bool
+any_missing files = list_any is_faulty files
+
+abbrev pub status_by_files : Options → List KeptFile → Status
+status_by_files options files =
+    if options.quiet && any_selected options files then selected else status_by (any_selected options files) (any_missing files)
+
+-- ---- what a report and messages are
+
+module _ {W : Type 0} (contents : W → Option Text) (failures : W → ℕ) (es : List Expression) (options : Options) (files : List File) (margin : Text) (old new : W) where
+  -- the output for the files was written, or a beginning of it, and what is answered is the status
+  pub record Reports {E : Type 0} (result : Result Status E) : Type 0 where
+    pub out : List Text
+    pub is_output : Out es options files out
+    pub wrote : Writes contents failures old new (written margin out) result
+    pub is_status : IfOk result (StatusOf es options files)
+
+  -- the messages on the files were written, or a beginning of them
+  pub record TellsMessages {T E : Type 0} (result : Result T E) : Type 0 where
+    pub told : List Text
+    pub are_messages : Messages es options files told
+    pub wrote : Writes contents failures old new (written margin told) result

@@ -1,0 +1,19 @@
+-- A session as contracts see it: the inputs that its edits have left.
+use Rattle.std.specs.Prelude.{◌≤◌, map, length, All}
+use Rattle.re_search.specs.Working.Matchers.{matched_expression}
+use Rattle.grep_core.specs.Files.{Inputs}
+use Rattle.grep_session.specs.declared.session.Session.TheInside.{Inside}
+use Rattle.re_syntax.specs.Profile.{most_patterns, most_states}
+use Rattle.grep_session.specs.Working.Kept.{IsFileKept, kept_file}
+use Rattle.grep_core.specs.Working.MatcherLists.{AreMatchers}
+
+abbrev pub inputs_of : Inside → Inputs
+inputs_of s = record { syntax = s.syntax; options = s.options; patterns = map (λ text. text.items) s.texts.items; files = map kept_file s.files.items }
+
+-- the matchers are those of the patterns, and what is kept of each line is what they find in it
+pub record IsSession (s : Inside) : Type 0 where
+  pub matchers : AreMatchers s.syntax s.options (map (λ text. text.items) s.texts.items) s.matchers.items
+  pub few : length s.matchers.items ≤ most_patterns
+  pub kept : All (IsFileKept (map matched_expression s.matchers.items) s.options) s.files.items
+  pub some_states : 1 ≤ s.states
+  pub few_states : s.states ≤ most_states

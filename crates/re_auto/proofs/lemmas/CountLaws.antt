@@ -1,0 +1,42 @@
+-- Counts of positions: of sequences and choices, and up to a limit.
+use Rattle.std.proofs.Common.{◌≡◌, ℕ, zero, suc, ◌+◌, ◌*◌, ◌<◌, min, List, [], ◌∷◌, ◌++◌, map, take, length, get_or, Option, Vec, Box, Global, refl, sym, ap, ◌∙◌, arith}
+use Rattle.std.proofs.lemmas.List.{take_more, map-append}
+use Rattle.re_syntax.specs.Expression.{Expression, cat, alt, expression_of}
+use Rattle.re_syntax.specs.Holds.{positions, copies}
+use Rattle.re_syntax.specs.declared.tree.Tree.{Tree}
+use Rattle.re_syntax.specs.declared.tree.Tree.TheVariants.{Alt, Repeat}
+use Rattle.re_syntax.proofs.lemmas.ExpressionLaws.{expression-Alt, expression-Repeat}
+
+-- a choice has as many as the sequence of its branches
+pub positions-alt : (es : List Expression) → positions (alt es) ≡ positions (cat es)
+positions-alt [] = refl
+positions-alt (e ∷ es) = ap (λ n. positions e + n) (positions-alt es)
+
+-- one more member
+pub positions-more : (es : List Expression) (e : Expression) → positions (cat (es ++ (e ∷ []))) ≡ positions (cat es) + positions e
+positions-more [] e = omega arith
+positions-more (f ∷ es) e = omega (arith, positions-more es e)
+
+-- a tree of branches, and one that is repeated
+pub count-Alt : (members : Vec Tree Global) → positions (expression_of (Alt members)) ≡ positions (cat (map expression_of members.items))
+count-Alt members = ap positions (expression-Alt members) ∙ positions-alt (map expression_of members.items)
+
+pub count-Repeat : (part : Box Tree Global) (least : ℕ) (most : Option ℕ) → positions (expression_of (Repeat part least most)) ≡ copies least most * positions (expression_of part.value)
+count-Repeat part least most = ap positions (expression-Repeat part least most)
+
+-- a limit on a factor is a limit on the product
+pub min_product : (a b limit : ℕ) → min (a * min b limit) limit ≡ min (a * b) limit
+min_product zero b limit = omega arith
+min_product (suc a) b limit = omega (arith, min_product a b limit)
+
+-- one more member, up to the limit
+pub counted_more : (members : List Tree) (i : ℕ) (member : Tree) → i < length members → member ≡ get_or members i member → (count more next : ℕ) →
+    count ≡ min (positions (cat (map expression_of (take i members)))) 4097 → more ≡ min (positions (expression_of member)) 4097 → next ≡ min (count + more) 4097 →
+    next ≡ min (positions (cat (map expression_of (take (i + 1) members)))) 4097
+counted_more members i member lt is count more next counted of step =
+    let front : map expression_of (take (i + 1) members) ≡ map expression_of (take i members) ++ (expression_of member ∷ []) =
+    ap (map expression_of) (take_more members i member lt) ∙ map-append expression_of (take i members) (get_or members i member ∷ [])
+    ∙ ap (λ x. map expression_of (take i members) ++ (expression_of x ∷ [])) (sym is) in
+    let sum : positions (cat (map expression_of (take (i + 1) members))) ≡ positions (cat (map expression_of (take i members))) + positions (expression_of member) =
+    ap (λ es. positions (cat es)) front ∙ positions-more (map expression_of (take i members)) (expression_of member) in
+    omega (arith, sum, counted, of, step)

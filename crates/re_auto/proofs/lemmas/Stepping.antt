@@ -1,0 +1,61 @@
+-- Sets of positions are what the chains say, step by step.
+use Rattle.std.proofs.Common.{ℕ, suc, ◌<◌, inl, inr, ◌↔◌, ◌++◌, arith, length, slice_index, refl, subst}
+use Rattle.re_syntax.specs.Bytes.{Text}
+use Rattle.re_syntax.specs.Expression.{Expression}
+use Rattle.re_syntax.specs.Holds.{Holds}
+use Rattle.re_auto.specs.declared.mode.Mode.{Mode}
+use Rattle.re_auto.specs.Working.Positions.{Part, is_begin, is_end, Reaches, PartHolds, part_of}
+use Rattle.re_auto.specs.Working.Stepping.{MayBegin, IsAfter, IsNext, Accepts}
+use Rattle.re_auto.proofs.lemmas.Chains.{reaches_on, reaches_back}
+use Rattle.re_auto.proofs.lemmas.Theorem.{positions_tell}
+
+-- no position is reached at the line's first place
+pub none_is_right : (part : Part) (mode : Mode) (line : Text) (S : ℕ → Type 0) → ((q : ℕ) → ¬ S q) → IsAfter part mode line 0 S
+none_is_right part mode line S none q = (λ s. absurd (none q s), λ r. absurd r.2)
+
+-- a step keeps a set right
+pub step_is_right : (part : Part) (mode : Mode) (line : Text) (j : ℕ) (S T : ℕ → Type 0) → IsAfter part mode line j S → j < length line
+    → IsNext part mode (is_begin j) S (slice_index line j) T → IsAfter part mode line (suc j) T
+step_is_right part mode line j S T after lt next q = (to, back)
+  where
+    to : T q → (i : ℕ) × MayBegin mode (is_begin i) × Reaches part line i (suc j) q
+    to t = elim ((next q).0 t).1 [
+      | inl w ↦ (j, w.0, ((lt, ((next q).0 t).0), inl (refl, w.1)))
+      | inr w ↦ let (i, b, r) = (after w.0).0 w.1 in (i, b, ((lt, ((next q).0 t).0), inr (w.0, r, w.2)))
+    ]
+
+    back : ((i : ℕ) × MayBegin mode (is_begin i) × Reaches part line i (suc j) q) → T q
+    back (i, b, ((l, t), inl (e, f))) = (next q).1 (t, inl (subst (λ k. MayBegin mode (is_begin k)) e b, f))
+    back (i, b, ((l, t), inr (p, r, w))) = (next q).1 (t, inr (p, (after p).1 (i, b, r), w))
+
+-- a right set accepts exactly where some stretch of the mode that ends here is matched
+pub accept_is_right : (e : Expression) (n : ℕ) (mode : Mode) (line : Text) (j : ℕ) (S : ℕ → Type 0) → IsAfter (part_of e n) mode line j S
+    → Accepts (part_of e n) mode (is_begin j) (is_end line j) S ↔ ((i : ℕ) × MayBegin mode (is_begin i) × Holds line e i j)
+accept_is_right e n mode line j S after = (to, back)
+  where
+    to : Accepts (part_of e n) mode (is_begin j) (is_end line j) S → (i : ℕ) × MayBegin mode (is_begin i) × Holds line e i j
+    to (inl w) = (j, w.0, (positions_tell e n line j j).1 (inl (refl, w.1)))
+    to (inr (q, s, l)) = let (i, b, r) = (after q).0 s in (i, b, (positions_tell e n line i j).1 (inr (q, r, l)))
+
+    told : (i : ℕ) → MayBegin mode (is_begin i) → PartHolds (part_of e n) line i j → Accepts (part_of e n) mode (is_begin j) (is_end line j) S
+    told i b (inl (same, empty)) =
+        inl (subst (λ k. MayBegin mode (is_begin k)) same b, subst (λ k. (part_of e n).empty (is_begin k) (is_end line k)) same empty)
+    told i b (inr (q, r, l)) = inr (q, (after q).1 (i, b, r), l)
+
+    back : ((i : ℕ) × MayBegin mode (is_begin i) × Holds line e i j) → Accepts (part_of e n) mode (is_begin j) (is_end line j) S
+    back (i, b, h) = told i b ((positions_tell e n line i j).0 h)
+
+module _ (part : Part) (w rest : Text) where
+  -- a set that is right behind a front is right there on each line that begins with it
+  pub fronts : (mode : Mode) (S : ℕ → Type 0) → IsAfter part mode w (length w) S → IsAfter part mode (w ++ rest) (length w) S
+  fronts mode S after q = (
+    λ s. let (i, b, r) = (after q).0 s in (i, b, reaches_on part w rest i (length w) q (omega arith) r),
+    λ (i, b, r). (after q).1 (i, b, reaches_back part w rest i (length w) q (omega arith) r),
+  )
+
+  -- and the other way round
+  pub fronts_back : (mode : Mode) (S : ℕ → Type 0) → IsAfter part mode (w ++ rest) (length w) S → IsAfter part mode w (length w) S
+  fronts_back mode S after q = (
+    λ s. let (i, b, r) = (after q).0 s in (i, b, reaches_back part w rest i (length w) q (omega arith) r),
+    λ (i, b, r). (after q).1 (i, b, reaches_on part w rest i (length w) q (omega arith) r),
+  )

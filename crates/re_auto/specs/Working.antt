@@ -1,0 +1,10 @@
+pub mod Positions
+pub mod Stepping
+pub mod Starts
+pub mod Bits
+pub mod Beginnings
+pub mod Tables
+pub mod StateSets
+pub mod StartSets
+pub mod Building
+pub mod ByteClasses

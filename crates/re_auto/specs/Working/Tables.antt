@@ -1,0 +1,59 @@
+-- What the tables of an automaton tell of the positions of an expression.
+use Rattle.std.specs.Prelude.{◌≡◌, ℕ, ◌+◌, ◌*◌, ◌/◌, ◌<◌, ◌≤◌, Bool, true, false, IsTrue, ◌↔◌, List, length, slice_index, slice_index_or}
+use Rattle.re_syntax.specs.Expression.{Expression}
+use Rattle.re_syntax.specs.Holds.{positions}
+use Rattle.re_syntax.specs.Profile.{most_positions}
+use Rattle.re_auto.specs.declared.build.BuildFault.{BuildFault}
+use Rattle.re_auto.specs.declared.build.BuildFault.TheVariants.{TooLarge, Memory}
+use Rattle.re_auto.specs.declared.tables.Tables.{Tables}
+use Rattle.re_auto.specs.declared.tables.Empty.{Empty}
+use Rattle.re_auto.specs.Working.Bits.{Has, row_of, Are, RowsAre}
+use Rattle.re_auto.specs.Working.Positions.{Part, part_of}
+
+-- how many words of 64 bits hold so many positions
+abbrev pub words_for : ℕ → ℕ
+words_for count = (count + 63) / 64
+
+-- a set of the expression's positions is one word
+abbrev pub HasOneWord : Expression → Type 0
+HasOneWord e = (1 ≤ positions e) × (positions e ≤ 64)
+
+-- a stretch inside a line can begin with this byte
+abbrev pub CanBegin : Part → ℕ → Type 0
+CanBegin part c = (q : ℕ) × part.first false q × part.takes q c
+
+-- there is a mark for each of the 256 bytes, which says whether S holds of it
+abbrev pub Marks : List Bool → (ℕ → Type 0) → Type 0
+Marks marks S = (length marks ≡ 256) × ((c : ℕ) → c < 256 → IsTrue (slice_index_or marks c false) ↔ S c)
+
+-- the four answers on the empty stretch
+pub record TellsEmpty (part : Part) (empty : Empty) : Type 0 where
+  pub on_empty_line : IsTrue empty.on_empty_line ↔ part.empty true true
+  pub at_begin : IsTrue empty.at_begin ↔ part.empty true false
+  pub at_end : IsTrue empty.at_end ↔ part.empty false true
+  pub inside : IsTrue empty.inside ↔ part.empty false false
+
+-- each byte's class has a row, the positions that take the byte
+pub record TellsTakes (part : Part) (tables : Tables) : Type 0 where
+  pub classes : length tables.class_of.items ≡ 256
+  pub within : (c : ℕ) → c < 256 → slice_index tables.class_of.items c * tables.width + tables.width ≤ length tables.takes.items
+  pub takes : (c q : ℕ) → c < 256 → Has (row_of tables.takes.items tables.width (slice_index tables.class_of.items c)) q ↔ part.takes q c
+
+-- the tables of an expression, whose positions are numbered from 0 on
+pub record AreTablesOf (e : Expression) (tables : Tables) : Type 0 where
+  pub size : tables.size ≡ positions e
+  pub width : tables.width ≡ words_for (positions e)
+  pub few : positions e ≤ 4096
+  pub taken : TellsTakes (part_of e 0) tables
+  pub follow : RowsAre tables.follow.items (part_of e 0).follow (positions e) tables.width
+  pub first_at_begin : Are tables.first_at_begin.items ((part_of e 0).first true) tables.width
+  pub first_inside : Are tables.first_inside.items ((part_of e 0).first false) tables.width
+  pub last_at_end : Are tables.last_at_end.items ((part_of e 0).last true) tables.width
+  pub last_inside : Are tables.last_inside.items ((part_of e 0).last false) tables.width
+  pub empty : TellsEmpty (part_of e 0) tables.empty
+  pub beginnings : Marks tables.beginnings (CanBegin (part_of e 0))
+
+-- what a refusal says of the count of positions: too large exactly where there are more than 4,096
+abbrev pub IsRefused : ℕ → BuildFault → Type 0
+IsRefused count TooLarge = most_positions < count
+IsRefused count Memory = count ≤ most_positions

@@ -1,0 +1,13 @@
+pub mod Literals
+pub mod Needles
+pub mod Simulated
+pub mod Simulations
+pub mod FixedSets
+pub mod Branches
+pub mod Filters
+pub mod Pairs
+pub mod Rows
+pub mod Stages
+pub mod Walks
+pub mod CachedMatchers
+pub mod Matchers

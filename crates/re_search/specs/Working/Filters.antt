@@ -1,0 +1,16 @@
+-- Strings of which a line has one wherever some expression matches it.
+use Rattle.std.specs.Prelude.{Bool, false, List, Any}
+use Rattle.re_syntax.specs.Bytes.{Text}
+use Rattle.re_syntax.specs.Expression.{Expression}
+use Rattle.re_syntax.specs.Holds.{Matches}
+use Rattle.re_search.specs.Working.Literals.{Literals, any_literal}
+use Rattle.re_search.specs.Working.Needles.{IsNeeded}
+use Rattle.re_search.specs.Searching.{SomeMatches}
+
+-- some of the strings stands on each line that some of the expressions matches
+abbrev pub AreNeeded : Literals → List Expression → Type 0
+AreNeeded strings es = (line : Text) (whole : Bool) → SomeMatches es line whole → Matches (any_literal strings) line false
+
+-- the expression needs some of the texts
+abbrev pub NeedsOneOf : List Text → Expression → Type 0
+NeedsOneOf texts e = Any (λ text. IsNeeded text e) texts

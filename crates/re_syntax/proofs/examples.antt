@@ -1,0 +1,4 @@
+pub mod BracketRows
+pub mod BasicRows
+pub mod ExtendedRows
+pub mod ExtendedDepth

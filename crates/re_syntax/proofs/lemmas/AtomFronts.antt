@@ -1,0 +1,148 @@
+-- What an atom of a basic expression begins with: a byte that has no other meaning there, and which tells the kind of atom.
+use Rattle.std.proofs.Common.{◌≡◌, ◌≢◌, ℕ, Bool, true, false, nat_eq, [], ◌∷◌, IsTrue, codes, if◌then◌else◌, refl, ◌∙◌, arith}
+use Rattle.std.proofs.lemmas.Bool.{ne_eqb, cond-false}
+use Rattle.re_syntax.specs.Bytes.{Text}
+use Rattle.re_syntax.specs.Expression.{Expression}
+use Rattle.re_syntax.specs.Escapes.{is_undefined}
+use Rattle.re_syntax.specs.Basic.{ItemPlace, First, AfterAnchor, Later, is_ordinary, IsAtEnd, Atom, bracket, period, escaped, ordinary, group}
+use Rattle.re_syntax.proofs.lemmas.BracketsUnique.{heads, bracket_front}
+
+-- what follows a backslash that opens a group
+abbrev pub is_opening : Text → Bool
+is_opening [] = false
+is_opening (b ∷ t) = nat_eq b 40
+
+-- the kind of atom that begins so
+abbrev pub kind_of : Text → ℕ
+kind_of [] = 9
+kind_of (b ∷ w) = if nat_eq b 91 then 0 else if nat_eq b 46 then 1 else if nat_eq b 92 then (if is_opening w then 3 else 2) else 4
+
+-- the byte that the atom begins with has no other meaning
+pub record IsFront (p : ItemPlace) (b : ℕ) (w : Text) : Type 0 where
+  pub not_caret : p ≡ First → b ≢ 94
+  pub not_star : p ≡ Later → b ≢ 42
+  pub not_tail : b ≡ 36 → ¬ IsAtEnd w
+  pub no_interval : b ≡ 92 → (v : Text) → w ≢ 123 ∷ v
+  pub no_closing : b ≡ 92 → (v : Text) → w ≢ 41 ∷ v
+
+pub record Front (p : ItemPlace) (t : Text) (kind : ℕ) : Type 0 where
+  pub front : ℕ
+  pub rest : Text
+  pub whole : t ≡ front ∷ rest
+  pub is_kind : kind_of (front ∷ rest) ≡ kind
+  pub clear : IsFront p front rest
+
+-- a byte that stands for itself is none that does not
+pub not_ordinary : (p : ItemPlace) (b c : ℕ) → IsTrue (is_ordinary p b) → is_ordinary p c ≡ false → b ≢ c
+not_ordinary p b c h k e = let f : is_ordinary p b ≡ false = rw e k in cc
+
+-- a backslash, a bracket and a period never do
+pub never_backslash : (p : ItemPlace) → is_ordinary p 92 ≡ false
+never_backslash First = refl
+never_backslash AfterAnchor = refl
+never_backslash Later = refl
+
+-- a bracket
+pub never_bracket : (p : ItemPlace) → is_ordinary p 91 ≡ false
+never_bracket First = refl
+never_bracket AfterAnchor = refl
+never_bracket Later = refl
+
+-- a period
+pub never_period : (p : ItemPlace) → is_ordinary p 46 ≡ false
+never_period First = refl
+never_period AfterAnchor = refl
+never_period Later = refl
+
+-- a byte that stands for itself is of the last kind
+ordinary_kind : (p : ItemPlace) (b : ℕ) (w : Text) → IsTrue (is_ordinary p b) → kind_of (b ∷ w) ≡ 4
+ordinary_kind p b w h =
+    cond-false _ _ _ (ne_eqb b 91 (not_ordinary p b 91 h (never_bracket p))) ∙ cond-false _ _ _ (ne_eqb b 46 (not_ordinary p b 46 h (never_period p)))
+    ∙ cond-false _ _ _ (ne_eqb b 92 (not_ordinary p b 92 h (never_backslash p)))
+
+-- it is no caret that is first
+first_caret : (p : ItemPlace) (b : ℕ) → IsTrue (is_ordinary p b) → p ≡ First → b ≢ 94
+first_caret First b h e = not_ordinary First b 94 h refl
+first_caret AfterAnchor b h e = cc
+first_caret Later b h e = cc
+
+-- it is no star behind another item
+later_star : (p : ItemPlace) (b : ℕ) → IsTrue (is_ordinary p b) → p ≡ Later → b ≢ 42
+later_star First b h e = cc
+later_star AfterAnchor b h e = cc
+later_star Later b h e = not_ordinary Later b 42 h refl
+
+-- a byte that is no caret, star, dollar or backslash has no other meaning
+fixed_front : (p : ItemPlace) (b : ℕ) (w : Text) → b ≢ 94 → b ≢ 42 → b ≢ 36 → b ≢ 92 → IsFront p b w
+fixed_front p b w caret st tail back = record {
+  not_caret = λ e. caret;
+  not_star = λ e. st;
+  not_tail = λ e. absurd (tail e);
+  no_interval = λ e. absurd (back e);
+  no_closing = λ e. absurd (back e);
+}
+
+-- an escape is no interval's opening and no group's end
+backslash_front : (p : ItemPlace) (c : ℕ) (w : Text) → c ≢ 123 → c ≢ 41 → IsFront p 92 (c ∷ w)
+backslash_front p c w n m = record {
+  not_caret = λ e k. absurd (omega arith);
+  not_star = λ e k. absurd (omega arith);
+  not_tail = λ e. absurd (omega arith);
+  no_interval = λ e v f. n (heads f);
+  no_closing = λ e v f. m (heads f);
+}
+
+-- a byte that may be escaped is none that may not
+pub undefined_apart : (b c : ℕ) → ¬ IsTrue (is_undefined (codes "(){<>`'+?|") b) → is_undefined (codes "(){<>`'+?|") c ≡ true → b ≢ c
+undefined_apart b c h k e = h (rw e k)
+
+-- the number that tells the kind of atom
+abbrev pub atom_code : {p : ItemPlace} {n : ℕ} {t u : Text} {e : Expression} → Atom p n t u e → ℕ
+atom_code (bracket b) = 0
+atom_code period = 1
+atom_code (escaped b h) = 2
+atom_code (group h) = 3
+atom_code (ordinary b h k) = 4
+
+-- what each atom begins with
+pub atom_front : {p : ItemPlace} {n : ℕ} {t u : Text} {e : Expression} → (a : Atom p n t u e) → Front p t (atom_code a)
+atom_front {p} (bracket h) = let (w, e) = bracket_front h in
+    record {
+      front = 91;
+      rest = w;
+      whole = e;
+      is_kind = refl;
+      clear = fixed_front p 91 w (λ k. absurd (omega arith)) (λ k. absurd (omega arith)) (λ k. absurd (omega arith)) (λ k. absurd (omega arith));
+    }
+atom_front {p} (period {u = u}) =
+    record {
+      front = 46;
+      rest = u;
+      whole = refl;
+      is_kind = refl;
+      clear = fixed_front p 46 u (λ k. absurd (omega arith)) (λ k. absurd (omega arith)) (λ k. absurd (omega arith)) (λ k. absurd (omega arith));
+    }
+atom_front {p} (escaped {u = u} b h) =
+    record {
+      front = 92;
+      rest = b ∷ u;
+      whole = refl;
+      is_kind = cond-false _ _ _ (ne_eqb b 40 (undefined_apart b 40 h refl));
+      clear = backslash_front p b u (undefined_apart b 123 h refl) (undefined_apart b 41 h refl);
+    }
+atom_front {p} (group {t = t} h) =
+    record { front = 92; rest = 40 ∷ t; whole = refl; is_kind = refl; clear = backslash_front p 40 t (λ k. absurd (omega arith)) (λ k. absurd (omega arith)) }
+atom_front {p} (ordinary {u = u} b h k) =
+    record {
+      front = b;
+      rest = u;
+      whole = refl;
+      is_kind = ordinary_kind p b u h;
+      clear = record {
+        not_caret = first_caret p b h;
+        not_star = later_star p b h;
+        not_tail = k;
+        no_interval = λ e. absurd (not_ordinary p b 92 h (never_backslash p) e);
+        no_closing = λ e. absurd (not_ordinary p b 92 h (never_backslash p) e);
+      };
+    }

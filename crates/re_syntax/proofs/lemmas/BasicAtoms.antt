@@ -1,0 +1,178 @@
+-- Single atoms of basic expressions, from what stands at their place.
+use Rattle.std.proofs.Common.{◌≡◌, ◌≢◌, ℕ, ◌+◌, ◌<◌, ◌⊎◌, inl, inr, true, ◌||◌, nat_eq, ◌∷◌, ◌++◌, length, take, drop, Some, IsTrue, slice_get, codes, refl, sym, ap, ◌∙◌, subst, arith, length-drop}
+use Rattle.std.proofs.lemmas.Bool.{or_cases, or_left, or_right, eqb-true, ne_eqb, cases_eq}
+use Rattle.re_syntax.specs.declared.pieces.Piece.{Piece}
+use Rattle.re_syntax.specs.declared.class.Class.TheVariants.{Alnum}
+use Rattle.re_syntax.specs.declared.fault.FaultKind.{FaultKind}
+use Rattle.re_syntax.specs.declared.fault.FaultKind.TheVariants.{UnclosedBracket}
+use Rattle.re_syntax.specs.declared.fault.PatternFault.{PatternFault}
+use Rattle.re_syntax.specs.Bytes.{Text, Begins, in_class}
+use Rattle.re_syntax.specs.Escapes.{is_in, is_undefined}
+use Rattle.re_syntax.specs.Expression.{Expression, one_of, byte, expression_of}
+use Rattle.re_syntax.specs.Brackets.{IsBracket}
+use Rattle.re_syntax.specs.Faults.{ShowsBracketFault, IsNoBracket}
+use Rattle.re_syntax.specs.Basic.{ItemPlace, First, AfterAnchor, Later, is_ordinary, Atom, bracket, period, escaped, ordinary, group}
+use Rattle.re_syntax.specs.BasicFaults.{ShowsBasicFault, IsShownIn}
+use Rattle.re_syntax.specs.Profile.{basic_refused}
+use Rattle.re_syntax.specs.EscapeFaults.{IsRefusedEscape, undefined, reference, BeginsRefusedEscape}
+use Rattle.re_syntax.specs.Working.BasicSteps.{HasItem, MayBegin, AtomStands, HasNoAtom}
+use Rattle.re_syntax.specs.Working.PieceSteps.{meant_bytes, IsBracketPiece}
+use Rattle.re_syntax.specs.Working.EscapeSteps.{EscapeStands, HasNoEscape, trailing, refused}
+use Rattle.re_syntax.proofs.lemmas.BracketsUnique.{heads, tails, apart, bracket_front}
+use Rattle.re_syntax.proofs.lemmas.BracketLists.{bracket-shortens}
+use Rattle.re_syntax.proofs.lemmas.AtomFronts.{atom_front, not_ordinary, never_backslash, never_bracket}
+use Rattle.re_syntax.proofs.lemmas.Places.{byte_at}
+use Rattle.re_syntax.proofs.lemmas.EscapeLaws.{no_escape}
+use Rattle.re_syntax.proofs.lemmas.BracketKinds.{IsBracketKind, is_unclosed, is_class, is_symbol, is_range, bracket_kind}
+
+-- Escapes.
+
+-- where no escape stands, the fault shows
+shown_refused : (before t : Text) {kind : FaultKind} {b : ℕ} → IsRefusedEscape basic_refused kind b → BeginsRefusedEscape basic_refused kind t → ShowsBasicFault kind before t
+shown_refused before t (undefined h k) r = r
+shown_refused before t (reference h) r = r
+
+-- at its backslash
+pub shown_escape : (text : Text) (at : ℕ) (fault : PatternFault) → HasNoEscape basic_refused text at fault → IsShownIn text fault
+shown_escape text at fault (trailing e front) = subst (IsShownIn text) (sym e) front
+shown_escape text at fault (refused e r) = subst (IsShownIn text) (sym e) (shown_refused (take at text) (drop at text) r.refused r)
+
+-- the bytes that an escape may not have are more in the grammar, where `\(`, `\)` and `\{` are no escapes
+wider_cases : (b : ℕ) → IsTrue (is_undefined (codes "(){<>`'+?|") b) → (b ≡ 40) ⊎ ((b ≡ 41) ⊎ ((b ≡ 123) ⊎ IsTrue (is_undefined basic_refused b)))
+wider_cases b h = go (or_cases (in_class Alnum b) _ h)
+  where
+    third : (nat_eq 123 b ≡ true) ⊎ (is_in basic_refused b ≡ true) → (b ≡ 40) ⊎ ((b ≡ 41) ⊎ ((b ≡ 123) ⊎ IsTrue (is_undefined basic_refused b)))
+    third (inl e) = inr (inr (inl (sym (eqb-true 123 b e))))
+    third (inr e) = inr (inr (inr (or_right (in_class Alnum b) _ e)))
+
+    second : (nat_eq 41 b ≡ true) ⊎ ((nat_eq 123 b || is_in basic_refused b) ≡ true) → (b ≡ 40) ⊎ ((b ≡ 41) ⊎ ((b ≡ 123) ⊎ IsTrue (is_undefined basic_refused b)))
+    second (inl e) = inr (inl (sym (eqb-true 41 b e)))
+    second (inr e) = third (or_cases (nat_eq 123 b) _ e)
+
+    first : (nat_eq 40 b ≡ true) ⊎ ((nat_eq 41 b || (nat_eq 123 b || is_in basic_refused b)) ≡ true) → (b ≡ 40) ⊎ ((b ≡ 41) ⊎ ((b ≡ 123) ⊎ IsTrue (is_undefined basic_refused b)))
+    first (inl e) = inl (sym (eqb-true 40 b e))
+    first (inr e) = second (or_cases (nat_eq 41 b) _ e)
+
+    go : (in_class Alnum b ≡ true) ⊎ (is_in (codes "(){<>`'+?|") b ≡ true) → (b ≡ 40) ⊎ ((b ≡ 41) ⊎ ((b ≡ 123) ⊎ IsTrue (is_undefined basic_refused b)))
+    go (inl e) = inr (inr (inr (or_left _ (is_in basic_refused b) e)))
+    go (inr e) = first (or_cases (nat_eq 40 b) _ e)
+
+-- which are more, and none less
+wider : (b : ℕ) → IsTrue (is_undefined basic_refused b) → IsTrue (is_undefined (codes "(){<>`'+?|") b)
+wider b h = go (or_cases (in_class Alnum b) _ h)
+  where
+    go : (in_class Alnum b ≡ true) ⊎ (is_in basic_refused b ≡ true) → IsTrue (is_undefined (codes "(){<>`'+?|") b)
+    go (inl e) = or_left _ _ e
+    go (inr e) = or_right (in_class Alnum b) _ (or_right (nat_eq 40 b) _ (or_right (nat_eq 41 b) _ (or_right (nat_eq 123 b) _ e)))
+
+-- an escape is an atom
+pub escaped_atom : {p : ItemPlace} {text : Text} {at b : ℕ} → EscapeStands basic_refused text at b → ¬ Begins (codes "\\(") (drop at text) → ¬ Begins (codes "\\)") (drop at text) →
+    ¬ Begins (codes "\\{") (drop at text) → Atom p 0 (drop at text) (drop (at + 2) text) (byte b)
+escaped_atom {p} {text} {at} {b} s no_group no_end no_interval =
+    subst (λ t. Atom p 0 t (drop (at + 2) text) (byte b)) (sym s.front) (escaped b (λ h. go (wider_cases b h)))
+  where
+    here : (c : ℕ) → b ≡ c → drop at text ≡ 92 ∷ c ∷ drop (at + 2) text
+    here c e = s.front ∙ ap (λ x. 92 ∷ x ∷ drop (at + 2) text) e
+
+    go : (b ≡ 40) ⊎ ((b ≡ 41) ⊎ ((b ≡ 123) ⊎ IsTrue (is_undefined basic_refused b))) → ⊥
+    go (inl e) = no_group (drop (at + 2) text, here 40 e)
+    go (inr (inl e)) = no_end (drop (at + 2) text, here 41 e)
+    go (inr (inr (inl e))) = no_interval (drop (at + 2) text, here 123 e)
+    go (inr (inr (inr h))) = s.allowed h
+
+-- at a backslash that opens no group and escapes nothing no atom stands
+no_escaped : {p : ItemPlace} {h : ℕ} {t u w : Text} {e : Expression} → Atom p h t u e → t ≡ 92 ∷ w → ¬ Begins (codes "\\(") t →
+    ((b : ℕ) (v : Text) → t ≡ codes "\\" ++ b ∷ v → IsTrue (is_undefined basic_refused b)) → ⊥
+no_escaped (bracket h) e k none = let (w, f) = bracket_front h in apart 91 92 (heads (sym f ∙ e)) refl
+no_escaped period e k none = apart 46 92 (heads e) refl
+no_escaped (escaped {u = u} b h) e k none = h (wider b (none b u refl))
+no_escaped {p} (ordinary b h l) e k none = not_ordinary p b 92 h (never_backslash p) (heads e)
+no_escaped (group {t = t} is) e k none = k (t, refl)
+
+-- so where an escape is refused no atom stands
+pub no_escape_atom : {text : Text} {at : ℕ} {fault : PatternFault} → Begins (codes "\\") (drop at text) → ¬ Begins (codes "\\(") (drop at text) → HasNoEscape basic_refused text at fault →
+    (p : ItemPlace) (levels : ℕ) → HasNoAtom p levels (drop at text)
+no_escape_atom (w, e) k h p levels = record { none = λ n u x a le. no_escaped a e k (no_escape h) }
+
+-- nor where an interval would begin
+pub no_interval_atom : {t : Text} → Begins (codes "\\{") t → (p : ItemPlace) (levels : ℕ) → HasNoAtom p levels t
+no_interval_atom (w, e) p levels = record {
+  none = λ n u x a le. let f = atom_front a in f.clear.no_interval (heads (sym f.whole ∙ e)) w (tails (sym f.whole ∙ e));
+}
+
+-- Bracket expressions.
+
+-- a bracket expression is an atom
+pub bracket_atom : (levels : ℕ) (text : Text) (at : ℕ) (piece : Piece) → IsBracketPiece text at piece → (p : ItemPlace) → AtomStands p levels text at piece
+bracket_atom levels text at piece b p =
+    let within = b.stands.within in
+    record {
+      forward = omega (arith, simp length-drop at (bracket-shortens b.stands.stands), within);
+      within = within;
+      height = omega (arith, b.height);
+      stands = rw b.height (bracket b.stands.stands);
+    }
+
+-- and at a bracket nothing else is
+atom-bracket : {p : ItemPlace} {h : ℕ} {t u : Text} {e : Expression} → Atom p h t u e → (w : Text) → t ≡ 91 ∷ w → IsBracket t u e
+atom-bracket (bracket h) w e = h
+atom-bracket period w e = absurd (apart 46 91 (heads e) refl)
+atom-bracket (escaped b h) w e = absurd (apart 92 91 (heads e) refl)
+atom-bracket (group is) w e = absurd (apart 92 91 (heads e) refl)
+atom-bracket {p} (ordinary b h k) w e = absurd (not_ordinary p b 91 h (never_bracket p) (heads e))
+
+-- its faults show as in a bracket expression alone, where none stands at an opening that is told
+shown_bracket : {kind : FaultKind} (before t : Text) → IsBracketKind kind → ShowsBracketFault kind t → (kind ≡ UnclosedBracket → (rest : Text) (e : Expression) → ¬ IsBracket t rest e) →
+    ShowsBasicFault kind before t
+shown_bracket before t is_unclosed h n = record { opens = h; none = n refl }
+shown_bracket before t is_class h n = h
+shown_bracket before t is_symbol h n = h
+shown_bracket before t is_range h n = h
+
+-- so where none stands no atom does
+pub no_bracket_atom : (text : Text) (at : ℕ) (fault : PatternFault) → slice_get text at ≡ Some 91 → IsNoBracket text at fault → (p : ItemPlace) (levels : ℕ) →
+    HasNoAtom p levels (drop at text)
+no_bracket_atom text at fault e h p levels = record { none = λ n u x a le. h.none u x (atom-bracket a (drop (at + 1) text) (byte_at text at 91 e)) }
+
+-- and the fault shows
+pub shown_no_bracket : (text : Text) (at : ℕ) (fault : PatternFault) → IsNoBracket text at fault → IsShownIn text fault
+shown_no_bracket text at fault h =
+    shown_bracket (take fault.at text) (drop fault.at text) (bracket_kind fault.kind (drop fault.at text) h.shown) h.shown
+    (λ k. subst (λ n. (rest : Text) (e : Expression) → ¬ IsBracket (drop n text) rest e) (sym (h.unclosed k)) h.none)
+
+-- Other bytes.
+
+-- a byte that nothing else is stands for itself
+stands_for_itself : (p : ItemPlace) (b : ℕ) (u : Text) → MayBegin p (b ∷ u) → b ≢ 91 → b ≢ 46 → b ≢ 92 → IsTrue (is_ordinary p b)
+stands_for_itself First b u h k d l =
+    let caret : b ≢ 94 = λ e. h.no_lead refl (u, ap (λ x. x ∷ u) e) in
+    rw (ne_eqb 91 b (λ e. k (sym e)), ne_eqb 46 b (λ e. d (sym e)), ne_eqb 92 b (λ e. l (sym e)), ne_eqb 94 b (λ e. caret (sym e)))
+stands_for_itself AfterAnchor b u h k d l = rw (ne_eqb 91 b (λ e. k (sym e)), ne_eqb 46 b (λ e. d (sym e)), ne_eqb 92 b (λ e. l (sym e)))
+stands_for_itself Later b u h k d l =
+    let star : b ≢ 42 = λ e. (h.no_duplication refl).star (u, ap (λ x. x ∷ u) e) in
+    rw (ne_eqb 91 b (λ e. k (sym e)), ne_eqb 46 b (λ e. d (sym e)), ne_eqb 92 b (λ e. l (sym e)), ne_eqb 42 b (λ e. star (sym e)))
+
+-- a period, or a byte that stands for itself
+single_atom : (p : ItemPlace) (b : ℕ) (u : Text) → MayBegin p (b ∷ u) → HasItem (b ∷ u) → b ≢ 91 → b ≢ 92 → Atom p 0 (b ∷ u) u (one_of (meant_bytes b))
+single_atom p b u h i k l = go (cases_eq b 46)
+  where
+    go : (b ≡ 46) ⊎ (b ≡ 46 → ⊥) → Atom p 0 (b ∷ u) u (one_of (meant_bytes b))
+    go (inl e) = rw e period
+    go (inr n) =
+        rw (ne_eqb b 46 n) (ordinary b (stands_for_itself p b u h k n l) (λ e. i.no_tail u (ap (λ x. x ∷ u) e)))
+
+-- which stands up to the next place
+pub single_stands : (levels : ℕ) (text : Text) (at b : ℕ) (piece : Piece) → at < length text → drop at text ≡ b ∷ drop (at + 1) text → HasItem (drop at text) → b ≢ 91 → b ≢ 92 →
+    expression_of piece.tree ≡ one_of (meant_bytes b) → piece.height ≡ 0 → piece.behind ≡ at + 1 → (p : ItemPlace) → MayBegin p (drop at text) →
+    AtomStands p levels text at piece
+single_stands levels text at b piece h e i k l f g n p m =
+    let one : Atom p 0 (b ∷ drop (at + 1) text) (drop (at + 1) text) (one_of (meant_bytes b)) = single_atom p b (drop (at + 1) text) (rw e at m) (rw e at i) k l in
+    record { forward = omega arith; within = omega arith; height = omega arith; stands = rw (e, f, g, n) one }
+
+-- an escape stands up to the next place but one
+pub escaped_stands : (levels : ℕ) (text : Text) (at b : ℕ) (piece : Piece) → EscapeStands basic_refused text at b → ¬ Begins (codes "\\(") (drop at text) →
+    ¬ Begins (codes "\\)") (drop at text) → ¬ Begins (codes "\\{") (drop at text) → expression_of piece.tree ≡ byte b → piece.height ≡ 0 → piece.behind ≡ at + 2 →
+    (p : ItemPlace) → AtomStands p levels text at piece
+escaped_stands levels text at b piece s k l m f g n p =
+    let within = s.within in
+    record { forward = omega arith; within = omega arith; height = omega arith; stands = rw (f, g, n) (escaped_atom s k l m) }

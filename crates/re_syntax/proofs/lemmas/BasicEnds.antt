@@ -1,0 +1,82 @@
+-- Where a basic expression ends, and the anchors at its two ends.
+use Rattle.std.proofs.Common.{◌≡◌, ℕ, ◌<◌, ◌≤◌, ◌⊎◌, inl, inr, [], ◌∷◌, ◌++◌, length, drop, map, codes, refl, sym, ap, ◌∙◌, subst, arith, length-drop, append-nil}
+use Rattle.std.proofs.Math.Seq.{drop-length}
+use Rattle.std.proofs.lemmas.Bool.{cases_lt}
+use Rattle.re_syntax.specs.declared.pieces.Pieces.{Pieces}
+use Rattle.re_syntax.specs.declared.pieces.Piece.{Piece}
+use Rattle.re_syntax.specs.Bytes.{Text, Begins}
+use Rattle.re_syntax.specs.Working.Ahead.{IsAfter}
+use Rattle.re_syntax.specs.Expression.{end, expression_of}
+use Rattle.re_syntax.specs.Basic.{IsAtEnd, of_text, of_group, Items, none, trailing}
+use Rattle.re_syntax.specs.Working.BasicSteps.{HasItem, HasNoItem, at_end, at_tail, HasNoTail, IsBehindTail, IsEnded}
+use Rattle.re_syntax.specs.Working.PieceSteps.{IsJoined}
+
+-- the two ends
+pub ends : {t : Text} → IsAtEnd t → (t ≡ []) ⊎ Begins (codes "\\)") t
+ends of_text = inl refl
+ends (of_group {t = u}) = inr (u, refl)
+
+-- the end of the text
+pub at_text_end : (text : Text) (at : ℕ) → at ≡ length text → IsAtEnd (drop at text)
+at_text_end text at e = subst IsAtEnd (sym (ap (λ n. drop n text) e ∙ drop-length text)) of_text
+
+-- the end of a group
+pub at_group_end : (text : Text) (at behind : ℕ) → IsAfter (codes "\\)") text at behind → IsAtEnd (drop at text)
+at_group_end text at behind s = subst IsAtEnd (sym s.front) of_group
+
+-- no end
+pub not_at_end : (text : Text) (at : ℕ) → at ≤ length text → (at ≡ length text → ⊥) → ¬ Begins (codes "\\)") (drop at text) → ¬ IsAtEnd (drop at text)
+not_at_end text at h n k e = go (ends e)
+  where
+    go : (drop at text ≡ []) ⊎ Begins (codes "\\)") (drop at text) → ⊥
+    go (inl f) = n (omega (arith, simp length-drop at (ap length f)))
+    go (inr b) = k b
+
+-- neither an end nor an anchor before one
+pub item_here : {t : Text} → ¬ IsAtEnd t → HasNoTail t → HasItem t
+item_here h k = record { not_end = h; no_tail = k.none }
+
+-- an anchor before an end
+pub tail_here : (text : Text) (at behind : ℕ) → IsBehindTail text at behind → HasNoItem (drop at text)
+tail_here text at behind h = at_tail h.stands.front h.last
+
+-- where no item stands and no `$` that is last, the expression ends
+pub end_here : {t : Text} → HasNoItem t → HasNoTail t → IsAtEnd t
+end_here (at_end h) k = h
+end_here (at_tail e h) k = absurd (k.none _ e h)
+
+-- an end and no anchor before it
+pub ended_without_tail : (text : Text) (items : Pieces) → items.behind ≤ length text → HasNoItem (drop items.behind text) → HasNoTail (drop items.behind text) → IsEnded text items items
+ended_without_tail text items h n k = record {
+  forward = omega arith;
+  within = h;
+  at_end = end_here n k;
+  height = refl;
+  last = [];
+  stands = λ p. none;
+  means = sym (append-nil _);
+}
+
+-- an anchor and the end behind it
+pub ended_with_tail : (text : Text) (old new : Pieces) (piece : Piece) → IsBehindTail text old.behind piece.behind → expression_of piece.tree ≡ end → piece.height ≡ 0 → IsJoined old piece new → IsEnded text old new
+ended_with_tail text old new piece t e f j = record {
+  forward = omega (arith, j.place, t.stands.place);
+  within = omega (arith, j.place, t.stands.within);
+  at_end = subst (λ n. IsAtEnd (drop n text)) (sym j.place) t.last;
+  height = j.height ∙ omega arith;
+  last = end ∷ [];
+  stands = λ p. subst (λ u. Items p 0 u (drop new.behind text) (end ∷ [])) (sym t.stands.front) (subst (λ n. Items p 0 (codes "$" ++ drop piece.behind text) (drop n text) (end ∷ [])) (sym j.place) (trailing t.last));
+  means = j.means ∙ ap (λ x. map expression_of old.trees.items ++ x ∷ []) e;
+}
+
+-- where an item has to stand the text has a byte
+pub item_within : (text : Text) (at : ℕ) → at ≤ length text → HasItem (drop at text) → at < length text
+item_within text at h i = go (cases_lt at (length text))
+  where
+    go : (at < length text) ⊎ (length text ≤ at) → at < length text
+    go (inl k) = k
+    go (inr k) = absurd (i.not_end (at_text_end text at (omega arith)))
+
+-- where an item stands no group ends
+pub not_closing : {t : Text} → HasItem t → ¬ Begins (codes "\\)") t
+not_closing {t} i (w, e) = i.not_end (subst IsAtEnd (sym e) of_group)

@@ -1,0 +1,88 @@
+-- Duplications at a place of the text: what a reader has found when it stops.
+use Rattle.std.proofs.Common.{◌≡◌, ℕ, inl, inr, ◌∷◌, ◌++◌, take, drop, Option, None, IsTrue, codes, refl, sym, ap, ◌∙◌, append_assoc}
+use Rattle.re_syntax.specs.declared.class.Class.TheVariants.{Digit}
+use Rattle.re_syntax.specs.declared.fault.FaultKind.{FaultKind}
+use Rattle.re_syntax.specs.declared.fault.FaultKind.TheVariants.{BadInterval}
+use Rattle.re_syntax.specs.declared.interval.Counts.{Counts}
+use Rattle.re_syntax.specs.Bytes.{Text, in_class}
+use Rattle.re_syntax.specs.Working.Ahead.{IsAfter}
+use Rattle.re_syntax.specs.Basic.{Duplication, star, interval}
+use Rattle.re_syntax.specs.Intervals.{IsAllowed, IsNoPart, HasNoInterval}
+use Rattle.re_syntax.specs.Working.IntervalSteps.{IntervalStands}
+use Rattle.re_syntax.specs.BasicFaults.{ShowsBasicFault}
+use Rattle.re_syntax.specs.IntervalFaults.{IsDisallowed, least_too_large, most_too_large, descending, OpensDisallowed}
+use Rattle.re_syntax.proofs.lemmas.CountsLaws.{are_counts, disallowed_too, not_allowed}
+use Rattle.re_syntax.specs.Working.BasicSteps.{NoDuplication, OpensNoDuplication, DuplicationStands, HasBadInterval}
+use Rattle.re_syntax.proofs.lemmas.BracketsUnique.{heads, tails, apart}
+use Rattle.re_syntax.proofs.lemmas.IntervalLaws.{cut-unique, Interval-unique, interval_lacks}
+
+-- `\}` closes an interval
+pub closing_no_part : IsNoPart (codes "\\}")
+closing_no_part = record {
+  not_empty = λ e. cc;
+  no_digit = λ b u e h. let k : IsTrue (in_class Digit 92) = rw (sym (heads e)) at h in cc;
+  no_comma = λ h. apart 92 44 (heads h.1) refl;
+}
+
+-- a star
+pub star_stands : {text : Text} {at behind : ℕ} → IsAfter (codes "*") text at behind → DuplicationStands text at (record { least = 0; most = None }) behind
+star_stands s = record { within = s.within; bytes = codes "*"; duplication = star; front = s.front }
+
+-- an interval whose counts are allowed
+pub interval_stands : {text : Text} {at inside behind : ℕ} {counts : Counts} → IsAfter (codes "\\{") text at inside → IntervalStands (codes "\\}") text inside counts behind →
+    IsAllowed counts.least counts.most → DuplicationStands text at counts behind
+interval_stands {text} {at} {inside} {behind} {counts} s i h =
+    let same = are_counts counts.least i.least counts.most i.most i.least_is i.most_is h in
+    let allowed : IsAllowed i.least i.most = rw (sym same.least, sym same.most) h in
+    record {
+      within = i.within;
+      bytes = codes "\\{" ++ i.stands.inside ++ codes "\\}";
+      duplication = rw (same.least, same.most) (interval i.stands.form allowed);
+      front = s.front ∙ ap (λ t. 92 ∷ 123 ∷ t) (i.stands.whole ∙ sym (append_assoc i.stands.inside (codes "\\}") (drop behind text)));
+    }
+
+-- where neither `*` nor `\{` stands, no duplication does
+pub opens_none : {t : Text} → OpensNoDuplication t → NoDuplication t
+opens_none {t} h = record { none = λ d least most u p e. go d least most u p e }
+  where
+    go : (d : Text) (least : ℕ) (most : Option ℕ) (u : Text) → Duplication d least most → t ≡ d ++ u → ⊥
+    go d least most u star e = h.star (u, e)
+    go d least most u (interval {t = inside} form allowed) e = h.interval ((inside ++ codes "\\}") ++ u, e)
+
+-- an interval's opening where no interval stands
+pub no_interval : {text : Text} {at inside : ℕ} → IsAfter (codes "\\{") text at inside → HasNoInterval (codes "\\}") (drop inside text) →
+    HasBadInterval text at (record { kind = BadInterval; at = at })
+no_interval {text} {at} {inside} s no_form = record {
+  opens = (drop inside text, s.front);
+  none = record { none = λ d least most u p e. go d least most u p (sym s.front ∙ e) };
+  shown = inl (record { inside = drop inside text; opens = s.front; none = no_form });
+}
+  where
+    go : (d : Text) (least : ℕ) (most : Option ℕ) (u : Text) → Duplication d least most → codes "\\{" ++ drop inside text ≡ d ++ u → ⊥
+    go d least most u star e = apart 92 42 (heads e) refl
+    go d least most u (interval {t = inner} form allowed) e =
+        no_form.none u least most (record { inside = inner; form = form; whole = tails (tails e) ∙ append_assoc inner (codes "\\}") u })
+
+-- how counts that are refused show
+shown_disallowed : (before : Text) {kind : FaultKind} {t : Text} {least : ℕ} {most : Option ℕ} → OpensDisallowed (codes "\\{") (codes "\\}") kind t → IsDisallowed kind least most → ShowsBasicFault kind before t
+shown_disallowed before o (least_too_large h) = o
+shown_disallowed before o (most_too_large h) = o
+shown_disallowed before o (descending h small) = inr o
+
+-- one where the interval's counts are refused
+pub bad_interval : {text : Text} {at inside behind : ℕ} {counts : Counts} {kind : FaultKind} → IsAfter (codes "\\{") text at inside →
+    IntervalStands (codes "\\}") text inside counts behind → IsDisallowed kind counts.least counts.most → HasBadInterval text at (record { kind = kind; at = at })
+bad_interval {text} {at} {inside} {behind} {counts} {kind} s i bad =
+    let refused = disallowed_too bad i.least i.most i.least_is i.most_is in record {
+      opens = (drop inside text, s.front);
+      none = record { none = λ d least most u p e. go d least most u p (sym s.front ∙ e) };
+      shown = shown_disallowed (take at text) (record { inside = drop inside text; rest = drop behind text; least = i.least; most = i.most; opens = s.front; stands = i.stands; disallowed = refused }) refused;
+    }
+  where
+    go : (d : Text) (least : ℕ) (most : Option ℕ) (u : Text) → Duplication d least most → codes "\\{" ++ drop inside text ≡ d ++ u → ⊥
+    go d least most u star e = apart 92 42 (heads e) refl
+    go d least most u (interval {t = inner} form allowed) e =
+        let whole = sym i.stands.whole ∙ tails (tails e) ∙ append_assoc inner (codes "\\}") u in
+        let cut = cut-unique 92 i.stands.inside inner (125 ∷ drop behind text) (125 ∷ u) (interval_lacks 92 refl refl i.stands.form) (interval_lacks 92 refl refl form) whole in
+        let same = Interval-unique i.stands.inside inner i.least least i.most most i.stands.form form cut.0 in
+        not_allowed (disallowed_too bad i.least i.most i.least_is i.most_is) (rw (same.0, same.1) allowed)

@@ -1,0 +1,146 @@
+-- Items of basic expressions, from their atoms and what follows them.
+use Rattle.std.proofs.Common.{◌≡◌, ◌≢◌, ℕ, suc, ◌<◌, ◌≤◌, inr, max, List, ◌∷◌, ◌++◌, length, drop, Option, refl, sym, ap, ◌∙◌, subst, arith, append_assoc, length-append, length-drop}
+use Rattle.re_syntax.specs.declared.pieces.Piece.{Piece}
+use Rattle.re_syntax.specs.declared.pieces.Pieces.{Pieces}
+use Rattle.re_syntax.specs.declared.interval.Counts.{Counts}
+use Rattle.re_syntax.specs.declared.fault.FaultKind.TheVariants.{TooDeep}
+use Rattle.re_syntax.specs.declared.fault.PatternFault.{PatternFault}
+use Rattle.re_syntax.specs.Bytes.{Text}
+use Rattle.re_syntax.specs.Expression.{Expression, expression_of, repeat}
+use Rattle.re_syntax.specs.Basic.{Duplication, star, interval, ItemPlace, AfterAnchor, Later, IsAtEnd, Items, none, leading, trailing, item, Item, atom, repeated, Atom}
+use Rattle.re_syntax.specs.BasicFaults.{IsShownIn}
+use Rattle.re_syntax.specs.Working.BasicSteps.{OpensNoDuplication, DuplicationStands, HasBadInterval, HasItem, MayBegin, AtomStands, HasNoAtom, ItemStands, HasNoItems, SoFar, IsEnded, ItemsStand}
+use Rattle.re_syntax.specs.Working.PieceSteps.{IsRepeated, IsJoined}
+use Rattle.re_syntax.proofs.lemmas.BracketsUnique.{heads, tails, apart}
+use Rattle.re_syntax.proofs.lemmas.Chains.{stands_some}
+use Rattle.re_syntax.proofs.lemmas.BasicUnique.{item_parts, item_front, end_front, items-after, items-higher}
+use Rattle.re_syntax.proofs.lemmas.BasicIntervals.{opens_none}
+use Rattle.re_syntax.proofs.lemmas.Places.{regrouped}
+use Rattle.re_syntax.proofs.lemmas.BasicLeads.{at_height}
+
+-- behind the anchor anything else may begin
+pub behind_anchor : (t : Text) → MayBegin AfterAnchor t
+behind_anchor t = record { no_lead = λ e. cc; no_duplication = λ e. cc }
+
+-- where an item has to begin and no atom stands, no items do
+pub no_items_without_atom : {p : ItemPlace} {levels : ℕ} {t : Text} → HasItem t → MayBegin p t → HasNoAtom p levels t → HasNoItems p levels t
+no_items_without_atom {p} {levels} {t} i b h = record { none = λ n u es is end' le. go is refl refl end' le }
+  where
+    go : {q : ItemPlace} {n : ℕ} {s u : Text} {es : List Expression} → Items q n s u es → q ≡ p → s ≡ t → IsAtEnd u → n ≤ levels → ⊥
+    go (none {t = s}) f e end' le = i.not_end (subst IsAtEnd e end')
+    go (leading {t = w} is) f e end' le = b.no_lead (sym f) (w, sym e)
+    go (trailing {t = w} l) f e end' le = i.no_tail w (sym e) l
+    go {q} {s = s} (item {h = n} {k = k} j js) f e end' le =
+        let parts = item_parts j in
+        let here : Atom q parts.level t parts.rest parts.start = subst (λ x. Atom q parts.level x parts.rest parts.start) e parts.atom_first in
+        let there : Atom p parts.level t parts.rest parts.start = subst (λ x. Atom x parts.level t parts.rest parts.start) f here in
+        h.none parts.level parts.rest parts.start there (omega (arith, parts.height))
+
+-- an item that was read up to a place; duplications may follow
+pub record ItemSoFar (levels : ℕ) (text : Text) (at : ℕ) (piece : Piece) : Type 0 where
+  pub forward : at < piece.behind
+  pub within : piece.behind ≤ length text
+  pub height : piece.height ≤ levels
+  pub stands : (p : ItemPlace) → MayBegin p (drop at text) → Item p piece.height (drop at text) (drop piece.behind text) (expression_of piece.tree)
+
+-- an atom is such an item
+pub item_of_atom : (levels : ℕ) (text : Text) (at : ℕ) (piece : Piece) → ((p : ItemPlace) → MayBegin p (drop at text) → AtomStands p levels text at piece) → ItemSoFar levels text at piece
+item_of_atom levels text at piece h =
+    let a = h AfterAnchor (behind_anchor (drop at text)) in
+    record { forward = a.forward; within = a.within; height = a.height; stands = λ p b. atom (h p b).stands }
+
+-- where no duplication follows, it is read
+pub item_read : (levels : ℕ) (text : Text) (at : ℕ) (piece : Piece) → ItemSoFar levels text at piece → OpensNoDuplication (drop piece.behind text) →
+    (p : ItemPlace) → MayBegin p (drop at text) → ItemStands p levels text at piece
+item_read levels text at piece h n p b = record { forward = h.forward; within = h.within; height = h.height; no_more = n; stands = h.stands p b }
+
+-- a duplication takes some byte
+pub duplication_takes : {text : Text} {at : ℕ} {counts : Counts} {behind : ℕ} → DuplicationStands text at counts behind → at < behind
+duplication_takes {text} {at} {counts} {behind} d = go d.duplication d.front
+  where
+    go : {bytes : Text} {least : ℕ} {most : Option ℕ} → Duplication bytes least most → drop at text ≡ bytes ++ drop behind text → at < behind
+    go star e = omega (arith, simp length-drop at (ap length e), d.within)
+    go (interval {t = t} form allowed) e = omega (arith, simp (length-append, length-drop) at (ap length e), d.within)
+
+-- with one duplication more
+pub item_repeated : (levels : ℕ) (text : Text) (at : ℕ) (old new : Piece) (counts : Counts) (behind : ℕ) → ItemSoFar levels text at old → old.height ≢ levels →
+    DuplicationStands text old.behind counts behind → IsRepeated old counts behind new → ItemSoFar levels text at new
+item_repeated levels text at old new counts behind h n d r =
+    let takes = duplication_takes d in
+    record {
+      forward = omega (arith, h.forward, r.place);
+      within = omega (arith, d.within, r.place);
+      height = omega (arith, h.height, r.height);
+      stands = λ p b.
+          let there : Item p old.height (drop at text) (d.bytes ++ drop behind text) (expression_of old.tree) =
+          subst (λ t. Item p old.height (drop at text) t (expression_of old.tree)) d.front (h.stands p b) in
+          let grown : suc old.height ≡ new.height = omega (arith, r.height) in
+          let again : Item p new.height (drop at text) (drop behind text) (repeat (expression_of old.tree) counts.least counts.most) =
+          subst (λ k. Item p k (drop at text) (drop behind text) (repeat (expression_of old.tree) counts.least counts.most)) grown (repeated there d.duplication) in
+          rw (r.means, r.place) again;
+    }
+
+-- one more level than there are
+pub too_deep : (levels : ℕ) (text : Text) (at : ℕ) (piece : Piece) (counts : Counts) (behind : ℕ) → ItemSoFar levels text at piece → piece.height ≡ levels →
+    DuplicationStands text piece.behind counts behind → (p : ItemPlace) → MayBegin p (drop at text) → HasNoItems p levels (drop at text)
+too_deep levels text at piece counts behind h e d p b = record {
+  none = λ n u es is end' le. let higher = items-higher is (h.stands p b) refl end' (stands_some d) in absurd (omega arith);
+}
+
+-- which shows at the duplication
+pub shown_deep : (text : Text) (at : ℕ) (counts : Counts) (behind : ℕ) → DuplicationStands text at counts behind → IsShownIn text (record { kind = TooDeep; at = at })
+shown_deep text at counts behind d =
+    inr (record { bytes = d.bytes; rest = drop behind text; least = counts.least; most = counts.most; duplication = d.duplication; whole = d.front })
+
+-- behind an item no items begin with an interval's opening
+later_not_interval : {h : ℕ} {t u : Text} {es : List Expression} → Items Later h t u es → (w : Text) → t ≡ 92 ∷ 123 ∷ w → IsAtEnd u → ⊥
+later_not_interval {t = t} none w e h = let (k, v, l) = end_front t 92 (123 ∷ w) h e in apart 123 41 (heads l) refl
+later_not_interval (trailing l) w e h = apart 36 92 (heads e) refl
+later_not_interval (item i is) w e h = let (b, v, f, clear) = item_front i in clear.no_interval (heads (sym f ∙ e)) w (tails (sym f ∙ e))
+
+-- so where an interval is refused behind an item no items stand
+pub no_items_bad : (levels : ℕ) (text : Text) (at : ℕ) (piece : Piece) (fault : PatternFault) → ItemSoFar levels text at piece → HasBadInterval text piece.behind fault →
+    (p : ItemPlace) → MayBegin p (drop at text) → HasNoItems p levels (drop at text)
+no_items_bad levels text at piece fault h bad p b = record {
+  none = λ n u es is end' le.
+      let rest = items-after is (h.stands p b) refl end' bad.none in
+      let (w, e) = bad.opens in
+      later_not_interval rest.items w e end';
+}
+
+-- The items so far, and one more.
+
+-- one more item
+pub one_more : (levels : ℕ) (text : Text) (from : ℕ) (old new : Pieces) (piece : Piece) → SoFar levels text from old →
+    ((p : ItemPlace) → MayBegin p (drop old.behind text) → ItemStands p levels text old.behind piece) → IsJoined old piece new → SoFar levels text from new
+one_more levels text from old new piece s h j =
+    let i = h s.place s.begins in
+    record {
+      forward = omega (arith, j.place, i.forward, s.forward);
+      within = omega (arith, j.place, i.within);
+      height = omega (arith, j.height, s.height, i.height);
+      opens = λ b. absurd (i.no_more.interval (rw j.place at b));
+      place = Later;
+      begins = record { no_lead = λ e. cc; no_duplication = λ e. rw j.place i.no_more };
+      ahead = λ k v es is.
+          let next : Items Later k (drop piece.behind text) v es = rw j.place at is in
+          let all = s.ahead (max piece.height k) v (expression_of piece.tree ∷ es) (item i.stands next) in
+          rw (j.means, append_assoc) (at_height (regrouped old.height piece.height k ∙ ap (λ n. max n k) (sym j.height)) all);
+      back = λ none_there. s.back (record {
+        none = λ n u es is end' le.
+            let rest = items-after is i.stands refl end' (opens_none i.no_more) in
+            none_there.none rest.height u rest.others (rw j.place rest.items) end' (omega (arith, rest.below));
+      });
+    }
+
+-- and the end
+pub all_read : (levels : ℕ) (text : Text) (from : ℕ) (old new : Pieces) → SoFar levels text from old → IsEnded text old new → ItemsStand levels text from new
+all_read levels text from old new s e = record {
+  forward = omega (arith, s.forward, e.forward);
+  within = e.within;
+  at_end = e.at_end;
+  height = omega (arith, e.height, s.height);
+  stands =
+      let all = s.ahead 0 (drop new.behind text) e.last (e.stands s.place) in
+      rw e.means (at_height (omega (arith, e.height)) all);
+}

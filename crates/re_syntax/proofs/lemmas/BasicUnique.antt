@@ -1,0 +1,203 @@
+-- A basic expression is read in one way.
+use Rattle.std.proofs.Common.{◌≡◌, ◌≢◌, ℕ, suc, ◌+◌, ◌<◌, ◌≤◌, max, ◌⊎◌, inl, inr, false, nat_eq, List, [], ◌∷◌, ◌++◌, refl, sym, ap, ◌∙◌, subst, arith}
+use Rattle.re_syntax.specs.Bytes.{Text}
+use Rattle.re_syntax.specs.Expression.{Expression, begin, byte, sequence}
+use Rattle.re_syntax.specs.Basic.{ItemPlace, First, Later, Duplication, IsAtEnd, of_text, of_group, Items, none, leading, trailing, item, Item, atom, repeated, Atom, bracket, period, escaped, ordinary, group}
+use Rattle.re_syntax.specs.Working.BasicSteps.{NoDuplication}
+use Rattle.re_syntax.proofs.lemmas.BracketsUnique.{heads, tails, apart, IsBracket-unique}
+use Rattle.re_syntax.proofs.lemmas.Chains.{SameItem, Chain, done, chain_snoc, chain_done, ItemChain, chain_same, chain_more, GoesOn, goes_on, longer, two_items, same_heights}
+use Rattle.re_syntax.proofs.lemmas.Duplications.{dup_front, unique}
+use Rattle.re_syntax.proofs.lemmas.AtomFronts.{kind_of, IsFront, atom_code, atom_front}
+
+-- the same of the items of an expression
+pub record SameItems (h k : ℕ) (ds es : List Expression) (u v : Text) : Type 0 where
+  pub heights : h ≡ k
+  pub expressions : ds ≡ es
+  pub rests : u ≡ v
+
+-- an item as an atom and the duplications after it
+pub record Parts (p : ItemPlace) (h : ℕ) (t u : Text) (e : Expression) : Type 0 where
+  pub level : ℕ
+  pub count : ℕ
+  pub height : h ≡ level + count
+  pub rest : Text
+  pub start : Expression
+  pub atom_first : Atom p level t rest start
+  pub others : Chain Duplication count rest u start e
+
+-- each item is such
+pub item_parts : {p : ItemPlace} {h : ℕ} {t u : Text} {e : Expression} → Item p h t u e → Parts p h t u e
+item_parts {h = h} {u = u} {e = e} (atom a) = record { level = h; count = 0; height = omega arith; rest = u; start = e; atom_first = a; others = done }
+item_parts (repeated {d = d} {u = u} {least = least} {most = most} i q) =
+    let parts = item_parts i in
+    record {
+      level = parts.level;
+      count = suc parts.count;
+      height = omega (arith, parts.height);
+      rest = parts.rest;
+      start = parts.start;
+      atom_first = parts.atom_first;
+      others = chain_snoc parts.others d u least most refl q;
+    }
+
+-- two atoms at the front of one text are of one kind
+same_kind : {p : ItemPlace} {h k : ℕ} {t s u v : Text} {d e : Expression} (a : Atom p h t u d) (b : Atom p k s v e) → t ≡ s → atom_code a ≡ atom_code b
+same_kind a b e =
+    let f = atom_front a in
+    let g = atom_front b in
+    sym f.is_kind ∙ ap kind_of (sym f.whole ∙ e ∙ g.whole) ∙ g.is_kind
+
+-- what an item begins with
+pub item_front : {p : ItemPlace} {h : ℕ} {t u : Text} {e : Expression} → Item p h t u e → (b : ℕ) × (w : Text) × (t ≡ b ∷ w) × IsFront p b w
+item_front i = let a = item_parts i in let f = atom_front a.atom_first in (f.front, f.rest, f.whole, f.clear)
+
+-- No duplication stands where a later item, a last `$` or an end does.
+
+-- at a byte that opens no duplication there is none
+pub no_duplication_at : (t : Text) (b : ℕ) (w : Text) → t ≡ b ∷ w → b ≢ 42 → (b ≡ 92 → (v : Text) → w ≢ 123 ∷ v) → NoDuplication t
+no_duplication_at t b w e st other = record { none = λ d least most u p h. go d u h (dup_front p u) }
+  where
+    go : (d u : Text) → t ≡ d ++ u → (c : ℕ) × (x : Text) × (d ++ u ≡ c ∷ x) × ((c ≡ 42) ⊎ ((c ≡ 92) × (v : Text) × (x ≡ 123 ∷ v))) → ⊥
+    go d u h (c, x, f, inl k) = st (heads (sym e ∙ h ∙ f) ∙ k)
+    go d u h (c, x, f, inr (k, v, l)) = other (heads (sym e ∙ h ∙ f) ∙ k) v (tails (sym e ∙ h ∙ f) ∙ l)
+
+-- an end that is not the text's is a group's
+pub end_front : (t : Text) (b : ℕ) (w : Text) → IsAtEnd t → t ≡ b ∷ w → (b ≡ 92) × (v : Text) × (w ≡ 41 ∷ v)
+end_front t b w of_text e = cc
+end_front t b w (of_group {t = v}) e = (sym (heads e), v, sym (tails e))
+
+-- nor is there one at an end
+pub end_no_duplication : (t : Text) → IsAtEnd t → NoDuplication t
+end_no_duplication t h = record { none = λ d least most u p e. go d u e (dup_front p u) }
+  where
+    go : (d u : Text) → t ≡ d ++ u → (c : ℕ) × (x : Text) × (d ++ u ≡ c ∷ x) × ((c ≡ 42) ⊎ ((c ≡ 92) × (v : Text) × (x ≡ 123 ∷ v))) → ⊥
+    go d u e (c, x, f, inl k) = let (a, v, l) = end_front t c x h (e ∙ f) in apart 42 92 (sym k ∙ a) refl
+    go d u e (c, x, f, inr (k, v, l)) = let (a, v', l') = end_front t c x h (e ∙ f) in apart 123 41 (heads (sym l ∙ l')) refl
+
+-- nor where the items behind another one begin
+pub later_no_duplication : {h : ℕ} {t u : Text} {es : List Expression} → Items Later h t u es → IsAtEnd u → NoDuplication t
+later_no_duplication {t = t} none s = end_no_duplication t s
+later_no_duplication (trailing {t = w} h) s = no_duplication_at (36 ∷ w) 36 w refl (λ k. absurd (omega arith)) (λ k. absurd (omega arith))
+later_no_duplication {t = t} (item i is) s = let (b, w, e, clear) = item_front i in no_duplication_at t b w e (clear.not_star refl) clear.no_interval
+
+-- an end is no item's front, no anchor's and no last `$`'s
+pub end_item : (p : ItemPlace) (t : Text) (b : ℕ) (w : Text) → IsAtEnd t → t ≡ b ∷ w → IsFront p b w → ⊥
+end_item p t b w h e clear = let (k, v, l) = end_front t b w h e in clear.no_closing k v l
+
+-- an end does not begin with another byte than a backslash
+pub end_byte : (t : Text) (b : ℕ) (w : Text) → IsAtEnd t → t ≡ b ∷ w → nat_eq b 92 ≡ false → ⊥
+end_byte t b w h e n = let (k, v, l) = end_front t b w h e in apart b 92 k n
+
+mutual
+  pub items-unique : {p : ItemPlace} {h k : ℕ} {t s u v : Text} {ds es : List Expression} → Items p h t u ds → Items p k s v es → t ≡ s →
+      IsAtEnd u → IsAtEnd v → SameItems h k ds es u v
+  items-unique none none e h k = record { heights = refl; expressions = refl; rests = e }
+  items-unique {t = t} none (leading {t = w} js) e h k = absurd (end_byte t 94 w h e refl)
+  items-unique {t = t} none (trailing {t = w} l) e h k = absurd (end_byte t 36 w h e refl)
+  items-unique {p} {t = t} none (item j js) e h k = let (b, w, f, clear) = item_front j in absurd (end_item p t b w h (e ∙ f) clear)
+  items-unique (leading {t = w} is) (none {t = s}) e h k = absurd (end_byte s 94 w k (sym e) refl)
+  items-unique (leading is) (leading js) e h k =
+      let same = items-unique is js (tails e) h k in
+      record { heights = same.heights; expressions = ap (λ xs. begin ∷ xs) same.expressions; rests = same.rests }
+  items-unique (leading is) (trailing l) e h k = absurd (apart 94 36 (heads e) refl)
+  items-unique (leading is) (item j js) e h k = let (b, w, f, clear) = item_front j in absurd (clear.not_caret refl (sym (heads (e ∙ f))))
+  items-unique (trailing {t = w} l) (none {t = s}) e h k = absurd (end_byte s 36 w k (sym e) refl)
+  items-unique (trailing l) (leading js) e h k = absurd (apart 36 94 (heads e) refl)
+  items-unique (trailing l) (trailing m) e h k = record { heights = refl; expressions = refl; rests = tails e }
+  items-unique (trailing l) (item j js) e h k =
+      let (b, w, f, clear) = item_front j in absurd (clear.not_tail (sym (heads (e ∙ f))) (subst IsAtEnd (tails (e ∙ f)) l))
+  items-unique {p} (item i is) (none {t = s}) e h k = let (b, w, f, clear) = item_front i in absurd (end_item p s b w k (sym e ∙ f) clear)
+  items-unique (item i is) (leading js) e h k = let (b, w, f, clear) = item_front i in absurd (clear.not_caret refl (sym (heads (sym e ∙ f))))
+  items-unique (item i is) (trailing l) e h k =
+      let (b, w, f, clear) = item_front i in absurd (clear.not_tail (sym (heads (sym e ∙ f))) (subst IsAtEnd (tails (sym e ∙ f)) l))
+  items-unique (item i is) (item j js) e h k =
+      let parts = item_parts j in
+      let on = goes_on unique parts.height parts.others (item_chain i parts.atom_first e) (later_no_duplication js k) in
+      let same = chain_done on.others (later_no_duplication is h) in
+      let others = items-unique is js (sym same.rests) h k in
+      record {
+        heights = same_heights (omega (arith, on.height, same.heights)) others.heights;
+        expressions = two_items (sym same.expressions) others.expressions;
+        rests = others.rests;
+      }
+
+  item_chain : {p : ItemPlace} {h k : ℕ} {t s u v : Text} {d e : Expression} → Item p h t u d → Atom p k s v e → t ≡ s → ItemChain Duplication h k v u e d
+  item_chain (atom a) b e = chain_same (atom-unique a b e)
+  item_chain (repeated {d = d} {u = u} {least = least} {most = most} i q) b e = chain_more (item_chain i b e) d u least most refl q
+
+  atom-unique : {p : ItemPlace} {h k : ℕ} {t s u v : Text} {d e : Expression} → Atom p h t u d → Atom p k s v e → t ≡ s → SameItem h k d e u v
+  atom-unique (bracket h) (bracket k) e =
+      let same = IsBracket-unique h k e in record { heights = refl; expressions = same.expressions; rests = same.rests }
+  atom-unique period period e = record { heights = refl; expressions = refl; rests = tails e }
+  atom-unique (escaped b h) (escaped c k) e = record { heights = refl; expressions = ap byte (heads (tails e)); rests = tails (tails e) }
+  atom-unique (ordinary b h k) (ordinary c l m) e = record { heights = refl; expressions = ap byte (heads e); rests = tails e }
+  atom-unique (group is) (group js) e =
+      let same = items-unique is js (tails (tails e)) of_group of_group in
+      record { heights = ap suc same.heights; expressions = ap sequence same.expressions; rests = tails (tails same.rests) }
+  atom-unique a b e = absurd (apart (atom_code a) (atom_code b) (same_kind a b e) refl)
+
+-- the items of an expression that goes up to the text's end
+pub whole-unique : {h k : ℕ} {t : Text} {ds es : List Expression} → Items First h t [] ds → Items First k t [] es → ds ≡ es
+whole-unique is js = (items-unique is js refl of_text of_text).expressions
+
+-- Where an item stands at the front, the items of an expression begin with it, or with it and more duplications.
+pub record BeginsWith (h m : ℕ) (u v : Text) (e : Expression) (es : List Expression) : Type 0 where
+  pub height_first : ℕ
+  pub height_others : ℕ
+  pub heights : m ≡ max height_first height_others
+  pub behind : Text
+  pub start : Expression
+  pub others : List Expression
+  pub goes_on : GoesOn Duplication h height_first u behind e start
+  pub items : Items Later height_others behind v others
+  pub whole : es ≡ start ∷ others
+
+-- which is so of all items that an item stands before
+pub items-begin : {p : ItemPlace} {h m : ℕ} {t s u v : Text} {e : Expression} {es : List Expression} → Items p m t v es → Item p h s u e → s ≡ t →
+    IsAtEnd v → BeginsWith h m u v e es
+items-begin {p} (none {t = t}) i e h = let (b, w, f, clear) = item_front i in absurd (end_item p t b w h (sym e ∙ f) clear)
+items-begin (leading is) i e h = let (b, w, f, clear) = item_front i in absurd (clear.not_caret refl (heads (sym f ∙ e)))
+items-begin (trailing l) i e h =
+    let (b, w, f, clear) = item_front i in absurd (clear.not_tail (heads (sym f ∙ e)) (subst IsAtEnd (tails (sym e ∙ f)) l))
+items-begin (item {h = h} {k = k} {u = w} {e = g} {es = fs} j js) i e end' =
+    let parts = item_parts j in
+    record {
+      height_first = h;
+      height_others = k;
+      heights = refl;
+      behind = w;
+      start = g;
+      others = fs;
+      goes_on = goes_on unique parts.height parts.others (item_chain i parts.atom_first e) (later_no_duplication js end');
+      items = js;
+      whole = refl;
+    }
+
+-- where no duplication follows the item, they are it and the items of what follows
+pub record After (m : ℕ) (u v : Text) (es : List Expression) : Type 0 where
+  pub height : ℕ
+  pub below : height ≤ m
+  pub others : List Expression
+  pub items : Items Later height u v others
+
+-- what is behind the item
+pub items-after : {p : ItemPlace} {h m : ℕ} {t s u v : Text} {e : Expression} {es : List Expression} → Items p m t v es → Item p h s u e → s ≡ t →
+    IsAtEnd v → NoDuplication u → After m u v es
+items-after {v = v} is i e end' q =
+    let first = items-begin is i e end' in
+    let same = chain_done first.goes_on.others q in
+    record {
+      height = first.height_others;
+      below = omega (arith, first.heights);
+      others = first.others;
+      items = subst (λ w. Items Later first.height_others w v first.others) same.rests first.items;
+    }
+
+-- where one follows, they are higher than it
+pub items-higher : {p : ItemPlace} {h m : ℕ} {t s u v : Text} {e : Expression} {es : List Expression} → Items p m t v es → Item p h s u e → s ≡ t →
+    IsAtEnd v → ¬ NoDuplication u → h < m
+items-higher is i e end' q =
+    let first = items-begin is i e end' in
+    let on = first.goes_on in
+    let more = longer on.others (later_no_duplication first.items end') q in
+    omega (arith, first.heights, on.height)

@@ -1,0 +1,47 @@
+-- What a cursor passes or finds tells which point of a bracket expression stands there.
+use Rattle.std.proofs.Common.{◌≡◌, ℕ, ◌<◌, ◌≤◌, arith, inl, inr, [], ◌∷◌, ◌++◌, codes, drop, sym, ap, ◌∙◌, subst}
+use Rattle.re_syntax.specs.declared.cursor.Cursor.{Cursor}
+use Rattle.re_syntax.specs.Bytes.{Text, Begins}
+use Rattle.re_syntax.specs.Brackets.{OpensNamed, Point, bare, symbol}
+use Rattle.re_syntax.specs.Working.BracketSteps.{OpensNoClass}
+use Rattle.re_syntax.specs.Working.Cursors.{left, Passes}
+use Rattle.re_syntax.proofs.lemmas.BracketsUnique.{heads, tails, point-unique}
+
+-- what does not come next does not come next under another name
+pub not_begins_along : {f g t u : Text} → ¬ Begins f t → f ≡ g → t ≡ u → ¬ Begins g u
+not_begins_along h e k (rest, q) = h (rest, k ∙ q ∙ ap (λ x. x ++ rest) (sym e))
+
+-- the same point stands in the same text under another name
+pub point_along : {t u v : Text} {b : ℕ} → t ≡ u → Point u v b → Point t v b
+point_along {v = v} {b = b} e h = subst (λ x. Point x v b) (sym e) h
+
+-- `[.c.]` was passed
+pub symbol_passed : {a b d : Cursor} {c : ℕ} → Passes (codes "[.") a b → Passes (c ∷ codes ".]") b d → Point (left a) (left d) c
+symbol_passed {c = c} p q = point_along (p.passed ∙ ap (λ t. 91 ∷ 46 ∷ t) q.passed) (symbol c)
+
+-- a byte was passed, and it opens nothing
+pub byte_passed : {a d : Cursor} {b : ℕ} → Passes (b ∷ []) a d → ¬ Begins (codes "[.") (left a) → OpensNoClass (left a) → Point (left a) (left d) b
+byte_passed {a} {d} {b} p no_symbol no_class = point_along p.passed (bare b opens)
+  where
+    opens : b ≡ 91 → ¬ OpensNamed (left d)
+    opens e (inl (rest, f)) = no_symbol (rest, p.passed ∙ ap (λ t. b ∷ t) f ∙ ap (λ x. x ∷ 46 ∷ rest) e)
+    opens e (inr (inl (rest, f))) = no_class.class (rest, p.passed ∙ ap (λ t. b ∷ t) f ∙ ap (λ x. x ∷ 58 ∷ rest) e)
+    opens e (inr (inr (rest, f))) = no_class.equivalence (rest, p.passed ∙ ap (λ t. b ∷ t) f ∙ ap (λ x. x ∷ 61 ∷ rest) e)
+
+-- a `[.` without one byte and `.]` is no point
+pub no_symbol : {t u v : Text} {b : ℕ} → t ≡ codes "[." ++ u → ((c : ℕ) → ¬ Begins (c ∷ codes ".]") u) → Point t v b → ⊥
+no_symbol e h (bare b opens) = opens (heads e) (inl (_, tails e))
+no_symbol e h (symbol {t = t} b) = h b (t, sym (tails (tails e)))
+
+-- nor does it begin as one
+no_symbol_shown : {t u : Text} → t ≡ codes "[." ++ u → ((c : ℕ) → ¬ Begins (c ∷ codes ".]") u) → (b : ℕ) → ¬ Begins (codes "[." ++ b ∷ codes ".]") t
+no_symbol_shown e h b (rest, f) = h b (rest, tails (tails (sym e ∙ f)))
+
+-- a `[.` without one byte and `.]` shows at the place where the cursor found it
+pub symbol_shown : (c : Cursor) {at : ℕ} {u : Text} → at ≡ c.at → left c ≡ codes "[." ++ u → ((b : ℕ) → ¬ Begins (b ∷ codes ".]") u) →
+    Begins (codes "[.") (drop at c.text.now) × ((b : ℕ) → ¬ Begins (codes "[." ++ b ∷ codes ".]") (drop at c.text.now))
+symbol_shown c {u = u} e f h = rw e ((u, f), no_symbol_shown f h)
+
+-- a point below a byte ends no range from that byte
+pub too_low : {s t u : Text} {a b : ℕ} → Point s u b → s ≡ t → b < a → (v : Text) (d : ℕ) → Point t v d → ¬ (a ≤ d)
+too_low {a = a} {b = b} x e h v d y le = let same : b ≡ d = (point-unique x y e).values in absurd (omega arith)

@@ -1,0 +1,231 @@
+-- Branches and groups of extended expressions, and a whole expression, from the items that stand there.
+use Rattle.std.proofs.Common.{◌≡◌, ◌≢◌, ℕ, suc, ◌+◌, ◌-◌, ◌≤◌, ◌⊎◌, inl, inr, max, Bool, true, false, ◌&&◌, nat_eq, List, [], ◌∷◌, ◌++◌, length, take, drop, map, codes, refl, sym, ap, ◌∙◌, subst, arith, append_assoc, length-drop}
+use Rattle.std.proofs.lemmas.Bool.{or_cases, eqb-true}
+use Rattle.re_syntax.specs.declared.pieces.Piece.{Piece}
+use Rattle.re_syntax.specs.declared.pieces.Pieces.{Pieces}
+use Rattle.re_syntax.specs.declared.fault.FaultKind.TheVariants.{Memory}
+use Rattle.re_syntax.specs.declared.fault.PatternFault.{PatternFault}
+use Rattle.re_syntax.specs.declared.syntax.Syntax.TheVariants.{Extended}
+use Rattle.re_syntax.specs.Bytes.{Text, Begins}
+use Rattle.re_syntax.specs.Working.Ahead.{IsAfter}
+use Rattle.re_syntax.specs.Expression.{Expression, sequence, choice, expression_of}
+use Rattle.re_syntax.specs.Extended.{Branches, last, more, Items, Atom, group}
+use Rattle.re_syntax.specs.ExtendedFaults.{IsStart, OpensUnclosed, IsShownIn, IsNoExtended}
+use Rattle.re_syntax.specs.Working.ExtendedSteps.{stops, ends, AtomStands, HasNoAtom, HasNoItems, BranchStands, HasNoBranches, BranchesStand}
+use Rattle.re_syntax.specs.Working.PieceSteps.{IsRefused, memory, told, IsJoined}
+use Rattle.re_syntax.specs.Spelled.{IsSpelled, as_extended}
+use Rattle.re_syntax.proofs.lemmas.BracketsUnique.{tails}
+use Rattle.re_syntax.proofs.lemmas.ExtendedFronts.{is_group}
+use Rattle.re_syntax.proofs.lemmas.ExtendedUnique.{ends-stops, ends_bar, items-unique, branches-unique}
+use Rattle.re_syntax.proofs.lemmas.Places.{behind_first, take-after, regrouped}
+
+-- branches at the same height
+pub at_height : {g : Bool} {h k : ℕ} {t u : Text} {es : List Expression} → h ≡ k → Branches g h t u es → Branches g k t u es
+at_height {g} {t = t} {u = u} {es = es} e bs = subst (λ n. Branches g n t u es) e bs
+
+-- the branches behind a bar that the first branch of some is followed by
+record Behind (g : Bool) (m : ℕ) (u v : Text) : Type 0 where
+  height : ℕ
+  below : height ≤ m
+  others : List Expression
+  branches : Branches g height u v others
+
+-- which are so since the first branch is one
+behind_bar : {g : Bool} {h m : ℕ} {t r u v : Text} {ds es : List Expression} → Branches g m t v es → Items g h t r ds → stops g r ≡ true → r ≡ 124 ∷ u →
+    ends g v ≡ true → Behind g m u v
+behind_bar {g} {u = u} {v = v} (last is) js s e p =
+    let same = items-unique is js refl (ends-stops g v p) s in
+    absurd (ends_bar g v u p (same.rests ∙ e))
+behind_bar {g} {u = u} {v = v} (more {k = k} {fs = fs} is bs) js s e p =
+    let same = items-unique is js refl refl s in
+    record { height = k; below = omega arith; others = fs; branches = subst (λ x. Branches g k x v fs) (tails (same.rests ∙ e)) bs }
+
+-- the branches that were read from one place on, up to the end of one of them, and what they say of all branches
+pub record BranchesSoFar (g : Bool) (levels : ℕ) (text : Text) (from : ℕ) (branches : Pieces) : Type 0 where
+  pub forward : from ≤ branches.behind
+  pub within : branches.behind ≤ length text
+  pub height : branches.height ≤ levels
+  pub at_end : stops g (drop branches.behind text) ≡ true
+  pub stands : Branches g branches.height (drop from text) (drop branches.behind text) (map expression_of branches.trees.items)
+  pub ahead : (u : Text) → drop branches.behind text ≡ codes "|" ++ u → (k : ℕ) (v : Text) (fs : List Expression) → Branches g k u v fs →
+      Branches g (max branches.height k) (drop from text) v (map expression_of branches.trees.items ++ fs)
+  pub back : (u : Text) → drop branches.behind text ≡ codes "|" ++ u → HasNoBranches g levels u → HasNoBranches g levels (drop from text)
+
+-- the first
+pub first_branch : (g : Bool) (levels : ℕ) (text : Text) (from : ℕ) (old new : Pieces) (piece : Piece) → BranchStands g levels text from piece → old.trees.items ≡ [] →
+    old.height ≡ 0 → IsJoined old piece new → BranchesSoFar g levels text from new
+first_branch g levels text from old new piece b e f j =
+    let means : map expression_of new.trees.items ≡ sequence b.members ∷ [] =
+    j.means ∙ ap (λ x. map expression_of x ++ expression_of piece.tree ∷ []) e ∙ ap (λ x. x ∷ []) b.means in
+    let height : piece.height ≡ new.height = omega (arith, j.height) in
+    record {
+      forward = omega (arith, b.forward, j.place);
+      within = omega (arith, b.within, j.place);
+      height = omega (arith, b.height);
+      at_end = rw j.place b.at_end;
+      stands = rw (means, j.place) (at_height height (last b.stands));
+      ahead = λ u s k v fs bs.
+          let there : drop piece.behind text ≡ 124 ∷ u = rw j.place at s in
+          let inner : Items g piece.height (drop from text) (124 ∷ u) b.members = subst (λ x. Items g piece.height (drop from text) x b.members) there b.stands in
+          rw means (at_height (ap (λ n. max n k) height) (more inner bs));
+      back = λ u s h. record {
+        none = λ n v es bs p le.
+            let there : drop piece.behind text ≡ 124 ∷ u = rw j.place at s in
+            let rest = behind_bar bs b.stands b.at_end there p in
+            h.none rest.height v rest.others rest.branches p (omega (arith, rest.below));
+      };
+    }
+
+-- one more behind a bar
+pub next_branch : (g : Bool) (levels : ℕ) (text : Text) (from : ℕ) (old new : Pieces) (place : ℕ) (piece : Piece) → BranchesSoFar g levels text from old →
+    IsAfter (codes "|") text old.behind place → BranchStands g levels text place piece → IsJoined old piece new → BranchesSoFar g levels text from new
+next_branch g levels text from old new place piece s bar b j =
+    let means : map expression_of new.trees.items ≡ map expression_of old.trees.items ++ sequence b.members ∷ [] =
+    j.means ∙ ap (λ x. map expression_of old.trees.items ++ x ∷ []) b.means in
+    record {
+      forward = omega (arith, s.forward, bar.place, b.forward, j.place);
+      within = omega (arith, b.within, j.place);
+      height = omega (arith, s.height, b.height, j.height);
+      at_end = rw j.place b.at_end;
+      stands =
+          let all = s.ahead (drop place text) bar.front piece.height (drop piece.behind text) (sequence b.members ∷ []) (last b.stands) in
+          rw (means, j.place) (at_height (sym j.height) all);
+      ahead = λ u e k v fs bs.
+          let there : drop piece.behind text ≡ 124 ∷ u = rw j.place at e in
+          let inner : Items g piece.height (drop place text) (124 ∷ u) b.members = subst (λ x. Items g piece.height (drop place text) x b.members) there b.stands in
+          let all = s.ahead (drop place text) bar.front (max piece.height k) v (sequence b.members ∷ fs) (more inner bs) in
+          rw (means, append_assoc) (at_height (regrouped old.height piece.height k ∙ ap (λ n. max n k) (sym j.height)) all);
+      back = λ u e h. s.back (drop place text) bar.front (record {
+        none = λ n v es bs p le.
+            let there : drop piece.behind text ≡ 124 ∷ u = rw j.place at e in
+            let rest = behind_bar bs b.stands b.at_end there p in
+            h.none rest.height v rest.others rest.branches p (omega (arith, rest.below));
+      });
+    }
+
+-- where no items stand no branches do
+pub no_branches : {g : Bool} {levels : ℕ} {t : Text} → HasNoItems g levels t → HasNoBranches g levels t
+no_branches {g} {levels} {t} h = record { none = λ n v es bs p le. go bs p le }
+  where
+    go : {n : ℕ} {v : Text} {es : List Expression} → Branches g n t v es → ends g v ≡ true → n ≤ levels → ⊥
+    go {n} {v} (last {es = es} is) p le = h.none n v es is (ends-stops g v p) le
+    go (more {h = n} {k = k} {u = u} {es = es} is bs) p le = h.none n (124 ∷ u) es is refl (omega arith)
+
+-- behind a bar a branch starts
+pub bar_starts : {text : Text} {at behind : ℕ} → IsAfter (codes "|") text at behind → IsStart (take behind text)
+bar_starts {text} {at} {behind} s = inr (inr (take at text, ap (λ n. take n text) s.place ∙ take-after text at (codes "|") (drop behind text) s.front))
+
+-- a branch that no bar ends is the last
+last_ends : (g : Bool) (t : Text) → stops g t ≡ true → ¬ Begins (codes "|") t → ends g t ≡ true
+last_ends g [] h n = refl
+last_ends g (b ∷ t) h n = go (or_cases (nat_eq b 124) (g && nat_eq b 41) h)
+  where
+    go : (nat_eq b 124 ≡ true) ⊎ ((g && nat_eq b 41) ≡ true) → (g && nat_eq b 41) ≡ true
+    go (inl e) = absurd (n (t, ap (λ x. x ∷ t) (eqb-true b 124 e)))
+    go (inr e) = e
+
+-- all branches
+pub branches_read : {g : Bool} {levels : ℕ} {text : Text} {from : ℕ} {branches : Pieces} → BranchesSoFar g levels text from branches →
+    ¬ Begins (codes "|") (drop branches.behind text) → BranchesStand g levels text from branches
+branches_read {g} {text = text} {branches = branches} s n =
+    record { forward = s.forward; within = s.within; height = s.height; at_end = last_ends g (drop branches.behind text) s.at_end n; stands = s.stands }
+
+-- Groups.
+
+-- what is behind a group's opening
+pub behind_opening : (text : Text) (at : ℕ) → Begins (codes "(") (drop at text) → drop at text ≡ codes "(" ++ drop (at + 1) text
+behind_opening text at (rest, e) = e ∙ ap (λ x. 40 ∷ x) (behind_first text at 40 rest e)
+
+-- it is within the text
+pub opening_within : (text : Text) (at : ℕ) → Begins (codes "(") (drop at text) → at + 1 ≤ length text
+opening_within text at (rest, e) = omega (arith, simp length-drop at (ap length e))
+
+-- and an expression starts there
+pub opening_starts : (text : Text) (at : ℕ) → Begins (codes "(") (drop at text) → IsStart (take (at + 1) text)
+opening_starts text at b = inr (inl (take at text, take-after text at (codes "(") (drop (at + 1) text) (behind_opening text at b)))
+
+-- a group whose branches were read
+pub group_stands : (g : Bool) (levels : ℕ) (text : Text) (at : ℕ) (branches : Pieces) (piece : Piece) → Begins (codes "(") (drop at text) → levels ≢ 0 →
+    BranchesStand true (levels - 1) text (at + 1) branches → IsAfter (codes ")") text branches.behind piece.behind → piece.height ≡ branches.height + 1 →
+    expression_of piece.tree ≡ choice (map expression_of branches.trees.items) → AtomStands g levels text at piece
+group_stands g levels text at branches piece b n s c e f =
+    let es = map expression_of branches.trees.items in
+    let inner : Branches true branches.height (drop (at + 1) text) (codes ")" ++ drop piece.behind text) es =
+    subst (λ u. Branches true branches.height (drop (at + 1) text) u es) c.front s.stands in
+    let one : Atom g (suc branches.height) (codes "(" ++ drop (at + 1) text) (drop piece.behind text) (choice es) = group inner in
+    let two : Atom g (suc branches.height) (drop at text) (drop piece.behind text) (choice es) =
+    subst (λ t. Atom g (suc branches.height) t (drop piece.behind text) (choice es)) (sym (behind_opening text at b)) one in
+    let same : suc branches.height ≡ piece.height = omega arith in
+    let three : Atom g piece.height (drop at text) (drop piece.behind text) (choice es) =
+    subst (λ k. Atom g k (drop at text) (drop piece.behind text) (choice es)) same two in
+    record {
+      forward = omega (arith, s.forward, c.place);
+      within = c.within;
+      height = omega (arith, s.height);
+      stands = rw f three;
+    }
+
+-- no level is left
+pub no_group_left : (g : Bool) (levels : ℕ) (text : Text) (at : ℕ) → Begins (codes "(") (drop at text) → levels ≡ 0 → HasNoAtom g levels (drop at text)
+no_group_left g levels text at (w, e) n = record { none = λ h u x a le. let inside = is_group a e in absurd (omega (arith, inside.height)) }
+
+-- no branches stand inside
+pub no_group_inside : (g : Bool) (levels : ℕ) (text : Text) (at : ℕ) → Begins (codes "(") (drop at text) → HasNoBranches true (levels - 1) (drop (at + 1) text) →
+    HasNoAtom g levels (drop at text)
+no_group_inside g levels text at b k = record {
+  none = λ h u x a le.
+      let inside = is_group a (behind_opening text at b) in
+      k.none inside.inner_height (codes ")" ++ u) inside.members inside.branches refl (omega (arith, inside.height));
+}
+
+-- no end of the group follows the branches
+pub no_group_end : (g : Bool) (levels : ℕ) (text : Text) (at : ℕ) (branches : Pieces) → Begins (codes "(") (drop at text) →
+    BranchesStand true (levels - 1) text (at + 1) branches → ¬ Begins (codes ")") (drop branches.behind text) → HasNoAtom g levels (drop at text)
+no_group_end g levels text at branches b s k = record {
+  none = λ h u x a le.
+      let inside = is_group a (behind_opening text at b) in
+      let same = branches-unique inside.branches s.stands refl refl s.at_end in
+      k (u, sym same.rests);
+}
+
+-- branches that no end of a group follows go on up to the text's end
+left_open : (t : Text) → ends true t ≡ true → ¬ Begins (codes ")") t → t ≡ []
+left_open [] h k = refl
+left_open (b ∷ t) h k = absurd (k (t, ap (λ x. x ∷ t) (eqb-true b 41 h)))
+
+-- so they do behind the opening of a group that is not closed
+pub opens_unclosed : (levels : ℕ) (text : Text) (at : ℕ) (branches : Pieces) → Begins (codes "(") (drop at text) → BranchesStand true levels text (at + 1) branches →
+    ¬ Begins (codes ")") (drop branches.behind text) → OpensUnclosed (drop at text)
+opens_unclosed levels text at branches b s k = record {
+  inside = drop (at + 1) text;
+  height = branches.height;
+  members = map expression_of branches.trees.items;
+  opens = behind_opening text at b;
+  goes_on = subst (λ u. Branches true branches.height (drop (at + 1) text) u (map expression_of branches.trees.items)) (left_open (drop branches.behind text) s.at_end k) s.stands;
+}
+
+-- A whole expression.
+
+-- outside groups only the text's end ends one
+nothing_left : (t : Text) → ends false t ≡ true → t ≡ []
+nothing_left [] h = refl
+nothing_left (b ∷ t) h = let k : false ≡ true = h in cc
+
+-- branches up to the text's end
+pub whole_read : (text : Text) (branches : Pieces) (e : Expression) → BranchesStand false 256 text 0 branches →
+    e ≡ choice (map expression_of branches.trees.items) → IsSpelled Extended text e
+whole_read text branches e s f =
+    let es = map expression_of branches.trees.items in
+    let nothing : drop branches.behind text ≡ [] = nothing_left (drop branches.behind text) s.at_end in
+    let all : Branches false branches.height text [] es = subst (λ u. Branches false branches.height text u es) nothing s.stands in
+    rw f (as_extended all s.height)
+
+-- where no branches stand nothing is spelled
+nothing_spelled : (text : Text) → HasNoBranches false 256 text → (e : Expression) → ¬ IsSpelled Extended text e
+nothing_spelled text k e (as_extended {h = h} {es = es} bs le) = k.none h [] es bs refl le
+
+-- memory ran out, or nothing is spelled
+pub memory_or_none : (text : Text) (fault : PatternFault) → IsRefused (HasNoBranches false 256 text) (IsShownIn text fault) fault →
+    ◌≡◌ {A = PatternFault} fault (record { kind = Memory; at = 0 }) ⊎ IsNoExtended text fault
+memory_or_none text fault (memory e) = inl e
+memory_or_none text fault (told k shown) = inr (record { none = nothing_spelled text k; shown = shown })

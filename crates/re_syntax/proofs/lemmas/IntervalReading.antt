@@ -1,0 +1,167 @@
+-- Reading an interval from the left: a number goes as far as there are digits, and what follows decides the form.
+use Rattle.std.proofs.Common.{◌≡◌, ℕ, ◌+◌, ◌-◌, ◌<◌, ◌≤◌, [], ◌∷◌, ◌++◌, length, take, drop, Option, Some, None, IsTrue, codes, refl, sym, ap, ◌∙◌, arith, append_assoc, length-drop}
+use Rattle.std.proofs.lemmas.Bool.{and_parts}
+use Rattle.std.proofs.lemmas.List.{drop-drop, length-take, take-append-drop}
+use Rattle.std.specs.List.{list_all}
+use Rattle.re_syntax.specs.declared.class.Class.TheVariants.{Digit}
+use Rattle.re_syntax.specs.Bytes.{Text, Begins, in_class}
+use Rattle.re_syntax.specs.Working.Ahead.{IsAfter}
+use Rattle.re_syntax.specs.Intervals.{IsNumber, value, Interval, exactly, at_least, between, ClosedInterval, IsNoPart, capped, HasNoInterval}
+use Rattle.re_syntax.specs.Working.IntervalSteps.{AreDigits, HasNoDigit, IsDigitCount, NumberStands, IntervalStands}
+use Rattle.re_syntax.proofs.lemmas.BracketsUnique.{heads, tails}
+
+-- the first of some digits is one
+digit_first : (b : ℕ) (t : Text) → AreDigits (b ∷ t) → IsTrue (in_class Digit b)
+digit_first b t h = (and_parts (in_class Digit b) (list_all (in_class Digit) t) h).0
+
+-- and so are the others
+digits_rest : (b : ℕ) (t : Text) → AreDigits (b ∷ t) → AreDigits t
+digits_rest b t h = (and_parts (in_class Digit b) (list_all (in_class Digit) t) h).1
+
+-- a text is cut behind its first digits in one way
+pub digits-cut : (m n r s : Text) → AreDigits m → AreDigits n → HasNoDigit r → HasNoDigit s → m ++ r ≡ n ++ s → r ≡ s
+digits-cut [] [] r s h k p q e = e
+digits-cut [] (b ∷ n) r s h k p q e = absurd (p b (n ++ s) e (digit_first b n k))
+digits-cut (b ∷ m) [] r s h k p q e = absurd (q b (m ++ r) (sym e) (digit_first b m h))
+digits-cut (b ∷ m) (c ∷ n) r s h k p q e = digits-cut m n r s (digits_rest b m h) (digits_rest c n k) p q (tails e)
+
+-- a number begins with a digit
+number_first : (m r : Text) → IsNumber m → HasNoDigit (m ++ r) → ⊥
+number_first [] r h stop = h.not_empty refl
+number_first (b ∷ m) r h stop = stop b (m ++ r) refl (digit_first b m h.digits)
+
+-- what closes an interval is no digit
+closing_no_digit : (close u : Text) → IsNoPart close → HasNoDigit (close ++ u)
+closing_no_digit [] u h b t e k = absurd (h.not_empty refl)
+closing_no_digit (c ∷ close) u h b t e k = h.no_digit c close refl (rw (heads e) k)
+
+-- a comma is no digit
+comma_no_digit : (t : Text) → HasNoDigit (codes "," ++ t)
+comma_no_digit t b u e k = let same : 44 ≡ b = heads e in let digit : IsTrue (in_class Digit 44) = rw (sym same) at k in cc
+
+-- what an interval's form can have behind its first number
+pub data Goes (close u t : Text) : Type 0 where
+  closes : t ≡ close ++ u → Goes close u t
+  opens_end : t ≡ codes "," ++ (close ++ u) → Goes close u t
+  goes_to : (n : Text) → IsNumber n → t ≡ codes "," ++ (n ++ (close ++ u)) → Goes close u t
+
+-- which is so of every interval
+pub goes : (close u t m r : Text) (least : ℕ) (most : Option ℕ) → IsNoPart close → ClosedInterval close t u least most → t ≡ m ++ r → AreDigits m → HasNoDigit r → Goes close u r
+goes close u t m r least most no_part c e digits stop = go c.inside least most c.form c.whole
+  where
+    go : (inside : Text) (least : ℕ) (most : Option ℕ) → Interval inside least most → t ≡ inside ++ (close ++ u) → Goes close u r
+    go inside least most (exactly n h) w =
+        closes (digits-cut m n r (close ++ u) digits h.digits stop (closing_no_digit close u no_part) (sym e ∙ w))
+    go inside least most (at_least n h) w =
+        opens_end (digits-cut m n r (codes "," ++ (close ++ u)) digits h.digits stop (comma_no_digit (close ++ u)) (sym e ∙ w ∙ append_assoc n (codes ",") (close ++ u)))
+    go inside least most (between n o h k) w =
+        goes_to o k (digits-cut m n r (codes "," ++ (o ++ (close ++ u))) digits h.digits stop (comma_no_digit (o ++ (close ++ u)))
+        (sym e ∙ w ∙ simp append_assoc))
+
+-- where no number stands, no interval does
+pub none_without_number : (close t : Text) → HasNoDigit t → HasNoInterval close t
+none_without_number close t stop = record { none = λ u least most c. go c.inside least most c.form u c.whole }
+  where
+    starts : (n s : Text) → IsNumber n → t ≡ n ++ s → ⊥
+    starts n s h e = number_first n s h (rw e at stop)
+
+    go : (inside : Text) (least : ℕ) (most : Option ℕ) → Interval inside least most → (u : Text) → t ≡ inside ++ (close ++ u) → ⊥
+    go inside least most (exactly n h) u w = starts n (close ++ u) h w
+    go inside least most (at_least n h) u w = starts n (codes "," ++ (close ++ u)) h (w ∙ append_assoc n (codes ",") (close ++ u))
+    go inside least most (between n o h k) u w = starts n (codes "," ++ (o ++ (close ++ u))) h (w ∙ simp append_assoc)
+
+-- a number and neither what closes nor a comma
+pub none_after_number : {text : Text} {at count behind : ℕ} (close : Text) → IsNoPart close → NumberStands text at count behind → ¬ Begins close (drop behind text) →
+    ¬ Begins (codes ",") (drop behind text) → HasNoInterval close (drop at text)
+none_after_number {text} {at} {count} {behind} close no_part s no_close no_comma =
+    record { none = λ u least most c. go u (goes close u (drop at text) s.digits (drop behind text) least most no_part c s.front s.number.digits s.stops) }
+  where
+    go : (u : Text) → Goes close u (drop behind text) → ⊥
+    go u (closes e) = no_close (u, e)
+    go u (opens_end e) = no_comma (close ++ u, e)
+    go u (goes_to n h e) = no_comma (n ++ (close ++ u), e)
+
+-- a number and a comma, and then neither a number nor what closes
+pub none_after_comma : {text : Text} {at count behind comma : ℕ} (close : Text) → IsNoPart close → NumberStands text at count behind → ¬ Begins close (drop behind text) →
+    IsAfter (codes ",") text behind comma → HasNoDigit (drop comma text) → ¬ Begins close (drop comma text) → HasNoInterval close (drop at text)
+none_after_comma {text} {at} {count} {behind} {comma} close no_part s no_close c no_digit no_end =
+    record { none = λ u least most i. go u (goes close u (drop at text) s.digits (drop behind text) least most no_part i s.front s.number.digits s.stops) }
+  where
+    go : (u : Text) → Goes close u (drop behind text) → ⊥
+    go u (closes e) = no_close (u, e)
+    go u (opens_end e) = no_end (u, tails (sym c.front ∙ e))
+    go u (goes_to n h e) = number_first n (close ++ u) h (rw (tails (sym c.front ∙ e)) at no_digit)
+
+-- two numbers, and what follows does not close
+pub none_after_numbers : {text : Text} {at count behind comma other last : ℕ} (close : Text) → IsNoPart close → NumberStands text at count behind →
+    ¬ Begins close (drop behind text) → IsAfter (codes ",") text behind comma → NumberStands text comma other last → ¬ Begins close (drop last text) →
+    HasNoInterval close (drop at text)
+none_after_numbers {text} {at} {count} {behind} {comma} {other} {last} close no_part s no_close c o no_end =
+    record { none = λ u least most i. go u (goes close u (drop at text) s.digits (drop behind text) least most no_part i s.front s.number.digits s.stops) }
+  where
+    go : (u : Text) → Goes close u (drop behind text) → ⊥
+    go u (closes e) = no_close (u, e)
+    go u (opens_end e) =
+        number_first o.digits (drop last text) o.number (rw (sym (tails (sym c.front ∙ e)) ∙ o.front) at (closing_no_digit close u no_part))
+    go u (goes_to n h e) =
+        no_end (u, digits-cut o.digits n (drop last text) (close ++ u) o.number.digits h.digits o.stops (closing_no_digit close u no_part) (sym o.front ∙ tails (sym c.front ∙ e)))
+
+-- the three forms, read
+pub stands_exactly : {text : Text} {at count behind end' : ℕ} (close : Text) → NumberStands text at count behind → IsAfter close text behind end' →
+    IntervalStands close text at (record { least = count; most = Some count }) end'
+stands_exactly {text} {at} {count} {behind} {end'} close s c = record {
+  within = c.within;
+  least = value s.digits;
+  most = Some (value s.digits);
+  stands = record { inside = s.digits; form = exactly s.digits s.number; whole = s.front ∙ ap (λ t. s.digits ++ t) c.front };
+  least_is = s.count_is;
+  most_is = ap Some s.count_is;
+}
+
+-- a number and a comma
+pub stands_at_least : {text : Text} {at count behind comma end' : ℕ} (close : Text) → NumberStands text at count behind → IsAfter (codes ",") text behind comma →
+    IsAfter close text comma end' → IntervalStands close text at (record { least = count; most = None }) end'
+stands_at_least {text} {at} {count} {behind} {comma} {end'} close s c l = record {
+  within = l.within;
+  least = value s.digits;
+  most = None;
+  stands = record {
+    inside = s.digits ++ codes ",";
+    form = at_least s.digits s.number;
+    whole = s.front ∙ ap (λ t. s.digits ++ t) (c.front ∙ ap (λ t. 44 ∷ t) l.front) ∙ sym (append_assoc s.digits (codes ",") (close ++ drop end' text));
+  };
+  least_is = s.count_is;
+  most_is = refl;
+}
+
+-- two numbers
+pub stands_between : {text : Text} {at count behind comma other last end' : ℕ} (close : Text) → NumberStands text at count behind → IsAfter (codes ",") text behind comma →
+    NumberStands text comma other last → IsAfter close text last end' → IntervalStands close text at (record { least = count; most = Some other }) end'
+stands_between {text} {at} {count} {behind} {comma} {other} {last} {end'} close s c o l = record {
+  within = l.within;
+  least = value s.digits;
+  most = Some (value o.digits);
+  stands = record {
+    inside = s.digits ++ codes "," ++ o.digits;
+    form = between s.digits o.digits s.number o.number;
+    whole = s.front ∙ ap (λ t. s.digits ++ t) (c.front ∙ ap (λ t. 44 ∷ t) (o.front ∙ ap (λ t. o.digits ++ t) l.front)) ∙ simp append_assoc;
+  };
+  least_is = s.count_is;
+  most_is = ap Some o.count_is;
+}
+
+-- a number is the digits that come first
+pub number_stands : (text : Text) (at n v : ℕ) → at ≤ length text → IsDigitCount (drop at text) n → 0 < n → v ≡ capped (value (take n (drop at text))) →
+    NumberStands text at v (at + n)
+number_stands text at n v h count more e = record {
+  within = omega (arith, simp length-drop at count.within);
+  digits = take n (drop at text);
+  number = record { not_empty = λ f. absurd (omega (arith, ap length f, length-take n (drop at text), count.within)); digits = count.digits };
+  front = sym (take-append-drop n (drop at text)) ∙ ap (λ t. take n (drop at text) ++ t) (drop-drop n at text);
+  count_is = e;
+  stops = rw (sym (drop-drop n at text)) count.stops;
+}
+
+-- the length of a part from its two ends
+pub same_front : (at n : ℕ) → (at + n) - at ≡ n
+same_front at n = omega arith

@@ -1,0 +1,69 @@
+-- What readers of expressions share: bytes at places of a text, what was found, and what is said in other words.
+use Rattle.std.proofs.Common.{◌≡◌, ℕ, ◌+◌, ◌<◌, max, Bool, true, false, not, ◌∷◌, ◌++◌, length, take, drop, Option, Some, None, Result, Ok, Err, IfOk, IfErr, MatchOption, MatchBool, is_some, slice_get, get_or, sym, ap, ◌∙◌, arith, take-add}
+use Rattle.std.proofs.Math.Seq.{take-append_seam}
+use Rattle.std.proofs.lemmas.List.{drop-drop, drop_more}
+use Rattle.std.proofs.lemmas.Option.{slice_get_within, slice_get-get_or, get_or_from_slice_get}
+use Rattle.re_syntax.specs.declared.fault.PatternFault.{PatternFault}
+use Rattle.re_syntax.specs.Bytes.{Text}
+use Rattle.re_syntax.specs.Working.PieceSteps.{IsRefused, memory, told}
+
+-- the text from the place of a byte on
+pub byte_at : (text : Text) (at b : ℕ) → slice_get text at ≡ Some b → drop at text ≡ b ∷ drop (at + 1) text
+byte_at text at b e = drop_more text at b (slice_get_within text at b e) ∙ ap (λ x. x ∷ drop (at + 1) text) (get_or_from_slice_get text at b b e)
+
+-- what follows the first byte of the rest of a text
+pub behind_first : (text : Text) (at b : ℕ) (rest : Text) → drop at text ≡ b ∷ rest → rest ≡ drop (at + 1) text
+behind_first text at b rest e = ap (drop 1) (sym e) ∙ drop-drop 1 at text
+
+-- whether something was found
+pub either_found : (A B C : Type 0) (P : ℕ → Type 0) (r : Option ℕ) (b : Bool) → b ≡ is_some r → MatchOption r C P → (C → B) → ((x : ℕ) → P x → A) → MatchBool b A B
+either_found A B C P None b e h g f = rw e (g h)
+either_found A B C P (Some x) b e h g f = rw e (f x h)
+
+-- whether nothing was found
+pub none_found : (A B C : Type 0) (P : ℕ → Type 0) (r : Option ℕ) (b : Bool) → is_some r ≡ not b → MatchOption r C P → (C → A) → ((x : ℕ) → P x → B) → MatchBool b A B
+none_found A B C P None true e h f g = f h
+none_found A B C P None false e h f g = cc
+none_found A B C P (Some x) true e h f g = cc
+none_found A B C P (Some x) false e h f g = g x h
+
+-- what is said of a result may be said in other words
+pub ok_as : {T E : Type 0} (P Q : T → Type 0) (r : Result T E) → IfOk r P → ((x : T) → P x → Q x) → IfOk r Q
+ok_as P Q (Ok x) h f = f x h
+ok_as P Q (Err e) h f = tt
+
+-- and so what is said of an error
+pub err_as : {T E : Type 0} (P Q : E → Type 0) (r : Result T E) → IfErr r P → ((e : E) → P e → Q e) → IfErr r Q
+err_as P Q (Ok x) h f = tt
+err_as P Q (Err e) h f = f e h
+
+-- where something was found, what is said of it
+pub some_found : (A : Type 0) (P : ℕ → Type 0) (r : Option ℕ) (b : Bool) → b ≡ is_some r → b ≡ true → MatchOption r A P → (x : ℕ) × P x
+some_found A P None b e f h = absurd (let g : false ≡ true = sym e ∙ f in cc)
+some_found A P (Some x) b e f h = (x, h)
+
+-- where nothing was found, what is said then
+pub nothing_found : (A : Type 0) (P : ℕ → Type 0) (r : Option ℕ) (b : Bool) → b ≡ is_some r → b ≡ false → MatchOption r A P → A
+nothing_found A P None b e f h = h
+nothing_found A P (Some x) b e f h = absurd (let g : true ≡ false = sym e ∙ f in cc)
+
+-- the byte at a place
+pub byte_here : (text : Text) (at b : ℕ) → at < length text → get_or text at 0 ≡ b → slice_get text at ≡ Some b
+byte_here text at b h e = slice_get-get_or text at 0 h ∙ ap Some e
+
+-- the text from there on
+pub front_here : (text : Text) (at b : ℕ) → at < length text → get_or text at 0 ≡ b → drop at text ≡ b ∷ drop (at + 1) text
+front_here text at b h e = byte_at text at b (byte_here text at b h e)
+
+-- what stands before the place behind some bytes ends with them
+pub take-after : (t : Text) (at : ℕ) (bytes r : Text) → drop at t ≡ bytes ++ r → take (at + length bytes) t ≡ take at t ++ bytes
+take-after t at bytes r e = take-add at (length bytes) t ∙ ap (λ x. take at t ++ x) (ap (take (length bytes)) e ∙ take-append_seam bytes r)
+
+-- the greatest of three heights
+pub regrouped : (h k n : ℕ) → max h (max k n) ≡ max (max h k) n
+regrouped h k n = omega arith
+
+-- what is said where memory did not run out may be said in other words
+pub refused_as : {P Q S : Type 0} {fault : PatternFault} → IsRefused P S fault → (P → Q) → IsRefused Q S fault
+refused_as (memory e) f = memory e
+refused_as (told h s) f = told (f h) s

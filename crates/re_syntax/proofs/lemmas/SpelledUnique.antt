@@ -1,0 +1,49 @@
+-- The laws of the definitions: one expression, one split, one list of parts.
+use Rattle.std.proofs.Common.{◌≡◌, map, refl, ap}
+use Rattle.re_syntax.specs.Bytes.{Text}
+use Rattle.re_syntax.specs.Expression.{Expression, byte, sequence, choice}
+use Rattle.re_syntax.specs.declared.syntax.Syntax.{Syntax}
+use Rattle.re_syntax.specs.declared.syntax.Syntax.TheVariants.{Fixed}
+use Rattle.re_syntax.specs.Spelled.{IsSpelled, SpellsNoOther, as_basic, as_extended, as_fixed}
+use Rattle.re_syntax.specs.Laws.{SpellsOne, HasOneSplit, HasOnePartList}
+use Rattle.re_syntax.proofs.lemmas.BasicUnique.{whole-unique}
+use Rattle.re_syntax.proofs.lemmas.ExtendedUnique.{whole-branches}
+use Rattle.re_syntax.proofs.lemmas.LinesLaws.{AreLines-lines_of, lines_of-unique, AreListed-list_of, list_of-unique}
+use Rattle.re_syntax.proofs.lemmas.PartsExist.{AreParts-exist}
+use Rattle.re_syntax.proofs.lemmas.EndedLinesLaws.{AreEndedLines-ended_lines_of, ended_lines_of-unique}
+use Rattle.re_syntax.proofs.lemmas.PartsLaws.{ArePartsFrom-unique}
+
+-- a fixed string spells the sequence of its bytes
+pub fixed_spelled : (t : Text) (e : Expression) → e ≡ sequence (map byte t) → IsSpelled Fixed t e
+fixed_spelled t e h = let P : Expression → Type 0 = λ x. IsSpelled Fixed t x in let it : P (sequence (map byte t)) = as_fixed in rw h it
+
+-- a text spells one expression
+pub IsSpelled-unique : {syntax : Syntax} {t : Text} {d e : Expression} → IsSpelled syntax t d → IsSpelled syntax t e → d ≡ e
+IsSpelled-unique (as_basic is h) (as_basic js k) = ap sequence (whole-unique is js)
+IsSpelled-unique (as_extended bs h) (as_extended cs k) = ap choice (whole-branches bs cs).expressions
+IsSpelled-unique as_fixed as_fixed = refl
+
+-- a fixed string spells nothing but the sequence of its bytes
+pub fixed_only : (t : Text) (e : Expression) → e ≡ sequence (map byte t) → SpellsNoOther Fixed t e
+fixed_only t e h other spelled = IsSpelled-unique spelled (fixed_spelled t e h)
+
+-- the law on what a text spells
+pub spells_one : (text : Text) → SpellsOne text
+spells_one text syntax d e p q = IsSpelled-unique p q
+
+-- the law on lines and patterns
+pub has_one_split : (text : Text) → HasOneSplit text
+has_one_split text = record {
+  lines = AreLines-lines_of text;
+  no_other_lines = lines_of-unique text;
+  ended_lines = AreEndedLines-ended_lines_of text;
+  no_other_ended_lines = ended_lines_of-unique text;
+  listed = AreListed-list_of text;
+  not_listed_otherwise = list_of-unique text;
+}
+
+-- the law on parts
+pub has_one_part_list : (line : Text) → HasOnePartList line
+has_one_part_list line es whole =
+    let parts = AreParts-exist es line whole in
+    (parts.0, parts.1, λ qs are. ArePartsFrom-unique es line whole qs parts.0 0 are parts.1)

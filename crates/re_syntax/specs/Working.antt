@@ -1,0 +1,10 @@
+pub mod Splitting
+pub mod Cursors
+pub mod Ahead
+pub mod IntervalSteps
+pub mod BracketSteps
+pub mod EscapeSteps
+pub mod PieceSteps
+pub mod DuplicationSteps
+pub mod BasicSteps
+pub mod ExtendedSteps

@@ -1,0 +1,59 @@
+-- What each step of reading a bracket expression says: which part of the grammar stands before the cursor, or that none does and where that shows.
+use Rattle.std.specs.Prelude.{◌≡◌, ◌≢◌, ℕ, ◌≤◌, ◌⊎◌, drop, codes}
+use Rattle.re_syntax.specs.declared.bracket.ListPlace.{ListPlace}
+use Rattle.re_syntax.specs.declared.bracket.ListPlace.TheVariants.{First, AfterPoint}
+use Rattle.re_syntax.specs.declared.cursor.Cursor.{Cursor}
+use Rattle.re_syntax.specs.declared.fault.FaultKind.TheVariants.{UnclosedBracket}
+use Rattle.re_syntax.specs.declared.fault.PatternFault.{PatternFault}
+use Rattle.re_syntax.specs.Bytes.{Text, Begins, Bytes}
+use Rattle.re_syntax.specs.Expression.{Expression}
+use Rattle.re_syntax.specs.Brackets.{Point, Element, Rest, IsBracket}
+use Rattle.re_syntax.specs.Working.Cursors.{left, Passes}
+use Rattle.re_syntax.specs.Faults.{ShowsBracketFault}
+
+-- the bytes stand at this place of the cursor's text
+abbrev pub Stands : Text → ℕ → Cursor → Type 0
+Stands bytes at c = Begins bytes (drop at c.text.now)
+
+-- no `[` before a `:` or `=`, which would open a class
+pub record OpensNoClass (t : Text) : Type 0 where
+  pub class : ¬ Begins (codes "[:") t
+  pub equivalence : ¬ Begins (codes "[=") t
+
+-- an element may stand here: no bracket closes the list, and after a point a hyphen stands only as the last
+pub record MayGoOn (p : ListPlace) (t : Text) : Type 0 where
+  pub bracket : Begins (codes "]") t → p ≡ First
+  pub hyphen : Begins (codes "-") t → (p ≢ AfterPoint) ⊎ Begins (codes "-]") t
+
+-- the cursor went past a hyphen, at this place, that is not the last of its list
+pub record PassesHyphen (old new : Cursor) (at : ℕ) : Type 0 where
+  pub passes : Passes (codes "-") old new
+  pub not_last : ¬ Begins (codes "-]") (left old)
+  pub stands : Stands (codes "-") at old
+
+-- the fault shows at its place of the cursor's text; an unclosed bracket expression shows at this opening
+pub record IsShown (opening : ℕ) (c : Cursor) (fault : PatternFault) : Type 0 where
+  pub shows : ShowsBracketFault fault.kind (drop fault.at c.text.now)
+  pub unclosed : fault.kind ≡ UnclosedBracket → fault.at ≡ opening
+
+-- no point, no point from the byte `first` on, no element and no list of elements comes next in the bracket expression that is open
+pub record HasNoPoint (opening : ℕ) (c : Cursor) (fault : PatternFault) : Type 0 where
+  pub none : (v : Text) (b : ℕ) → ¬ Point (left c) v b
+  pub shown : IsShown opening c fault
+
+pub record HasNoRangeEnd (opening first : ℕ) (c : Cursor) (fault : PatternFault) : Type 0 where
+  pub none : (v : Text) (b : ℕ) → Point (left c) v b → ¬ (first ≤ b)
+  pub shown : IsShown opening c fault
+
+pub record HasNoElement (opening : ℕ) (p : ListPlace) (c : Cursor) (fault : PatternFault) : Type 0 where
+  pub none : (v : Text) (a : Bytes) (q : ListPlace) → ¬ Element p (left c) v a q
+  pub shown : IsShown opening c fault
+
+pub record HasNoList (opening : ℕ) (c : Cursor) (fault : PatternFault) : Type 0 where
+  pub none : (u : Text) (s : Bytes) → ¬ Rest First (left c) u s
+  pub shown : IsShown opening c fault
+
+-- no bracket expression comes next
+pub record HasNoBracket (c : Cursor) (fault : PatternFault) : Type 0 where
+  pub none : (u : Text) (e : Expression) → ¬ IsBracket (left c) u e
+  pub shown : IsShown c.at c fault

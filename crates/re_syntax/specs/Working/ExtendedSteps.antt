@@ -1,0 +1,105 @@
+-- What each step of reading an extended expression says: which part of the grammar stands at a place of the text, or that none does and where that shows.
+use Rattle.std.specs.Prelude.{◌≡◌, ℕ, ◌<◌, ◌≤◌, max, Bool, true, false, ◌&&◌, ◌||◌, nat_eq, [], ◌∷◌, List, length, take, drop, map, IsTrue, codes}
+use Rattle.re_syntax.specs.declared.pieces.Piece.{Piece}
+use Rattle.re_syntax.specs.declared.pieces.Pieces.{Pieces}
+use Rattle.re_syntax.specs.declared.interval.Counts.{Counts}
+use Rattle.re_syntax.specs.declared.fault.PatternFault.{PatternFault}
+use Rattle.re_syntax.specs.Bytes.{Text, Begins}
+use Rattle.re_syntax.specs.Working.DuplicationSteps.{HasNone, HasOne}
+use Rattle.re_syntax.specs.Escapes.{is_in}
+use Rattle.re_syntax.specs.Expression.{Expression, sequence, expression_of}
+use Rattle.re_syntax.specs.Extended.{Duplication, Branches, Items, Item, Atom}
+use Rattle.re_syntax.specs.ExtendedFaults.{OpensDuplication, HasNothingToRepeat, IsShownIn}
+
+-- a bar, or the closing of a group that stands around
+abbrev pub is_stop : Bool → ℕ → Bool
+is_stop in_group b = nat_eq b 124 || (in_group && nat_eq b 41)
+
+-- where a branch ends: at the text's end, at a bar, at the closing of the group around it
+abbrev pub stops : Bool → Text → Bool
+stops g [] = true
+stops g (b ∷ t) = is_stop g b
+
+-- where the last branch does
+abbrev pub ends : Bool → Text → Bool
+ends g [] = true
+ends g (b ∷ t) = g && nat_eq b 41
+
+-- no duplication stands at the front
+abbrev pub NoDuplication : Text → Type 0
+NoDuplication = HasNone Duplication
+
+-- a byte that is no duplication alone
+abbrev pub IsNoSign : ℕ → Type 0
+IsNoSign b = ¬ IsTrue (is_in (codes "*+?") b)
+
+-- a duplication stands from one place up to another
+abbrev pub DuplicationStands : Text → ℕ → Counts → ℕ → Type 0
+DuplicationStands = HasOne Duplication
+
+-- an interval whose numbers are refused
+pub record HasBadInterval (text : Text) (at : ℕ) (fault : PatternFault) : Type 0 where
+  pub opens : OpensDuplication (drop at text)
+  pub none : NoDuplication (drop at text)
+  pub shown : IsShownIn text fault
+
+-- at this place an atom may stand: the branch goes on, and neither an anchor nor a duplication comes first
+pub record MayBegin (in_group : Bool) (t : Text) : Type 0 where
+  pub goes_on : stops in_group t ≡ false
+  pub no_lead : ¬ Begins (codes "^") t
+  pub no_duplication : ¬ OpensDuplication t
+
+-- an atom stands from one place up to another, at most so high
+pub record AtomStands (in_group : Bool) (levels : ℕ) (text : Text) (at : ℕ) (piece : Piece) : Type 0 where
+  pub forward : at < piece.behind
+  pub within : piece.behind ≤ length text
+  pub height : piece.height ≤ levels
+  pub stands : Atom in_group piece.height (drop at text) (drop piece.behind text) (expression_of piece.tree)
+
+-- no atom stands there, or only a higher one
+pub record HasNoAtom (in_group : Bool) (levels : ℕ) (t : Text) : Type 0 where
+  pub none : (h : ℕ) (u : Text) (e : Expression) → Atom in_group h t u e → h ≤ levels → ⊥
+
+-- the same of an item, behind which no duplication stands
+pub record ItemStands (in_group : Bool) (levels : ℕ) (text : Text) (at : ℕ) (piece : Piece) : Type 0 where
+  pub forward : at < piece.behind
+  pub within : piece.behind ≤ length text
+  pub height : piece.height ≤ levels
+  pub no_more : ¬ OpensDuplication (drop piece.behind text)
+  pub stands : Item in_group piece.height (drop at text) (drop piece.behind text) (expression_of piece.tree)
+
+-- no items of a branch stand there, or only higher ones
+pub record HasNoItems (in_group : Bool) (levels : ℕ) (t : Text) : Type 0 where
+  pub none : (h : ℕ) (u : Text) (es : List Expression) → Items in_group h t u es → stops in_group u ≡ true → h ≤ levels → ⊥
+
+-- the items of a branch from one place on are an anchor or an item, up to another place, and the items from there on
+pub record IsNext (in_group : Bool) (levels : ℕ) (text : Text) (at : ℕ) (piece : Piece) : Type 0 where
+  pub forward : at < piece.behind
+  pub within : piece.behind ≤ length text
+  pub height : piece.height ≤ levels
+  pub opens : OpensDuplication (drop piece.behind text) → HasNothingToRepeat (take piece.behind text)
+  pub ahead : (k : ℕ) (v : Text) (es : List Expression) → Items in_group k (drop piece.behind text) v es →
+      Items in_group (max piece.height k) (drop at text) v (expression_of piece.tree ∷ es)
+  pub back : HasNoItems in_group levels (drop piece.behind text) → HasNoItems in_group levels (drop at text)
+
+-- the items of a branch stand from one place up to its end, at most so high
+pub record BranchStands (in_group : Bool) (levels : ℕ) (text : Text) (from : ℕ) (piece : Piece) : Type 0 where
+  pub forward : from ≤ piece.behind
+  pub within : piece.behind ≤ length text
+  pub height : piece.height ≤ levels
+  pub at_end : stops in_group (drop piece.behind text) ≡ true
+  pub members : List Expression
+  pub stands : Items in_group piece.height (drop from text) (drop piece.behind text) members
+  pub means : expression_of piece.tree ≡ sequence members
+
+-- no branches of an expression stand there, or only higher ones
+pub record HasNoBranches (in_group : Bool) (levels : ℕ) (t : Text) : Type 0 where
+  pub none : (h : ℕ) (u : Text) (es : List Expression) → Branches in_group h t u es → ends in_group u ≡ true → h ≤ levels → ⊥
+
+-- the branches of an expression stand from one place up to its end, at most so high
+pub record BranchesStand (in_group : Bool) (levels : ℕ) (text : Text) (from : ℕ) (branches : Pieces) : Type 0 where
+  pub forward : from ≤ branches.behind
+  pub within : branches.behind ≤ length text
+  pub height : branches.height ≤ levels
+  pub at_end : ends in_group (drop branches.behind text) ≡ true
+  pub stands : Branches in_group branches.height (drop from text) (drop branches.behind text) (map expression_of branches.trees.items)

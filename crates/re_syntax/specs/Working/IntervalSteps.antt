@@ -1,0 +1,39 @@
+-- What each step of reading an interval says.
+use Rattle.std.specs.Prelude.{◌≡◌, ℕ, ◌≤◌, ◌∷◌, ◌++◌, length, take, drop, Option, IsTrue}
+use Rattle.std.specs.List.{list_all}
+use Rattle.std.specs.Option.{option_map}
+use Rattle.re_syntax.specs.declared.class.Class.TheVariants.{Digit}
+use Rattle.re_syntax.specs.declared.interval.Counts.{Counts}
+use Rattle.re_syntax.specs.Bytes.{Text, in_class}
+use Rattle.re_syntax.specs.Intervals.{IsNumber, value, ClosedInterval, capped}
+
+abbrev pub AreDigits : Text → Type 0
+AreDigits t = IsTrue (list_all (in_class Digit) t)
+
+-- no digit comes first
+abbrev pub HasNoDigit : Text → Type 0
+HasNoDigit t = (b : ℕ) (u : Text) → t ≡ b ∷ u → ¬ IsTrue (in_class Digit b)
+
+-- so many digits come first, and no more
+pub record IsDigitCount (t : Text) (n : ℕ) : Type 0 where
+  pub within : n ≤ length t
+  pub digits : AreDigits (take n t)
+  pub stops : HasNoDigit (drop n t)
+
+-- a number stands from one place up to another, and no digit follows it
+pub record NumberStands (text : Text) (at count behind : ℕ) : Type 0 where
+  pub within : behind ≤ length text
+  pub digits : Text
+  pub number : IsNumber digits
+  pub front : drop at text ≡ digits ++ drop behind text
+  pub count_is : count ≡ capped (value digits)
+  pub stops : HasNoDigit (drop behind text)
+
+-- an interval stands from one place up to another, and what closes it is the last of it
+pub record IntervalStands (close text : Text) (at : ℕ) (counts : Counts) (behind : ℕ) : Type 0 where
+  pub within : behind ≤ length text
+  pub least : ℕ
+  pub most : Option ℕ
+  pub stands : ClosedInterval close (drop at text) (drop behind text) least most
+  pub least_is : counts.least ≡ capped least
+  pub most_is : counts.most ≡ option_map capped most
