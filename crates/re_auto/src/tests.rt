@@ -53,20 +53,26 @@ fn told(
     Some(here.accepts(&automaton, to == line.len()))
 }
 
+static SIZES: [(&[u8], bool); 9] = [
+    (b"", true),
+    (b"(a{255}){16}", true),
+    (b"(a{255}){17}", false),
+    (b"(a{255}){16}a{16}", true),
+    (b"(a{255}){16}a{17}", false),
+    (b"((a{255}){255}){0}", true),
+    (b"((((){255}){255}){255}){255}", true),
+    (b"(a?){255}", true),
+    (b"((a{64}){64}){1,}b", false),
+];
+
+fn sizes() -> &'static [(&'static [u8], bool)] {
+    &SIZES
+}
+
 #[test]
 fn an_automaton_has_at_most_4096_positions(rt: HostRuntime) {
-    let rows: [(&[u8], bool); 9] = [
-        (b"", true),
-        (b"(a{255}){16}", true),
-        (b"(a{255}){17}", false),
-        (b"(a{255}){16}a{16}", true),
-        (b"(a{255}){16}a{17}", false),
-        (b"((a{255}){255}){0}", true),
-        (b"((((){255}){255}){255}){255}", true),
-        (b"(a?){255}", true),
-        (b"((a{64}){64}){1,}b", false),
-    ];
-    for (text, fits) in rows {
+    for row in sizes() {
+        let (text, fits) = *row;
         let right = match built(&rt, text) {
             Some(Ok(_)) => fits,
             Some(Err(fault)) => !fits && fault == BuildFault::TooLarge,
@@ -76,51 +82,57 @@ fn an_automaton_has_at_most_4096_positions(rt: HostRuntime) {
     }
 }
 
+static WHOLE_LINES: [(&[u8], &[u8], bool); 40] = [
+    (b"", b"", true),
+    (b"", b"a", false),
+    (b"((a{255}){255}){0}", b"", true),
+    (b"((a{255}){255}){0}", b"a", false),
+    (b"((((){255}){255}){255}){255}", b"", true),
+    (b"((((){255}){255}){255}){255}", b"x", false),
+    (b"ba{0}c", b"bc", true),
+    (b"ba{0}c", b"bac", false),
+    (b"(^a|b)*$", b"abb", true),
+    (b"(^a|b)*$", b"bb", true),
+    (b"(^a|b)*$", b"", true),
+    (b"(^a|b)*$", b"ba", false),
+    (b"(^a|b)*$", b"aa", false),
+    (b"(^)*", b"", true),
+    (b"(^)*", b"x", false),
+    (b"^$", b"", true),
+    (b"^$", b"x", false),
+    (b"(^|a)b", b"b", true),
+    (b"(^|a)b", b"ab", true),
+    (b"x(^|a)b", b"xb", false),
+    (b"(a$|b)c", b"ac", false),
+    (b"(a$|b)c", b"bc", true),
+    (b"(a$|b)*", b"bba", true),
+    (b"(a$|b)*", b"bab", false),
+    (b"(a^b|c)*", b"cc", true),
+    (b"(a^b|c)*", b"ab", false),
+    (b"a{2,3}", b"a", false),
+    (b"a{2,3}", b"aa", true),
+    (b"a{2,3}", b"aaa", true),
+    (b"a{2,3}", b"aaaa", false),
+    (b"(ab?){2}", b"aa", true),
+    (b"(ab?){2}", b"abab", true),
+    (b"(ab?){2}", b"abb", false),
+    (b"(a?){3}", b"", true),
+    (b"(a?){3}", b"aaaa", false),
+    (b"a{2,}", b"a", false),
+    (b"a{2,}", b"aaaaa", true),
+    (b"a+b*|c", b"aab", true),
+    (b"a+b*|c", b"b", false),
+    (b"[^a].", b"bc", true),
+];
+
+fn whole_lines() -> &'static [(&'static [u8], &'static [u8], bool)] {
+    &WHOLE_LINES
+}
+
 #[test]
 fn whole_lines_are_accepted(rt: HostRuntime) {
-    let rows: [(&[u8], &[u8], bool); 40] = [
-        (b"", b"", true),
-        (b"", b"a", false),
-        (b"((a{255}){255}){0}", b"", true),
-        (b"((a{255}){255}){0}", b"a", false),
-        (b"((((){255}){255}){255}){255}", b"", true),
-        (b"((((){255}){255}){255}){255}", b"x", false),
-        (b"ba{0}c", b"bc", true),
-        (b"ba{0}c", b"bac", false),
-        (b"(^a|b)*$", b"abb", true),
-        (b"(^a|b)*$", b"bb", true),
-        (b"(^a|b)*$", b"", true),
-        (b"(^a|b)*$", b"ba", false),
-        (b"(^a|b)*$", b"aa", false),
-        (b"(^)*", b"", true),
-        (b"(^)*", b"x", false),
-        (b"^$", b"", true),
-        (b"^$", b"x", false),
-        (b"(^|a)b", b"b", true),
-        (b"(^|a)b", b"ab", true),
-        (b"x(^|a)b", b"xb", false),
-        (b"(a$|b)c", b"ac", false),
-        (b"(a$|b)c", b"bc", true),
-        (b"(a$|b)*", b"bba", true),
-        (b"(a$|b)*", b"bab", false),
-        (b"(a^b|c)*", b"cc", true),
-        (b"(a^b|c)*", b"ab", false),
-        (b"a{2,3}", b"a", false),
-        (b"a{2,3}", b"aa", true),
-        (b"a{2,3}", b"aaa", true),
-        (b"a{2,3}", b"aaaa", false),
-        (b"(ab?){2}", b"aa", true),
-        (b"(ab?){2}", b"abab", true),
-        (b"(ab?){2}", b"abb", false),
-        (b"(a?){3}", b"", true),
-        (b"(a?){3}", b"aaaa", false),
-        (b"a{2,}", b"a", false),
-        (b"a{2,}", b"aaaaa", true),
-        (b"a+b*|c", b"aab", true),
-        (b"a+b*|c", b"b", false),
-        (b"[^a].", b"bc", true),
-    ];
-    for (text, line, expected) in rows {
+    for row in whole_lines() {
+        let (text, line, expected) = *row;
         assert!(rt;
             accepts(&rt, text, Mode::Whole, line) == Some(expected),
             "{text:?} {line:?}"
@@ -128,23 +140,29 @@ fn whole_lines_are_accepted(rt: HostRuntime) {
     }
 }
 
+static STRETCHES: [(&[u8], &[u8], bool); 12] = [
+    (b"ab", b"xxab", true),
+    (b"ab", b"abx", false),
+    (b"", b"x", true),
+    (b"^a", b"a", true),
+    (b"^a", b"aa", false),
+    (b"a$", b"xa", true),
+    (b"$", b"xa", true),
+    (b"^", b"x", false),
+    (b"(^a|b)c", b"xac", false),
+    (b"(^a|b)c", b"xbc", true),
+    (b".", b"\xff", true),
+    (b".", b"\0", false),
+];
+
+fn stretches() -> &'static [(&'static [u8], &'static [u8], bool)] {
+    &STRETCHES
+}
+
 #[test]
 fn stretches_that_end_at_the_last_place_are_found(rt: HostRuntime) {
-    let rows: [(&[u8], &[u8], bool); 12] = [
-        (b"ab", b"xxab", true),
-        (b"ab", b"abx", false),
-        (b"", b"x", true),
-        (b"^a", b"a", true),
-        (b"^a", b"aa", false),
-        (b"a$", b"xa", true),
-        (b"$", b"xa", true),
-        (b"^", b"x", false),
-        (b"(^a|b)c", b"xac", false),
-        (b"(^a|b)c", b"xbc", true),
-        (b".", b"\xff", true),
-        (b".", b"\0", false),
-    ];
-    for (text, line, expected) in rows {
+    for row in stretches() {
+        let (text, line, expected) = *row;
         assert!(rt;
             accepts(&rt, text, Mode::Search, line) == Some(expected),
             "{text:?} {line:?}"
@@ -152,21 +170,27 @@ fn stretches_that_end_at_the_last_place_are_found(rt: HostRuntime) {
     }
 }
 
+static LEAST_STARTS: [(&[u8], &[u8], usize, usize, Option<usize>); 10] = [
+    (b"ab|abcd|bc", b"xabcde", 0, 3, Some(1)),
+    (b"ab|abcd|bc", b"xabcde", 0, 4, Some(2)),
+    (b"ab|abcd|bc", b"xabcde", 0, 5, Some(1)),
+    (b"ab|abcd|bc", b"xabcde", 0, 6, None),
+    (b"ab|abcd|bc", b"xabcde", 2, 4, Some(2)),
+    (b"ab|abcd|bc", b"xabcde", 2, 5, None),
+    (b"a*", b"baaac", 0, 1, None),
+    (b"a*", b"baaac", 0, 4, Some(1)),
+    (b"^a", b"aa", 1, 2, None),
+    (b"a$|aa", b"aaa", 0, 3, Some(1)),
+];
+
+fn least_starts() -> &'static [(&'static [u8], &'static [u8], usize, usize, Option<usize>)] {
+    &LEAST_STARTS
+}
+
 #[test]
 fn the_least_start_is_told_at_each_end(rt: HostRuntime) {
-    let rows: [(&[u8], &[u8], usize, usize, Option<usize>); 10] = [
-        (b"ab|abcd|bc", b"xabcde", 0, 3, Some(1)),
-        (b"ab|abcd|bc", b"xabcde", 0, 4, Some(2)),
-        (b"ab|abcd|bc", b"xabcde", 0, 5, Some(1)),
-        (b"ab|abcd|bc", b"xabcde", 0, 6, None),
-        (b"ab|abcd|bc", b"xabcde", 2, 4, Some(2)),
-        (b"ab|abcd|bc", b"xabcde", 2, 5, None),
-        (b"a*", b"baaac", 0, 1, None),
-        (b"a*", b"baaac", 0, 4, Some(1)),
-        (b"^a", b"aa", 1, 2, None),
-        (b"a$|aa", b"aaa", 0, 3, Some(1)),
-    ];
-    for (text, line, from, to, expected) in rows {
+    for row in least_starts() {
+        let (text, line, from, to, expected) = *row;
         assert!(rt;
             told(&rt, text, line, from, to) == Some(expected),
             "{text:?} {line:?} {to:?}"

@@ -16,231 +16,249 @@ fn is_refused(rt: &HostRuntime, text: &[u8], kind: FaultKind, at: usize) -> bool
     }
 }
 
+static ANCHORS_AND_STARS: [(&[u8], &[Shape]); 22] = [
+    (b"", &[Shape::Empty]),
+    (b"^", &[Shape::Begin]),
+    (
+        b"^*a",
+        &[
+            Shape::Cat(3),
+            Shape::Begin,
+            Shape::Byte(b'*'),
+            Shape::Byte(b'a'),
+        ],
+    ),
+    (
+        b"\\(^*\\)",
+        &[Shape::Cat(2), Shape::Begin, Shape::Byte(b'*')],
+    ),
+    (b"**", &[Shape::Repeat(0, None), Shape::Byte(b'*')]),
+    (
+        b"^**",
+        &[
+            Shape::Cat(2),
+            Shape::Begin,
+            Shape::Repeat(0, None),
+            Shape::Byte(b'*'),
+        ],
+    ),
+    (
+        b"a^b$c",
+        &[
+            Shape::Cat(5),
+            Shape::Byte(b'a'),
+            Shape::Byte(b'^'),
+            Shape::Byte(b'b'),
+            Shape::Byte(b'$'),
+            Shape::Byte(b'c'),
+        ],
+    ),
+    (
+        b"a$b",
+        &[
+            Shape::Cat(3),
+            Shape::Byte(b'a'),
+            Shape::Byte(b'$'),
+            Shape::Byte(b'b'),
+        ],
+    ),
+    (b"$", &[Shape::End]),
+    (b"^$", &[Shape::Cat(2), Shape::Begin, Shape::End]),
+    (b"$*", &[Shape::Repeat(0, None), Shape::Byte(b'$')]),
+    (b"^^", &[Shape::Cat(2), Shape::Begin, Shape::Byte(b'^')]),
+    (b"$$", &[Shape::Cat(2), Shape::Byte(b'$'), Shape::End]),
+    (b"^*", &[Shape::Cat(2), Shape::Begin, Shape::Byte(b'*')]),
+    (b"a*", &[Shape::Repeat(0, None), Shape::Byte(b'a')]),
+    (
+        b"a**",
+        &[
+            Shape::Repeat(0, None),
+            Shape::Repeat(0, None),
+            Shape::Byte(b'a'),
+        ],
+    ),
+    (
+        b"^a*",
+        &[
+            Shape::Cat(2),
+            Shape::Begin,
+            Shape::Repeat(0, None),
+            Shape::Byte(b'a'),
+        ],
+    ),
+    (
+        b"\\(^a\\)",
+        &[Shape::Cat(2), Shape::Begin, Shape::Byte(b'a')],
+    ),
+    (
+        b"a\\(b$\\)",
+        &[
+            Shape::Cat(2),
+            Shape::Byte(b'a'),
+            Shape::Cat(2),
+            Shape::Byte(b'b'),
+            Shape::End,
+        ],
+    ),
+    (b"\\($\\)", &[Shape::End]),
+    (b"\\(*\\)", &[Shape::Byte(b'*')]),
+    (
+        b"a\\(^b\\)$",
+        &[
+            Shape::Cat(3),
+            Shape::Byte(b'a'),
+            Shape::Cat(2),
+            Shape::Begin,
+            Shape::Byte(b'b'),
+            Shape::End,
+        ],
+    ),
+];
+
+fn anchors_and_stars() -> &'static [(&'static [u8], &'static [Shape])] {
+    &ANCHORS_AND_STARS
+}
+
 #[test]
 fn anchors_and_stars_go_by_their_place(rt: HostRuntime) {
-    let rows: [(&[u8], &[Shape]); 22] = [
-        (b"", &[Shape::Empty]),
-        (b"^", &[Shape::Begin]),
-        (
-            b"^*a",
-            &[
-                Shape::Cat(3),
-                Shape::Begin,
-                Shape::Byte(b'*'),
-                Shape::Byte(b'a'),
-            ],
-        ),
-        (
-            b"\\(^*\\)",
-            &[Shape::Cat(2), Shape::Begin, Shape::Byte(b'*')],
-        ),
-        (b"**", &[Shape::Repeat(0, None), Shape::Byte(b'*')]),
-        (
-            b"^**",
-            &[
-                Shape::Cat(2),
-                Shape::Begin,
-                Shape::Repeat(0, None),
-                Shape::Byte(b'*'),
-            ],
-        ),
-        (
-            b"a^b$c",
-            &[
-                Shape::Cat(5),
-                Shape::Byte(b'a'),
-                Shape::Byte(b'^'),
-                Shape::Byte(b'b'),
-                Shape::Byte(b'$'),
-                Shape::Byte(b'c'),
-            ],
-        ),
-        (
-            b"a$b",
-            &[
-                Shape::Cat(3),
-                Shape::Byte(b'a'),
-                Shape::Byte(b'$'),
-                Shape::Byte(b'b'),
-            ],
-        ),
-        (b"$", &[Shape::End]),
-        (b"^$", &[Shape::Cat(2), Shape::Begin, Shape::End]),
-        (b"$*", &[Shape::Repeat(0, None), Shape::Byte(b'$')]),
-        (b"^^", &[Shape::Cat(2), Shape::Begin, Shape::Byte(b'^')]),
-        (b"$$", &[Shape::Cat(2), Shape::Byte(b'$'), Shape::End]),
-        (b"^*", &[Shape::Cat(2), Shape::Begin, Shape::Byte(b'*')]),
-        (b"a*", &[Shape::Repeat(0, None), Shape::Byte(b'a')]),
-        (
-            b"a**",
-            &[
-                Shape::Repeat(0, None),
-                Shape::Repeat(0, None),
-                Shape::Byte(b'a'),
-            ],
-        ),
-        (
-            b"^a*",
-            &[
-                Shape::Cat(2),
-                Shape::Begin,
-                Shape::Repeat(0, None),
-                Shape::Byte(b'a'),
-            ],
-        ),
-        (
-            b"\\(^a\\)",
-            &[Shape::Cat(2), Shape::Begin, Shape::Byte(b'a')],
-        ),
-        (
-            b"a\\(b$\\)",
-            &[
-                Shape::Cat(2),
-                Shape::Byte(b'a'),
-                Shape::Cat(2),
-                Shape::Byte(b'b'),
-                Shape::End,
-            ],
-        ),
-        (b"\\($\\)", &[Shape::End]),
-        (b"\\(*\\)", &[Shape::Byte(b'*')]),
-        (
-            b"a\\(^b\\)$",
-            &[
-                Shape::Cat(3),
-                Shape::Byte(b'a'),
-                Shape::Cat(2),
-                Shape::Begin,
-                Shape::Byte(b'b'),
-                Shape::End,
-            ],
-        ),
-    ];
-    for (text, shape) in rows {
+    for row in anchors_and_stars() {
+        let (text, shape) = *row;
         assert!(rt; is_read(&rt, text, shape), "{text:?}");
     }
+}
+
+static DUPLICATIONS: [(&[u8], &[Shape]); 13] = [
+    (
+        b"a\\{2\\}*",
+        &[
+            Shape::Repeat(0, None),
+            Shape::Repeat(2, Some(2)),
+            Shape::Byte(b'a'),
+        ],
+    ),
+    (
+        b"a*\\{2\\}",
+        &[
+            Shape::Repeat(2, Some(2)),
+            Shape::Repeat(0, None),
+            Shape::Byte(b'a'),
+        ],
+    ),
+    (b"a\\{3,\\}", &[Shape::Repeat(3, None), Shape::Byte(b'a')]),
+    (
+        b"a\\{1,2\\}",
+        &[Shape::Repeat(1, Some(2)), Shape::Byte(b'a')],
+    ),
+    (b"a\\{0\\}", &[Shape::Repeat(0, Some(0)), Shape::Byte(b'a')]),
+    (
+        b"a\\{007\\}",
+        &[Shape::Repeat(7, Some(7)), Shape::Byte(b'a')],
+    ),
+    (
+        b"a\\{255\\}",
+        &[Shape::Repeat(255, Some(255)), Shape::Byte(b'a')],
+    ),
+    (
+        b"a\\{0000000000000000000000000000000000000012\\}",
+        &[Shape::Repeat(12, Some(12)), Shape::Byte(b'a')],
+    ),
+    (b"\\(a\\)*", &[Shape::Repeat(0, None), Shape::Byte(b'a')]),
+    (b"\\(\\)*", &[Shape::Repeat(0, None), Shape::Empty]),
+    (b".*", &[Shape::Repeat(0, None), Shape::Any]),
+    (b"*\\{2\\}", &[Shape::Repeat(2, Some(2)), Shape::Byte(b'*')]),
+    (b"\\.*", &[Shape::Repeat(0, None), Shape::Byte(b'.')]),
+];
+
+fn duplications() -> &'static [(&'static [u8], &'static [Shape])] {
+    &DUPLICATIONS
 }
 
 #[test]
 fn duplications_apply_from_left_to_right(rt: HostRuntime) {
-    let rows: [(&[u8], &[Shape]); 13] = [
-        (
-            b"a\\{2\\}*",
-            &[
-                Shape::Repeat(0, None),
-                Shape::Repeat(2, Some(2)),
-                Shape::Byte(b'a'),
-            ],
-        ),
-        (
-            b"a*\\{2\\}",
-            &[
-                Shape::Repeat(2, Some(2)),
-                Shape::Repeat(0, None),
-                Shape::Byte(b'a'),
-            ],
-        ),
-        (b"a\\{3,\\}", &[Shape::Repeat(3, None), Shape::Byte(b'a')]),
-        (
-            b"a\\{1,2\\}",
-            &[Shape::Repeat(1, Some(2)), Shape::Byte(b'a')],
-        ),
-        (b"a\\{0\\}", &[Shape::Repeat(0, Some(0)), Shape::Byte(b'a')]),
-        (
-            b"a\\{007\\}",
-            &[Shape::Repeat(7, Some(7)), Shape::Byte(b'a')],
-        ),
-        (
-            b"a\\{255\\}",
-            &[Shape::Repeat(255, Some(255)), Shape::Byte(b'a')],
-        ),
-        (
-            b"a\\{0000000000000000000000000000000000000012\\}",
-            &[Shape::Repeat(12, Some(12)), Shape::Byte(b'a')],
-        ),
-        (b"\\(a\\)*", &[Shape::Repeat(0, None), Shape::Byte(b'a')]),
-        (b"\\(\\)*", &[Shape::Repeat(0, None), Shape::Empty]),
-        (b".*", &[Shape::Repeat(0, None), Shape::Any]),
-        (b"*\\{2\\}", &[Shape::Repeat(2, Some(2)), Shape::Byte(b'*')]),
-        (b"\\.*", &[Shape::Repeat(0, None), Shape::Byte(b'.')]),
-    ];
-    for (text, shape) in rows {
+    for row in duplications() {
+        let (text, shape) = *row;
         assert!(rt; is_read(&rt, text, shape), "{text:?}");
     }
 }
 
+static ORDINARY: [(&[u8], &[Shape]); 8] = [
+    (
+        b"a+b",
+        &[
+            Shape::Cat(3),
+            Shape::Byte(b'a'),
+            Shape::Byte(b'+'),
+            Shape::Byte(b'b'),
+        ],
+    ),
+    (
+        b"a?b",
+        &[
+            Shape::Cat(3),
+            Shape::Byte(b'a'),
+            Shape::Byte(b'?'),
+            Shape::Byte(b'b'),
+        ],
+    ),
+    (
+        b"a|b",
+        &[
+            Shape::Cat(3),
+            Shape::Byte(b'a'),
+            Shape::Byte(b'|'),
+            Shape::Byte(b'b'),
+        ],
+    ),
+    (
+        b"(a)",
+        &[
+            Shape::Cat(3),
+            Shape::Byte(b'('),
+            Shape::Byte(b'a'),
+            Shape::Byte(b')'),
+        ],
+    ),
+    (
+        b"a{b",
+        &[
+            Shape::Cat(3),
+            Shape::Byte(b'a'),
+            Shape::Byte(b'{'),
+            Shape::Byte(b'b'),
+        ],
+    ),
+    (
+        b"a}]",
+        &[
+            Shape::Cat(3),
+            Shape::Byte(b'a'),
+            Shape::Byte(b'}'),
+            Shape::Byte(b']'),
+        ],
+    ),
+    (
+        b"a\\}",
+        &[Shape::Cat(2), Shape::Byte(b'a'), Shape::Byte(b'}')],
+    ),
+    (
+        b"a\xff\x00",
+        &[
+            Shape::Cat(3),
+            Shape::Byte(b'a'),
+            Shape::Byte(255),
+            Shape::Byte(0),
+        ],
+    ),
+];
+
+fn ordinary() -> &'static [(&'static [u8], &'static [Shape])] {
+    &ORDINARY
+}
+
 #[test]
 fn other_bytes_stand_for_themselves(rt: HostRuntime) {
-    let rows: [(&[u8], &[Shape]); 8] = [
-        (
-            b"a+b",
-            &[
-                Shape::Cat(3),
-                Shape::Byte(b'a'),
-                Shape::Byte(b'+'),
-                Shape::Byte(b'b'),
-            ],
-        ),
-        (
-            b"a?b",
-            &[
-                Shape::Cat(3),
-                Shape::Byte(b'a'),
-                Shape::Byte(b'?'),
-                Shape::Byte(b'b'),
-            ],
-        ),
-        (
-            b"a|b",
-            &[
-                Shape::Cat(3),
-                Shape::Byte(b'a'),
-                Shape::Byte(b'|'),
-                Shape::Byte(b'b'),
-            ],
-        ),
-        (
-            b"(a)",
-            &[
-                Shape::Cat(3),
-                Shape::Byte(b'('),
-                Shape::Byte(b'a'),
-                Shape::Byte(b')'),
-            ],
-        ),
-        (
-            b"a{b",
-            &[
-                Shape::Cat(3),
-                Shape::Byte(b'a'),
-                Shape::Byte(b'{'),
-                Shape::Byte(b'b'),
-            ],
-        ),
-        (
-            b"a}]",
-            &[
-                Shape::Cat(3),
-                Shape::Byte(b'a'),
-                Shape::Byte(b'}'),
-                Shape::Byte(b']'),
-            ],
-        ),
-        (
-            b"a\\}",
-            &[Shape::Cat(2), Shape::Byte(b'a'), Shape::Byte(b'}')],
-        ),
-        (
-            b"a\xff\x00",
-            &[
-                Shape::Cat(3),
-                Shape::Byte(b'a'),
-                Shape::Byte(255),
-                Shape::Byte(0),
-            ],
-        ),
-    ];
-    for (text, shape) in rows {
+    for row in ordinary() {
+        let (text, shape) = *row;
         assert!(rt; is_read(&rt, text, shape), "{text:?}");
     }
 }
@@ -270,49 +288,55 @@ fn a_backslash_stands_before_each_byte(rt: HostRuntime) {
     }
 }
 
+static FAULTS: [(&[u8], FaultKind, usize); 34] = [
+    (b"[b-a]", FaultKind::BadRange, 2),
+    (b"[a-m--o]", FaultKind::BadRange, 5),
+    (b"[a--@]", FaultKind::BadRange, 2),
+    (b"[a-[:digit:]]", FaultKind::BadRange, 2),
+    (b"[[:foo:]]", FaultKind::BadClass, 1),
+    (b"[[.ab.]]", FaultKind::BadCollatingSymbol, 1),
+    (b"[a", FaultKind::UnclosedBracket, 0),
+    (b"[]", FaultKind::UnclosedBracket, 0),
+    (b"\\([a", FaultKind::UnclosedBracket, 2),
+    (b"a\\", FaultKind::TrailingBackslash, 1),
+    (b"\\(\\", FaultKind::TrailingBackslash, 2),
+    (b"\\w", FaultKind::UndefinedEscape, 0),
+    (b"\\+", FaultKind::UndefinedEscape, 0),
+    (b"\\(a\\1\\)", FaultKind::BackReference, 3),
+    (b"\\)", FaultKind::UnopenedGroup, 0),
+    (b"a\\(b\\)c\\)", FaultKind::UnopenedGroup, 7),
+    (b"\\(a", FaultKind::UnclosedGroup, 0),
+    (b"\\(\\(a\\)", FaultKind::UnclosedGroup, 0),
+    (b"a\\(b\\(c", FaultKind::UnclosedGroup, 4),
+    (b"a\\{2", FaultKind::BadInterval, 1),
+    (b"a\\{", FaultKind::BadInterval, 1),
+    (b"a\\{\\}", FaultKind::BadInterval, 1),
+    (b"a\\{2,\\", FaultKind::BadInterval, 1),
+    (b"a\\{2x\\}", FaultKind::BadInterval, 1),
+    (b"a\\{2}", FaultKind::BadInterval, 1),
+    (b"\\(a\\{2\\)", FaultKind::BadInterval, 3),
+    (b"a\\{,2\\}", FaultKind::BadInterval, 1),
+    (b"a\\{2,1\\}", FaultKind::BadInterval, 1),
+    (b"a\\{256\\}", FaultKind::IntervalTooLarge, 1),
+    (b"a\\{300,2\\}", FaultKind::IntervalTooLarge, 1),
+    (
+        b"a\\{0,9999999999999999999999999999999999999999\\}",
+        FaultKind::IntervalTooLarge,
+        1,
+    ),
+    (b"\\{2\\}", FaultKind::NothingToRepeat, 0),
+    (b"^\\{300\\}", FaultKind::NothingToRepeat, 1),
+    (b"\\(^\\{1\\}\\)", FaultKind::NothingToRepeat, 3),
+];
+
+fn faults() -> &'static [(&'static [u8], FaultKind, usize)] {
+    &FAULTS
+}
+
 #[test]
 fn a_refused_text_is_told_with_its_first_fault(rt: HostRuntime) {
-    let rows: [(&[u8], FaultKind, usize); 34] = [
-        (b"[b-a]", FaultKind::BadRange, 2),
-        (b"[a-m--o]", FaultKind::BadRange, 5),
-        (b"[a--@]", FaultKind::BadRange, 2),
-        (b"[a-[:digit:]]", FaultKind::BadRange, 2),
-        (b"[[:foo:]]", FaultKind::BadClass, 1),
-        (b"[[.ab.]]", FaultKind::BadCollatingSymbol, 1),
-        (b"[a", FaultKind::UnclosedBracket, 0),
-        (b"[]", FaultKind::UnclosedBracket, 0),
-        (b"\\([a", FaultKind::UnclosedBracket, 2),
-        (b"a\\", FaultKind::TrailingBackslash, 1),
-        (b"\\(\\", FaultKind::TrailingBackslash, 2),
-        (b"\\w", FaultKind::UndefinedEscape, 0),
-        (b"\\+", FaultKind::UndefinedEscape, 0),
-        (b"\\(a\\1\\)", FaultKind::BackReference, 3),
-        (b"\\)", FaultKind::UnopenedGroup, 0),
-        (b"a\\(b\\)c\\)", FaultKind::UnopenedGroup, 7),
-        (b"\\(a", FaultKind::UnclosedGroup, 0),
-        (b"\\(\\(a\\)", FaultKind::UnclosedGroup, 0),
-        (b"a\\(b\\(c", FaultKind::UnclosedGroup, 4),
-        (b"a\\{2", FaultKind::BadInterval, 1),
-        (b"a\\{", FaultKind::BadInterval, 1),
-        (b"a\\{\\}", FaultKind::BadInterval, 1),
-        (b"a\\{2,\\", FaultKind::BadInterval, 1),
-        (b"a\\{2x\\}", FaultKind::BadInterval, 1),
-        (b"a\\{2}", FaultKind::BadInterval, 1),
-        (b"\\(a\\{2\\)", FaultKind::BadInterval, 3),
-        (b"a\\{,2\\}", FaultKind::BadInterval, 1),
-        (b"a\\{2,1\\}", FaultKind::BadInterval, 1),
-        (b"a\\{256\\}", FaultKind::IntervalTooLarge, 1),
-        (b"a\\{300,2\\}", FaultKind::IntervalTooLarge, 1),
-        (
-            b"a\\{0,9999999999999999999999999999999999999999\\}",
-            FaultKind::IntervalTooLarge,
-            1,
-        ),
-        (b"\\{2\\}", FaultKind::NothingToRepeat, 0),
-        (b"^\\{300\\}", FaultKind::NothingToRepeat, 1),
-        (b"\\(^\\{1\\}\\)", FaultKind::NothingToRepeat, 3),
-    ];
-    for (text, kind, at) in rows {
+    for row in faults() {
+        let (text, kind, at) = *row;
         assert!(rt; is_refused(&rt, text, kind, at), "{text:?}");
     }
 }

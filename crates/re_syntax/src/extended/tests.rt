@@ -11,6 +11,12 @@ const C: Shape = Byte(b'c');
 
 const BRACE: Shape = Byte(b'{');
 
+const CLOSING_BRACE: Shape = Byte(b'}');
+
+const COMMA: Shape = Byte(b',');
+
+const TWO: Shape = Byte(b'2');
+
 const CLOSING: Shape = Byte(b')');
 
 const STAR: Shape = Repeat(0, None);
@@ -29,149 +35,179 @@ fn is_refused(rt: &HostRuntime, text: &[u8], kind: FaultKind, at: usize) -> bool
     }
 }
 
+static BRANCHES: [(&[u8], &[Shape]); 20] = [
+    (b"", &[Empty]),
+    (b"a", &[A]),
+    (b"ab", &[Cat(2), A, B]),
+    (b"a|b", &[Alt(2), A, B]),
+    (b"a|b|c", &[Alt(3), A, B, C]),
+    (b"ab|c", &[Alt(2), Cat(2), A, B, C]),
+    (b"a|", &[Alt(2), A, Empty]),
+    (b"|a", &[Alt(2), Empty, A]),
+    (b"|", &[Alt(2), Empty, Empty]),
+    (b"||", &[Alt(3), Empty, Empty, Empty]),
+    (b"a||b", &[Alt(3), A, Empty, B]),
+    (b"()", &[Empty]),
+    (b"(|)", &[Alt(2), Empty, Empty]),
+    (b"(a|)", &[Alt(2), A, Empty]),
+    (b"(|a)b", &[Cat(2), Alt(2), Empty, A, B]),
+    (b"(a|b)c", &[Cat(2), Alt(2), A, B, C]),
+    (b"a|(b|c)", &[Alt(2), A, Alt(2), B, C]),
+    (b"((a))", &[A]),
+    (b"(ab)c", &[Cat(2), Cat(2), A, B, C]),
+    (b"a()b", &[Cat(3), A, Empty, B]),
+];
+
+fn branches() -> &'static [(&'static [u8], &'static [Shape])] {
+    &BRANCHES
+}
+
 #[test]
 fn branches_may_be_empty(rt: HostRuntime) {
-    let rows: [(&[u8], &[Shape]); 20] = [
-        (b"", &[Empty]),
-        (b"a", &[A]),
-        (b"ab", &[Cat(2), A, B]),
-        (b"a|b", &[Alt(2), A, B]),
-        (b"a|b|c", &[Alt(3), A, B, C]),
-        (b"ab|c", &[Alt(2), Cat(2), A, B, C]),
-        (b"a|", &[Alt(2), A, Empty]),
-        (b"|a", &[Alt(2), Empty, A]),
-        (b"|", &[Alt(2), Empty, Empty]),
-        (b"||", &[Alt(3), Empty, Empty, Empty]),
-        (b"a||b", &[Alt(3), A, Empty, B]),
-        (b"()", &[Empty]),
-        (b"(|)", &[Alt(2), Empty, Empty]),
-        (b"(a|)", &[Alt(2), A, Empty]),
-        (b"(|a)b", &[Cat(2), Alt(2), Empty, A, B]),
-        (b"(a|b)c", &[Cat(2), Alt(2), A, B, C]),
-        (b"a|(b|c)", &[Alt(2), A, Alt(2), B, C]),
-        (b"((a))", &[A]),
-        (b"(ab)c", &[Cat(2), Cat(2), A, B, C]),
-        (b"a()b", &[Cat(3), A, Empty, B]),
-    ];
-    for (text, shape) in rows {
+    for row in branches() {
+        let (text, shape) = *row;
         assert!(rt; is_read(&rt, text, shape), "{text:?}");
     }
+}
+
+static ANCHORS: [(&[u8], &[Shape]); 18] = [
+    (b"^", &[Begin]),
+    (b"$", &[End]),
+    (b"^$", &[Cat(2), Begin, End]),
+    (b"$^", &[Cat(2), End, Begin]),
+    (b"a^b", &[Cat(3), A, Begin, B]),
+    (b"a$b", &[Cat(3), A, End, B]),
+    (b"^^a", &[Cat(3), Begin, Begin, A]),
+    (b"a$$", &[Cat(3), A, End, End]),
+    (b"a|^", &[Alt(2), A, Begin]),
+    (b"$|a", &[Alt(2), End, A]),
+    (b"(^a|b)*", &[STAR, Alt(2), Cat(2), Begin, A, B]),
+    (b"(a$|b)c", &[Cat(2), Alt(2), Cat(2), A, End, B, C]),
+    (b"(^)*", &[STAR, Begin]),
+    (b"$*", &[STAR, End]),
+    (b"$+", &[Repeat(1, None), End]),
+    (b"${2}", &[Repeat(2, Some(2)), End]),
+    (b"a*^b", &[Cat(3), STAR, A, Begin, B]),
+    (b"\\^\\$", &[Cat(2), Byte(b'^'), Byte(b'$')]),
+];
+
+fn anchors() -> &'static [(&'static [u8], &'static [Shape])] {
+    &ANCHORS
 }
 
 #[test]
 fn anchors_stand_everywhere(rt: HostRuntime) {
-    let rows: [(&[u8], &[Shape]); 18] = [
-        (b"^", &[Begin]),
-        (b"$", &[End]),
-        (b"^$", &[Cat(2), Begin, End]),
-        (b"$^", &[Cat(2), End, Begin]),
-        (b"a^b", &[Cat(3), A, Begin, B]),
-        (b"a$b", &[Cat(3), A, End, B]),
-        (b"^^a", &[Cat(3), Begin, Begin, A]),
-        (b"a$$", &[Cat(3), A, End, End]),
-        (b"a|^", &[Alt(2), A, Begin]),
-        (b"$|a", &[Alt(2), End, A]),
-        (b"(^a|b)*", &[STAR, Alt(2), Cat(2), Begin, A, B]),
-        (b"(a$|b)c", &[Cat(2), Alt(2), Cat(2), A, End, B, C]),
-        (b"(^)*", &[STAR, Begin]),
-        (b"$*", &[STAR, End]),
-        (b"$+", &[Repeat(1, None), End]),
-        (b"${2}", &[Repeat(2, Some(2)), End]),
-        (b"a*^b", &[Cat(3), STAR, A, Begin, B]),
-        (b"\\^\\$", &[Cat(2), Byte(b'^'), Byte(b'$')]),
-    ];
-    for (text, shape) in rows {
+    for row in anchors() {
+        let (text, shape) = *row;
         assert!(rt; is_read(&rt, text, shape), "{text:?}");
     }
+}
+
+static CLOSINGS: [(&[u8], &[Shape]); 9] = [
+    (b")", &[CLOSING]),
+    (b"a)", &[Cat(2), A, CLOSING]),
+    (b"(a))", &[Cat(2), A, CLOSING]),
+    (b"())", &[Cat(2), Empty, CLOSING]),
+    (b")*", &[STAR, CLOSING]),
+    (b"a|)", &[Alt(2), A, CLOSING]),
+    (b"^)", &[Cat(2), Begin, CLOSING]),
+    (b"(\\))", &[CLOSING]),
+    (b"([)])", &[CLOSING]),
+];
+
+fn closings() -> &'static [(&'static [u8], &'static [Shape])] {
+    &CLOSINGS
 }
 
 #[test]
 fn a_closing_outside_groups_stands_for_itself(rt: HostRuntime) {
-    let rows: [(&[u8], &[Shape]); 9] = [
-        (b")", &[CLOSING]),
-        (b"a)", &[Cat(2), A, CLOSING]),
-        (b"(a))", &[Cat(2), A, CLOSING]),
-        (b"())", &[Cat(2), Empty, CLOSING]),
-        (b")*", &[STAR, CLOSING]),
-        (b"a|)", &[Alt(2), A, CLOSING]),
-        (b"^)", &[Cat(2), Begin, CLOSING]),
-        (b"(\\))", &[CLOSING]),
-        (b"([)])", &[CLOSING]),
-    ];
-    for (text, shape) in rows {
+    for row in closings() {
+        let (text, shape) = *row;
         assert!(rt; is_read(&rt, text, shape), "{text:?}");
     }
+}
+
+static BRACES: [(&[u8], &[Shape]); 21] = [
+    (b"{", &[BRACE]),
+    (b"{a", &[Cat(2), BRACE, A]),
+    (b"a{", &[Cat(2), A, BRACE]),
+    (b"a{}", &[Cat(3), A, BRACE, CLOSING_BRACE]),
+    (b"a{2", &[Cat(3), A, BRACE, TWO]),
+    (b"a{2,", &[Cat(4), A, BRACE, TWO, COMMA]),
+    (b"a{2,2", &[Cat(5), A, BRACE, TWO, COMMA, TWO]),
+    (
+        b"a{2x}",
+        &[Cat(5), A, BRACE, TWO, Byte(b'x'), CLOSING_BRACE],
+    ),
+    (b"a{,2}", &[Cat(5), A, BRACE, COMMA, TWO, CLOSING_BRACE]),
+    (b"a{,}", &[Cat(4), A, BRACE, COMMA, CLOSING_BRACE]),
+    (b"{,2}", &[Cat(4), BRACE, COMMA, TWO, CLOSING_BRACE]),
+    (b"a{{2}", &[Cat(2), A, Repeat(2, Some(2)), BRACE]),
+    (b"(a{2)", &[Cat(3), A, BRACE, TWO]),
+    (b"({)", &[BRACE]),
+    (b"^{", &[Cat(2), Begin, BRACE]),
+    (b"a|{", &[Alt(2), A, BRACE]),
+    (b"{*", &[STAR, BRACE]),
+    (b"a{2}{", &[Cat(2), Repeat(2, Some(2)), A, BRACE]),
+    (b"a{2}}", &[Cat(2), Repeat(2, Some(2)), A, CLOSING_BRACE]),
+    (b"a\\{2}", &[Cat(4), A, BRACE, TWO, CLOSING_BRACE]),
+    (b"a}]", &[Cat(3), A, CLOSING_BRACE, Byte(b']')]),
+];
+
+fn braces() -> &'static [(&'static [u8], &'static [Shape])] {
+    &BRACES
 }
 
 #[test]
 fn a_brace_without_an_interval_stands_for_itself(rt: HostRuntime) {
-    let two = Byte(b'2');
-    let comma = Byte(b',');
-    let closing = Byte(b'}');
-    let rows: [(&[u8], &[Shape]); 21] = [
-        (b"{", &[BRACE]),
-        (b"{a", &[Cat(2), BRACE, A]),
-        (b"a{", &[Cat(2), A, BRACE]),
-        (b"a{}", &[Cat(3), A, BRACE, closing]),
-        (b"a{2", &[Cat(3), A, BRACE, two]),
-        (b"a{2,", &[Cat(4), A, BRACE, two, comma]),
-        (b"a{2,2", &[Cat(5), A, BRACE, two, comma, two]),
-        (b"a{2x}", &[Cat(5), A, BRACE, two, Byte(b'x'), closing]),
-        (b"a{,2}", &[Cat(5), A, BRACE, comma, two, closing]),
-        (b"a{,}", &[Cat(4), A, BRACE, comma, closing]),
-        (b"{,2}", &[Cat(4), BRACE, comma, two, closing]),
-        (b"a{{2}", &[Cat(2), A, Repeat(2, Some(2)), BRACE]),
-        (b"(a{2)", &[Cat(3), A, BRACE, two]),
-        (b"({)", &[BRACE]),
-        (b"^{", &[Cat(2), Begin, BRACE]),
-        (b"a|{", &[Alt(2), A, BRACE]),
-        (b"{*", &[STAR, BRACE]),
-        (b"a{2}{", &[Cat(2), Repeat(2, Some(2)), A, BRACE]),
-        (b"a{2}}", &[Cat(2), Repeat(2, Some(2)), A, closing]),
-        (b"a\\{2}", &[Cat(4), A, BRACE, two, closing]),
-        (b"a}]", &[Cat(3), A, closing, Byte(b']')]),
-    ];
-    for (text, shape) in rows {
+    for row in braces() {
+        let (text, shape) = *row;
         assert!(rt; is_read(&rt, text, shape), "{text:?}");
     }
 }
 
+static DUPLICATIONS: [(&[u8], &[Shape]); 25] = [
+    (b"a*", &[STAR, A]),
+    (b"a+", &[Repeat(1, None), A]),
+    (b"a?", &[Repeat(0, Some(1)), A]),
+    (b"a**", &[STAR, STAR, A]),
+    (b"a+?", &[Repeat(0, Some(1)), Repeat(1, None), A]),
+    (b"a?+", &[Repeat(1, None), Repeat(0, Some(1)), A]),
+    (b"a{2}", &[Repeat(2, Some(2)), A]),
+    (b"a{2,}", &[Repeat(2, None), A]),
+    (b"a{1,2}", &[Repeat(1, Some(2)), A]),
+    (b"a{0}", &[Repeat(0, Some(0)), A]),
+    (b"a{0,0}", &[Repeat(0, Some(0)), A]),
+    (b"a{0,}", &[STAR, A]),
+    (b"a{007}", &[Repeat(7, Some(7)), A]),
+    (b"a{255}", &[Repeat(255, Some(255)), A]),
+    (b"a{255,255}", &[Repeat(255, Some(255)), A]),
+    (b"a{255,}", &[Repeat(255, None), A]),
+    (
+        b"a{0000000000000000000000000000000000000012}",
+        &[Repeat(12, Some(12)), A],
+    ),
+    (b"a{2}{3}", &[Repeat(3, Some(3)), Repeat(2, Some(2)), A]),
+    (b"ab*c", &[Cat(3), A, STAR, B, C]),
+    (b"(ab)+", &[Repeat(1, None), Cat(2), A, B]),
+    (b"()*", &[STAR, Empty]),
+    (b"(a|b)?", &[Repeat(0, Some(1)), Alt(2), A, B]),
+    (b".*", &[STAR, Any]),
+    (b"[b]\\.?", &[Cat(2), B, Repeat(0, Some(1)), Byte(b'.')]),
+    (
+        b"(a{255}){16}",
+        &[Repeat(16, Some(16)), Repeat(255, Some(255)), A],
+    ),
+];
+
+fn duplications() -> &'static [(&'static [u8], &'static [Shape])] {
+    &DUPLICATIONS
+}
+
 #[test]
 fn duplications_apply_from_left_to_right(rt: HostRuntime) {
-    let rows: [(&[u8], &[Shape]); 25] = [
-        (b"a*", &[STAR, A]),
-        (b"a+", &[Repeat(1, None), A]),
-        (b"a?", &[Repeat(0, Some(1)), A]),
-        (b"a**", &[STAR, STAR, A]),
-        (b"a+?", &[Repeat(0, Some(1)), Repeat(1, None), A]),
-        (b"a?+", &[Repeat(1, None), Repeat(0, Some(1)), A]),
-        (b"a{2}", &[Repeat(2, Some(2)), A]),
-        (b"a{2,}", &[Repeat(2, None), A]),
-        (b"a{1,2}", &[Repeat(1, Some(2)), A]),
-        (b"a{0}", &[Repeat(0, Some(0)), A]),
-        (b"a{0,0}", &[Repeat(0, Some(0)), A]),
-        (b"a{0,}", &[STAR, A]),
-        (b"a{007}", &[Repeat(7, Some(7)), A]),
-        (b"a{255}", &[Repeat(255, Some(255)), A]),
-        (b"a{255,255}", &[Repeat(255, Some(255)), A]),
-        (b"a{255,}", &[Repeat(255, None), A]),
-        (
-            b"a{0000000000000000000000000000000000000012}",
-            &[Repeat(12, Some(12)), A],
-        ),
-        (b"a{2}{3}", &[Repeat(3, Some(3)), Repeat(2, Some(2)), A]),
-        (b"ab*c", &[Cat(3), A, STAR, B, C]),
-        (b"(ab)+", &[Repeat(1, None), Cat(2), A, B]),
-        (b"()*", &[STAR, Empty]),
-        (b"(a|b)?", &[Repeat(0, Some(1)), Alt(2), A, B]),
-        (b".*", &[STAR, Any]),
-        (b"[b]\\.?", &[Cat(2), B, Repeat(0, Some(1)), Byte(b'.')]),
-        (
-            b"(a{255}){16}",
-            &[Repeat(16, Some(16)), Repeat(255, Some(255)), A],
-        ),
-    ];
-    for (text, shape) in rows {
+    for row in duplications() {
+        let (text, shape) = *row;
         assert!(rt; is_read(&rt, text, shape), "{text:?}");
     }
     assert!(rt; read_extended(rt.alloc(), b"(a{255}){17}").is_ok());
@@ -218,31 +254,37 @@ fn each_byte_stands_alone(rt: HostRuntime) {
     }
 }
 
+static NOTHING_TO_REPEAT: [(&[u8], usize); 20] = [
+    (b"*a", 0),
+    (b"+", 0),
+    (b"?", 0),
+    (b"{2}", 0),
+    (b"{3,2}", 0),
+    (b"{300}", 0),
+    (b"^*", 1),
+    (b"^+", 1),
+    (b"^{2}", 1),
+    (b"^{300}", 1),
+    (b"^^*", 2),
+    (b"a^*", 2),
+    (b"(+a)", 1),
+    (b"(^*)", 2),
+    (b"(*", 1),
+    (b"a|*", 2),
+    (b"a|{1}", 2),
+    (b"a||?", 3),
+    (b"(a|+)", 3),
+    (b"a(b|^{1})", 5),
+];
+
+fn nothing_to_repeat() -> &'static [(&'static [u8], usize)] {
+    &NOTHING_TO_REPEAT
+}
+
 #[test]
 fn a_duplication_needs_something_to_repeat(rt: HostRuntime) {
-    let rows: [(&[u8], usize); 20] = [
-        (b"*a", 0),
-        (b"+", 0),
-        (b"?", 0),
-        (b"{2}", 0),
-        (b"{3,2}", 0),
-        (b"{300}", 0),
-        (b"^*", 1),
-        (b"^+", 1),
-        (b"^{2}", 1),
-        (b"^{300}", 1),
-        (b"^^*", 2),
-        (b"a^*", 2),
-        (b"(+a)", 1),
-        (b"(^*)", 2),
-        (b"(*", 1),
-        (b"a|*", 2),
-        (b"a|{1}", 2),
-        (b"a||?", 3),
-        (b"(a|+)", 3),
-        (b"a(b|^{1})", 5),
-    ];
-    for (text, at) in rows {
+    for row in nothing_to_repeat() {
+        let (text, at) = *row;
         assert!(rt;
             is_refused(&rt, text, FaultKind::NothingToRepeat, at),
             "{text:?}"
@@ -250,50 +292,56 @@ fn a_duplication_needs_something_to_repeat(rt: HostRuntime) {
     }
 }
 
+static FAULTS: [(&[u8], FaultKind, usize); 35] = [
+    (b"[b-a]", FaultKind::BadRange, 2),
+    (b"(a|[a-m--o])", FaultKind::BadRange, 8),
+    (b"[[:foo:]]", FaultKind::BadClass, 1),
+    (b"[[.ab.]]", FaultKind::BadCollatingSymbol, 1),
+    (b"[a", FaultKind::UnclosedBracket, 0),
+    (b"([a", FaultKind::UnclosedBracket, 1),
+    (b"(a|[)", FaultKind::UnclosedBracket, 3),
+    (b"(", FaultKind::UnclosedGroup, 0),
+    (b"(a", FaultKind::UnclosedGroup, 0),
+    (b"(a(b", FaultKind::UnclosedGroup, 2),
+    (b"((a)", FaultKind::UnclosedGroup, 0),
+    (b"(a|(b)", FaultKind::UnclosedGroup, 0),
+    (b"a(b|c", FaultKind::UnclosedGroup, 1),
+    (b"a|(b|", FaultKind::UnclosedGroup, 2),
+    (b")(", FaultKind::UnclosedGroup, 1),
+    (b"(a)(b", FaultKind::UnclosedGroup, 3),
+    (b"a{3,2}", FaultKind::BadInterval, 1),
+    (b"(a{2,1}", FaultKind::BadInterval, 2),
+    (b"a{2}{3,2}", FaultKind::BadInterval, 4),
+    (b"a{256}", FaultKind::IntervalTooLarge, 1),
+    (b"a{256,}", FaultKind::IntervalTooLarge, 1),
+    (b"a{0,256}", FaultKind::IntervalTooLarge, 1),
+    (b"a{300,2}", FaultKind::IntervalTooLarge, 1),
+    (b"(a*{300})", FaultKind::IntervalTooLarge, 3),
+    (
+        b"a{0,9999999999999999999999999999999999999999}",
+        FaultKind::IntervalTooLarge,
+        1,
+    ),
+    (b"a\\", FaultKind::TrailingBackslash, 1),
+    (b"(\\", FaultKind::TrailingBackslash, 1),
+    (b"a|b\\", FaultKind::TrailingBackslash, 3),
+    (b"\\w", FaultKind::UndefinedEscape, 0),
+    (b"(a|\\<b", FaultKind::UndefinedEscape, 3),
+    (b"\\0", FaultKind::UndefinedEscape, 0),
+    (b"(a)\\1", FaultKind::BackReference, 3),
+    (b"\\w*{300}", FaultKind::UndefinedEscape, 0),
+    (b"a{300}[", FaultKind::IntervalTooLarge, 1),
+    (b"(*[", FaultKind::NothingToRepeat, 1),
+];
+
+fn faults() -> &'static [(&'static [u8], FaultKind, usize)] {
+    &FAULTS
+}
+
 #[test]
 fn a_refused_text_is_told_with_its_first_fault(rt: HostRuntime) {
-    let rows: [(&[u8], FaultKind, usize); 35] = [
-        (b"[b-a]", FaultKind::BadRange, 2),
-        (b"(a|[a-m--o])", FaultKind::BadRange, 8),
-        (b"[[:foo:]]", FaultKind::BadClass, 1),
-        (b"[[.ab.]]", FaultKind::BadCollatingSymbol, 1),
-        (b"[a", FaultKind::UnclosedBracket, 0),
-        (b"([a", FaultKind::UnclosedBracket, 1),
-        (b"(a|[)", FaultKind::UnclosedBracket, 3),
-        (b"(", FaultKind::UnclosedGroup, 0),
-        (b"(a", FaultKind::UnclosedGroup, 0),
-        (b"(a(b", FaultKind::UnclosedGroup, 2),
-        (b"((a)", FaultKind::UnclosedGroup, 0),
-        (b"(a|(b)", FaultKind::UnclosedGroup, 0),
-        (b"a(b|c", FaultKind::UnclosedGroup, 1),
-        (b"a|(b|", FaultKind::UnclosedGroup, 2),
-        (b")(", FaultKind::UnclosedGroup, 1),
-        (b"(a)(b", FaultKind::UnclosedGroup, 3),
-        (b"a{3,2}", FaultKind::BadInterval, 1),
-        (b"(a{2,1}", FaultKind::BadInterval, 2),
-        (b"a{2}{3,2}", FaultKind::BadInterval, 4),
-        (b"a{256}", FaultKind::IntervalTooLarge, 1),
-        (b"a{256,}", FaultKind::IntervalTooLarge, 1),
-        (b"a{0,256}", FaultKind::IntervalTooLarge, 1),
-        (b"a{300,2}", FaultKind::IntervalTooLarge, 1),
-        (b"(a*{300})", FaultKind::IntervalTooLarge, 3),
-        (
-            b"a{0,9999999999999999999999999999999999999999}",
-            FaultKind::IntervalTooLarge,
-            1,
-        ),
-        (b"a\\", FaultKind::TrailingBackslash, 1),
-        (b"(\\", FaultKind::TrailingBackslash, 1),
-        (b"a|b\\", FaultKind::TrailingBackslash, 3),
-        (b"\\w", FaultKind::UndefinedEscape, 0),
-        (b"(a|\\<b", FaultKind::UndefinedEscape, 3),
-        (b"\\0", FaultKind::UndefinedEscape, 0),
-        (b"(a)\\1", FaultKind::BackReference, 3),
-        (b"\\w*{300}", FaultKind::UndefinedEscape, 0),
-        (b"a{300}[", FaultKind::IntervalTooLarge, 1),
-        (b"(*[", FaultKind::NothingToRepeat, 1),
-    ];
-    for (text, kind, at) in rows {
+    for row in faults() {
+        let (text, kind, at) = *row;
         assert!(rt; is_refused(&rt, text, kind, at), "{text:?}");
     }
 }

@@ -14,21 +14,27 @@ fn folds_to(set: ByteSet, bytes: &[u8]) -> bool {
     }
 }
 
+static CASES: [(u8, &[u8]); 10] = [
+    (b'a', b"aA"),
+    (b'A', b"aA"),
+    (b'z', b"zZ"),
+    (b'Z', b"zZ"),
+    (b'@', b"@"),
+    (b'[', b"["),
+    (b'`', b"`"),
+    (b'{', b"{"),
+    (b'7', b"7"),
+    (0xe9, b"\xe9"),
+];
+
+fn cases() -> &'static [(u8, &'static [u8])] {
+    &CASES
+}
+
 #[test]
 fn a_letter_has_both_cases(rt: HostRuntime) {
-    let rows: [(u8, &[u8]); 10] = [
-        (b'a', b"aA"),
-        (b'A', b"aA"),
-        (b'z', b"zZ"),
-        (b'Z', b"zZ"),
-        (b'@', b"@"),
-        (b'[', b"["),
-        (b'`', b"`"),
-        (b'{', b"{"),
-        (b'7', b"7"),
-        (0xe9, b"\xe9"),
-    ];
-    for (byte, bytes) in rows {
+    for row in cases() {
+        let (byte, bytes) = *row;
         assert!(rt; folds_to(ByteSet::only(byte), bytes), "{byte}");
     }
     assert!(rt; folds_to(ByteSet::range(b'X', b'a'), b"XYZ[\\]^_`axyzA"));
