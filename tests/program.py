@@ -1,11 +1,11 @@
-"""The program under test: how it is run, what it answered, and the cases by which it is judged."""
+"""The programs under test: how one is run, what it answered, and the cases by which it is judged."""
 
 from __future__ import annotations
 
 import os
 import subprocess
 from collections.abc import Callable
-from dataclasses import dataclass
+from dataclasses import dataclass, field
 from pathlib import Path
 from typing import Any
 
@@ -38,8 +38,9 @@ class Verdict:
 
 @dataclass(frozen=True)
 class Bench:
-    """The program, and the folder in which it runs, which is empty at first."""
+    """A program by its name and its path, and the folder in which it runs, which is empty at first."""
 
+    name: str
     program: Path
     folder: Path
 
@@ -49,11 +50,13 @@ class Bench:
         path.parent.mkdir(parents=True, exist_ok=True)
         path.write_bytes(content)
 
-    def start(self, *words: Word, called: Word = "grep", **options: Any) -> subprocess.Popen[bytes]:
+    def start(
+        self, *words: Word, called: Word | None = None, **options: Any
+    ) -> subprocess.Popen[bytes]:
         """Starts the program. Streams that the options don't name are pipes."""
         streams = {stream: subprocess.PIPE for stream in ("stdin", "stdout", "stderr")}
         settings = {"cwd": self.folder, "executable": self.program, "bufsize": 0}
-        command = [os.fsencode(word) for word in (called, *words)]
+        command = [os.fsencode(word) for word in (called or self.name, *words)]
         return subprocess.Popen(command, **{**settings, **streams, **options})
 
     def ask(self, *words: Word, stdin: bytes | int = b"", **options: Any) -> Answer:
@@ -63,13 +66,37 @@ class Bench:
         return finish(self.start(*words, **options), stdin)
 
 
+Judge = Callable[[Bench], Verdict]
+
+
 @dataclass(frozen=True)
 class Case:
-    """A question to the program: where it stands, what it shows, and the judging of one run."""
+    """A question to a program: which one, where the question stands, what it shows, and the judging
+    of one run."""
 
+    program: str
     source: str
     name: str
-    judge: Callable[[Bench], Verdict]
+    judge: Judge
+
+
+@dataclass
+class Cases:
+    """The cases of one file on one program that are functions. `@case(NAME)` adds one, where `case`
+    is such a collection."""
+
+    program: str
+    source: str
+    added: list[Case] = field(default_factory=list)
+
+    def __call__(self, name: str) -> Callable[[Judge], Judge]:
+        """Makes a function a case of this name."""
+
+        def add(judge: Judge) -> Judge:
+            self.added.append(Case(self.program, self.source, name, judge))
+            return judge
+
+        return add
 
 
 def finish(process: subprocess.Popen[bytes], stdin: bytes | None = None) -> Answer:

@@ -1,15 +1,19 @@
 #!/usr/bin/env python3
-"""Runs a built grep on the rows of tests/rows and on the devices of tests/devices.py.
+"""Runs built programs on the rows of tests/rows, the scripts of tests/scripts and the devices of
+tests/devices.py and tests/occur_devices.py.
 
-    tests/run.py PROGRAM [WORD]
+    tests/run.py GREP [OCCUR] [--only TEXT]
 
-Only cases whose name contains WORD are run, where one is given. Each case that fails is printed
-with the wanted and the given answer, each one that can't be tried here with the reason. The last
-line is `N passed, M failed`, and the exit status is 0 only where none failed.
+The cases of occur are left out where that program is not given. Where there is a TEXT only those
+cases are run whose title contains it: the program, a comma, the file, a colon and the name. Each
+case that fails is printed with the wanted and the given answer, each one that can't be tried here
+with the reason. The last line is `N passed, M failed`, and the exit status is 0 only where none
+failed.
 """
 
 from __future__ import annotations
 
+import argparse
 import subprocess
 import sys
 import tempfile
@@ -18,11 +22,16 @@ from collections.abc import Iterable
 from pathlib import Path
 
 import devices
+import occur_devices
 import row
+import script
 from program import Answer, Bench, Case, Skipped, Verdict
 
 SHOWN = 400
 """How much of a text is printed at most."""
+
+Programs = dict[str, Path]
+"""The programs that are given, by their names."""
 
 
 def brief(text: bytes) -> str:
@@ -35,17 +44,21 @@ def shown_answer(answer: Answer) -> str:
     return f"out {brief(answer.out)} err {brief(answer.err)} status {answer.status}"
 
 
-def judge(program: Path, case: Case) -> Verdict:
+def title_of(case: Case) -> str:
+    return f"{case.program}, {case.source}: {case.name}"
+
+
+def judge(programs: Programs, case: Case) -> Verdict:
     """Runs a case in a folder of its own."""
     with tempfile.TemporaryDirectory(prefix="grep-tests-") as folder:
-        return case.judge(Bench(program, Path(folder)))
+        return case.judge(Bench(case.program, programs[case.program], Path(folder)))
 
 
-def try_case(program: Path, case: Case) -> str:
+def try_case(programs: Programs, case: Case) -> str:
     """Runs a case, prints it where it didn't pass, and answers what came of it."""
-    title = f"{case.source}: {case.name}"
+    title = title_of(case)
     try:
-        verdict = judge(program, case)
+        verdict = judge(programs, case)
     except Skipped as reason:
         print(f"skipped {title}\n  {reason}")
         return "skipped"
@@ -63,36 +76,52 @@ def try_case(program: Path, case: Case) -> str:
     return "failed"
 
 
-def chosen_cases(word: str) -> list[Case]:
-    """The cases whose name contains the word. No two cases have one name."""
-    cases = [*row.cases(), *devices.cases()]
+def all_cases() -> list[Case]:
+    """The cases of all programs. No two have one name."""
+    cases = [*row.cases(), *script.cases(), *devices.cases(), *occur_devices.cases()]
     names = Counter(case.name for case in cases)
     if twice := [name for name, count in names.items() if count > 1]:
         raise row.BadRow(f"names that stand twice: {twice}")
-    return [case for case in cases if word in case.name]
+    return cases
 
 
-def run_all(program: Path, cases: Iterable[Case]) -> bool:
+def run_all(programs: Programs, cases: Iterable[Case]) -> bool:
     """Runs the cases, prints how many passed and failed, and answers whether none failed."""
-    ends = Counter(try_case(program, case) for case in cases)
+    ends = Counter(try_case(programs, case) for case in cases)
     print(f"{ends['passed']} passed, {ends['failed']} failed")
     return ends["failed"] == 0
 
 
-def main(words: list[str]) -> int:
-    if len(words) not in (1, 2):
-        print(__doc__, file=sys.stderr)
-        return 2
-    program = Path(words[0]).resolve()
-    if not program.is_file():
-        print(f"{words[0]}: no such program", file=sys.stderr)
-        return 2
-    cases = chosen_cases(words[1] if len(words) == 2 else "")
+def program_at(word: str) -> Path:
+    """The program that a word names."""
+    path = Path(word).resolve()
+    if not path.is_file():
+        raise argparse.ArgumentTypeError(f"{word}: no such program")
+    return path
+
+
+def read_words() -> argparse.Namespace:
+    parser = argparse.ArgumentParser(description="Runs built programs on the cases of tests/.")
+    parser.add_argument("grep", metavar="GREP", type=program_at, help="the built grep")
+    parser.add_argument("occur", metavar="OCCUR", type=program_at, nargs="?", help="the built occur")
+    parser.add_argument("--only", metavar="TEXT", default="",
+                        help="run only the cases with this text in their title")
+    return parser.parse_args()
+
+
+def main() -> int:
+    words = read_words()
+    given: Programs = {"grep": words.grep, "occur": words.occur}
+    programs = {name: path for name, path in given.items() if path is not None}
+    chosen = [case for case in all_cases() if words.only in title_of(case)]
+    cases = [case for case in chosen if case.program in programs]
+    if left_out := len(chosen) - len(cases):
+        print(f"{left_out} cases of occur are left out, since no OCCUR is given")
     if not cases:
-        print(f"no case has {words[1]!r} in its name", file=sys.stderr)
+        print(f"no case to run has {words.only!r} in its title", file=sys.stderr)
         return 2
-    return 0 if run_all(program, cases) else 1
+    return 0 if run_all(programs, cases) else 1
 
 
 if __name__ == "__main__":
-    sys.exit(main(sys.argv[1:]))
+    sys.exit(main())

@@ -74,7 +74,7 @@ pub fn finish<W: CountedWrite, M: CountedWrite>(
     if out.failures() > 0 {
         return found;
     }
-    match out.flush() {
+    match out.send() {
         Ok(()) => found,
         Err(WriteFault) => tell_write_error(messages),
     }

@@ -1,5 +1,11 @@
 pub mod PieceLemmas
 pub mod WordLemmas
+pub mod ScriptWords
+pub mod ScriptNumbers
+pub mod ScriptCommands
+pub mod ScriptAnswers
+pub mod ScriptSteps
+pub mod ScriptRuns
 pub mod UsageLemmas
 pub mod GatherLemmas
 pub mod SourceLemmas

@@ -14,5 +14,7 @@ pub mod Folder
 pub mod Patterns
 pub mod Command
 pub mod Show
+pub mod Script
+pub mod Replies
 -- what else contracts are said in: of this crate as a library, and of its private functions
 pub mod Working

@@ -3,3 +3,6 @@ pub mod Memory
 pub mod Gathered
 pub mod Operands
 pub mod Serving
+pub mod ScriptWords
+pub mod Commands
+pub mod Answered

@@ -12,7 +12,7 @@ use re_syntax::{FaultKind, PatternFault};
 
 /// The name of a kind of refusal.
 #[tactic(auto, unfolding(crate::specs::Texts::kind_name))]
-fn kind_name(kind: FaultKind) -> &'static [u8]
+pub fn kind_name(kind: FaultKind) -> &'static [u8]
     ensures { result.now ≡ kind_name kind }
 {
     match kind {

@@ -55,7 +55,7 @@ fn devices_that_move_nothing(rt: HostRuntime) -> Result<(), Fail> {
     assert_eq!(rt; full.write(b"ab")?, 0);
     let mut out = Buffered::new(rt.alloc(), Tally::new(full))?;
     assert!(rt; push_all(&mut out, b"ab").is_ok());
-    assert!(rt; out.flush().is_err());
+    assert!(rt; out.send().is_err());
     assert_eq!(rt; out.failures(), 1);
     assert_eq!(rt; out.into_inner().into_inner().into_inner().len(), 0);
     Ok(())

@@ -3,7 +3,7 @@ ghost use Rattle.std.specs.Prelude.{◌≡◌, ◌∷◌, [], IfOk, MatchResult}
 ghost use Rattle.grep_cmd.specs.Words.{AreRead, OrMemory, asked, completed, first_fault, may_follow, operand, source, source_of, texts_of, with_flag, with_pieces};
 ghost use Rattle.grep_cmd.specs.Working.Pieces.{piece_of};
 
-mod pieces;
+pub mod pieces;
 #[cfg(test)]
 mod tests;
 

@@ -19,6 +19,7 @@ pub mod Readings
 pub mod FileLaws
 pub mod WriterLaws
 pub mod HandedLemmas
+pub mod NumberedLemmas
 pub mod PassLemmas
 pub mod OneFile
 pub mod OneLineLemmas

@@ -3,6 +3,7 @@ pub mod LineReader
 pub mod Held
 pub mod Refilled
 pub mod Handed
+pub mod Numbered
 pub mod Wanted
 pub mod OneLine
 pub mod Searched

@@ -1,5 +1,6 @@
 //! The input: its sources, and the lines of a reader.
 
 pub mod lines;
+pub mod numbered;
 pub mod sources;
 pub mod window;

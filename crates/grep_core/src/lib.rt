@@ -11,15 +11,16 @@ mod search;
 mod status;
 
 pub use devices::buffered::Buffered;
-pub use devices::counted::{CountedRead, CountedWrite, Tally};
+pub use devices::counted::{CountedRead, CountedWrite, Tally, WriteFault};
 pub use devices::limited::Limited;
 pub use input::lines::{Lines, ReadFault, Stage};
+pub use input::numbered::NumberedLines;
 pub use input::sources::Sources;
 pub use laws::{has_one_answer, means_one};
 pub use options::{Flag, Form, Options};
 pub use output::counts::{write_count, write_name};
 pub use output::messages::{write_cannot_open, write_read_error};
-pub use output::push::{WriteFault, push_all};
+pub use output::push::push_all;
 pub use output::rows::{write_decimal, write_line, write_row};
 pub use output::summary::{status_of, tell_fault, write_summary};
 pub use output::wanted::Wanted;

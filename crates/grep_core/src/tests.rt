@@ -33,7 +33,7 @@ fn rows_go_through_the_buffer(rt: HostRuntime) -> Result<(), Fail> {
     let row = write_row(&mut out, b"  ", Some(b"a.txt"), Some(u64::MAX), b"text");
     assert_eq!(rt; row, Ok(()));
     assert_eq!(rt; write_line(&mut out, b"--"), Ok(()));
-    assert_eq!(rt; out.flush(), Ok(()));
+    assert_eq!(rt; out.send(), Ok(()));
     let bytes = out.into_inner().into_inner();
     let want = b"  a.txt:18446744073709551615:text\n--\n";
     assert_eq!(rt; bytes.as_slice(), want.as_slice());
@@ -59,7 +59,7 @@ fn a_failed_flush_keeps_a_beginning(rt: HostRuntime) -> Result<(), Fail> {
     let device = Tally::new(Limited::new(Vec::new(rt.alloc()), 3, 7));
     let mut out = Buffered::new(rt.alloc(), device)?;
     assert_eq!(rt; write_line(&mut out, b"0123456789"), Ok(()));
-    assert_eq!(rt; out.flush(), Err(WriteFault));
+    assert_eq!(rt; out.send(), Err(WriteFault));
     assert_eq!(rt; out.failures(), 1);
     let bytes = out.into_inner().into_inner().into_inner();
     assert_eq!(rt; bytes.as_slice(), b"0123456".as_slice());

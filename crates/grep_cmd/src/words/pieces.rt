@@ -47,7 +47,7 @@ enum Word<'a> {
 
 /// What the character means as an option (XCU grep, OPTIONS; `o` after the GNU manual).
 #[tactic(auto, unfolding(crate::specs::Words::meaning_of))]
-fn meaning_of_option(letter: char) -> Option<Meaning>
+pub fn meaning_of_option(letter: char) -> Option<Meaning>
     ensures { result ≡ meaning_of letter }
 {
     Some(match letter {

@@ -1,10 +1,11 @@
 -- Bytes that move from a buffer to a writer.
 use Rattle.std.proofs.Common.{◌≡◌, ℕ, [], ◌++◌, Option, ◌≤◌, length, take, drop, refl, sym, ap, ◌∙◌, append-nil, take-append-drop, subst}
-use Rattle.std.proofs.KnownBytes.{append_known-moved, append_known-grown}
+use Rattle.std.proofs.KnownBytes.{append_known-moved, append_known-grown, Appends-nil, Appends-kept}
 use Rattle.std.proofs.lemmas.List.{take_all}
 use Rattle.std.specs.Io.KnownBytes.{Keeps, Appends}
 use Rattle.re_syntax.specs.Bytes.{Text}
 use Rattle.grep_core.specs.Counted.{one_more}
+use Rattle.grep_core.specs.Written.{StopsWithin}
 use Rattle.grep_core.specs.Buffer.{BufferedWriter, SendsAll, SendsSome, all_contents}
 
 module _ {W : Type 0} (contents : W → Option Text) (failures : W → ℕ) where
@@ -38,4 +39,15 @@ module _ {W : Type 0} (contents : W → Option Text) (failures : W → ℕ) wher
   kept_by_some old new sends =
       append_known-moved (contents old.inner) (contents new.inner) sends.front new.waiting old.waiting sends.written sends.cut
 
-pub ruleset moving = (sends_all, sends_some, kept_by_all, kept_by_some, append_known-grown)
+  -- a flush that failed wrote nothing more
+  pub stops_with_none : (old new : BufferedWriter W) → SendsSome contents failures old new
+      → StopsWithin (all_contents contents) (λ out. failures out.inner) old new []
+  stops_with_none old new sends = record {
+    front = [];
+    rest = [];
+    cut = refl;
+    written = Appends-kept (all_contents contents old) (all_contents contents old) (all_contents contents new) [] (Appends-nil (all_contents contents old)) (kept_by_some old new sends);
+    counted = sends.counted;
+  }
+
+pub ruleset moving = (sends_all, sends_some, kept_by_all, kept_by_some, append_known-grown, stops_with_none)

@@ -1,5 +1,5 @@
 -- The file for which a source stands, from the lines that were read of it.
-use Rattle.std.proofs.Common.{◌≡◌, ℕ, nat_eq, ◌+◌, ◌-◌, ◌≤◌, ◌⊎◌, inl, inr, Bool, ◌||◌, IsTrue, nat_le, List, [], ◌∷◌, ◌++◌, All, refl, sym, ap, subst, ◌∙◌, length, length-append, take, append_assoc, arith}
+use Rattle.std.proofs.Common.{◌≡◌, ℕ, nat_eq, ◌+◌, ◌-◌, ◌≤◌, ◌⊎◌, inl, inr, ◌||◌, IsTrue, nat_le, List, [], ◌∷◌, ◌++◌, All, refl, sym, ap, subst, ◌∙◌, length, length-append, take, append_assoc, arith}
 use Rattle.std.proofs.Math.Seq.{take-append-add, take-append_seam}
 use Rattle.std.proofs.lemmas.Bool.{cases_Bool, cond-true, cond-false, le-leb, lt-leb}
 use Rattle.re_syntax.specs.Bytes.{Text}

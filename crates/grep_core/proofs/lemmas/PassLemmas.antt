@@ -1,9 +1,7 @@
 -- The rows that were written for the lines handed out, one more line at a time.
-use Rattle.std.proofs.Common.{ℕ, ◌+◌, Bool, true, false, ◌||◌, Decides, List, [], ◌∷◌, ◌++◌, Option, refl, sym, ◌∙◌, subst, append-nil}
+use Rattle.std.proofs.Common.{ℕ, Bool, true, false, ◌||◌, Decides, [], ◌∷◌, Option, refl, sym, ◌∙◌, subst, append-nil}
 use Rattle.std.specs.Io.KnownBytes.{Appends}
 use Rattle.re_syntax.specs.Bytes.{Text}
-use Rattle.re_syntax.specs.Expression.{Expression}
-use Rattle.grep_core.specs.declared.options.Options.{Options}
 use Rattle.grep_core.specs.Row.{output_line}
 use Rattle.grep_core.specs.Written.{GoesOut, StopsWithin}
 use Rattle.grep_core.specs.Run.{writer, TakesAll, TakesFront}

@@ -1,10 +1,10 @@
 -- The parts of a buffer before and after a newline.
-use Rattle.std.proofs.Common.{◌≡◌, ◌≢◌, ℕ, ◌+◌, ◌-◌, ◌<◌, ◌≤◌, [], ◌∷◌, ◌++◌, length, take, drop, slice_range, sym, ap, ◌∙◌, arith, append_assoc, subst}
+use Rattle.std.proofs.Common.{◌≡◌, ◌≢◌, ℕ, ◌+◌, ◌-◌, ◌<◌, ◌≤◌, [], ◌∷◌, ◌++◌, Option, Some, None, MatchOption, IfSome, is_some, length, take, drop, slice_range, refl, sym, ap, ◌∙◌, arith, append_assoc, subst}
 use Rattle.std.proofs.lemmas.List.{length-append, take-append-le, length-take, take-take, drop-take, drop-drop}
-use Rattle.std.proofs.lemmas.List.Elements.{All-append, All-take}
+use Rattle.std.proofs.lemmas.List.Elements.{All-append, All-take, All-head, All-tail}
 use Rattle.re_syntax.specs.Bytes.{Text}
 use Rattle.re_syntax.specs.Lines.{newline, HasNoNewline}
-use Rattle.grep_core.specs.Working.Held.{IsOneLineAndFew}
+use Rattle.grep_core.specs.Working.Held.{IsOneLineAndFew, HasWholeLine}
 
 -- the first k bytes of a part are a part
 front_of_range : (buffer : Text) (start end k : ℕ) → start + k ≤ end → take k (slice_range buffer start end) ≡ slice_range buffer start (start + k)
@@ -52,5 +52,17 @@ one_line_and_few line more none few =
 -- a beginning of one line alone
 pub one_line : (line : Text) → HasNoNewline line → IsOneLineAndFew line
 one_line line none = All-take (λ b. b ≢ newline) (length line - 65536) line none
+
+line_ends : (before after : Text) → HasNoNewline (before ++ newline ∷ after) → ⊥
+line_ends [] after h = All-head (λ b. b ≢ newline) newline after h refl
+line_ends (b ∷ before) after h = line_ends before after (All-tail (λ c. c ≢ newline) b (before ++ newline ∷ after) h)
+
+-- where no newline is in what waits and in a part, no line is whole; where one is in the part, one is
+pub has_whole_line : (before part : Text) (found : Option ℕ) → HasNoNewline before → MatchOption found (HasNoNewline part) (λ k. HasNoNewline (take k part))
+    → IfSome found (λ k. (k < length part) × (part ≡ take k part ++ newline ∷ drop (k + 1) part)) → HasWholeLine (before ++ part) (is_some found)
+has_whole_line before part None h none some = All-append (λ b. b ≢ newline) before part h none
+has_whole_line before part (Some k) h none some =
+    λ all. line_ends (before ++ take k part) (drop (k + 1) part)
+    (subst HasNoNewline (ap (λ l. before ++ l) some.1 ∙ sym (append_assoc before (take k part) (newline ∷ drop (k + 1) part))) all)
 
 pub ruleset keeping_few = (one_line_and_few, one_line)

@@ -1,12 +1,10 @@
 -- A pass over the lines of a reader, from its first line on: which lines were handed out, and what was written for them.
-use Rattle.std.specs.Prelude.{◌≡◌, ℕ, Bool, ◌↔◌, ◌⊎◌, List, [], ◌∷◌, ◌++◌, All, Option}
+use Rattle.std.specs.Prelude.{◌≡◌, ℕ, ◌⊎◌, List, [], ◌∷◌, ◌++◌, All, Option}
 use Rattle.std.specs.Io.KnownBytes.{Consumes, IsAtEnd}
 use Rattle.re_syntax.specs.Bytes.{Text}
-use Rattle.re_syntax.specs.Expression.{Expression}
 use Rattle.re_syntax.specs.Lines.{lines_of, terminated, HasNoNewline}
 use Rattle.grep_core.specs.declared.input.lines.Stage.{Stage}
 use Rattle.grep_core.specs.declared.input.lines.Stage.TheVariants.{Open, Ended, Failed}
-use Rattle.grep_core.specs.declared.options.Options.{Options}
 use Rattle.grep_core.specs.Working.LineReader.{LineReader, to_come}
 use Rattle.grep_core.specs.Files.{File, Ending, whole, broken}
 use Rattle.grep_core.specs.Reading.{Reading, IsReadingOf, open_source, file_of, failures_of, AreLeft}

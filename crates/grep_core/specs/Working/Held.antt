@@ -1,5 +1,5 @@
 -- The bytes that are held between two calls, and the line that was handed out.
-use Rattle.std.specs.Prelude.{◌≡◌, ℕ, ◌-◌, ◌≤◌, [], length, take, slice_range, ⊤}
+use Rattle.std.specs.Prelude.{◌≡◌, ℕ, ◌-◌, ◌≤◌, Bool, true, false, [], length, take, slice_range, ⊤}
 use Rattle.re_syntax.specs.Bytes.{Text}
 use Rattle.re_syntax.specs.Lines.{HasNoNewline}
 use Rattle.grep_core.specs.declared.input.window.Shown.{Shown}
@@ -13,6 +13,11 @@ pub record Held : Type 0 where
 -- but for the last 65,536 bytes, the bytes are the beginning of one line
 abbrev pub IsOneLineAndFew : Text → Type 0
 IsOneLineAndFew bytes = HasNoNewline (take (length bytes - 65536) bytes)
+
+-- whether a line ends in the bytes
+abbrev pub HasWholeLine : Text → Bool → Type 0
+HasWholeLine bytes true = HasNoNewline bytes → ⊥
+HasWholeLine bytes false = HasNoNewline bytes
 
 -- what is kept of a line that goes on: nothing where the spilled bytes are the line handed out
 abbrev pub waiting : Shown → Text → Text

@@ -1,9 +1,9 @@
 // A writer that gathers bytes before they go to the device.
-ghost use Rattle.std.specs.Prelude.{◌≡◌, [], IfOk};
+ghost use Rattle.std.specs.Prelude.{◌≡◌, ◌+◌, [], IfOk, length};
 ghost use Rattle.grep_core.specs.Buffer.{Sends, all_contents};
 
-use crate::devices::counted::CountedWrite;
-use crate::output::push::{WriteFault, push_most};
+use crate::devices::counted::{CountedWrite, WriteFault};
+use crate::output::push::push_most;
 use std::alloc::{AllocError, Global};
 use std::marker::Model;
 
@@ -13,7 +13,7 @@ const ROOM: usize = 65_536;
 /// A writer that gathers up to 65,536 bytes before they go to the inner writer. A failed write of
 /// the inner one ends the call that made it, and is not tried again in that call.
 /// Contracts see it as the inner writer and the bytes that wait. Bytes that still wait when it is
-/// dropped are lost: call `flush` first.
+/// dropped are lost: call `send` or `flush` first.
 #[derive(Drop)]
 pub struct Buffered<W> {
     inner: W,
@@ -57,7 +57,7 @@ impl<W: CountedWrite> Buffered<W> {
     /// Sends all bytes that wait to the inner writer.
     ///
     /// `WriteFault` comes where a write of the inner writer fails. What it did not take waits on.
-    pub fn flush(&mut self) -> Result<(), WriteFault>
+    pub fn send(&mut self) -> Result<(), WriteFault>
         ensures { Sends W.contents W.failures self.old self.new result }
     {
         let sent = push_most(&mut self.inner, &self.buffer);
@@ -76,14 +76,23 @@ impl<W: CountedWrite> CountedWrite for Buffered<W> {
 
     ghost failures = { λ out. W.failures out.inner };
 
+    ghost waiting = { λ out. length out.waiting + W.waiting out.inner };
+
     fn push(&mut self, from: &[u8]) -> Option<usize> {
-        if self.buffer.len() == ROOM && self.flush().is_err() {
+        if self.buffer.len() == ROOM && self.send().is_err() {
             return None;
         }
         let count = from.len().min(ROOM - self.buffer.len());
         match self.buffer.extend_from_slice(&from[..count]) {
             Ok(()) => Some(count),
             Err(_) => unreachable!(),
+        }
+    }
+
+    fn flush(&mut self) -> Result<(), WriteFault> {
+        match self.send() {
+            Ok(()) => self.inner.flush(),
+            Err(fault) => Err(fault),
         }
     }
 

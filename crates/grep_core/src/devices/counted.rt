@@ -1,6 +1,7 @@
 // Readers and writers that count their failures.
-ghost use Rattle.std.specs.Prelude.{◌≡◌, ℕ, ◌<◌, ◌≤◌, List, Option, None, length, IfSome};
+ghost use Rattle.std.specs.Prelude.{◌≡◌, ℕ, ◌<◌, ◌≤◌, List, [], Option, None, length, IfSome, IfOk};
 ghost use Rattle.grep_core.specs.Counted.{PullConsumes, PushAppends, Counts, one_more};
+ghost use Rattle.grep_core.specs.Written.{Writes};
 
 use std::io::{Read, Write};
 use std::marker::Model;
@@ -32,6 +33,10 @@ pub trait CountedRead {
         ensures { result ≡ failures self.now };
 }
 
+/// A write failed; the writer has counted it. A beginning of what was to be written went out.
+#[derive(Clone, Copy, Debug, PartialEq, Eq)]
+pub struct WriteFault;
+
 /// A writer of which each write that fails is counted, and is not tried again.
 pub trait CountedWrite {
     /// The bytes that the writer holds, where they are known.
@@ -39,6 +44,9 @@ pub trait CountedWrite {
 
     /// How many writes have failed.
     ghost failures: { Self → ℕ };
+
+    /// How many of the bytes were gathered and have not gone to the device.
+    ghost waiting: { Self → ℕ } = { λ _. 0 };
 
     /// One write of bytes of which there is at least one. It takes at least one of them, in order
     /// from the first, and says how many; `None` says that it failed and took none.
@@ -48,6 +56,13 @@ pub trait CountedWrite {
         ensures bound { IfSome result (λ n. n ≤ length from.now) }
         ensures bytes { PushAppends (contents self.old) (contents self.new) result from.now }
         ensures counted { Counts (failures self.old) (failures self.new) result };
+
+    /// Sends what was gathered to the device.
+    ///
+    /// `WriteFault` comes where a write fails. What did not go waits on.
+    fn flush(&mut self) -> Result<(), WriteFault>
+        ensures kept { Writes contents failures self.old self.new [] result }
+        ensures sent { IfOk result (λ _. waiting self.new ≡ 0) };
 
     /// How many writes have failed. The count stays at the greatest `u64`.
     fn failures(&self) -> u64
@@ -75,8 +90,14 @@ impl<W: CountedWrite> CountedWrite for &mut W {
 
     ghost failures = { λ w. W.failures w.now };
 
+    ghost waiting = { λ w. W.waiting w.now };
+
     fn push(&mut self, from: &[u8]) -> Option<usize> {
         CountedWrite::push(&mut **self, from)
+    }
+
+    fn flush(&mut self) -> Result<(), WriteFault> {
+        CountedWrite::flush(&mut **self)
     }
 
     fn failures(&self) -> u64 {
@@ -156,6 +177,16 @@ impl<T: Write> CountedWrite for Tally<T> {
             _ => {
                 self.failed = one_more(self.failed);
                 None
+            }
+        }
+    }
+
+    fn flush(&mut self) -> Result<(), WriteFault> {
+        match self.device.flush() {
+            Ok(()) => Ok(()),
+            Err(_) => {
+                self.failed = one_more(self.failed);
+                Err(WriteFault)
             }
         }
     }

@@ -1,5 +1,6 @@
 // The lines that a reader gives, one at a time.
 ghost use Rattle.std.specs.Prelude.{◌≡◌, [], Ok, Err, IfOk, IfErr, MatchBool, false, length};
+ghost use Rattle.grep_core.specs.Working.Held.{HasWholeLine};
 ghost use Rattle.grep_core.specs.Working.LineReader.{HandsOut, IsUsedUp, IsCutOff, RunsOutOfMemory};
 
 use crate::devices::counted::CountedRead;
@@ -95,6 +96,13 @@ impl<R: CountedRead> Lines<R> {
         ensures { result ≡ length self.now.ahead }
     {
         self.window.len()
+    }
+
+    /// Whether the next line is held with its newline, so that no read comes before it.
+    pub fn has_line(&self) -> bool
+        ensures { HasWholeLine self.now.ahead result }
+    {
+        self.window.has_line()
     }
 
     /// The reader, without the bytes that are held.

@@ -3,7 +3,7 @@ ghost use Rattle.std.specs.Prelude.{◌≡◌, ◌+◌, ◌^◌, ◌<◌, ◌≤
 ghost use Rattle.re_syntax.specs.Lines.{newline, HasNoNewline};
 ghost use Rattle.grep_core.specs.Counted.{PullConsumes, Counts};
 ghost use Rattle.grep_core.specs.Working.Refilled.{Refilled};
-ghost use Rattle.grep_core.specs.Working.Held.{IsOneLineAndFew, waiting, shown_line, ShownFits};
+ghost use Rattle.grep_core.specs.Working.Held.{IsOneLineAndFew, HasWholeLine, waiting, shown_line, ShownFits};
 
 use crate::devices::counted::CountedRead;
 use memchr::memchr;
@@ -96,6 +96,13 @@ impl Window {
             _ => self.spill.len(),
         };
         spilled + (self.end - self.start)
+    }
+
+    /// Whether a line that is ahead is whole.
+    pub fn has_line(&self) -> bool
+        ensures { HasWholeLine self.now.ahead result }
+    {
+        first_newline(&self.buffer[self.start..self.end]).is_some()
     }
 
     /// Forgets the line handed out last.

@@ -6,8 +6,8 @@ ghost use Rattle.grep_core.specs.Row.{prefix, output_line};
 ghost use Rattle.grep_core.specs.Written.{Writes};
 ghost use Rattle.re_syntax.specs.Lines.{newline};
 
-use crate::devices::counted::CountedWrite;
-use crate::output::push::{WriteFault, push_all};
+use crate::devices::counted::{CountedWrite, WriteFault};
+use crate::output::push::push_all;
 use crate::output::rows::{write_decimal, write_prefix, write_row};
 
 #[tactic(auto, using(crate::proofs::lemmas::RowLemmas::writing))]

@@ -4,8 +4,7 @@ ghost use Rattle.grep_core.specs.Messages.{cannot_open, read_error};
 ghost use Rattle.grep_core.specs.Row.{output_line};
 ghost use Rattle.grep_core.specs.Written.{Writes};
 
-use crate::devices::counted::CountedWrite;
-use crate::output::push::WriteFault;
+use crate::devices::counted::{CountedWrite, WriteFault};
 use crate::output::rows::write_row;
 
 /// Writes the message on a file that could not be opened.

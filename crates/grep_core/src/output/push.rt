@@ -4,11 +4,7 @@ ghost use Rattle.std.specs.Io.KnownBytes.{Appends};
 ghost use Rattle.grep_core.specs.Counted.{one_more};
 ghost use Rattle.grep_core.specs.Written.{Writes};
 
-use crate::devices::counted::CountedWrite;
-
-/// A write failed; the writer has counted it. A beginning of what was to be written went out.
-#[derive(Clone, Copy, Debug, PartialEq, Eq)]
-pub struct WriteFault;
+use crate::devices::counted::{CountedWrite, WriteFault};
 
 /// Writes the bytes until all went out or a write fails, and answers how many went out.
 pub fn push_most<W: CountedWrite>(out: &mut W, bytes: &[u8]) -> usize

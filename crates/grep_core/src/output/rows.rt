@@ -6,8 +6,8 @@ ghost use Rattle.grep_core.specs.Row.{prefix, number_part, head, output_line};
 ghost use Rattle.grep_core.specs.Written.{Writes};
 ghost use Rattle.re_syntax.specs.Lines.{newline};
 
-use crate::devices::counted::CountedWrite;
-use crate::output::push::{WriteFault, push_all};
+use crate::devices::counted::{CountedWrite, WriteFault};
+use crate::output::push::push_all;
 use itoa::Buffer;
 
 /// Writes the name and a colon, where there is a name.

@@ -7,11 +7,11 @@ ghost use Rattle.grep_core.specs.Row.{output_line};
 ghost use Rattle.grep_core.specs.Working.Searched.{summary_as, told_of, status_by};
 ghost use Rattle.grep_core.specs.Written.{Writes};
 
-use crate::devices::counted::CountedWrite;
+use crate::devices::counted::{CountedWrite, WriteFault};
 use crate::options::Form;
 use crate::output::counts::{write_count, write_name};
 use crate::output::messages::{write_cannot_open, write_read_error};
-use crate::output::push::{WriteFault, push_all};
+use crate::output::push::push_all;
 use crate::output::wanted::Wanted;
 use crate::search::file::{FileEnd, FileFound};
 use crate::status::Status;

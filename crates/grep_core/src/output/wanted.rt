@@ -6,9 +6,8 @@ ghost use Rattle.grep_core.specs.Row.{head, output_line};
 ghost use Rattle.grep_core.specs.Working.Wanted.{name_shown};
 ghost use Rattle.grep_core.specs.Written.{Writes};
 
-use crate::devices::counted::CountedWrite;
+use crate::devices::counted::{CountedWrite, WriteFault};
 use crate::options::Options;
-use crate::output::push::WriteFault;
 use crate::output::rows::write_row;
 
 /// What is asked of one file.

@@ -7,11 +7,10 @@ ghost use Rattle.grep_core.specs.Run.{writer};
 ghost use Rattle.grep_core.specs.Sources.{source_at, GivesBack};
 ghost use Rattle.grep_core.specs.Working.Searched.{is_missing, is_fault, SearchesSource, BreaksSource, StopsSource};
 
-use crate::devices::counted::{CountedRead, CountedWrite};
+use crate::devices::counted::{CountedRead, CountedWrite, WriteFault};
 use crate::input::lines::{Lines, ReadFault, Stage};
 use crate::input::sources::Sources;
 use crate::options::Options;
-use crate::output::push::WriteFault;
 use crate::output::wanted::Wanted;
 use crate::search::line::search_line;
 use re_search::{FixedSet, LineMatch, Meter};

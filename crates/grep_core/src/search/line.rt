@@ -8,9 +8,8 @@ ghost use Rattle.grep_core.specs.Run.{writer};
 ghost use Rattle.grep_core.specs.Cost.{AsksParts, SearchesLine};
 ghost use Rattle.grep_core.specs.Working.OneLine.{WritesSelected, BreaksSelected, TakesLine, BreaksLine};
 
-use crate::devices::counted::CountedWrite;
+use crate::devices::counted::{CountedWrite, WriteFault};
 use crate::options::Form;
-use crate::output::push::WriteFault;
 use crate::output::wanted::Wanted;
 use crate::search::matching::{is_selected_behind, next_part};
 use re_search::{FixedSet, LineMatch, Meter};

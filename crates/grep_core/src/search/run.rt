@@ -6,10 +6,9 @@ ghost use Rattle.grep_core.specs.Run.{writer, RunGives, devices};
 ghost use Rattle.grep_core.specs.Sources.{source_at, GivesBack};
 ghost use Rattle.grep_core.specs.Working.Searched.{SourceGives};
 
-use crate::devices::counted::CountedWrite;
+use crate::devices::counted::{CountedWrite, WriteFault};
 use crate::input::sources::Sources;
 use crate::options::Options;
-use crate::output::push::WriteFault;
 use crate::output::summary::{status_of, tell_fault, write_summary};
 use crate::output::wanted::Wanted;
 use crate::search::file::{FileFound, SearchFault, search_file};

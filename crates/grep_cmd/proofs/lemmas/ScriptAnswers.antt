@@ -1,0 +1,155 @@
+-- What is taken and answered for one command of a script.
+use Rattle.std.proofs.Common.{◌≡◌, ◌≢◌, ℕ, ◌+◌, ◌<◌, false, ◌||◌, List, [], ◌∷◌, ◌++◌, length, get_or, take, nat_eq, if◌then◌else◌, Option, Some, Result, Ok, Err, IfErr, inl, inr, refl, sym, ap, ◌∙◌, subst, append_assoc, append-nil, codes, arith}
+use Rattle.std.proofs.lemmas.Bool.{false_from_ne_true, eqb-true}
+use Rattle.std.proofs.lemmas.List.{take_more, length-take}
+use Rattle.std.proofs.lemmas.List.Folds.{list_any-append}
+use Rattle.std.specs.List.{list_any}
+use Rattle.re_syntax.specs.Bytes.{Text}
+use Rattle.re_syntax.specs.Lines.{newline, joined}
+use Rattle.grep_core.specs.declared.status.Status.{Status}
+use Rattle.grep_core.specs.declared.status.Status.TheVariants as status
+use Rattle.grep_core.specs.Files.{Inputs}
+use Rattle.grep_core.specs.Output.{written}
+use Rattle.grep_core.specs.Row.{output_line}
+use Rattle.grep_core.specs.Written.{GoesOut, Writes}
+use Rattle.grep_core.specs.Working.Numbered.{Numbered, HasHanded}
+use Rattle.grep_core.proofs.lemmas.RowLemmas.{goes_on, stops_later}
+use Rattle.grep_session.specs.declared.fault.EditFault.{EditFault}
+use Rattle.grep_session.specs.declared.fault.EditFault.TheVariants as fault
+use Rattle.grep_session.specs.Edits.{Edit}
+use Rattle.grep_cmd.specs.declared.script.ScriptFault.{ScriptFault}
+use Rattle.grep_cmd.specs.declared.script.ScriptFault.TheVariants.{Read, Write, Memory}
+use Rattle.grep_cmd.specs.declared.script.reply.Answer.{Answer}
+use Rattle.grep_cmd.specs.declared.script.reply.Answer.TheVariants.{Accepted, Refused, Truncated}
+use Rattle.grep_cmd.specs.Show.{AreShown, behind, status_line}
+use Rattle.grep_cmd.specs.Script.{Step, counts, IsStep, line_command}
+use Rattle.grep_cmd.specs.Replies.{RepliesTo, reply_to, truncated, is_refusal}
+use Rattle.grep_cmd.specs.Working.Answered.{ReadsNext, TakesLines, FlushesFor, Replied, DoesStep, WantsLines, AnswersLine, answer_for, was_refused}
+
+-- ---- lines joined
+
+joined-push : (t : Text) (ts : List Text) (u : Text) → joined ((t ∷ ts) ++ u ∷ []) ≡ joined (t ∷ ts) ++ newline ∷ u
+joined-push t [] u = refl
+joined-push t (v ∷ ts) u = ap (λ l. t ++ newline ∷ l) (joined-push v ts u) ∙ sym (append_assoc t (newline ∷ joined (v ∷ ts)) (newline ∷ u))
+
+pub joined-next : (ts : List Text) (u text new : Text) → text ≡ joined ts → new ≡ text ++ (if nat_eq (length ts) 0 then u else newline ∷ u) → new ≡ joined (ts ++ u ∷ [])
+joined-next [] u text new is more = more ∙ ap (λ l. l ++ u) is
+joined-next (t ∷ ts) u text new is more =
+    let some : nat_eq (length (t ∷ ts)) 0 ≡ false = false_from_ne_true _ (λ e. let none = eqb-true (length (t ∷ ts)) 0 e in absurd (omega (arith, none))) in
+    more ∙ ap (λ b. text ++ (if b then u else newline ∷ u)) some ∙ ap (λ l. l ++ newline ∷ u) is ∙ sym (joined-push t ts u)
+
+pub joined-next-at : (ts : List Text) (i : ℕ) (u text new : Text) → i < length ts → get_or ts i [] ≡ u → text ≡ joined (take i ts) → new ≡ text ++ (if nat_eq i 0 then u else newline ∷ u)
+    → new ≡ joined (take (i + 1) ts)
+joined-next-at ts i u text new h is so_far more =
+    let long : length (take i ts) ≡ i = take-length ts i h in
+    joined-next (take i ts) u text new so_far (more ∙ ap (λ n. text ++ (if nat_eq n 0 then u else newline ∷ u)) (sym long)) ∙ ap joined (ap (λ l. take i ts ++ l ∷ []) (sym is) ∙ sym (take_more ts i [] h))
+  where
+    take-length : (xs : List Text) (n : ℕ) → n < length xs → length (take n xs) ≡ n
+    take-length xs n below = omega (arith, below, length-take n xs)
+
+-- ---- refusals
+
+pub refused_as : {T : Type 0} (answer : Result T EditFault) → list_any is_refusal (reply_to answer ∷ []) ≡ was_refused (answer_for answer)
+refused_as (Ok done) = refl
+refused_as (Err fault) = refl
+
+none_behind : (b : ℕ) (margin : Text) (lines : List Text) → ((line : Text) → is_refusal (margin ++ line) ≡ false) → list_any is_refusal (behind margin lines) ≡ false
+none_behind b margin [] f = refl
+none_behind b margin (line ∷ lines) f = ap (λ x. x || list_any is_refusal (behind margin lines)) (f line) ∙ none_behind b margin lines f
+
+none_status : (s : Status) → list_any is_refusal (status_line s ∷ []) ≡ false
+none_status status.Selected = refl
+none_status status.NoneSelected = refl
+none_status status.Error = refl
+
+-- a report refuses nothing
+pub shown_is_no_refusal : (inputs : Inputs) (shown : List Text) → AreShown inputs shown → list_any is_refusal shown ≡ false
+shown_is_no_refusal inputs shown s =
+    let out = none_behind 0 (codes "o ") s.out (λ line. refl) in
+    let told = none_behind 0 (codes "e ") s.told (λ line. refl) in
+    ap (list_any is_refusal) s.is ∙ list_any-append is_refusal (behind (codes "o ") s.out) _ ∙ ap (λ b. b || list_any is_refusal (behind (codes "e ") s.told ++ status_line s.status ∷ [])) out
+    ∙ list_any-append is_refusal (behind (codes "e ") s.told) (status_line s.status ∷ []) ∙ ap (λ b. b || list_any is_refusal (status_line s.status ∷ [])) told ∙ none_status s.status
+
+pub answered_in_time : {T : Type 0} (answer : Result T EditFault) → answer_for answer ≢ Truncated
+answered_in_time (Ok done) = λ e. let no : ⊥ = cc in no
+answered_in_time (Err fault) = λ e. let no : ⊥ = cc in no
+
+-- an edit that needs no memory isn't refused for want of it
+pub not_for_memory : {T : Type 0} (answer : Result T EditFault) → IfErr answer (λ f. f ≢ fault.Memory) → answer ≢ Err fault.Memory
+not_for_memory (Ok done) h = λ e. let no : ⊥ = cc in no
+not_for_memory (Err f) h = λ e. h (let same : f ≡ fault.Memory = cc in same)
+
+-- ---- replies
+
+module _ {W : Type 0} (contents : W → Option Text) (failures : W → ℕ) (old new : W) where
+  -- the bytes of a line are those of a list of one
+  pub replied_line : {T E : Type 0} (text : Text) (r : Result T E) → Writes contents failures old new (output_line [] text) r → Writes contents failures old new (written [] (text ∷ [])) r
+  replied_line text r h = subst (λ bytes. Writes contents failures old new bytes r) (sym (append-nil (output_line [] text))) h
+
+-- ---- the lines that a command takes
+
+module _ {R : Type 0} (remaining : R → Option Text) (failures : R → ℕ) (reader : R) (handed : List Text) where
+  -- a line behind those that were taken
+  pub one_more_taken : (now : Numbered R) (taken : List Text) (line : Text) → HasHanded remaining failures reader now ((handed ++ taken) ++ line ∷ [])
+      → HasHanded remaining failures reader now (handed ++ (taken ++ line ∷ []))
+  one_more_taken now taken line h = subst (HasHanded remaining failures reader now) (append_assoc handed taken (line ∷ [])) h
+
+  -- where no further line came fewer were taken than were counted
+  pub takes_fewer : (count : ℕ) (now : Numbered R) (taken : List Text) (fault : ScriptFault) → length taken < count → ReadsNext remaining failures reader (handed ++ taken) now (Err fault)
+      → TakesLines remaining failures reader handed count now (Err fault)
+  takes_fewer count now taken Read few h = (taken, few, h)
+  takes_fewer count now taken Write few h = (taken, h)
+  takes_fewer count now taken Memory few h = (taken, h)
+
+-- ---- one command
+
+module _ {R W : Type 0} (remaining : R → Option Text) (failures : R → ℕ) (reader : R) (handed : List Text) (line : Text) (now : Numbered R) (before after : Inputs)
+    (contents : W → Option Text) (write_failures : W → ℕ) (old mid new : W) (flushed : GoesOut contents write_failures old mid []) where
+  abbrev Answers : Result Answer ScriptFault → Type 0
+  Answers = AnswersLine remaining failures reader handed line now before after contents write_failures old new
+
+  -- a command was done and answered
+  pub answers_step : (reply : List Text) (answer : Answer) (r : Result Answer ScriptFault) → DoesStep remaining failures reader handed line now before after reply
+      → list_any is_refusal reply ≡ was_refused answer → answer ≢ Truncated → Replied contents write_failures mid new reply answer r → Answers r
+  answers_step reply Accepted (Ok Accepted) d none apart h = (reply, d, goes_on contents write_failures old mid new [] (written [] reply) flushed h.1, none)
+  answers_step reply Accepted (Ok Refused) d none apart h = absurd (let no : ⊥ = cc (h.0) in no)
+  answers_step reply Accepted (Ok Truncated) d none apart h = absurd (let no : ⊥ = cc (h.0) in no)
+  answers_step reply Refused (Ok Refused) d none apart h = (reply, d, goes_on contents write_failures old mid new [] (written [] reply) flushed h.1, none)
+  answers_step reply Refused (Ok Accepted) d none apart h = absurd (let no : ⊥ = cc (h.0) in no)
+  answers_step reply Refused (Ok Truncated) d none apart h = absurd (let no : ⊥ = cc (h.0) in no)
+  answers_step reply Truncated r d none apart h = absurd (apart refl)
+  answers_step reply Accepted (Err Write) d none apart h = inr (inl (reply, d, stops_later contents write_failures old mid new [] (written [] reply) flushed h))
+  answers_step reply Refused (Err Write) d none apart h = inr (inl (reply, d, stops_later contents write_failures old mid new [] (written [] reply) flushed h))
+  answers_step reply Accepted (Err Read) d none apart h = absurd h
+  answers_step reply Refused (Err Read) d none apart h = absurd h
+  answers_step reply Accepted (Err Memory) d none apart h = absurd h
+  answers_step reply Refused (Err Memory) d none apart h = absurd h
+
+  -- a command for which its line is enough
+  pub does_alone : (step : Step) (reply : List Text) → HasHanded remaining failures reader now handed → IsStep (line_command line) [] step → RepliesTo step before reply after
+      → DoesStep remaining failures reader handed line now before after reply
+  does_alone step reply h is replies = record {
+    taken = [];
+    step = step;
+    has_handed = subst (HasHanded remaining failures reader now) (sym (append-nil handed)) h;
+    is_step = is;
+    replies_to = replies;
+  }
+
+  -- fewer lines follow than it counts
+  pub answers_truncated : (r : Result Answer ScriptFault) → WantsLines remaining failures reader handed line now before after → Replied contents write_failures mid new (truncated ∷ []) Truncated r → Answers r
+  answers_truncated (Ok Truncated) w h = (w, goes_on contents write_failures old mid new [] (written [] (truncated ∷ [])) flushed h.1)
+  answers_truncated (Ok Accepted) w h = absurd (let no : ⊥ = cc (h.0) in no)
+  answers_truncated (Ok Refused) w h = absurd (let no : ⊥ = cc (h.0) in no)
+  answers_truncated (Err Write) w h = inr (inr (w, stops_later contents write_failures old mid new [] (written [] (truncated ∷ [])) flushed h))
+  answers_truncated (Err Read) w h = absurd h
+  answers_truncated (Err Memory) w h = absurd h
+
+module _ {R W : Type 0} (remaining : R → Option Text) (failures : R → ℕ) (reader : R) (handed : List Text) (line : Text) (now : Numbered R) (before : Inputs)
+    (contents : W → Option Text) (write_failures : W → ℕ) (old new : W) where
+  -- not all lines came that it counts
+  pub answers_lost : (count : ℕ) (edit : List Text → Edit) (f : ScriptFault) → line_command line ≡ Some (counts count edit) → TakesLines remaining failures reader handed count now (Err f)
+      → FlushesFor contents write_failures old new f → AnswersLine remaining failures reader handed line now before before contents write_failures old new (Err f)
+  answers_lost count edit Read is t sent = (record { taken = t.0; wants = rw is t.1; stands = t.2 }, sent)
+  answers_lost count edit Memory is t sent = (record { taken = t.0; has_handed = t.1 }, sent)
+  answers_lost count edit Write is t sent = inl (record { taken = t.0; has_handed = t.1 }, sent)

@@ -1,0 +1,314 @@
+-- How a run of a script goes on and ends.
+use Rattle.std.proofs.Common.{◌≡◌, ℕ, ◌<◌, ◌≤◌, true, false, List, [], ◌∷◌, ◌++◌, length, Option, Result, Ok, Err, arith, inl, inr, refl, sym, ap, ◌∙◌, subst, append_assoc, append-nil}
+use Rattle.std.proofs.lemmas.List.{length-append}
+use Rattle.std.specs.List.{list_any}
+use Rattle.re_syntax.specs.Bytes.{Text}
+use Rattle.grep_core.specs.Files.{File, Inputs, Ending, whole, broken}
+use Rattle.grep_core.specs.Output.{written}
+use Rattle.grep_core.specs.Reading.{file_of, most_lines}
+use Rattle.grep_core.specs.Written.{GoesOut, StopsWithin}
+use Rattle.grep_core.specs.Working.Numbered.{Numbered, HasHanded, StandsAs}
+use Rattle.grep_core.specs.declared.input.lines.Stage.TheVariants.{Open}
+use Rattle.grep_core.proofs.lemmas.HandedLemmas.{begins_with}
+use Rattle.grep_core.proofs.lemmas.NumberedLemmas.{has_handed_none}
+use Rattle.grep_core.proofs.lemmas.RowLemmas.{goes_nowhere, goes_on, stops_later}
+use Rattle.grep_core.proofs.lemmas.WriterLaws.{written-append}
+use Rattle.grep_session.specs.Edits.{no_inputs}
+use Rattle.grep_cmd.specs.declared.script.ScriptFault.{ScriptFault}
+use Rattle.grep_cmd.specs.declared.script.ScriptFault.TheVariants.{Read, Write, Memory}
+use Rattle.grep_cmd.specs.declared.script.ScriptEnd.{ScriptEnd}
+use Rattle.grep_cmd.specs.declared.script.ScriptEnd.TheVariants.{Clean, Refused}
+use Rattle.grep_cmd.specs.Script.{is_truncated}
+use Rattle.grep_cmd.specs.Replies.{truncated, is_refusal, end_for, AnswersScript, ReadsScript, BeginsScript, Ends, IsCut, RunsOut, StopsWriting, ScriptGives}
+use Rattle.grep_cmd.specs.Working.Answered.{ReadsNext, FlushesFor, FlushesBehind, DoesStep, WantsLines, LosesLines, AnswersLine, AnsweredSoFar}
+use Rattle.grep_cmd.proofs.lemmas.ScriptSteps.{done_push, done_steps, done_alone, replies_push, end_kept, end_refused}
+
+abbrev script_of : List Text → Ending → File
+script_of lines ending = record { name = []; lines = lines; ending = ending }
+
+-- a command line and the lines that it takes, behind others
+line_then : (handed : List Text) (line : Text) (taken : List Text) → (handed ++ line ∷ []) ++ taken ≡ handed ++ line ∷ taken
+line_then handed line taken = append_assoc handed (line ∷ []) taken
+
+module _ {R W : Type 0} (remaining : R → Option Text) (failures : R → ℕ) (contents : W → Option Text) (write_failures : W → ℕ) (reader : R) (old : W) where
+  -- what a reader stands for is a script
+  reads : (now : Numbered R) (lines : List Text) (ending : Ending) → StandsAs remaining failures reader now lines ending
+      → ReadsScript (remaining reader) (remaining now.lines.reader) (failures reader) (failures now.lines.reader) (script_of lines ending)
+  reads now lines ending stands =
+      let s = stands [] in
+      record { reading = s.reading; is_reading = s.is_reading; is_left = s.is_left; is_file = sym s.file; counted = s.counted }
+
+  -- what it has handed out is the beginning of one
+  begins : (now : Numbered R) (handed : List Text) → HasHanded remaining failures reader now handed
+      → (file : File) × BeginsScript (remaining reader) (failures reader) (failures now.lines.reader) file × ((more : List Text) × (file.lines ≡ handed ++ more))
+  begins now handed h =
+      let b = begins_with remaining failures [] reader now.lines handed h.hands h.few in (
+        file_of [] b.reading,
+        record { reading = b.reading; is_reading = b.is_reading; is_file = refl; none_failed = h.hands.none_failed },
+        (b.more, b.has_lines),
+      )
+
+  -- nothing more was written
+  goes_same : (a b c : W) (bytes : Text) → GoesOut contents write_failures a b bytes → GoesOut contents write_failures b c [] → GoesOut contents write_failures a c bytes
+  goes_same a b c bytes first second = subst (GoesOut contents write_failures a c) (append-nil bytes) (goes_on contents write_failures a b c bytes [] first second)
+
+  goes_both : (a b c d : W) (xs ys : List Text) → GoesOut contents write_failures a b (written [] xs) → GoesOut contents write_failures b c []
+      → GoesOut contents write_failures c d (written [] ys) → GoesOut contents write_failures a d (written [] (xs ++ ys))
+  goes_both a b c d xs ys first flushed second =
+      subst (GoesOut contents write_failures a d) (sym (written-append [] xs ys)) (goes_on contents write_failures a c d (written [] xs) (written [] ys) (goes_same a b c (written [] xs) first flushed) second)
+
+  stops_both : (a b c d : W) (xs ys : List Text) → GoesOut contents write_failures a b (written [] xs) → GoesOut contents write_failures b c []
+      → StopsWithin contents write_failures c d (written [] ys) → StopsWithin contents write_failures a d (written [] (xs ++ ys))
+  stops_both a b c d xs ys first flushed second =
+      subst (StopsWithin contents write_failures a d) (sym (written-append [] xs ys)) (stops_later contents write_failures a c d (written [] xs) (written [] ys) (goes_same a b c (written [] xs) first flushed) second)
+
+  stops_same : (a b c : W) (bytes : Text) → GoesOut contents write_failures a b bytes → StopsWithin contents write_failures b c [] → StopsWithin contents write_failures a c bytes
+  stops_same a b c bytes first second = subst (StopsWithin contents write_failures a c) (append-nil bytes) (stops_later contents write_failures a b c bytes [] first second)
+
+  -- no line was handed out
+  pub so_far_none : (now : Numbered R) → HasHanded remaining failures reader now [] → AnsweredSoFar remaining failures contents write_failures reader old now no_inputs old Clean
+  so_far_none now h = record {
+    handed = [];
+    has_handed = h;
+    steps = [];
+    are_done = refl;
+    replies = [];
+    are_replies = (refl, refl);
+    goes = goes_nowhere contents write_failures old;
+    ended = refl;
+  }
+
+  module _ (now : Numbered R) (inputs : Inputs) (mid : W) (ending : ScriptEnd) (s : AnsweredSoFar remaining failures contents write_failures reader old now inputs mid ending) where
+    -- the steps so far, of a script that goes on
+    answers_so_far : (file : File) (rest : List Text) → file.lines ≡ s.handed ++ rest → AnswersScript file s.replies rest
+    answers_so_far file rest is = record {
+      steps = s.steps;
+      are_steps = rw is (done_alone file.ending s.handed rest s.steps s.are_done);
+      after = inputs;
+      are_replies = s.are_replies;
+    }
+
+    -- ---- no further line was handed out
+
+    module _ (next : Numbered R) (new : W) where
+      -- they are all
+      pub ends_here : StandsAs remaining failures reader next s.handed whole → GoesOut contents write_failures mid new []
+          → Ends contents write_failures (remaining reader) (remaining next.lines.reader) (failures reader) (failures next.lines.reader) old new ending
+      ends_here stands flushed = record {
+        file = script_of s.handed whole;
+        reads = reads next s.handed whole stands;
+        is_whole = refl;
+        replies = s.replies;
+        answers = answers_so_far (script_of s.handed whole) [] (sym (append-nil s.handed));
+        goes = goes_same old mid new (written [] s.replies) s.goes flushed;
+        ended = s.ended;
+      }
+
+      -- a read failed
+      pub cut_here : StandsAs remaining failures reader next s.handed broken → GoesOut contents write_failures mid new []
+          → IsCut contents write_failures (remaining reader) (remaining next.lines.reader) (failures reader) (failures next.lines.reader) old new
+      cut_here stands flushed = record {
+        file = script_of s.handed broken;
+        reads = reads next s.handed broken stands;
+        is_broken = refl;
+        replies = s.replies;
+        rest = [];
+        answers = answers_so_far (script_of s.handed broken) [] (sym (append-nil s.handed));
+        cut_short = inl refl;
+        goes = goes_same old mid new (written [] s.replies) s.goes flushed;
+      }
+
+      -- a growth was refused, with the next command or without it
+      pub runs_out : (others : List Text) → HasHanded remaining failures reader next (s.handed ++ others) → GoesOut contents write_failures mid new []
+          → RunsOut contents write_failures (remaining reader) (remaining next.lines.reader) (failures reader) (failures next.lines.reader) old new
+      runs_out others handed flushed =
+          let b = begins next (s.handed ++ others) handed in
+          record {
+            file = b.0;
+            reads = b.1;
+            replies = s.replies;
+            rest = others ++ b.2.0;
+            answers = answers_so_far b.0 (others ++ b.2.0) (b.2.1 ∙ append_assoc s.handed others b.2.0);
+            goes = goes_same old mid new (written [] s.replies) s.goes flushed;
+          }
+
+      -- what was gathered could not be sent
+      pub stops_sending : (others : List Text) → HasHanded remaining failures reader next (s.handed ++ others) → StopsWithin contents write_failures mid new []
+          → StopsWriting contents write_failures (remaining reader) (remaining next.lines.reader) (failures reader) (failures next.lines.reader) old new
+      stops_sending others handed stops =
+          let b = begins next (s.handed ++ others) handed in
+          record {
+            file = b.0;
+            reads = inl b.1;
+            replies = s.replies;
+            rest = others ++ b.2.0;
+            answers = answers_so_far b.0 (others ++ b.2.0) (b.2.1 ∙ append_assoc s.handed others b.2.0);
+            stops = stops_same old mid new (written [] s.replies) s.goes stops;
+          }
+
+    -- no further line was read
+    pub next_fails : (next : Numbered R) (new : W) (f : ScriptFault) → ReadsNext remaining failures reader s.handed next (Err f) → FlushesFor contents write_failures mid new f
+        → ScriptGives contents write_failures (remaining reader) (remaining next.lines.reader) (failures reader) (failures next.lines.reader) old new (Err f)
+    next_fails next new Read stands sent = cut_here next new stands sent
+    next_fails next new Memory handed sent = runs_out next new [] (subst (HasHanded remaining failures reader next) (sym (append-nil s.handed)) handed) sent
+    next_fails next new Write handed stops = stops_sending next new [] (subst (HasHanded remaining failures reader next) (sym (append-nil s.handed)) handed) stops
+
+    -- ---- a command line was handed out
+
+    module _ (line : Text) (sent : W) (flushed : GoesOut contents write_failures mid sent []) (next : Numbered R) (after : Inputs) (new : W) where
+      abbrev Does : List Text → Type 0
+      Does reply = DoesStep remaining failures reader (s.handed ++ line ∷ []) line next inputs after reply
+
+      abbrev Wants : Type 0
+      Wants = WantsLines remaining failures reader (s.handed ++ line ∷ []) line next inputs after
+
+      -- it was answered
+      answered : (reply : List Text) → Does reply → GoesOut contents write_failures sent new (written [] reply) → (end : ScriptEnd) → end ≡ end_for (s.replies ++ reply)
+          → AnsweredSoFar remaining failures contents write_failures reader old next after new end
+      answered reply d goes end is = record {
+        handed = s.handed ++ line ∷ d.taken;
+        has_handed = subst (HasHanded remaining failures reader next) (line_then s.handed line d.taken) d.has_handed;
+        steps = s.steps ++ d.step ∷ [];
+        are_done = done_push s.handed s.steps line d.taken d.step s.are_done d.is_step;
+        replies = s.replies ++ reply;
+        are_replies = replies_push s.steps d.step no_inputs inputs after s.replies reply s.are_replies d.replies_to;
+        goes = goes_both old mid sent new s.replies reply s.goes flushed goes;
+        ended = is;
+      }
+
+      pub so_far_accepted : (reply : List Text) → Does reply → GoesOut contents write_failures sent new (written [] reply) → list_any is_refusal reply ≡ false
+          → AnsweredSoFar remaining failures contents write_failures reader old next after new ending
+      so_far_accepted reply d goes none = answered reply d goes ending (s.ended ∙ sym (end_kept s.replies reply none))
+
+      pub so_far_refused : (reply : List Text) → Does reply → GoesOut contents write_failures sent new (written [] reply) → list_any is_refusal reply ≡ true
+          → AnsweredSoFar remaining failures contents write_failures reader old next after new Refused
+      so_far_refused reply d goes some = answered reply d goes Refused (sym (end_refused s.replies reply some))
+
+      -- fewer lines follow than it counts
+      truncates : (file : File) → (w : Wants) → file.lines ≡ s.handed ++ line ∷ w.taken → file.ending ≡ whole → AnswersScript file (s.replies ++ truncated ∷ []) []
+      truncates file w is ends = record {
+        steps = s.steps ++ is_truncated ∷ [];
+        are_steps = rw is (done_steps file.ending s.handed (line ∷ w.taken) [] s.steps (is_truncated ∷ []) s.are_done (inr (ends, w.wants, refl, refl, refl)));
+        after = inputs;
+        are_replies = replies_push s.steps is_truncated no_inputs inputs inputs s.replies (truncated ∷ []) s.are_replies (refl, refl);
+      }
+
+      reads_all : (taken : List Text) (kind : Ending) → StandsAs remaining failures reader next ((s.handed ++ line ∷ []) ++ taken) kind
+          → ReadsScript (remaining reader) (remaining next.lines.reader) (failures reader) (failures next.lines.reader) (script_of (s.handed ++ line ∷ taken) kind)
+      reads_all taken kind stands = reads next (s.handed ++ line ∷ taken) kind (subst (λ lines. StandsAs remaining failures reader next lines kind) (line_then s.handed line taken) stands)
+
+      pub ends_truncated : Wants → GoesOut contents write_failures sent new (written [] (truncated ∷ []))
+          → Ends contents write_failures (remaining reader) (remaining next.lines.reader) (failures reader) (failures next.lines.reader) old new Refused
+      ends_truncated w goes = record {
+        file = script_of (s.handed ++ line ∷ w.taken) whole;
+        reads = reads_all w.taken whole w.stands;
+        is_whole = refl;
+        replies = s.replies ++ truncated ∷ [];
+        answers = truncates (script_of (s.handed ++ line ∷ w.taken) whole) w refl refl;
+        goes = goes_both old mid sent new s.replies (truncated ∷ []) s.goes flushed goes;
+        ended = sym (end_refused s.replies (truncated ∷ []) refl);
+      }
+
+      -- a read failed before all lines had come
+      pub cut_within : LosesLines remaining failures reader (s.handed ++ line ∷ []) line next inputs after → GoesOut contents write_failures sent new []
+          → IsCut contents write_failures (remaining reader) (remaining next.lines.reader) (failures reader) (failures next.lines.reader) old new
+      cut_within l goes = record {
+        file = script_of (s.handed ++ line ∷ l.taken) broken;
+        reads = reads_all l.taken broken l.stands;
+        is_broken = refl;
+        replies = s.replies;
+        rest = line ∷ l.taken;
+        answers = answers_so_far (script_of (s.handed ++ line ∷ l.taken) broken) (line ∷ l.taken) refl;
+        cut_short = inr l.wants;
+        goes = goes_same old mid new (written [] s.replies) s.goes (goes_same mid sent new [] flushed goes);
+      }
+
+      -- the lines go on
+      pub grows : (taken : List Text) → HasHanded remaining failures reader next ((s.handed ++ line ∷ []) ++ taken) → (now.number < next.number) × (next.number ≤ most_lines)
+      grows taken h =
+          let longer = ap length (line_then s.handed line taken) ∙ length-append s.handed (line ∷ taken) in
+          (omega (arith, longer, h.counted, s.has_handed.counted), omega (arith, h.counted, h.few))
+
+      -- a write failed within the reply
+      pub stops_replying : (reply : List Text) → Does reply → StopsWithin contents write_failures sent new (written [] reply)
+          → StopsWriting contents write_failures (remaining reader) (remaining next.lines.reader) (failures reader) (failures next.lines.reader) old new
+      stops_replying reply d stops =
+          let handed = subst (HasHanded remaining failures reader next) (line_then s.handed line d.taken) d.has_handed in
+          let b = begins next (s.handed ++ line ∷ d.taken) handed in
+          record {
+            file = b.0;
+            reads = inl b.1;
+            replies = s.replies ++ reply;
+            rest = b.2.0;
+            answers = record {
+              steps = s.steps ++ d.step ∷ [];
+              are_steps = rw b.2.1 (done_alone b.0.ending (s.handed ++ line ∷ d.taken) b.2.0 (s.steps ++ d.step ∷ []) (done_push s.handed s.steps line d.taken d.step s.are_done d.is_step));
+              after = after;
+              are_replies = replies_push s.steps d.step no_inputs inputs after s.replies reply s.are_replies d.replies_to;
+            };
+            stops = stops_both old mid sent new s.replies reply s.goes flushed stops;
+          }
+
+      pub stops_truncated : Wants → StopsWithin contents write_failures sent new (written [] (truncated ∷ []))
+          → StopsWriting contents write_failures (remaining reader) (remaining next.lines.reader) (failures reader) (failures next.lines.reader) old new
+      stops_truncated w stops = record {
+        file = script_of (s.handed ++ line ∷ w.taken) whole;
+        reads = inr (reads_all w.taken whole w.stands);
+        replies = s.replies ++ truncated ∷ [];
+        rest = [];
+        answers = truncates (script_of (s.handed ++ line ∷ w.taken) whole) w refl refl;
+        stops = stops_both old mid sent new s.replies (truncated ∷ []) s.goes flushed stops;
+      }
+
+      -- the command wasn't answered
+      pub answer_fails : (f : ScriptFault) → AnswersLine remaining failures reader (s.handed ++ line ∷ []) line next inputs after contents write_failures sent new (Err f)
+          → ScriptGives contents write_failures (remaining reader) (remaining next.lines.reader) (failures reader) (failures next.lines.reader) old new (Err f)
+      answer_fails Read h = cut_within h.0 h.1
+      answer_fails Memory h =
+          runs_out next new (line ∷ h.0.taken) (subst (HasHanded remaining failures reader next) (line_then s.handed line h.0.taken) h.0.has_handed) (goes_same mid sent new [] flushed h.1)
+      answer_fails Write (inl h) =
+          stops_sending next new (line ∷ h.0.taken) (subst (HasHanded remaining failures reader next) (line_then s.handed line h.0.taken) h.0.has_handed) (stops_same mid sent new [] flushed h.1)
+      answer_fails Write (inr (inl h)) = stops_replying h.0 h.1 h.2
+      answer_fails Write (inr (inr h)) = stops_truncated h.0 h.1
+
+-- ---- the end
+
+module _ {W : Type 0} (contents : W → Option Text) (failures : W → ℕ) (known left : Option Text) (failed_before failed : ℕ) (old mid new : W) where
+  goes_on_same : (bytes : Text) → GoesOut contents failures old mid bytes → GoesOut contents failures mid new [] → GoesOut contents failures old new bytes
+  goes_on_same bytes first second = subst (GoesOut contents failures old new) (append-nil bytes) (goes_on contents failures old mid new bytes [] first second)
+
+  stops_on_same : (bytes : Text) → GoesOut contents failures old mid bytes → StopsWithin contents failures mid new [] → StopsWithin contents failures old new bytes
+  stops_on_same bytes first second = subst (StopsWithin contents failures old new) (append-nil bytes) (stops_later contents failures old mid new bytes [] first second)
+
+  -- what was gathered was sent behind a run, or that failed
+  pub sends_behind : (ended result : Result ScriptEnd ScriptFault) → ScriptGives contents failures known left failed_before failed old mid ended → FlushesBehind contents failures mid new ended result
+      → ScriptGives contents failures known left failed_before failed old new result
+  sends_behind (Ok end) result e (inl (sent, is)) =
+      subst (ScriptGives contents failures known left failed_before failed old new) (sym is)
+      (record { file = e.file; reads = e.reads; is_whole = e.is_whole; replies = e.replies; answers = e.answers; goes = goes_on_same (written [] e.replies) e.goes sent; ended = e.ended })
+  sends_behind (Ok end) result e (inr (stops, is)) =
+      subst (ScriptGives contents failures known left failed_before failed old new) (sym is)
+      (record { file = e.file; reads = inr e.reads; replies = e.replies; rest = []; answers = e.answers; stops = stops_on_same (written [] e.replies) e.goes stops })
+  sends_behind (Err Read) result e (inl (sent, is)) =
+      subst (ScriptGives contents failures known left failed_before failed old new) (sym is)
+      (record { file = e.file; reads = e.reads; is_broken = e.is_broken; replies = e.replies; rest = e.rest; answers = e.answers; cut_short = e.cut_short; goes = goes_on_same (written [] e.replies) e.goes sent })
+  sends_behind (Err Read) result e (inr (stops, is)) =
+      subst (ScriptGives contents failures known left failed_before failed old new) (sym is)
+      (record { file = e.file; reads = inr e.reads; replies = e.replies; rest = e.rest; answers = e.answers; stops = stops_on_same (written [] e.replies) e.goes stops })
+  sends_behind (Err Memory) result e (inl (sent, is)) =
+      subst (ScriptGives contents failures known left failed_before failed old new) (sym is)
+      (record { file = e.file; reads = e.reads; replies = e.replies; rest = e.rest; answers = e.answers; goes = goes_on_same (written [] e.replies) e.goes sent })
+  sends_behind (Err Memory) result e (inr (stops, is)) =
+      subst (ScriptGives contents failures known left failed_before failed old new) (sym is)
+      (record { file = e.file; reads = inl e.reads; replies = e.replies; rest = e.rest; answers = e.answers; stops = stops_on_same (written [] e.replies) e.goes stops })
+  sends_behind (Err Write) result e (same, is) =
+      subst (ScriptGives contents failures known left failed_before failed old new) (sym is) (subst (λ w. StopsWriting contents failures known left failed_before failed old w) (sym same) e)
+
+-- no memory for a reader of lines
+pub runs_out_at_once : {R W : Type 0} (remaining : R → Option Text) (failures : R → ℕ) (contents : W → Option Text) (write_failures : W → ℕ) (reader : R) (out : W)
+    → ScriptGives contents write_failures (remaining reader) (remaining reader) (failures reader) (failures reader) out out (Err Memory)
+unfolding so_far_none
+runs_out_at_once {R} remaining failures contents write_failures reader out =
+    let now : Numbered R = record { lines = record { reader = reader; ahead = []; line = []; stage = Open }; number = 0 } in
+    let none = has_handed_none remaining failures now refl refl refl in
+    runs_out remaining failures contents write_failures reader out now no_inputs out Clean (so_far_none remaining failures contents write_failures reader out now none) now out [] none (goes_nowhere contents write_failures out)

@@ -1,0 +1,48 @@
+-- The steps of a script and the replies to them, one more at a time.
+use Rattle.std.proofs.Common.{◌≡◌, true, false, ◌||◌, if◌then◌else◌, List, [], ◌∷◌, ◌++◌, inl, refl, sym, ap, ◌∙◌, subst, append_assoc, append-nil}
+use Rattle.std.proofs.lemmas.Bool.{or_right}
+use Rattle.std.proofs.lemmas.List.Folds.{list_any-append}
+use Rattle.std.specs.List.{list_any}
+use Rattle.re_syntax.specs.Bytes.{Text}
+use Rattle.grep_core.specs.Files.{Inputs, Ending}
+use Rattle.grep_cmd.specs.declared.script.ScriptEnd.TheVariants.{Clean, Refused}
+use Rattle.grep_cmd.specs.Script.{Step, IsStep, line_command, Steps}
+use Rattle.grep_cmd.specs.Replies.{RepliesTo, Replies, is_refusal, end_for}
+use Rattle.grep_cmd.specs.Working.Answered.{AreDone}
+
+-- one more step
+pub done_push : (lines : List Text) (steps : List Step) (line : Text) (taken : List Text) (step : Step) → AreDone lines steps → IsStep (line_command line) taken step
+    → AreDone (lines ++ line ∷ taken) (steps ++ step ∷ [])
+done_push lines [] line taken step none is = (line, taken, [], ap (λ ls. ls ++ line ∷ taken) none ∙ ap (λ ls. line ∷ ls) (sym (append-nil taken)), is, refl)
+done_push lines (s ∷ steps) line taken step (l, t, more, cut, does, rest) is =
+    (l, t, more ++ line ∷ taken, ap (λ ls. ls ++ line ∷ taken) cut ∙ ap (λ ls. l ∷ ls) (append_assoc t more (line ∷ taken)), does, done_push more steps line taken step rest is)
+
+-- the steps that are done, and those of the lines behind them
+pub done_steps : (ending : Ending) (lines rest left : List Text) (steps tail : List Step) → AreDone lines steps → Steps ending rest tail left → Steps ending (lines ++ rest) (steps ++ tail) left
+done_steps ending lines rest left [] tail none next = subst (λ ls. Steps ending (ls ++ rest) tail left) (sym none) next
+done_steps ending lines rest left (s ∷ steps) tail (l, t, more, cut, does, others) next =
+    inl (l, t, more ++ rest, ap (λ ls. ls ++ rest) cut ∙ ap (λ ls. l ∷ ls) (append_assoc t more rest), does, done_steps ending more rest left steps tail others next)
+
+-- nothing more is done
+pub done_alone : (ending : Ending) (lines rest : List Text) (steps : List Step) → AreDone lines steps → Steps ending (lines ++ rest) steps rest
+done_alone ending lines rest steps done = subst (λ ss. Steps ending (lines ++ rest) ss rest) (append-nil steps) (done_steps ending lines rest rest steps [] done refl)
+
+-- one more reply
+pub replies_push : (steps : List Step) (step : Step) (before between after : Inputs) (replies reply : List Text) → Replies steps before replies between → RepliesTo step between reply after
+    → Replies (steps ++ step ∷ []) before (replies ++ reply) after
+replies_push [] step before between after replies reply (none, same) h =
+    (reply, after, [], subst (λ i. RepliesTo step i reply after) same h, (refl, refl), ap (λ rs. rs ++ reply) none ∙ sym (append-nil reply))
+replies_push (s ∷ steps) step before between after replies reply (own, mid, rest, first, others, cut) h =
+    (own, mid, rest ++ reply, first, replies_push steps step mid between after rest reply others h, ap (λ rs. rs ++ reply) cut ∙ append_assoc own rest reply)
+
+-- a reply that refuses nothing
+pub end_kept : (replies reply : List Text) → list_any is_refusal reply ≡ false → end_for (replies ++ reply) ≡ end_for replies
+end_kept replies reply none = ap (λ b. if b then Refused else Clean) (list_any-append is_refusal replies reply ∙ ap (λ b. list_any is_refusal replies || b) none ∙ or_false (list_any is_refusal replies))
+  where
+    or_false : (b : _) → (b || false) ≡ b
+    or_false true = refl
+    or_false false = refl
+
+-- a reply that refuses
+pub end_refused : (replies reply : List Text) → list_any is_refusal reply ≡ true → end_for (replies ++ reply) ≡ Refused
+end_refused replies reply some = ap (λ b. if b then Refused else Clean) (list_any-append is_refusal replies reply ∙ or_right (list_any is_refusal replies) (list_any is_refusal reply) some)

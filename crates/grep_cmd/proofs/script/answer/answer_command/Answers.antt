@@ -1,0 +1,42 @@
+use Rattle.std.proofs.Common.{◌≡◌, Some, None, refl, rules, [], ◌∷◌}
+use Rattle.grep_core.proofs.lemmas.RowLemmas.{goes_nowhere}
+use Rattle.grep_cmd.specs.declared.script.reply.Answer.TheVariants.{Accepted, Refused}
+use Rattle.grep_cmd.specs.Script.{does, reports, is_bad, edits, shows, line_command}
+use Rattle.grep_cmd.specs.Replies.{reply_to, bad_command}
+use Rattle.grep_cmd.specs.Working.Answered.{answer_for}
+use Rattle.grep_cmd.specs.Working.Commands.{line_meant}
+use Rattle.grep_cmd.proofs.lemmas.ScriptAnswers.{answers_step, does_alone, refused_as, answered_in_time, not_for_memory, shown_is_no_refusal}
+use Rattle.grep_cmd.proofs.script.answer.answer_command.Goals as goal
+
+pub returns-in-Ok-Some-Edit-clause-answers : goal.returns-in-Ok-Some-Edit-clause-answers
+returns-in-Ok-Some-Edit-clause-answers g c =
+    let edit = line_meant c.in-Ok-Some-Edit.edit in
+    let is : line_command c.args.lines.now.lines.line ≡ Some (edits edit) = search rules in
+    let flushed = goes_nowhere g.W.CountedWrite.contents g.W.CountedWrite.failures c.args.out.now in
+    λ reader handed h.
+    let done = does_alone g.R.CountedRead.remaining g.R.CountedRead.failures reader handed c.args.lines.now.lines.line c.args.lines.now c.args.session.now c.make_edit.new.session g.W.CountedWrite.contents g.W.CountedWrite.failures c.args.out.now c.args.out.now c.reply_to_edit.new.out flushed
+    (does edit) (reply_to c.make_edit.result ∷ []) h (rw is (refl, refl))
+    (c.make_edit.result, record { gives = c.make_edit.ensures.gives; named = λ none. not_for_memory c.make_edit.result (c.make_edit.ensures.memory none) }, refl) in
+    answers_step g.R.CountedRead.remaining g.R.CountedRead.failures reader handed c.args.lines.now.lines.line c.args.lines.now c.args.session.now c.make_edit.new.session g.W.CountedWrite.contents g.W.CountedWrite.failures c.args.out.now c.args.out.now c.reply_to_edit.new.out flushed
+    (reply_to c.make_edit.result ∷ []) (answer_for c.make_edit.result) c.reply_to_edit.result done (refused_as c.make_edit.result) (answered_in_time c.make_edit.result) c.reply_to_edit.ensures
+
+pub returns-in-Ok-Some-Show-clause-answers : goal.returns-in-Ok-Some-Show-clause-answers
+returns-in-Ok-Some-Show-clause-answers g c =
+    let is : line_command c.args.lines.now.lines.line ≡ Some shows = search rules in
+    let flushed = goes_nowhere g.W.CountedWrite.contents g.W.CountedWrite.failures c.args.out.now in
+    let s = c.reply_to_show.ensures in
+    λ reader handed h.
+    let done = does_alone g.R.CountedRead.remaining g.R.CountedRead.failures reader handed c.args.lines.now.lines.line c.args.lines.now c.args.session.now c.args.session.now g.W.CountedWrite.contents g.W.CountedWrite.failures c.args.out.now c.args.out.now c.reply_to_show.new.out flushed
+    reports s.0 h (rw is (refl, refl)) (s.1, refl) in
+    answers_step g.R.CountedRead.remaining g.R.CountedRead.failures reader handed c.args.lines.now.lines.line c.args.lines.now c.args.session.now c.args.session.now g.W.CountedWrite.contents g.W.CountedWrite.failures c.args.out.now c.args.out.now c.reply_to_show.new.out flushed
+    s.0 Accepted c.reply_to_show.result done (shown_is_no_refusal c.args.session.now s.0 s.1) (λ e. let no : ⊥ = cc in no) s.2
+
+pub returns-in-Ok-None-clause-answers : goal.returns-in-Ok-None-clause-answers
+returns-in-Ok-None-clause-answers g c =
+    let is : line_command c.args.lines.now.lines.line ≡ None = search rules in
+    let flushed = goes_nowhere g.W.CountedWrite.contents g.W.CountedWrite.failures c.args.out.now in
+    λ reader handed h.
+    let done = does_alone g.R.CountedRead.remaining g.R.CountedRead.failures reader handed c.args.lines.now.lines.line c.args.lines.now c.args.session.now c.args.session.now g.W.CountedWrite.contents g.W.CountedWrite.failures c.args.out.now c.args.out.now c.reply_to_bad_line.new.out flushed
+    is_bad (bad_command ∷ []) h (rw is (refl, refl)) (refl, refl) in
+    answers_step g.R.CountedRead.remaining g.R.CountedRead.failures reader handed c.args.lines.now.lines.line c.args.lines.now c.args.session.now c.args.session.now g.W.CountedWrite.contents g.W.CountedWrite.failures c.args.out.now c.args.out.now c.reply_to_bad_line.new.out flushed
+    (bad_command ∷ []) Refused c.reply_to_bad_line.result done refl (λ e. let no : ⊥ = cc in no) c.reply_to_bad_line.ensures

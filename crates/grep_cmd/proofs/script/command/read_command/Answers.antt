@@ -1,0 +1,28 @@
+use Rattle.std.proofs.Common.{◌≡◌, true, false, codes, bytes_eq, option_map, IfOk, rules, sym, ap, ◌∙◌, subst}
+use Rattle.grep_cmd.specs.Script.{command_of, line_command, file_command, missing_command, unnamed_command}
+use Rattle.grep_cmd.specs.Working.Commands.{meant}
+use Rattle.grep_cmd.proofs.lemmas.ScriptCommands.{command_none, command_file, command_missing, command_unnamed}
+use Rattle.grep_cmd.proofs.script.command.read_command.Goals as goal
+
+pub returns-in_default : goal.returns-in_default
+returns-in_default c = sym (ap command_of (sym c.words_of-words.ensures ∙ c.in_default.ensures.steps.0) ∙ command_none)
+
+pub returns-then-eq : goal.returns-then-eq
+returns-then-eq c =
+    let test : bytes_eq c.in-Some.word.now (codes "file") ≡ true = search rules in
+    let is : line_command c.args.line.now ≡ file_command c.next.new.self = ap command_of (sym c.words_of-words.ensures ∙ c.in-Some.ensures.steps) ∙ command_file c.in-Some.word.now c.next.new.self test in
+    subst (λ command. IfOk c.read_file.result (λ given. option_map meant given ≡ command)) (sym is) c.read_file.ensures
+
+pub returns-then-eq-2 : goal.returns-then-eq-2
+returns-then-eq-2 c =
+    let other : bytes_eq c.in-Some.word.now (codes "file") ≡ false = search rules in
+    let test : bytes_eq c.in-Some.word.now (codes "missing") ≡ true = search rules in
+    let is : line_command c.args.line.now ≡ missing_command c.next.new.self = ap command_of (sym c.words_of-words.ensures ∙ c.in-Some.ensures.steps) ∙ command_missing c.in-Some.word.now c.next.new.self other test in
+    subst (λ command. IfOk c.read_missing.result (λ given. option_map meant given ≡ command)) (sym is) c.read_missing.ensures
+
+pub returns : goal.returns
+returns c =
+    let other : bytes_eq c.in-Some.word.now (codes "file") ≡ false = search rules in
+    let another : bytes_eq c.in-Some.word.now (codes "missing") ≡ false = search rules in
+    let is : line_command c.args.line.now ≡ unnamed_command c.in-Some.word.now c.next.new.self = ap command_of (sym c.words_of-words.ensures ∙ c.in-Some.ensures.steps) ∙ command_unnamed c.in-Some.word.now c.next.new.self other another in
+    c.read_unnamed.ensures ∙ sym is

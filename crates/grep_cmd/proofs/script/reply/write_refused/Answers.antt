@@ -1,0 +1,17 @@
+use Rattle.std.proofs.Common.{sym, subst}
+use Rattle.grep_core.specs.Row.{output_line}
+use Rattle.grep_core.specs.Written.{Writes}
+use Rattle.std.proofs.Common.{[]}
+use Rattle.grep_session.specs.declared.fault.EditFault.{EditFault}
+use Rattle.grep_cmd.specs.Replies.{cause, refused_for}
+use Rattle.grep_cmd.proofs.script.reply.write_refused.Goals as goal
+
+pub returns-in-LineHasNewline : goal.returns-in-LineHasNewline
+unfolding cause
+returns-in-LineHasNewline g c =
+    subst (λ (fault : EditFault). Writes g.W.CountedWrite.contents g.W.CountedWrite.failures c.args.out.now c.write_line-in-LineHasNewline.new.out (output_line [] (refused_for (cause fault))) c.write_line-in-LineHasNewline.result) (sym c.in-LineHasNewline.is) c.write_line-in-LineHasNewline.ensures
+
+pub returns-in-NoSuchPattern : goal.returns-in-NoSuchPattern
+unfolding cause
+returns-in-NoSuchPattern g c =
+    subst (λ (fault : EditFault). Writes g.W.CountedWrite.contents g.W.CountedWrite.failures c.args.out.now c.write_line-in-NoSuchPattern.new.out (output_line [] (refused_for (cause fault))) c.write_line-in-NoSuchPattern.result) (sym c.in-NoSuchPattern.is) c.write_line-in-NoSuchPattern.ensures

@@ -1,0 +1,178 @@
+-- Scripts of a session: a script's lines are commands, each with the lines that it counts (occur(1), COMMANDS).
+use Rattle.std.specs.Prelude.{◌≡◌, ℕ, ◌<◌, ◌^◌, nat_eq, nat_lt, Bool, true, false, ◌&&◌, if◌then◌else◌, List, [], ◌∷◌, ◌++◌, length, codes, bytes_eq, Option, Some, None, option_map, ◌⊎◌}
+use Rattle.std.specs.List.{list_all}
+use Rattle.re_syntax.specs.declared.class.Class.TheVariants.{Digit}
+use Rattle.re_syntax.specs.declared.syntax.Syntax.{Syntax}
+use Rattle.re_syntax.specs.declared.syntax.Syntax.TheVariants.{Basic, Extended, Fixed}
+use Rattle.re_syntax.specs.Bytes.{Text, in_class}
+use Rattle.re_syntax.specs.Intervals.{value}
+use Rattle.re_syntax.specs.Lines.{put_before, joined}
+use Rattle.grep_core.specs.declared.options.Flag.{Flag}
+use Rattle.grep_core.specs.Files.{Ending, whole}
+use Rattle.grep_session.specs.Edits.{Edit, AddFile, AddMissing, DropFile, Splice, AddPatterns, DropPattern, SetFlag, SetSyntax}
+use Rattle.grep_cmd.specs.declared.words.pieces.Meaning.{Meaning}
+use Rattle.grep_cmd.specs.declared.words.pieces.Meaning.TheVariants as meaning
+use Rattle.grep_cmd.specs.Words.{meaning_of}
+
+-- ---- words
+
+abbrev pub space : ℕ
+space = 32
+
+-- the words of a line, parted by single spaces: one more than there are spaces
+unfoldable pub words_of : Text → List Text
+words_of [] = [] ∷ []
+words_of (b ∷ rest) = if nat_eq b space then [] ∷ words_of rest else put_before b (words_of rest)
+
+-- a number is one decimal digit or more, of a value below 2 ^ 64
+abbrev pub number_of : Text → Option ℕ
+number_of [] = None
+number_of (b ∷ rest) = if list_all (in_class Digit) (b ∷ rest) && nat_lt (value (b ∷ rest)) (2 ^ 64) then Some (value (b ∷ rest)) else None
+
+-- a name is one byte or more
+abbrev pub name_of : Text → Option Text
+name_of [] = None
+name_of (b ∷ rest) = Some (b ∷ rest)
+
+-- an option of the output or of matching is named by its letter
+abbrev pub flag_meant : Option Meaning → Option Flag
+flag_meant (Some (meaning.Flag flag)) = Some flag
+flag_meant _ = None
+
+abbrev pub flag_of : Text → Option Flag
+flag_of (b ∷ []) = flag_meant (meaning_of b)
+flag_of _ = None
+
+abbrev pub switch_of : Text → Option Bool
+switch_of word = if bytes_eq word (codes "on") then Some true else if bytes_eq word (codes "off") then Some false else None
+
+abbrev pub syntax_of : Text → Option Syntax
+syntax_of word =
+    if bytes_eq word (codes "basic") then Some Basic else
+    if bytes_eq word (codes "extended") then Some Extended else
+    if bytes_eq word (codes "fixed") then Some Fixed else None
+
+-- ---- commands
+
+-- an edit, an edit of as many of the next lines as it counts, or the report
+pub data Command : Type 0 where
+  edits : Edit → Command
+  counts : ℕ → (List Text → Edit) → Command
+  shows : Command
+
+abbrev pub file_from : Option Text → Option ℕ → Option Command
+file_from (Some name) (Some count) = Some (counts count (AddFile name))
+file_from _ _ = None
+
+-- `file NAME COUNT`
+abbrev pub file_command : List Text → Option Command
+file_command (name ∷ count ∷ []) = file_from (name_of name) (number_of count)
+file_command _ = None
+
+-- `missing NAME`
+abbrev pub missing_command : List Text → Option Command
+missing_command (name ∷ []) = option_map (λ n. edits (AddMissing n)) (name_of name)
+missing_command _ = None
+
+-- `close K`
+abbrev pub close_command : List Text → Option Command
+close_command (file ∷ []) = option_map (λ k. edits (DropFile k)) (number_of file)
+close_command _ = None
+
+abbrev pub splice_from : Option ℕ → Option ℕ → Option ℕ → Option ℕ → Option Command
+splice_from (Some file) (Some start) (Some removed) (Some count) = Some (counts count (Splice file start removed))
+splice_from _ _ _ _ = None
+
+-- `splice K START REMOVE COUNT`
+abbrev pub splice_command : List Text → Option Command
+splice_command (file ∷ start ∷ removed ∷ count ∷ []) = splice_from (number_of file) (number_of start) (number_of removed) (number_of count)
+splice_command _ = None
+
+abbrev pub patterns_from : Option ℕ → Option Command
+patterns_from (Some count) = if nat_eq count 0 then None else Some (counts count (λ lines. AddPatterns (joined lines)))
+patterns_from None = None
+
+-- `patterns COUNT`, where there is at least one
+abbrev pub patterns_command : List Text → Option Command
+patterns_command (count ∷ []) = patterns_from (number_of count)
+patterns_command _ = None
+
+-- `drop P`
+abbrev pub drop_command : List Text → Option Command
+drop_command (pattern ∷ []) = option_map (λ p. edits (DropPattern p)) (number_of pattern)
+drop_command _ = None
+
+abbrev pub flag_from : Option Flag → Option Bool → Option Command
+flag_from (Some flag) (Some on) = Some (edits (SetFlag flag on))
+flag_from _ _ = None
+
+-- `flag LETTER on` or `flag LETTER off`
+abbrev pub flag_command : List Text → Option Command
+flag_command (letter ∷ switch ∷ []) = flag_from (flag_of letter) (switch_of switch)
+flag_command _ = None
+
+-- `syntax basic`, `syntax extended` or `syntax fixed`
+abbrev pub syntax_command : List Text → Option Command
+syntax_command (name ∷ []) = option_map (λ syntax. edits (SetSyntax syntax)) (syntax_of name)
+syntax_command _ = None
+
+-- `show`
+abbrev pub show_command : List Text → Option Command
+show_command [] = Some shows
+show_command _ = None
+
+abbrev pub unnamed_command : Text → List Text → Option Command
+unnamed_command word given =
+    if bytes_eq word (codes "show") then show_command given else
+    if bytes_eq word (codes "splice") then splice_command given else
+    if bytes_eq word (codes "close") then close_command given else
+    if bytes_eq word (codes "patterns") then patterns_command given else
+    if bytes_eq word (codes "drop") then drop_command given else
+    if bytes_eq word (codes "flag") then flag_command given else
+    if bytes_eq word (codes "syntax") then syntax_command given else None
+
+-- the command of these words, where they are one
+unfoldable pub command_of : List Text → Option Command
+command_of [] = None
+command_of (word ∷ given) =
+    if bytes_eq word (codes "file") then file_command given else
+    if bytes_eq word (codes "missing") then missing_command given else unnamed_command word given
+
+-- the command of a line
+abbrev pub line_command : Text → Option Command
+line_command line = command_of (words_of line)
+
+-- ---- scripts
+
+-- what a command line asks for
+pub data Step : Type 0 where
+  does : Edit → Step
+  reports : Step
+  -- the line is no command
+  is_bad : Step
+  -- it counts more lines than follow
+  is_truncated : Step
+
+-- the step of a command line, with the lines that it takes
+abbrev pub IsStep : Option Command → List Text → Step → Type 0
+IsStep (Some (edits edit)) taken step = (taken ≡ []) × (step ≡ does edit)
+IsStep (Some (counts count edit)) taken step = (length taken ≡ count) × (step ≡ does (edit taken))
+IsStep (Some shows) taken step = (taken ≡ []) × (step ≡ reports)
+IsStep None taken step = (taken ≡ []) × (step ≡ is_bad)
+
+-- the lines are a command line that counts more lines than follow
+abbrev pub WantsMore : Option Command → List Text → Type 0
+WantsMore (Some (counts count edit)) taken = length taken < count
+WantsMore _ taken = ⊥
+
+abbrev pub IsUnfinished : List Text → Type 0
+IsUnfinished [] = ⊥
+IsUnfinished (line ∷ taken) = WantsMore (line_command line) taken
+
+-- the first lines of a script are these steps, each a command line and the lines that it takes, and the rest is left. Where the script was
+-- read to its end, a command that counts more lines than follow takes them all
+abbrev pub Steps : Ending → List Text → List Step → List Text → Type 0
+Steps ending lines [] rest = rest ≡ lines
+Steps ending lines (step ∷ steps) rest =
+    ((line : Text) × (taken : List Text) × (more : List Text) × (lines ≡ line ∷ taken ++ more) × IsStep (line_command line) taken step × Steps ending more steps rest)
+    ⊎ ((ending ≡ whole) × IsUnfinished lines × (step ≡ is_truncated) × (steps ≡ []) × (rest ≡ []))

@@ -1,0 +1,126 @@
+-- How a script is answered, one command after the other.
+use Rattle.std.specs.Prelude.{◌≡◌, ℕ, ◌<◌, Bool, true, false, List, [], ◌∷◌, ◌++◌, length, Option, Some, None, Result, Ok, Err, ◌⊎◌}
+use Rattle.std.specs.List.{list_any}
+use Rattle.re_syntax.specs.Bytes.{Text}
+use Rattle.grep_core.specs.Files.{Inputs, whole, broken}
+use Rattle.grep_core.specs.Output.{written}
+use Rattle.grep_core.specs.Written.{GoesOut, StopsWithin}
+use Rattle.grep_core.specs.Working.Numbered.{Numbered, HasHanded, StandsAs}
+use Rattle.grep_session.specs.declared.fault.EditFault.{EditFault}
+use Rattle.grep_cmd.specs.declared.script.ScriptFault.{ScriptFault}
+use Rattle.grep_cmd.specs.declared.script.ScriptFault.TheVariants.{Read, Write, Memory}
+use Rattle.grep_cmd.specs.declared.script.ScriptEnd.{ScriptEnd}
+use Rattle.grep_cmd.specs.declared.script.reply.Answer.{Answer}
+use Rattle.grep_cmd.specs.declared.script.reply.Answer.TheVariants.{Accepted, Refused, Truncated}
+use Rattle.grep_cmd.specs.Script.{Step, IsStep, WantsMore, line_command}
+use Rattle.grep_cmd.specs.Replies.{RepliesTo, Replies, truncated, is_refusal, end_for}
+use Rattle.grep_session.specs.Edits.{no_inputs}
+
+-- how an edit was answered
+abbrev pub answer_for : {T : Type 0} → Result T EditFault → Answer
+answer_for (Ok done) = Accepted
+answer_for (Err fault) = Refused
+
+abbrev pub was_refused : Answer → Bool
+was_refused Accepted = false
+was_refused Refused = true
+was_refused Truncated = true
+
+-- ---- the next lines
+
+module _ {R : Type 0} (remaining : R → Option Text) (failures : R → ℕ) (reader : R) (handed : List Text) where
+  -- behind these lines one more was handed out, or they are all, or a read failed; else nothing is lost
+  abbrev pub ReadsNext : Numbered R → Result Bool ScriptFault → Type 0
+  ReadsNext now (Ok true) = HasHanded remaining failures reader now (handed ++ now.lines.line ∷ [])
+  ReadsNext now (Ok false) = StandsAs remaining failures reader now handed whole
+  ReadsNext now (Err Read) = StandsAs remaining failures reader now handed broken
+  ReadsNext now (Err fault) = HasHanded remaining failures reader now handed
+
+  -- behind these lines as many were taken as were counted; or fewer are left; or a read failed before
+  abbrev pub TakesLines : ℕ → Numbered R → Result (Option (List Text)) ScriptFault → Type 0
+  TakesLines count now (Ok (Some taken)) = (length taken ≡ count) × HasHanded remaining failures reader now (handed ++ taken)
+  TakesLines count now (Ok None) = (taken : List Text) × (length taken < count) × StandsAs remaining failures reader now (handed ++ taken) whole
+  TakesLines count now (Err Read) = (taken : List Text) × (length taken < count) × StandsAs remaining failures reader now (handed ++ taken) broken
+  TakesLines count now (Err fault) = (taken : List Text) × HasHanded remaining failures reader now (handed ++ taken)
+
+module _ {W : Type 0} (contents : W → Option Text) (failures : W → ℕ) (old new : W) where
+  -- what was gathered was sent, or that failed
+  abbrev pub FlushesFor : ScriptFault → Type 0
+  FlushesFor Write = StopsWithin contents failures old new []
+  FlushesFor fault = GoesOut contents failures old new []
+
+  abbrev pub Flushes : {T : Type 0} → Result T ScriptFault → Type 0
+  Flushes (Ok value) = GoesOut contents failures old new []
+  Flushes (Err fault) = FlushesFor fault
+
+  -- a reply was written, and the command was answered so
+  abbrev pub Replied : List Text → Answer → Result Answer ScriptFault → Type 0
+  Replied reply answer (Ok given) = (given ≡ answer) × GoesOut contents failures old new (written [] reply)
+  Replied reply answer (Err Write) = StopsWithin contents failures old new (written [] reply)
+  Replied reply answer (Err fault) = ⊥
+
+  -- behind a run that ended so what was gathered was sent, or that failed; where a write failed before none is tried again
+  abbrev pub FlushesBehind : Result ScriptEnd ScriptFault → Result ScriptEnd ScriptFault → Type 0
+  FlushesBehind (Err Write) result = (new ≡ old) × (result ≡ Err Write)
+  FlushesBehind ended result =
+      (GoesOut contents failures old new [] × (result ≡ ended)) ⊎ (StopsWithin contents failures old new [] × (result ≡ Err Write))
+
+-- ---- one command
+
+module _ {R : Type 0} (remaining : R → Option Text) (failures : R → ℕ) (reader : R) (handed : List Text) (line : Text) (now : Numbered R) (before after : Inputs) where
+  -- a command was done, with this reply
+  pub record DoesStep (reply : List Text) : Type 0 where
+    pub taken : List Text
+    pub step : Step
+    pub has_handed : HasHanded remaining failures reader now (handed ++ taken)
+    pub is_step : IsStep (line_command line) taken step
+    pub replies_to : RepliesTo step before reply after
+
+  -- fewer lines follow than the command counts
+  pub record WantsLines : Type 0 where
+    pub taken : List Text
+    pub wants : WantsMore (line_command line) taken
+    pub stands : StandsAs remaining failures reader now (handed ++ taken) whole
+
+  -- a read failed before all lines had come that the command counts
+  pub record LosesLines : Type 0 where
+    pub taken : List Text
+    pub wants : WantsMore (line_command line) taken
+    pub stands : StandsAs remaining failures reader now (handed ++ taken) broken
+
+  -- the command was given up
+  pub record GivesUp : Type 0 where
+    pub taken : List Text
+    pub has_handed : HasHanded remaining failures reader now (handed ++ taken)
+
+  module _ {W : Type 0} (contents : W → Option Text) (write_failures : W → ℕ) (old new : W) where
+    abbrev pub AnswersLine : Result Answer ScriptFault → Type 0
+    AnswersLine (Ok Truncated) = WantsLines × GoesOut contents write_failures old new (written [] (truncated ∷ []))
+    AnswersLine (Ok answer) =
+        (reply : List Text) × DoesStep reply × GoesOut contents write_failures old new (written [] reply) × (list_any is_refusal reply ≡ was_refused answer)
+    AnswersLine (Err Read) = LosesLines × GoesOut contents write_failures old new []
+    AnswersLine (Err Memory) = GivesUp × GoesOut contents write_failures old new []
+    AnswersLine (Err Write) =
+        (GivesUp × StopsWithin contents write_failures old new [])
+        ⊎ (((reply : List Text) × DoesStep reply × StopsWithin contents write_failures old new (written [] reply))
+        ⊎ (WantsLines × StopsWithin contents write_failures old new (written [] (truncated ∷ []))))
+
+-- ---- the commands so far
+
+-- the lines are these steps, of which none is truncated
+abbrev pub AreDone : List Text → List Step → Type 0
+AreDone lines [] = lines ≡ []
+AreDone lines (step ∷ steps) =
+    (line : Text) × (taken : List Text) × (more : List Text) × (lines ≡ line ∷ taken ++ more) × IsStep (line_command line) taken step × AreDone more steps
+
+module _ {R W : Type 0} (remaining : R → Option Text) (failures : R → ℕ) (contents : W → Option Text) (write_failures : W → ℕ) (reader : R) (old : W) where
+  -- the lines handed out so far were answered
+  pub record AnsweredSoFar (now : Numbered R) (inputs : Inputs) (new : W) (ending : ScriptEnd) : Type 0 where
+    pub handed : List Text
+    pub has_handed : HasHanded remaining failures reader now handed
+    pub steps : List Step
+    pub are_done : AreDone handed steps
+    pub replies : List Text
+    pub are_replies : Replies steps no_inputs replies inputs
+    pub goes : GoesOut contents write_failures old new (written [] replies)
+    pub ended : ending ≡ end_for replies

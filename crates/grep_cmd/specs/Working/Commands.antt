@@ -1,0 +1,29 @@
+-- What a command that was read stands for.
+use Rattle.std.specs.Prelude.{List}
+use Rattle.re_syntax.specs.Bytes.{Text}
+use Rattle.re_syntax.specs.Lines.{joined}
+use Rattle.grep_session.specs.Edits.{Edit, AddFile, AddMissing, DropFile, Splice, AddPatterns, DropPattern, SetFlag, SetSyntax}
+use Rattle.grep_cmd.specs.declared.script.command.LineEdit.{LineEdit}
+use Rattle.grep_cmd.specs.declared.script.command.LineEdit.TheVariants as line_edit
+use Rattle.grep_cmd.specs.declared.script.command.CountedEdit.{CountedEdit}
+use Rattle.grep_cmd.specs.declared.script.command.CountedEdit.TheVariants as counted
+use Rattle.grep_cmd.specs.declared.script.command.Command as declared
+use Rattle.grep_cmd.specs.declared.script.command.Command.TheVariants as command
+use Rattle.grep_cmd.specs.Script.{Command, edits, counts, shows}
+
+abbrev pub line_meant : LineEdit → Edit
+line_meant (line_edit.AddMissing name) = AddMissing name.items
+line_meant (line_edit.DropFile file) = DropFile file
+line_meant (line_edit.DropPattern pattern) = DropPattern pattern
+line_meant (line_edit.SetFlag flag on) = SetFlag flag on
+line_meant (line_edit.SetSyntax syntax) = SetSyntax syntax
+
+abbrev pub counted_meant : CountedEdit → List Text → Edit
+counted_meant (counted.AddFile name) lines = AddFile name.items lines
+counted_meant (counted.Splice file start removed) lines = Splice file start removed lines
+counted_meant counted.AddPatterns lines = AddPatterns (joined lines)
+
+abbrev pub meant : declared.Command → Command
+meant (command.Edit edit) = edits (line_meant edit)
+meant (command.Counted count edit) = counts count (counted_meant edit)
+meant command.Show = shows

@@ -1,0 +1,153 @@
+//! Scripts: commands to a session, line by line, and the replies to them.
+ghost use Rattle.std.specs.Prelude.{◌≡◌, ◌≢◌, ◌≤◌, [], Err};
+ghost use Rattle.re_syntax.specs.Profile.{most_states};
+ghost use Rattle.grep_core.specs.declared.input.lines.Stage.{Stage};
+ghost use Rattle.grep_session.specs.Edits.{no_inputs};
+ghost use Rattle.grep_cmd.specs.declared.script.ScriptFault.{ScriptFault};
+ghost use Rattle.grep_cmd.specs.Replies.{ScriptGives};
+ghost use Rattle.grep_cmd.specs.Working.Answered.{FlushesBehind};
+
+mod answer;
+mod command;
+mod counted;
+mod line_words;
+mod number;
+mod reply;
+#[cfg(test)]
+mod tests;
+
+use crate::script::answer::answer_command;
+use crate::script::counted::next_line;
+use crate::script::reply::Answer;
+use grep_core::{CountedRead, CountedWrite, NumberedLines, WriteFault};
+use grep_session::Session;
+use re_auto::{Meter, fresh_meter};
+use std::alloc::{AllocError, Global};
+
+/// How a script ended.
+#[derive(Clone, Copy, PartialEq, Eq, Debug, Drop)]
+pub enum ScriptEnd {
+    /// No reply is a refusal.
+    Clean,
+    /// Some reply is a refusal.
+    Refused,
+}
+
+/// Why a script was not answered to its end.
+#[derive(Clone, Copy, PartialEq, Eq, Debug, Drop)]
+pub enum ScriptFault {
+    /// A read failed, or there are more lines than can be numbered.
+    Read,
+    /// A write failed.
+    Write,
+    /// A growth was refused.
+    Memory,
+}
+
+impl From<WriteFault> for ScriptFault {
+    ghost use Rattle.std.specs.Prelude.{◌≡◌};
+    ghost use Rattle.grep_cmd.specs.declared.script.ScriptFault.{ScriptFault};
+
+    ghost from_gives = { λ _ fault. fault ≡ ScriptFault.Write };
+
+    fn from(_: WriteFault) -> ScriptFault {
+        ScriptFault::Write
+    }
+}
+
+impl From<AllocError> for ScriptFault {
+    ghost use Rattle.std.specs.Prelude.{◌≡◌};
+    ghost use Rattle.grep_cmd.specs.declared.script.ScriptFault.{ScriptFault};
+
+    ghost from_gives = { λ _ fault. fault ≡ ScriptFault.Memory };
+
+    fn from(_: AllocError) -> ScriptFault {
+        ScriptFault::Memory
+    }
+}
+
+/// Answers the commands of a script, one after the other.
+fn answer_all<R: CountedRead, W: CountedWrite>(
+    alloc: Global,
+    lines: &mut NumberedLines<R>,
+    session: &mut Session,
+    meter: &mut Meter,
+    out: &mut W,
+) -> Result<ScriptEnd, ScriptFault>
+    requires new_session { session.old ≡ no_inputs }
+    requires none_ahead { lines.old.lines.ahead ≡ [] }
+    requires still_open { lines.old.lines.stage ≡ Stage.Open }
+    requires none_numbered { lines.old.number ≡ 0 }
+    ensures gives { ScriptGives W.contents W.failures (R.remaining lines.old.lines.reader) (R.remaining lines.new.lines.reader)
+        (R.failures lines.old.lines.reader) (R.failures lines.new.lines.reader) out.old out.new result }
+    ensures same_loan { R.loan lines.new.lines.reader ≡ R.loan lines.old.lines.reader }
+{
+    let mut end = ScriptEnd::Clean;
+    loop {
+        match next_line(lines, out) {
+            Ok(true) => {}
+            Ok(false) => return Ok(end),
+            Err(fault) => return Err(fault),
+        }
+        match answer_command(alloc, lines, session, meter, out) {
+            Ok(Answer::Accepted) => {}
+            Ok(Answer::Refused) => end = ScriptEnd::Refused,
+            Ok(Answer::Truncated) => return Ok(ScriptEnd::Refused),
+            Err(fault) => return Err(fault),
+        }
+    }
+}
+
+/// Sends the replies that were gathered, behind a script that ended so.
+fn send_replies<W: CountedWrite>(
+    ended: Result<ScriptEnd, ScriptFault>,
+    writer: &mut W,
+) -> Result<ScriptEnd, ScriptFault>
+    ensures kept { FlushesBehind W.contents W.failures writer.old writer.new ended result }
+    ensures sent { result ≢ Err ScriptFault.Write → W.waiting writer.new ≡ 0 }
+{
+    match ended {
+        Err(ScriptFault::Write) => return ended,
+        _ => {}
+    }
+    match writer.flush() {
+        Ok(()) => ended,
+        Err(WriteFault) => Err(ScriptFault::Write),
+    }
+}
+
+/// Runs a script on a new session: reads its commands line by line, makes their edits, and writes
+/// the replies in the order of the commands. Each pattern may keep so many states.
+///
+/// The replies are those that the definition of a script gives for its lines, an edit's for want of
+/// memory aside, and all of them were sent. Before each read that may wait all replies to the
+/// commands before were sent, so that whoever hands in a command needs no other to see its reply.
+///
+/// # Errors
+///
+/// `ScriptFault::Read` where a read fails, or there are more lines than a `u64` can number, and
+/// `ScriptFault::Memory` where a line, a name or the lines of a command can't be held: the commands
+/// before that were answered, and of a script whose reading failed no whole command is left.
+/// `ScriptFault::Write` where a write fails: a beginning of the replies went out. No read or write
+/// is tried again.
+pub fn run_script<R: CountedRead, W: CountedWrite>(
+    alloc: Global,
+    reader: &mut R,
+    writer: &mut W,
+    states: usize,
+) -> Result<ScriptEnd, ScriptFault>
+    requires some { 1 ≤ states }
+    requires few { states ≤ most_states }
+    ensures gives { ScriptGives W.contents W.failures (R.remaining reader.old) (R.remaining reader.new) (R.failures reader.old) (R.failures reader.new) writer.old writer.new result }
+    ensures sent { result ≢ Err ScriptFault.Write → W.waiting writer.new ≡ 0 }
+{
+    let mut lines = match NumberedLines::new(alloc, reader) {
+        Ok(lines) => lines,
+        Err(_reader) => return send_replies(Err(ScriptFault::Memory), writer),
+    };
+    let mut session = Session::new(alloc, states);
+    let mut meter = fresh_meter();
+    let ended = answer_all(alloc, &mut lines, &mut session, &mut meter, writer);
+    let _reader = lines.into_reader();
+    send_replies(ended, writer)
+}

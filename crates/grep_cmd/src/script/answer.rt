@@ -1,0 +1,155 @@
+//! How a command is done and answered.
+ghost use Rattle.std.specs.Prelude.{◌≡◌, ◌≢◌, List, [], ◌∷◌, Some, IfOk, IfErr, map};
+ghost use Rattle.re_syntax.specs.Bytes.{Text};
+ghost use Rattle.grep_core.specs.Working.Numbered.{HasHanded};
+ghost use Rattle.grep_session.specs.declared.fault.EditFault.TheVariants.{Memory};
+ghost use Rattle.grep_session.specs.Edits.{EditGives};
+ghost use Rattle.grep_session.specs.Touched.{NeedsNoMemory};
+ghost use Rattle.grep_cmd.specs.Script.{line_command, counts};
+ghost use Rattle.grep_cmd.specs.declared.script.reply.Answer.{Answer};
+ghost use Rattle.grep_cmd.specs.Show.{AreShown};
+ghost use Rattle.grep_cmd.specs.Replies.{reply_to, bad_command, truncated};
+ghost use Rattle.grep_cmd.specs.Working.Answered.{AnswersLine, Replied, answer_for};
+ghost use Rattle.grep_cmd.specs.Working.Commands.{line_meant, counted_meant};
+
+use crate::script::ScriptFault;
+use crate::script::command::{Command, CountedEdit, LineEdit, read_command};
+use crate::script::counted::{join_lines, take_lines};
+use crate::script::reply::{Answer, write_reply};
+use crate::showing::show;
+use grep_core::{CountedRead, CountedWrite, NumberedLines, WriteFault, write_line};
+use grep_session::{EditFault, Session};
+use re_auto::Meter;
+use std::alloc::{AllocError, Global};
+
+/// Makes an edit for which the command line is enough.
+fn make_edit(session: &mut Session, edit: LineEdit, meter: &mut Meter) -> Result<(), EditFault>
+    ensures gives { EditGives (line_meant edit) session.old session.new result }
+    ensures memory { NeedsNoMemory (line_meant edit) session.old → IfErr result (λ fault. fault ≢ Memory) }
+{
+    match edit {
+        LineEdit::AddMissing(name) => session.add_missing(name),
+        LineEdit::DropFile(file) => session.drop_file(file),
+        LineEdit::DropPattern(pattern) => session.drop_pattern(pattern, meter),
+        LineEdit::SetFlag(flag, on) => session.set_flag(flag, on, meter),
+        LineEdit::SetSyntax(syntax) => session.set_syntax(syntax, meter),
+    }
+}
+
+/// Makes an edit with the lines that it counts. The lines of a pattern list are joined first, for
+/// which a growth may be refused.
+fn make_counted_edit(
+    alloc: Global,
+    session: &mut Session,
+    edit: CountedEdit,
+    lines: Vec<Vec<u8>>,
+    meter: &mut Meter,
+) -> Result<Result<(), EditFault>, AllocError>
+    ensures gives { IfOk result (λ answer. EditGives (counted_meant edit (map (λ l. l.items) lines.items)) session.old session.new answer) }
+    ensures memory { IfOk result (λ answer. NeedsNoMemory (counted_meant edit (map (λ l. l.items) lines.items)) session.old → IfErr answer (λ fault. fault ≢ Memory)) }
+{
+    match edit {
+        CountedEdit::AddFile(name) => Ok(session.add_file(name, lines, meter)),
+        CountedEdit::Splice {
+            file,
+            start,
+            removed,
+        } => Ok(session.splice(file, start, removed, lines, meter)),
+        CountedEdit::AddPatterns => {
+            let list = join_lines(alloc, &lines)?;
+            Ok(session.add_patterns(&list, meter))
+        }
+    }
+}
+
+/// Writes the reply to an edit that was answered so.
+fn reply_to_edit<W: CountedWrite>(
+    answer: Result<(), EditFault>,
+    out: &mut W,
+) -> Result<Answer, ScriptFault>
+    ensures { Replied W.contents W.failures out.old out.new (reply_to answer ∷ []) (answer_for answer) result }
+{
+    match write_reply(out, answer) {
+        Ok(answer) => Ok(answer),
+        Err(WriteFault) => Err(ScriptFault::Write),
+    }
+}
+
+/// Writes the reply to a line that is no command.
+fn reply_to_bad_line<W: CountedWrite>(out: &mut W) -> Result<Answer, ScriptFault>
+    ensures { Replied W.contents W.failures out.old out.new (bad_command ∷ []) Answer.Refused result }
+{
+    match write_line(out, b"refused BadCommand") {
+        Ok(()) => Ok(Answer::Refused),
+        Err(WriteFault) => Err(ScriptFault::Write),
+    }
+}
+
+/// Writes the reply to a command that counts more lines than follow.
+fn reply_to_truncated<W: CountedWrite>(out: &mut W) -> Result<Answer, ScriptFault>
+    ensures { Replied W.contents W.failures out.old out.new (truncated ∷ []) Answer.Truncated result }
+{
+    match write_line(out, b"refused Truncated") {
+        Ok(()) => Ok(Answer::Truncated),
+        Err(WriteFault) => Err(ScriptFault::Write),
+    }
+}
+
+/// Writes the report.
+fn reply_to_show<W: CountedWrite>(session: &Session, out: &mut W) -> Result<Answer, ScriptFault>
+    ensures { (shown : List Text) × AreShown session.now shown × Replied W.contents W.failures out.old out.new shown Answer.Accepted result }
+{
+    match show(session, out) {
+        Ok(()) => Ok(Answer::Accepted),
+        Err(WriteFault) => Err(ScriptFault::Write),
+    }
+}
+
+/// Takes the lines that a command counts, makes its edit, and writes the reply.
+fn answer_counted<R: CountedRead, W: CountedWrite>(
+    alloc: Global,
+    lines: &mut NumberedLines<R>,
+    count: usize,
+    edit: CountedEdit,
+    session: &mut Session,
+    meter: &mut Meter,
+    out: &mut W,
+) -> Result<Answer, ScriptFault>
+    ensures answers { (reader : R) (handed : List Text) (line : Text) → HasHanded R.remaining R.failures reader lines.old handed
+        → line_command line ≡ Some (counts count (counted_meant edit))
+        → AnswersLine R.remaining R.failures reader handed line lines.new session.old session.new W.contents W.failures out.old out.new result }
+    ensures same_loan { R.loan lines.new.lines.reader ≡ R.loan lines.old.lines.reader }
+{
+    let taken = match take_lines(alloc, lines, count, out) {
+        Ok(Some(taken)) => taken,
+        Ok(None) => return reply_to_truncated(out),
+        Err(fault) => return Err(fault),
+    };
+    match make_counted_edit(alloc, session, edit, taken, meter) {
+        Ok(answer) => reply_to_edit(answer, out),
+        Err(_) => Err(ScriptFault::Memory),
+    }
+}
+
+/// Does what the command line that was handed out last asks for, and writes the reply.
+pub fn answer_command<R: CountedRead, W: CountedWrite>(
+    alloc: Global,
+    lines: &mut NumberedLines<R>,
+    session: &mut Session,
+    meter: &mut Meter,
+    out: &mut W,
+) -> Result<Answer, ScriptFault>
+    ensures answers { (reader : R) (handed : List Text) → HasHanded R.remaining R.failures reader lines.old handed
+        → AnswersLine R.remaining R.failures reader handed lines.old.lines.line lines.new session.old session.new W.contents W.failures out.old out.new result }
+    ensures same_loan { R.loan lines.new.lines.reader ≡ R.loan lines.old.lines.reader }
+{
+    match read_command(alloc, lines.line()) {
+        Ok(Some(Command::Edit(edit))) => reply_to_edit(make_edit(session, edit, meter), out),
+        Ok(Some(Command::Counted(count, edit))) => {
+            answer_counted(alloc, lines, count, edit, session, meter, out)
+        }
+        Ok(Some(Command::Show)) => reply_to_show(session, out),
+        Ok(None) => reply_to_bad_line(out),
+        Err(_) => Err(ScriptFault::Memory),
+    }
+}

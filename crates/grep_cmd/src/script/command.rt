@@ -1,0 +1,249 @@
+//! The commands of a script.
+ghost use Rattle.std.specs.Prelude.{◌≡◌, IfOk, option_map};
+ghost use Rattle.grep_cmd.specs.Script.{name_of, flag_of, switch_of, syntax_of, file_command, missing_command, close_command, splice_command, patterns_command, drop_command, flag_command, syntax_command, show_command, unnamed_command, line_command};
+ghost use Rattle.grep_cmd.specs.Working.Commands.{meant};
+
+use crate::script::line_words::{LineWords, words_of};
+use crate::script::number::read_number;
+use crate::words::pieces::{Meaning, meaning_of_option};
+use grep_core::Flag;
+use re_syntax::Syntax;
+use std::alloc::{AllocError, Global};
+
+/// An edit for which the command line is enough.
+#[derive(Drop)]
+pub enum LineEdit {
+    /// A file of this name that cannot be opened is added.
+    AddMissing(Vec<u8>),
+    /// The file of this number is closed.
+    DropFile(usize),
+    /// The pattern of this number is dropped.
+    DropPattern(usize),
+    SetFlag(Flag, bool),
+    SetSyntax(Syntax),
+}
+
+/// An edit that takes lines of the script.
+#[derive(Drop)]
+pub enum CountedEdit {
+    /// The lines are those of a file of this name.
+    AddFile(Vec<u8>),
+    /// The lines come into a file, in the place of others.
+    Splice {
+        /// The number of the file.
+        file: usize,
+        /// The first line that goes.
+        start: usize,
+        /// How many lines go.
+        removed: usize,
+    },
+    /// The lines are patterns.
+    AddPatterns,
+}
+
+/// What a command line asks for.
+#[derive(Drop)]
+pub enum Command {
+    Edit(LineEdit),
+    /// An edit that takes so many of the next lines.
+    Counted(usize, CountedEdit),
+    /// The report.
+    Show,
+}
+
+/// The name that the word is.
+fn read_name(alloc: Global, word: &[u8]) -> Result<Option<Vec<u8>>, AllocError>
+    ensures { IfOk result (λ name. option_map (λ text. text.items) name ≡ name_of word.now) }
+{
+    if word.is_empty() {
+        return Ok(None);
+    }
+    let mut name = Vec::new(alloc);
+    name.extend_from_slice(word)?;
+    Ok(Some(name))
+}
+
+/// The option that the word names by its letter.
+fn read_flag(word: &[u8]) -> Option<Flag>
+    ensures { result ≡ flag_of word.now }
+{
+    if word.len() != 1 {
+        return None;
+    }
+    match meaning_of_option(char::from(word[0])) {
+        Some(Meaning::Flag(flag)) => Some(flag),
+        _ => None,
+    }
+}
+
+/// Whether the word is `on`, where it is that or `off`.
+fn read_switch(word: &[u8]) -> Option<bool>
+    ensures { result ≡ switch_of word.now }
+{
+    if word == b"on".as_slice() {
+        return Some(true);
+    }
+    if word == b"off".as_slice() {
+        return Some(false);
+    }
+    None
+}
+
+/// The syntax that the word names.
+fn read_syntax(word: &[u8]) -> Option<Syntax>
+    ensures { result ≡ syntax_of word.now }
+{
+    if word == b"basic".as_slice() {
+        return Some(Syntax::Basic);
+    }
+    if word == b"extended".as_slice() {
+        return Some(Syntax::Extended);
+    }
+    if word == b"fixed".as_slice() {
+        return Some(Syntax::Fixed);
+    }
+    None
+}
+
+/// `file NAME COUNT`
+fn read_file(alloc: Global, words: LineWords<'_>) -> Result<Option<Command>, AllocError>
+    ensures { IfOk result (λ command. option_map meant command ≡ file_command words.entry) }
+{
+    let Some((name, count)) = words.two() else {
+        return Ok(None);
+    };
+    let Some(count) = read_number(count) else {
+        return Ok(None);
+    };
+    let Some(name) = read_name(alloc, name)? else {
+        return Ok(None);
+    };
+    Ok(Some(Command::Counted(count, CountedEdit::AddFile(name))))
+}
+
+/// `missing NAME`
+fn read_missing(alloc: Global, words: LineWords<'_>) -> Result<Option<Command>, AllocError>
+    ensures { IfOk result (λ command. option_map meant command ≡ missing_command words.entry) }
+{
+    let Some(word) = words.only() else {
+        return Ok(None);
+    };
+    let Some(name) = read_name(alloc, word)? else {
+        return Ok(None);
+    };
+    Ok(Some(Command::Edit(LineEdit::AddMissing(name))))
+}
+
+/// `close K`
+fn read_close(words: LineWords<'_>) -> Option<Command>
+    ensures { option_map meant result ≡ close_command words.entry }
+{
+    let file = read_number(words.only()?)?;
+    Some(Command::Edit(LineEdit::DropFile(file)))
+}
+
+/// `splice K START REMOVE COUNT`
+fn read_splice(words: LineWords<'_>) -> Option<Command>
+    ensures { option_map meant result ≡ splice_command words.entry }
+{
+    let ((file, start), (removed, count)) = words.four()?;
+    let edit = CountedEdit::Splice {
+        file: read_number(file)?,
+        start: read_number(start)?,
+        removed: read_number(removed)?,
+    };
+    Some(Command::Counted(read_number(count)?, edit))
+}
+
+/// `patterns COUNT`, where there is at least one
+fn read_patterns(words: LineWords<'_>) -> Option<Command>
+    ensures { option_map meant result ≡ patterns_command words.entry }
+{
+    let count = read_number(words.only()?)?;
+    if count == 0 {
+        return None;
+    }
+    Some(Command::Counted(count, CountedEdit::AddPatterns))
+}
+
+/// `drop P`
+fn read_drop(words: LineWords<'_>) -> Option<Command>
+    ensures { option_map meant result ≡ drop_command words.entry }
+{
+    let pattern = read_number(words.only()?)?;
+    Some(Command::Edit(LineEdit::DropPattern(pattern)))
+}
+
+/// `flag LETTER on` or `off`
+fn read_flag_command(words: LineWords<'_>) -> Option<Command>
+    ensures { option_map meant result ≡ flag_command words.entry }
+{
+    let (letter, switch) = words.two()?;
+    let flag = read_flag(letter)?;
+    let on = read_switch(switch)?;
+    Some(Command::Edit(LineEdit::SetFlag(flag, on)))
+}
+
+/// `syntax basic`, `extended` or `fixed`
+fn read_syntax_command(words: LineWords<'_>) -> Option<Command>
+    ensures { option_map meant result ≡ syntax_command words.entry }
+{
+    let syntax = read_syntax(words.only()?)?;
+    Some(Command::Edit(LineEdit::SetSyntax(syntax)))
+}
+
+/// `show`
+fn read_show(words: LineWords<'_>) -> Option<Command>
+    ensures { option_map meant result ≡ show_command words.entry }
+{
+    let mut words = words;
+    match words.next() {
+        Some(_) => None,
+        None => Some(Command::Show),
+    }
+}
+
+/// The command of this word and those that follow it, where it has no name in it.
+fn read_unnamed(word: &[u8], words: LineWords<'_>) -> Option<Command>
+    ensures { option_map meant result ≡ unnamed_command word.now words.entry }
+{
+    if word == b"show".as_slice() {
+        return read_show(words);
+    }
+    if word == b"splice".as_slice() {
+        return read_splice(words);
+    }
+    if word == b"close".as_slice() {
+        return read_close(words);
+    }
+    if word == b"patterns".as_slice() {
+        return read_patterns(words);
+    }
+    if word == b"drop".as_slice() {
+        return read_drop(words);
+    }
+    if word == b"flag".as_slice() {
+        return read_flag_command(words);
+    }
+    if word == b"syntax".as_slice() {
+        return read_syntax_command(words);
+    }
+    None
+}
+
+/// The command of a line, where it is one. A growth may be refused for its name.
+pub fn read_command(alloc: Global, line: &[u8]) -> Result<Option<Command>, AllocError>
+    ensures { IfOk result (λ command. option_map meant command ≡ line_command line.now) }
+{
+    let mut words = words_of(line);
+    let Some(word) = words.next() else {
+        return Ok(None);
+    };
+    if word == b"file".as_slice() {
+        return read_file(alloc, words);
+    }
+    if word == b"missing".as_slice() {
+        return read_missing(alloc, words);
+    }
+    Ok(read_unnamed(word, words))
+}

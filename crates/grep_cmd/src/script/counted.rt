@@ -1,0 +1,108 @@
+//! The lines of a script that a command counts.
+ghost use Rattle.std.specs.Prelude.{◌≡◌, [], ◌∷◌, ◌++◌, List, IfOk, map, option_map, if◌then◌else◌};
+ghost use Rattle.std.specs.Result.{result_map_both};
+ghost use Rattle.re_syntax.specs.Bytes.{Text};
+ghost use Rattle.re_syntax.specs.Lines.{joined, newline};
+ghost use Rattle.grep_core.specs.Written.{Writes};
+ghost use Rattle.grep_core.specs.Working.Numbered.{HasHanded};
+ghost use Rattle.grep_cmd.specs.Working.Answered.{ReadsNext, TakesLines, Flushes};
+
+use crate::script::ScriptFault;
+use grep_core::{CountedRead, CountedWrite, NumberedLines, ReadFault, WriteFault};
+use std::alloc::{AllocError, Global};
+
+/// Sends what was gathered where the next line has to be read.
+fn send_before_read<R: CountedRead, W: CountedWrite>(
+    lines: &NumberedLines<R>,
+    out: &mut W,
+) -> Result<(), WriteFault>
+    ensures { Writes W.contents W.failures out.old out.new [] result }
+{
+    if lines.has_line() {
+        return Ok(());
+    }
+    out.flush()
+}
+
+/// Hands out the next line of a script, and answers whether there was one. Where it has to be read,
+/// all replies are sent before.
+pub fn next_line<R: CountedRead, W: CountedWrite>(
+    lines: &mut NumberedLines<R>,
+    out: &mut W,
+) -> Result<bool, ScriptFault>
+    ensures next { (reader : R) (handed : List Text) → HasHanded R.remaining R.failures reader lines.old handed → ReadsNext R.remaining R.failures reader handed lines.new result }
+    ensures sent { Flushes W.contents W.failures out.old out.new result }
+    ensures same_loan { R.loan lines.new.lines.reader ≡ R.loan lines.old.lines.reader }
+{
+    match send_before_read(lines, out) {
+        Ok(()) => {}
+        Err(WriteFault) => return Err(ScriptFault::Write),
+    }
+    match lines.next_line() {
+        Ok(more) => Ok(more),
+        Err(ReadFault::Device) => Err(ScriptFault::Read),
+        Err(ReadFault::Memory) => Err(ScriptFault::Memory),
+    }
+}
+
+/// Puts a copy of the line behind the others.
+fn push_line(alloc: Global, lines: &mut Vec<Vec<u8>>, line: &[u8]) -> Result<(), AllocError>
+    ensures { IfOk result (λ _. map (λ l. l.items) lines.new.items ≡ map (λ l. l.items) lines.old.items ++ line.now ∷ []) }
+{
+    let mut copy = Vec::new(alloc);
+    copy.extend_from_slice(line)?;
+    lines.push(copy)?;
+    Ok(())
+}
+
+/// The next lines, as many as were counted; none where fewer follow. Memory is asked for by the
+/// lines that came, and not by the count.
+pub fn take_lines<R: CountedRead, W: CountedWrite>(
+    alloc: Global,
+    lines: &mut NumberedLines<R>,
+    count: usize,
+    out: &mut W,
+) -> Result<Option<Vec<Vec<u8>>>, ScriptFault>
+    ensures takes { (reader : R) (handed : List Text) → HasHanded R.remaining R.failures reader lines.old handed
+        → TakesLines R.remaining R.failures reader handed count lines.new (result_map_both (λ taken. option_map (λ ls. map (λ l. l.items) ls.items) taken) (λ e. e) result) }
+    ensures sent { Flushes W.contents W.failures out.old out.new result }
+    ensures same_loan { R.loan lines.new.lines.reader ≡ R.loan lines.old.lines.reader }
+{
+    let mut taken = Vec::new(alloc);
+    while taken.len() < count {
+        match next_line(lines, out) {
+            Ok(true) => {}
+            Ok(false) => return Ok(None),
+            Err(fault) => return Err(fault),
+        }
+        match push_line(alloc, &mut taken, lines.line()) {
+            Ok(()) => {}
+            Err(_) => return Err(ScriptFault::Memory),
+        }
+    }
+    Ok(Some(taken))
+}
+
+/// Adds a line, behind a newline where it is not the first.
+fn add_line(text: &mut Vec<u8>, first: bool, line: &[u8]) -> Result<(), AllocError>
+    ensures { IfOk result (λ _. text.new.items ≡ text.old.items ++ (if first then line.now else newline ∷ line.now)) }
+{
+    if first {
+        text.extend_from_slice(line)?;
+        return Ok(());
+    }
+    text.push(b'\n')?;
+    text.extend_from_slice(line)?;
+    Ok(())
+}
+
+/// The lines with a newline between each two.
+pub fn join_lines(alloc: Global, lines: &[Vec<u8>]) -> Result<Vec<u8>, AllocError>
+    ensures { IfOk result (λ text. text.items ≡ joined (map (λ l. l.items) lines.now)) }
+{
+    let mut text = Vec::new(alloc);
+    for (at, line) in lines.iter().enumerate() {
+        add_line(&mut text, at == 0, line)?;
+    }
+    Ok(text)
+}

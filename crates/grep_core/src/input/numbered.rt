@@ -1,0 +1,92 @@
+// The lines of a reader, of which no more are handed out than can be numbered.
+ghost use Rattle.std.specs.Prelude.{◌≡◌, ◌+◌, [], IfOk, IfErr, length};
+ghost use Rattle.grep_core.specs.declared.input.lines.Stage.{Stage};
+ghost use Rattle.grep_core.specs.Working.Held.{HasWholeLine};
+ghost use Rattle.grep_core.specs.Working.Numbered.{HandsNext};
+
+use crate::devices::counted::CountedRead;
+use crate::input::lines::{Lines, ReadFault};
+use std::alloc::Global;
+use std::marker::Model;
+
+/// The lines of a reader, numbered from 1. Where one more begins than a `u64` can number, that is
+/// a failed read. Contracts see the reader of lines and how many lines were handed out.
+#[derive(Drop)]
+pub struct NumberedLines<R: CountedRead> {
+    lines: Lines<R>,
+    number: u64,
+}
+
+impl<R: CountedRead> Model for NumberedLines<R> {
+    ghost use Rattle.grep_core.specs.Working.Numbered.{Numbered};
+
+    ghost Value = { Numbered R };
+
+    ghost view = { λ a. record { lines = a.lines; number = a.number } };
+}
+
+impl<R: CountedRead> NumberedLines<R> {
+    /// The lines of the reader, of which nothing is read yet. The reader comes back where memory
+    /// is refused.
+    pub fn new(alloc: Global, reader: R) -> Result<NumberedLines<R>, R>
+        ensures ok { IfOk result (λ numbered. numbered ≡ record {
+          lines = record { reader = reader; ahead = []; line = []; stage = Stage.Open };
+          number = 0;
+        }) }
+        ensures err { IfErr result (λ given_back. given_back ≡ reader) }
+    {
+        match Lines::new(alloc, reader) {
+            Ok(lines) => Ok(NumberedLines { lines, number: 0 }),
+            Err(reader) => Err(reader),
+        }
+    }
+
+    /// The line that the last call of `next_line` handed out, without its newline.
+    pub fn line(&self) -> &[u8]
+        ensures { result.now ≡ self.now.lines.line }
+    {
+        self.lines.line()
+    }
+
+    /// The number of that line; 0 before the first.
+    pub fn number(&self) -> u64
+        ensures { result ≡ self.now.number }
+    {
+        self.number
+    }
+
+    /// Whether the next line is held with its newline, so that no read comes before it.
+    pub fn has_line(&self) -> bool
+        ensures { HasWholeLine self.now.lines.ahead result }
+    {
+        self.lines.has_line()
+    }
+
+    /// The reader, without the bytes that are held.
+    pub fn into_reader(self) -> R
+        ensures { result ≡ self.lines.reader }
+    {
+        let NumberedLines { lines, number: _ } = self;
+        lines.into_reader()
+    }
+
+    /// Hands out the next line, and answers whether there was one.
+    ///
+    /// `ReadFault::Device` comes where a read fails, or where one more line begins than can be
+    /// numbered. After `ReadFault::Memory` the next call goes on with the same line.
+    pub fn next_line(&mut self) -> Result<bool, ReadFault>
+        ensures next { HandsNext R.remaining R.failures self.old self.new result }
+        ensures same_loan { R.loan self.new.lines.reader ≡ R.loan self.old.lines.reader }
+    {
+        match self.lines.next_line() {
+            Ok(true) if self.number == u64::MAX => Err(ReadFault::Device),
+            Ok(true) => {
+                self.number += 1;
+                Ok(true)
+            }
+            Ok(false) => Ok(false),
+            Err(ReadFault::Device) => Err(ReadFault::Device),
+            Err(ReadFault::Memory) => Err(ReadFault::Memory),
+        }
+    }
+}

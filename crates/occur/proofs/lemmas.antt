@@ -1,0 +1,3 @@
+pub mod StatesLemmas
+pub mod FormsLemmas
+pub mod ExitLemmas

@@ -1,0 +1,18 @@
+-- The bytes of a message on the script, written as a row.
+use Rattle.std.proofs.Common.{◌≡◌, ℕ, [], ◌∷◌, ◌++◌, Option, None, Some, Result, codes, sym, ap, ◌∙◌, append_assoc, append-nil, subst}
+use Rattle.grep_core.specs.Row.{colon, head, output_line}
+use Rattle.grep_core.specs.Written.{Writes}
+use Rattle.grep_cmd.specs.Bytes.{Text}
+use Rattle.grep_cmd.specs.Lines.{newline}
+use Rattle.occur.specs.Exit.{cannot_open}
+
+-- `occur: ` is the margin, the script's name the name, and the rest the text
+message_row-is : (name text : Text) → output_line (codes "occur: ") (head (Some name) None ++ text) ≡ output_line [] (codes "occur: " ++ name ++ (colon ∷ text))
+message_row-is name text =
+    ap (λ l. codes "occur: " ++ l ++ newline ∷ []) (ap (λ l. l ++ text) (append-nil (name ++ colon ∷ [])) ∙ append_assoc name (colon ∷ []) text)
+    ∙ ap (λ l. l ++ newline ∷ []) (sym (append_assoc (codes "occur: ") name (colon ∷ text)))
+
+pub writes_cannot_open : {W T E : Type 0} (contents : W → Option Text) (failures : W → ℕ) (a b : W) (name : Text) (r : Result T E)
+    → Writes contents failures a b (output_line (codes "occur: ") (head (Some name) None ++ codes " cannot open")) r
+    → Writes contents failures a b (output_line [] (cannot_open name)) r
+writes_cannot_open contents failures a b name r w = subst (λ bytes. Writes contents failures a b bytes r) (message_row-is name (codes " cannot open")) w

@@ -1,0 +1,14 @@
+use Rattle.std.proofs.Common.{◌∙◌, ap, sym}
+use Rattle.clap.specs.Words.{fault_of}
+use Rattle.clap.specs.Faults.{is_simple_and_free}
+use Rattle.occur.specs.Words.{texts_of}
+use Rattle.occur.proofs.lemmas.StatesLemmas.{states_found}
+use Rattle.occur.proofs.words.parse_words.Goals as goal
+
+pub choices_of-requires : goal.choices_of-requires
+choices_of-requires c = states_found _ c.in_ok-matches.matches c.in_ok-occur_command.ensures c.in_ok-matches.ensures.parsed
+
+pub returns-clause-faults : goal.returns-clause-faults
+returns-clause-faults c =
+    let is = c.in_ok-occur_command.ensures in
+    ap (λ a. fault_of a (texts_of c.args.words.now)) (sym is) ∙ c.in_ok-matches.ensures.kinds (ap is_simple_and_free is)

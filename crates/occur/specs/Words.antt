@@ -1,0 +1,87 @@
+-- What the words of the command line choose: occur [--states N] [SCRIPT].
+use Rattle.std.specs.Prelude.{◌≡◌, ◌≢◌, ◌==◌, Bool, true, not, ⊤, List, [], ◌∷◌, Option, None, Some, Ok, Err, Result, map, option_map, IsSomeAnd, codes, String, string_bytes}
+use Rattle.std.specs.Option.{option_map_or}
+use Rattle.std.specs.Str.Parse.{digits_value, without_leading_plus}
+use Rattle.clap.specs.Words.{App, IsUnsignedIn, Row, Rule, Text, first_of, kind_of, new_app, new_rule, one_of, one_text, with_rule}
+use Rattle.clap.specs.Kinds.{Kinds, IsAmong}
+use Rattle.clap.specs.declared.builder.action.ArgAction.TheVariants.{Set}
+use Rattle.clap.specs.declared.builder.value_parser.ValueParser.TheVariants.{Unsigned}
+use Rattle.clap.specs.declared.error.Error.{Error}
+use Rattle.clap.specs.declared.error.kind.ErrorKind.TheVariants.{DisplayHelp, OutOfMemory}
+use Rattle.clap.specs.declared.parser.matches.Found.{Found}
+use Rattle.occur.specs.declared.words.Choices.{Choices}
+use Rattle.occur.specs.declared.words.OccurFault.{OccurFault}
+use Rattle.occur.specs.declared.words.OccurFault.TheVariants as fault
+
+abbrev pub texts_of : {Z : Type 0} → List (String Z) → List Text
+texts_of words = map string_bytes words
+
+-- the option --states N, from 1 to 65,536 and without it 256
+abbrev pub states_rule : Rule
+states_rule = record (new_rule (codes "states")) {
+  long = Some (codes "states");
+  action = Some Set;
+  value_names = 1;
+  defaults = codes "256" ∷ [];
+  parser = Some (Unsigned 1 65536);
+}
+
+-- the operand SCRIPT
+abbrev pub script_rule : Rule
+script_rule = record (new_rule (codes "script")) { action = Some Set; value_names = 1 }
+
+-- the command, to which its library adds the option --help
+abbrev pub occur_app : App
+occur_app = with_rule (with_rule (new_app (codes "occur")) states_rule) script_rule
+
+-- a number of states was found, as text
+abbrev pub HasStates : Found → Type 0
+HasStates found = (text : Text) × (one_text found (codes "states") ≡ Some text) × IsUnsignedIn 1 65536 text
+
+-- the choices are what was found: the number that is written for the option, and the operand
+pub record IsChosenBy (rows : List Row) (choices : Choices) : Type 0 where
+  pub number : Text
+  pub has_number : one_of (codes "states") rows ≡ Some number
+  pub states : choices.states ≡ digits_value 10 (without_leading_plus number)
+  pub script : option_map string_bytes choices.script ≡ first_of (codes "script") rows
+
+-- an error of the library as a fault
+abbrev pub Tells : Error → OccurFault → Type 0
+Tells error fault.Memory = kind_of error ≡ OutOfMemory
+Tells error (fault.Words told) = (told ≡ error) × (kind_of error ≢ OutOfMemory)
+
+-- words are taken only where no kind of error may come; a fault of the words has such a kind, and any other fault is want of
+-- memory
+abbrev pub TellsAmong : Kinds → Result Choices OccurFault → Type 0
+TellsAmong kinds (Ok choices) = kinds ≡ []
+TellsAmong kinds (Err fault.Memory) = ⊤
+TellsAmong kinds (Err (fault.Words error)) = (kind_of error ≢ OutOfMemory) × IsAmong (kind_of error) kinds
+
+-- a word that is no option: it does not begin with a hyphen (45)
+abbrev pub is_operand : Text → Bool
+is_operand [] = true
+is_operand (b ∷ rest) = not (b == 45)
+
+abbrev pub is_no_option : Option Text → Bool
+is_no_option None = true
+is_no_option (Some word) = is_operand word
+
+-- the words `occur`, `occur SCRIPT`, `occur --states N` and `occur --states N SCRIPT`
+abbrev pub form_words : Text → Option Text → Option Text → List Text
+form_words name None None = name ∷ []
+form_words name None (Some script) = name ∷ script ∷ []
+form_words name (Some number) None = name ∷ codes "--states" ∷ number ∷ []
+form_words name (Some number) (Some script) = name ∷ codes "--states" ∷ number ∷ script ∷ []
+
+-- such words choose the number, or 256, and the script; they are not taken only where the number is not from 1 to 65,536
+abbrev pub Reads : Option Text → Option Text → Result Choices OccurFault → Type 0
+Reads number script (Ok choices) =
+    (choices.states ≡ option_map_or (λ text. digits_value 10 (without_leading_plus text)) number 256) × (option_map string_bytes choices.script ≡ script)
+Reads number script (Err fault.Memory) = ⊤
+Reads number script (Err (fault.Words error)) = IsSomeAnd number (λ text. IsUnsignedIn 1 65536 text → ⊥)
+
+-- the words ask for help, unless memory is refused
+abbrev pub AsksForHelp : Result Choices OccurFault → Type 0
+AsksForHelp (Ok choices) = ⊥
+AsksForHelp (Err fault.Memory) = ⊤
+AsksForHelp (Err (fault.Words error)) = kind_of error ≡ DisplayHelp

@@ -1,0 +1,26 @@
+//! The texts of `occur --help`.
+
+/// What the program is.
+pub const ABOUT: &str =
+    "Keeps what grep finds up to date while a script edits files, patterns and options.";
+
+/// The script's commands, for the end of the help.
+pub fn commands_help() -> &'static str {
+    "\
+The script has a command on each line. The lines or patterns that a command counts follow it.
+  file NAME COUNT              a new file, of the next COUNT lines
+  missing NAME                 a new file that cannot be opened
+  close K                      takes file K away
+  splice K START REMOVE COUNT  the next COUNT lines in place of REMOVE lines of file K
+  patterns COUNT               new patterns, the next COUNT lines
+  drop P                       takes pattern P away
+  flag LETTER on|off           sets an option of grep: c, i, l, n, o, q, s, v or x
+  syntax basic|extended|fixed  sets how patterns are read
+  show                         asks what grep finds now
+
+Each command is answered by 'ok' or 'refused CAUSE', and show by grep's output behind 'o ', its
+messages behind 'e ' and 'status N'.
+
+Exit status: 0; 1 if a command was refused; 2 after an error.
+See the manual page for more: man occur"
+}

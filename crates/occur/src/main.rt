@@ -1,0 +1,81 @@
+//! `occur`: a script that edits files, patterns and options, and asks what grep finds.
+#![tactic(auto)]
+
+mod ending;
+mod help;
+mod words;
+
+ghost use Rattle.std.specs.Prelude.{◌≤◌};
+ghost use Rattle.re_syntax.specs.Profile.{most_states};
+
+use crate::ending::{end_script, refuse_memory, refuse_script, refuse_words, words_status};
+use crate::words::{Choices, OccurFault, occur_words};
+use clap::Error;
+use grep_cmd::{FAILED, ScriptFault, run_script};
+use grep_core::{Buffered, CountedRead, Tally};
+use std::io::ErrorKind;
+use std::process::ExitCode;
+use std::{env, fs, io};
+
+/// Runs the script that the reader gives, with its replies on standard output, and answers the
+/// exit status.
+fn run_from<R: CountedRead>(rt: &HostRuntime, reader: &mut R, states: usize) -> u8
+    requires least { 1 ≤ states }
+    requires most { states ≤ most_states }
+{
+    let mut messages = Tally::new(rt.stderr());
+    let Ok(mut writer) = Buffered::new(rt.alloc(), Tally::new(rt.stdout())) else {
+        return refuse_memory(&mut messages);
+    };
+    let ended = run_script(rt.alloc(), reader, &mut writer, states);
+    end_script(&mut messages, ended)
+}
+
+/// Runs the script that the words choose, and answers the exit status.
+fn run(rt: &HostRuntime, choices: &Choices) -> u8
+    requires least { 1 ≤ choices.now.states }
+    requires most { choices.now.states ≤ most_states }
+{
+    let Some(name) = &choices.script else {
+        return run_from(rt, &mut Tally::new(rt.stdin()), choices.states);
+    };
+    match fs::open(rt, name.as_str()) {
+        Ok(file) => run_from(rt, &mut Tally::new(file), choices.states),
+        Err(_) => refuse_script(&mut Tally::new(rt.stderr()), name.as_str()),
+    }
+}
+
+/// Prints what the words come to where no script is run, and answers the exit status. Where help
+/// could not be written that is told.
+fn tell_words(rt: &HostRuntime, error: &Error) -> u8 {
+    match error.print(rt) {
+        Ok(()) => words_status(error),
+        Err(_) if error.use_stderr() => FAILED,
+        Err(_) => end_script(&mut Tally::new(rt.stderr()), Err(ScriptFault::Write)),
+    }
+}
+
+/// Does what the words ask for, and answers the exit status.
+fn run_words(rt: &HostRuntime, words: &[String]) -> u8 {
+    match occur_words(rt.alloc(), words) {
+        Ok(choices) => run(rt, &choices),
+        Err(OccurFault::Words(error)) => tell_words(rt, &error),
+        Err(OccurFault::Memory) => refuse_memory(&mut Tally::new(rt.stderr())),
+    }
+}
+
+/// The words of the process, of which the first is the program's name.
+fn process_words(rt: &HostRuntime) -> io::Result<Vec<String>> {
+    Ok(env::args(rt)?.collect(rt.alloc())?)
+}
+
+fn main(rt: HostRuntime) -> ExitCode {
+    let status = match process_words(&rt) {
+        Ok(words) => run_words(&rt, &words),
+        Err(error) if error.kind() == ErrorKind::InvalidData => {
+            refuse_words(&mut Tally::new(rt.stderr()))
+        }
+        Err(_) => refuse_memory(&mut Tally::new(rt.stderr())),
+    };
+    ExitCode::from(status)
+}

@@ -1,0 +1,135 @@
+//! The words of the command line.
+ghost use Rattle.std.specs.Prelude.{[], ◌∷◌, ◌≡◌, ◌≤◌, IfOk, Option, codes, false, option_map, string_bytes, true};
+ghost use Rattle.clap.specs.Words.{Text, app_of, fault_of, found_of, matches_of, rows_of};
+ghost use Rattle.clap.specs.Words.{rule_of};
+ghost use Rattle.occur.specs.Words.{AsksForHelp, HasStates, IsChosenBy, Tells, TellsAmong, occur_app};
+ghost use Rattle.occur.specs.Words.{Reads, form_words, is_no_option, script_rule, states_rule, texts_of};
+ghost use Rattle.occur.specs.declared.words.OccurFault.TheVariants.{Memory};
+
+use crate::help::{ABOUT, commands_help};
+use clap::error::ErrorKind;
+use clap::{Arg, ArgAction, ArgMatches, Command, value_parser};
+use std::alloc::{AllocError, Global};
+use thiserror::Error;
+
+/// What the words choose.
+#[derive(Debug, Drop)]
+pub struct Choices {
+    /// How many states are kept of each pattern.
+    pub states: usize,
+    /// The file that has the script; it is standard input where no file is named.
+    pub script: Option<String>,
+}
+
+/// Why the words choose nothing.
+#[derive(Debug, Drop, Error)]
+pub enum OccurFault {
+    /// The command does not take the words, or they ask for help.
+    #[error("{0}")]
+    Words(clap::Error),
+    /// Memory was refused.
+    #[error("out of memory")]
+    Memory,
+}
+
+impl From<clap::Error> for OccurFault {
+    ghost from_gives = { Tells };
+
+    fn from(error: clap::Error) -> OccurFault {
+        match error.kind() {
+            ErrorKind::OutOfMemory => OccurFault::Memory,
+            _ => OccurFault::Words(error),
+        }
+    }
+}
+
+impl From<AllocError> for OccurFault {
+    ghost from_gives = { λ _ fault. fault ≡ Memory };
+
+    fn from(_error: AllocError) -> OccurFault {
+        OccurFault::Memory
+    }
+}
+
+/// The option `--states N`.
+fn states_option<'a>(alloc: Global) -> Arg<'a>
+    ensures rule { rule_of result ≡ states_rule }
+    ensures local { result.global ≡ false }
+{
+    Arg::new(alloc, "states")
+        .long("states")
+        .value_name("N")
+        .action(ArgAction::Set)
+        .value_parser(value_parser!(usize).range(1..=65536))
+        .default_value("256")
+        .help("Cached states of each pattern, from 1 to 65536: more take memory and save time")
+}
+
+/// The operand SCRIPT.
+fn script_operand<'a>(alloc: Global) -> Arg<'a>
+    ensures rule { rule_of result ≡ script_rule }
+    ensures local { result.global ≡ false }
+{
+    Arg::new(alloc, "script")
+        .value_name("SCRIPT")
+        .action(ArgAction::Set)
+        .help("The file that has the script; without it, standard input")
+}
+
+/// The command with its option and its operand.
+fn occur_command<'a>(alloc: Global) -> Result<Command<'a>, AllocError>
+    ensures { IfOk result (λ command. app_of command ≡ occur_app) }
+{
+    Command::new(alloc, "occur")
+        .about(ABOUT)
+        .after_help(commands_help())
+        .arg(states_option(alloc))?
+        .arg(script_operand(alloc))
+}
+
+/// The same text in memory of its own, where there is one.
+fn owned(alloc: Global, text: Option<&str>) -> Result<Option<String>, AllocError>
+    ensures { IfOk result (λ copy. option_map string_bytes copy ≡ option_map (λ s. s.now) text.entry) }
+{
+    match text {
+        Some(text) => Ok(Some(String::from_str(alloc, text)?)),
+        None => Ok(None),
+    }
+}
+
+/// What was found for the option and the operand.
+fn choices_of(alloc: Global, matches: &ArgMatches<'_>) -> Result<Choices, AllocError>
+    requires { HasStates (found_of matches.now) }
+    ensures states { IfOk result (λ choices. (1 ≤ choices.states) × (choices.states ≤ 65536)) }
+    ensures found { IfOk result (IsChosenBy (rows_of (found_of matches.now))) }
+{
+    let states = matches.get_one::<usize>("states").unwrap();
+    let script = owned(alloc, matches.get_str("script"))?;
+    Ok(Choices { states, script })
+}
+
+/// Reads the words by clap.
+fn parse_words(alloc: Global, words: &[String]) -> Result<Choices, OccurFault>
+    ensures states { IfOk result (λ choices. (1 ≤ choices.states) × (choices.states ≤ 65536)) }
+    ensures chosen { IfOk result (IsChosenBy (matches_of occur_app (texts_of words.now))) }
+    ensures faults { TellsAmong (fault_of occur_app (texts_of words.now)) result }
+{
+    let matches = occur_command(alloc)?.try_get_matches_from(words)?;
+    Ok(choices_of(alloc, &matches)?)
+}
+
+/// Reads the words of the process, of which the first is the program's name.
+pub fn occur_words(alloc: Global, words: &[String]) -> Result<Choices, OccurFault>
+    ensures states { IfOk result (λ choices. (1 ≤ choices.states) × (choices.states ≤ 65536)) }
+    ensures forms { (name : Text) (number script : Option Text)
+        → texts_of words.now ≡ form_words name number script
+        → is_no_option number ≡ true → is_no_option script ≡ true → Reads number script result }
+    ensures help { (name : Text) → texts_of words.now ≡ name ∷ codes "--help" ∷ []
+        → AsksForHelp result }
+
+    // For any words: what clap defines for this command.
+    ensures chosen { IfOk result (IsChosenBy (matches_of occur_app (texts_of words.now))) }
+    ensures faults { TellsAmong (fault_of occur_app (texts_of words.now)) result }
+{
+    parse_words(alloc, words)
+}

@@ -1,0 +1,404 @@
+"""Cases of occur on real devices: dialogues over pipes, folders, full and failing devices, terminals,
+and the surroundings of a process. They want Linux.
+"""
+
+from __future__ import annotations
+
+import os
+import pty
+import resource
+import tty
+from collections.abc import Iterator
+from functools import partial
+
+from dialogue import Step, exchange, hold
+from program import Answer, Bench, Case, Cases, Verdict, Word, finish
+from streams import (
+    failing_input,
+    feed_named_pipe,
+    feed_slowly,
+    full_device,
+    opened,
+    pipe_without_reader,
+    seen_within,
+    with_room,
+)
+
+CANNOT_OPEN = b"occur: nofile: cannot open\n"
+READ_ERROR = b"occur: read error\n"
+WRITE_ERROR = b"occur: write error\n"
+OUT_OF_MEMORY = b"occur: out of memory\n"
+
+SCRIPT = b"file f 1\nab\npatterns 1\na\nshow\n"
+"""The script of many cases. Its commands end after 12, 25 and 30 bytes."""
+
+REPLIES = b"ok\nok\no ab\nstatus 0\n"
+"""The replies to it, 20 bytes."""
+
+case = Cases("occur", "occur_devices.py")
+
+
+def cases() -> Iterator[Case]:
+    """All cases of this file."""
+    yield from case.added
+
+
+# Help
+
+
+@case("Help is written to standard output, names the words, and gives 0.")
+def help_wanted(bench: Bench) -> Verdict:
+    given = bench.ask("--help", stdin=b"show\n")
+    told = [word for word in (b"--states", b"SCRIPT") if word in given.out]
+    return Verdict(Answer(b"--states SCRIPT"), Answer(b" ".join(told), given.err, given.status))
+
+
+# Dialogues. That each reply of a script comes before the next command is sent is tried with each of
+# the scripts of tests/scripts, too.
+
+
+def dialogue(name: str, steps: list[tuple[bytes, bytes]], last: bytes, wanted: Answer) -> None:
+    """A case of a dialogue over standard input: what is sent and which reply is due then, the last
+    bytes before the end of the input, and what is wanted in all."""
+
+    @case(name)
+    def judge(bench: Bench) -> Verdict:
+        return Verdict(wanted, hold(bench.start(), [Step(*step) for step in steps], last))
+
+
+dialogue(
+    "Before anything is sent nothing is written.",
+    [(b"", b""), (b"show\n", b"status 1\n")], b"", Answer(b"status 1\n"))
+dialogue(
+    "Half a word of a command has no reply.",
+    [(b"sh", b""), (b"ow", b""), (b"\n", b"status 1\n")], b"", Answer(b"status 1\n"))
+dialogue(
+    "A command has no reply before the newline that ends its line.",
+    [(b"flag n on", b""), (b"\n", b"ok\n")], b"", Answer(b"ok\n"))
+dialogue(
+    "A line that is no command has no reply before its newline.",
+    [(b"no command", b""), (b" at all", b""), (b"\n", b"refused BadCommand\n")],
+    b"", Answer(b"refused BadCommand\n", b"", 1))
+dialogue(
+    "A command has no reply before all of its counted lines are there.",
+    [(b"file f 3\n", b""), (b"a\n", b""), (b"b\n", b""), (b"c", b""), (b"\n", b"ok\n")],
+    b"", Answer(b"ok\n"))
+dialogue(
+    "A command that will be refused has no reply before all of its counted lines are there.",
+    [(b"splice 9 0 0 2\na\n", b""), (b"b\n", b"refused NoSuchFile\n")],
+    b"", Answer(b"refused NoSuchFile\n", b"", 1))
+dialogue(
+    "A list of patterns has no reply before its last line is there.",
+    [(b"patterns 2\n[\n", b""), (b"a\n", b"refused Pattern 0 UnclosedBracket 0\n")],
+    b"", Answer(b"refused Pattern 0 UnclosedBracket 0\n", b"", 1))
+dialogue(
+    "A command with no line to come has its reply at once.",
+    [(b"file f 0\n", b"ok\n"), (b"splice 0 0 0 0\n", b"ok\n")], b"", Answer(b"ok\nok\n"))
+dialogue(
+    "Of two commands that are sent at once both replies come without another question.",
+    [(b"file f 1\na\nflag n on\n", b"ok\nok\n"), (b"show\n", b"status 1\n")],
+    b"", Answer(b"ok\nok\nstatus 1\n"))
+dialogue(
+    "Of one command and a half the first reply comes, and the second where its command is whole.",
+    [(b"flag n on\nsho", b"ok\n"), (b"", b""), (b"w\n", b"status 1\n")],
+    b"", Answer(b"ok\nstatus 1\n"))
+dialogue(
+    "Of a command and half of the next one's lines the first reply comes.",
+    [(b"show\npatterns 2\na\n", b"status 1\n"), (b"", b""), (b"b\nshow\n", b"ok\nstatus 1\n")],
+    b"", Answer(b"status 1\nok\nstatus 1\n"))
+dialogue(
+    "What is shown comes whole, up to its status.",
+    [(b"file f 2\na\nb\n", b"ok\n"), (b"missing g\n", b"ok\n"), (b"patterns 1\n\n", b"ok\n"),
+     (b"show\n", b"o f:a\no f:b\ne grep: g: cannot open\nstatus 2\n")],
+    b"", Answer(b"ok\nok\nok\no f:a\no f:b\ne grep: g: cannot open\nstatus 2\n"))
+dialogue(
+    "A reply that is larger than a pipe holds comes whole.",
+    [(b"file f 1\n" + b"a" * (1 << 20) + b"\n", b"ok\n"), (b"patterns 1\na\n", b"ok\n"),
+     (b"show\n", b"o " + b"a" * (1 << 20) + b"\nstatus 0\n")],
+    b"", Answer(b"ok\nok\no " + b"a" * (1 << 20) + b"\nstatus 0\n"))
+dialogue(
+    "A command that fills one read to its last byte is answered before the next read.",
+    [(b"file f 1\n" + b"a" * ((1 << 16) - 10) + b"\n", b"ok\n"), (b"show\n", b"status 1\n")],
+    b"", Answer(b"ok\nstatus 1\n"))
+dialogue(
+    "A command that takes several reads is answered, though half of another one follows.",
+    [(b"file f 1\n" + b"a" * 100_000 + b"\nsho", b"ok\n"), (b"", b""), (b"w\n", b"status 1\n")],
+    b"", Answer(b"ok\nstatus 1\n"))
+dialogue(
+    "Many small replies come one by one.",
+    [(b"flag n on\n", b"ok\n"), (b"flag n off\n", b"ok\n")] * 500, b"", Answer(b"ok\n" * 1000))
+dialogue(
+    "An input that ends in the midst of a command ends its line.",
+    [(b"sho", b"")], b"w", Answer(b"status 1\n"))
+dialogue(
+    "An input that ends in the midst of counted lines is cut off.",
+    [(b"file f 3\na\n", b"")], b"b", Answer(b"refused Truncated\n", b"", 1))
+dialogue(
+    "An input that ends behind a whole reply has no other.",
+    [(b"show\n", b"status 1\n")], b"", Answer(b"status 1\n"))
+
+
+@case("A script that is a named pipe is answered command by command.")
+def dialogue_over_named_pipe(bench: Bench) -> Verdict:
+    os.mkfifo(bench.folder / "p")
+    process = bench.start("p")
+    with opened(bench.folder / "p", os.O_RDWR) as pipe:
+        steps = [Step(b"flag n on\n", b"ok\n"), Step(b"sho", b""), Step(b"w\n", b"status 1\n")]
+        heard = exchange(process, steps, pipe)
+    rest = finish(process)
+    return Verdict(Answer(b"ok\nstatus 1\n"), Answer(heard + rest.out, rest.err, rest.status))
+
+
+@case("Replies over a terminal come command by command.")
+def dialogue_over_terminal(bench: Bench) -> Verdict:
+    ours, theirs = pty.openpty()
+    tty.setraw(theirs)
+    try:
+        process = bench.start(stdout=theirs)
+        os.write(process.stdin.fileno(), b"flag n on\n")
+        first = seen_within(ours, 3)
+        rest = finish(process, b"show\n")
+        second = seen_within(ours, 9)
+    finally:
+        os.close(theirs)
+        os.close(ours)
+    wanted = Answer(b"ok\n then status 1\n")
+    return Verdict(wanted, Answer(first + b" then " + second, rest.err, rest.status))
+
+
+# The script
+
+
+@case("Replies are the same where each read gives one byte.")
+def slow_script(bench: Bench) -> Verdict:
+    process = bench.start()
+    feed_slowly(process.stdin.fileno(), SCRIPT)
+    return Verdict(Answer(REPLIES), finish(process))
+
+
+@case("A script may be a named pipe that is written at once.")
+def named_pipe(bench: Bench) -> Verdict:
+    feed_named_pipe(bench.folder / "p", SCRIPT)
+    return Verdict(Answer(REPLIES), bench.ask("p"))
+
+
+@case("A script on standard input is read from where it stands.")
+def script_at_a_place(bench: Bench) -> Verdict:
+    bench.write("s", b"flag n on\nshow\n")
+    with opened(bench.folder / "s") as handle:
+        os.lseek(handle, len(b"flag n on\n"), os.SEEK_SET)
+        return Verdict(Answer(b"status 1\n"), bench.ask(stdin=handle))
+
+
+@case("A script that is typed at a terminal is read up to its end of file.")
+def terminal_as_script(bench: Bench) -> Verdict:
+    ours, theirs = pty.openpty()
+    try:
+        os.write(ours, b"file f 1\na\nshow\n\x04")
+        given = bench.ask(stdin=theirs)
+    finally:
+        os.close(theirs)
+        os.close(ours)
+    return Verdict(Answer(b"ok\nstatus 1\n"), given)
+
+
+@case("A device that has ended before the first byte is an empty script.")
+def empty_device(bench: Bench) -> Verdict:
+    with opened("/dev/null") as handle:
+        return Verdict(Answer(), bench.ask(stdin=handle))
+
+
+@case("Standard input is not read where a script is named.")
+def input_not_read(bench: Bench) -> Verdict:
+    bench.write("s", SCRIPT)
+    reader, writer = os.pipe()
+    try:
+        return Verdict(Answer(REPLIES), bench.ask("s", stdin=reader))
+    finally:
+        os.close(reader)
+        os.close(writer)
+
+
+@case("A folder as a script is a read error.")
+def folder_as_script(bench: Bench) -> Verdict:
+    (bench.folder / "d").mkdir()
+    return Verdict(Answer(b"", READ_ERROR, 2), bench.ask("d"))
+
+
+@case("A folder as standard input of a script is a read error.")
+def folder_as_input(bench: Bench) -> Verdict:
+    with opened(bench.folder) as folder:
+        return Verdict(Answer(b"", READ_ERROR, 2), bench.ask(stdin=folder))
+
+
+def broken_script(name: str, content: bytes, out: bytes) -> None:
+    """A case of a script whose read fails behind this content: replies stand to what was whole."""
+
+    @case(name)
+    def judge(bench: Bench) -> Verdict:
+        with failing_input(content) as handle:
+            return Verdict(Answer(out, READ_ERROR, 2), bench.ask(stdin=handle))
+
+
+def replies_behind(read: int) -> bytes:
+    """The replies to the commands that are whole in so many bytes of the script."""
+    whole = [replies for end, replies in ((12, 3), (25, 6), (30, 20)) if end <= read]
+    return REPLIES[:max(whole, default=0)]
+
+
+for bytes_read in range(len(SCRIPT) + 1):
+    broken_script(
+        f"The read of a script fails after {bytes_read} bytes: replies stand to the whole commands.",
+        SCRIPT[:bytes_read], replies_behind(bytes_read))
+broken_script(
+    "A command whose line is not ended when a read fails is not answered.",
+    b"show\nshow", b"status 1\n")
+broken_script(
+    "Counted lines that a failed read cuts off are not too few: there is no reply.",
+    b"show\nfile f 3\na\nb\n", b"status 1\n")
+broken_script(
+    "A refused command before a failed read does not change the exit status.",
+    b"close 0\n", b"refused NoSuchFile\n")
+
+
+# Writes that fail
+
+
+def full_output(name: str, words: list[Word], content: bytes, wanted: Answer) -> None:
+    """A case of standard output each write to which fails."""
+
+    @case(name)
+    def judge(bench: Bench) -> Verdict:
+        bench.write("s", SCRIPT)
+        with full_device() as full:
+            return Verdict(wanted, bench.ask(*words, stdin=content, stdout=full))
+
+
+full_output(
+    "Replies that can't be written are told with status 2.",
+    [], SCRIPT, Answer(b"", WRITE_ERROR, 2))
+full_output(
+    "Replies to a script that is named and can't be written are told with status 2.",
+    ["s"], b"", Answer(b"", WRITE_ERROR, 2))
+full_output(
+    "A refusal that can't be written is told with status 2.",
+    [], b"close 0\n", Answer(b"", WRITE_ERROR, 2))
+full_output(
+    "Where a script has no reply nothing is written, and no write fails.",
+    [], b"", Answer())
+full_output(
+    "A write fails in the midst of many replies.",
+    [], b"flag n on\nflag n off\n" * 50_000, Answer(b"", WRITE_ERROR, 2))
+full_output(
+    "A script that can't be opened is told, whether replies can be written or not.",
+    ["nofile"], b"", Answer(b"", CANNOT_OPEN, 2))
+full_output("Help that can't be written gives 2.", ["--help"], b"", Answer(b"", WRITE_ERROR, 2))
+
+
+def small_output(room: int) -> None:
+    """A case of standard output that takes so many bytes."""
+    wanted = Answer(REPLIES) if room == len(REPLIES) else Answer(REPLIES[:room], WRITE_ERROR, 2)
+
+    @case(f"Standard output takes {room} bytes of the replies: a beginning of them stands there.")
+    def judge(bench: Bench) -> Verdict:
+        with (bench.folder / "out").open("wb") as out:
+            given = bench.ask(stdin=SCRIPT, stdout=out, preexec_fn=with_room(room))
+        written = (bench.folder / "out").read_bytes()
+        return Verdict(wanted, Answer(written, given.err, given.status))
+
+
+for room_of_output in range(len(REPLIES) + 1):
+    small_output(room_of_output)
+
+
+@case("Replies into a pipe whose reader is gone are a write error, and no signal ends occur.")
+def reader_gone(bench: Bench) -> Verdict:
+    with pipe_without_reader() as pipe:
+        given = bench.ask(stdin=SCRIPT, stdout=pipe)
+    return Verdict(Answer(b"", WRITE_ERROR, 2), given)
+
+
+@case("An editor that goes away ends occur at the next reply, though the input stays open.")
+def editor_gone(bench: Bench) -> Verdict:
+    process = bench.start()
+    heard = exchange(process, [Step(b"show\n", b"status 1\n")], process.stdin.fileno())
+    process.stdout.close()
+    os.write(process.stdin.fileno(), b"show\n")
+    messages = seen_within(process.stderr.fileno(), len(WRITE_ERROR))
+    given = Answer(heard, messages, finish(process).status)
+    return Verdict(Answer(b"status 1\n", WRITE_ERROR, 2), given)
+
+
+# Messages that can't be written
+
+
+def full_messages(name: str, words: list[Word], wanted: Answer) -> None:
+    """A case of standard error each write to which fails."""
+
+    @case(name)
+    def judge(bench: Bench) -> Verdict:
+        with full_device() as full:
+            return Verdict(wanted, bench.ask(*words, stdin=SCRIPT, stderr=full))
+
+
+full_messages(
+    "Without a message of occur a full standard error is not noticed.", [], Answer(REPLIES))
+full_messages(
+    "A missing script that can't be told gives 2.", ["nofile"], Answer(b"", b"", 2))
+full_messages(
+    "Words of occur that are not UTF-8 and can't be told give 2.", [b"\xff"], Answer(b"", b"", 2))
+full_messages(
+    "Wrong words of occur that can't be told give 2.", ["--states", "0"], Answer(b"", b"", 2))
+
+
+@case("Replies and messages that can't be written give 2.")
+def all_full(bench: Bench) -> Verdict:
+    with full_device() as full:
+        given = bench.ask(stdin=SCRIPT, stdout=full, stderr=full)
+    return Verdict(Answer(b"", b"", 2), given)
+
+
+# Memory
+
+
+little_memory = partial(resource.setrlimit, resource.RLIMIT_AS, (1 << 27, 1 << 27))
+
+
+def too_long(name: str, script: bytes, out: bytes) -> None:
+    """A case of a script behind which a line of half a GiB follows, which does not fit into memory."""
+
+    @case(name)
+    def judge(bench: Bench) -> Verdict:
+        bench.write("s", script)
+        os.truncate(bench.folder / "s", 1 << 29)
+        given = bench.ask("s", preexec_fn=little_memory)
+        return Verdict(Answer(out, OUT_OF_MEMORY, 2), given)
+
+
+too_long(
+    "A command that does not fit into memory is told, and the replies before it stand.",
+    b"show\n", b"status 1\n")
+too_long(
+    "A counted line that does not fit into memory is told, and the replies before it stand.",
+    b"show\nfile f 1\n", b"status 1\n")
+
+
+# The surroundings of the process
+
+
+@case("The locale of the surroundings changes no reply: a letter of two bytes is two characters.")
+def other_locale(bench: Bench) -> Verdict:
+    surroundings = {**os.environ, "LC_ALL": "C.UTF-8", "LANG": "C.UTF-8"}
+    script = "flag o on\npatterns 1\n.\nfile f 1\né\nshow\n".encode()
+    given = bench.ask(stdin=script, env=surroundings)
+    return Verdict(Answer(b"ok\nok\nok\no \xc3\no \xa9\nstatus 0\n"), given)
+
+
+@case("No variable is needed by occur.")
+def no_variables(bench: Bench) -> Verdict:
+    return Verdict(Answer(REPLIES), bench.ask(stdin=SCRIPT, env={}))
+
+
+@case("Messages begin with `occur:` by whatever name the program is called.")
+def other_name(bench: Bench) -> Verdict:
+    return Verdict(Answer(b"", CANNOT_OPEN, 2), bench.ask("nofile", called="editor"))
