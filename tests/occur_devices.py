@@ -383,6 +383,31 @@ too_long(
     b"show\nfile f 1\n", b"status 1\n")
 
 
+# What is kept of each pattern
+
+
+def timed(bench: Bench, states: str, script: bytes) -> tuple[Answer, float]:
+    """The replies to a script, and how long the processor worked for them, in seconds."""
+    before = resource.getrusage(resource.RUSAGE_CHILDREN).ru_utime
+    given = bench.ask("--states", states, stdin=script)
+    return given, resource.getrusage(resource.RUSAGE_CHILDREN).ru_utime - before
+
+
+@case("--states is heeded: what comes back is found where 256 are kept, five times faster than with one.")
+def states_kept(bench: Bench) -> Verdict:
+    patterns = [b"[a-z]{250}[%d%d]" % (place % 10, (7 * place + 3) % 10) for place in range(20)]
+    line = b"0123456789 " + (b"a" * 249 + b" ") * 200
+    script = b"syntax extended\nfile f 1\n%s\npatterns %d\n%s\nshow\n" % (
+        line, len(patterns), b"\n".join(patterns))
+    given_few, long = timed(bench, "1", script)
+    given_many, short = timed(bench, "256", script)
+    wanted = Answer(b"ok\nok\nok\nstatus 1\n", b"faster with 256")
+    told = b"faster with 256" if long > 5 * short else b"%.2f s and %.2f s" % (long, short)
+    if given_few != given_many:
+        return Verdict(given_few, given_many)
+    return Verdict(wanted, Answer(given_many.out, given_many.err + told, given_many.status))
+
+
 # The surroundings of the process
 
 
