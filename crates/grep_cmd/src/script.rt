@@ -22,7 +22,7 @@ use crate::script::reply::Answer;
 use grep_core::{CountedRead, CountedWrite, NumberedLines, WriteFault};
 use grep_session::Session;
 use re_auto::{Meter, fresh_meter};
-use std::alloc::{AllocError, Global};
+use std::alloc::Global;
 
 /// How a script ended.
 #[derive(Clone, Copy, PartialEq, Eq, Debug, Drop)]
@@ -42,28 +42,6 @@ pub enum ScriptFault {
     Write,
     /// A growth was refused.
     Memory,
-}
-
-impl From<WriteFault> for ScriptFault {
-    ghost use Rattle.std.specs.Prelude.{◌≡◌};
-    ghost use Rattle.grep_cmd.specs.declared.script.ScriptFault.{ScriptFault};
-
-    ghost from_gives = { λ _ fault. fault ≡ ScriptFault.Write };
-
-    fn from(_: WriteFault) -> ScriptFault {
-        ScriptFault::Write
-    }
-}
-
-impl From<AllocError> for ScriptFault {
-    ghost use Rattle.std.specs.Prelude.{◌≡◌};
-    ghost use Rattle.grep_cmd.specs.declared.script.ScriptFault.{ScriptFault};
-
-    ghost from_gives = { λ _ fault. fault ≡ ScriptFault.Memory };
-
-    fn from(_: AllocError) -> ScriptFault {
-        ScriptFault::Memory
-    }
 }
 
 /// Answers the commands of a script, one after the other.
