@@ -9,7 +9,7 @@ ghost use Rattle.re_auto.specs.Working.Bits.{Has, Are};
 ghost use Rattle.re_auto.specs.Meters.{many_built};
 ghost use Rattle.re_auto.specs.Working.Positions.{part_of, is_begin, is_end};
 ghost use Rattle.re_auto.specs.Working.Stepping.{MayBegin, IsNext};
-ghost use Rattle.re_auto.specs.Working.Tables.{words_for, CanBegin, IsRefused};
+ghost use Rattle.re_auto.specs.Working.Tables.{most_words, words_for, CanBegin, IsRefused};
 ghost use Rattle.re_auto.specs.Working.StateSets.{IsMadeFor, IsNowhere, StandsAt, IsNextSet, IsAccepting, AreAlikeInClasses};
 
 mod one_word;
@@ -150,7 +150,7 @@ impl Automaton {
     /// The words of an empty set.
     pub(crate) fn blank_words(&self, alloc: Global) -> Result<Vec<u64>, AllocError>
         ensures blank { IfOk result (λ words. Are words.items (λ _. ⊥) (words_for (positions (expression_of self.now)))) }
-        ensures few { IfOk result (λ words. vec_len words ≤ 64) }
+        ensures few { IfOk result (λ words. vec_len words ≤ most_words) }
     {
         vec![in alloc; 0; self.tables.width]
     }

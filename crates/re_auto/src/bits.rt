@@ -1,8 +1,8 @@
 //! Sets of numbers, as words of 64 bits.
 ghost use Rattle.std.specs.Prelude.{◌≡◌, ℕ, ◌+◌, ◌*◌, ◌^◌, ◌<◌, ◌≤◌, ◌↔◌, ◌⊎◌, length, IsTrue};
 ghost use Rattle.std.specs.Int.{bit_at};
-ghost use Rattle.re_auto.specs.Working.Bits.{row_of};
-ghost use Rattle.re_auto.specs.Working.Bits.{Has, InWord};
+ghost use Rattle.re_auto.specs.Working.Bits.{Has, InWord, row_of};
+ghost use Rattle.re_auto.specs.Working.Tables.{most_words};
 
 /// Adds the members of `row`.
 #[inline(always)]
@@ -81,7 +81,7 @@ pub fn row(table: &[u64], width: usize, r: usize) -> &[u64]
 /// Adds the rows of the members of word `k` of a set.
 #[inline(always)]
 fn add_rows_of_word(into: &mut [u64], table: &[u64], k: usize, word: u64)
-    requires few { k < 64 }
+    requires few { k < most_words }
     requires rows { (b : ℕ) → b < 64 → bit_at word b ≡ 1 → (k * 64 + b) * length into.old + length into.old ≤ length table.now }
     ensures len { length into.new ≡ length into.old }
     ensures added { (q : ℕ) → Has into.new q ↔ (Has into.old q ⊎ ((b : ℕ) × (b < 64) × (bit_at word b ≡ 1) × Has (row_of table.now (length into.old) (k * 64 + b)) q)) }
@@ -98,7 +98,7 @@ fn add_rows_of_word(into: &mut [u64], table: &[u64], k: usize, word: u64)
 /// Adds the rows of the members of `from`.
 #[inline(always)]
 pub fn add_rows(into: &mut [u64], table: &[u64], from: &[u64])
-    requires few { length from.now ≤ 64 }
+    requires few { length from.now ≤ most_words }
     requires rows { (p : ℕ) → Has from.now p → p * length into.old + length into.old ≤ length table.now }
     ensures len { length into.new ≡ length into.old }
     ensures added { (q : ℕ) → Has into.new q ↔ (Has into.old q ⊎ ((p : ℕ) × Has from.now p × Has (row_of table.now (length into.old) p) q)) }

@@ -3,10 +3,10 @@ ghost use Rattle.std.specs.Prelude.{◌≡◌, ◌<◌, map, min};
 ghost use Rattle.re_syntax.specs.Expression.{cat, expression_of};
 ghost use Rattle.re_syntax.specs.Holds.{copies, positions};
 
-use re_syntax::Tree;
+use re_syntax::{MOST_POSITIONS, Tree};
 
 /// Where counting stops: one more than the most positions that an automaton may have.
-pub(crate) const TOO_MANY: usize = 4097;
+pub(crate) const TOO_MANY: usize = MOST_POSITIONS + 1;
 
 /// The positions of the expression once each interval is written out, or [`TOO_MANY`] where there
 /// are more.

@@ -6,6 +6,7 @@ ghost use Rattle.re_syntax.specs.Sets.{members};
 ghost use Rattle.re_auto.specs.Working.Bits.{Has, row_of};
 ghost use Rattle.re_auto.specs.Working.Building.{Adds, AreBlankRows, HasRows, HasWidth, Shows, Wanted, crossing, shown};
 ghost use Rattle.re_auto.specs.Working.Positions.{again, in_turn, one_position};
+ghost use Rattle.re_auto.specs.Working.Tables.{most_words};
 
 use crate::bits;
 use crate::ends::{Ends, blank_set};
@@ -44,7 +45,7 @@ impl Rows {
     pub fn in_turn(&mut self, part: Ends, rest: Ends) -> Ends
         requires left { HasWidth self.old.width part }
         requires right { HasWidth self.old.width rest }
-        requires few { self.old.width ≤ 64 }
+        requires few { self.old.width ≤ most_words }
         requires rows { HasRows (Has part.last_inside.items) self.old }
         ensures begins { result.begins ≡ part.begins }
         ensures shows { Shows (in_turn (shown part) (shown rest)) self.old.width result }
@@ -57,7 +58,7 @@ impl Rows {
     /// Adds that the part can follow itself.
     pub fn again(&mut self, part: &Ends)
         requires width { HasWidth self.old.width part.now }
-        requires few { self.old.width ≤ 64 }
+        requires few { self.old.width ≤ most_words }
         requires rows { HasRows (Has part.now.last_inside.items) self.old }
         ensures { Adds (again (shown part.now)) self.old self.new }
     {
@@ -76,7 +77,7 @@ impl Rows {
     // Adds that each position of `first` can come after each of `last`.
     fn cross(&mut self, last: &Vec<u64>, first: &Vec<u64>)
         requires same { length first.now.items ≡ self.old.width }
-        requires few { length last.now.items ≤ 64 }
+        requires few { length last.now.items ≤ most_words }
         requires rows { HasRows (Has last.now.items) self.old }
         ensures { Adds (crossing (Has last.now.items) (Has first.now.items)) self.old self.new }
     {
@@ -88,7 +89,7 @@ impl Rows {
 fn cross_word(follow: &mut [u64], width: usize, k: usize, word: u64, first: &[u64])
     requires same { length first.now ≡ width }
     requires rows { (b : ℕ) → b < 64 → bit_at word b ≡ 1 → (k * 64 + b) * width + width ≤ length follow.old }
-    requires few { k < 64 }
+    requires few { k < most_words }
     ensures len { length follow.new ≡ length follow.old }
     ensures added { (x q : ℕ) → x * width + width ≤ length follow.old → Has (row_of follow.new width x) q ↔ (Has (row_of follow.old width x) q ⊎ ((b : ℕ) × (b < 64) × (bit_at word b ≡ 1) × ((x ≡ k * 64 + b) × Has first.now q))) }
 {
@@ -103,7 +104,7 @@ fn cross_word(follow: &mut [u64], width: usize, k: usize, word: u64, first: &[u6
 // Adds the members of `first` to the row of each member of `last`.
 fn cross_rows(follow: &mut [u64], width: usize, last: &[u64], first: &[u64])
     requires same { length first.now ≡ width }
-    requires few { length last.now ≤ 64 }
+    requires few { length last.now ≤ most_words }
     requires rows { (p : ℕ) → Has last.now p → p * width + width ≤ length follow.old }
     ensures len { length follow.new ≡ length follow.old }
     ensures added { (x q : ℕ) → x * width + width ≤ length follow.old → Has (row_of follow.new width x) q ↔ (Has (row_of follow.old width x) q ⊎ Has last.now x × Has first.now q) }

@@ -4,6 +4,7 @@ ghost use Rattle.re_syntax.specs.Bytes.{Begins};
 ghost use Rattle.re_syntax.specs.Expression.{expression_of};
 ghost use Rattle.re_syntax.specs.Basic.{ItemPlace, First, IsAtEnd};
 ghost use Rattle.re_syntax.specs.declared.syntax.Syntax.TheVariants.{Basic};
+ghost use Rattle.re_syntax.specs.Profile.{most_levels};
 ghost use Rattle.re_syntax.specs.Spelled.{IsSpelled, SpellsNoOther};
 ghost use Rattle.re_syntax.specs.BasicFaults.{HasNothingToRepeat, IsShownIn, IsNoBasic};
 ghost use Rattle.re_syntax.specs.Working.PieceSteps.{IsRefused};
@@ -132,7 +133,7 @@ fn has_item(text: &[u8], at: usize) -> bool
 #[cycle(read_items)]
 fn read_group(alloc: Global, text: &[u8], at: usize, levels: usize) -> Result<Piece, PatternFault>
     requires opens { Begins (codes "\\(") (drop at text.now) }
-    requires few { levels ≤ 256 }
+    requires few { levels ≤ most_levels }
     ensures read { IfOk result (λ piece. (p : ItemPlace) → AtomStands p levels text.now at piece) }
     ensures refused { IfErr result (λ fault. (p : ItemPlace) → IsRefused (HasNoAtom p levels (drop at text.now)) (IsShownIn text.now fault) fault) }
 {
@@ -162,7 +163,7 @@ fn read_escaped(alloc: Global, text: &[u8], at: usize, levels: usize) -> Result<
     requires escapes { Begins (codes "\\") (drop at text.now) }
     requires not_closing { ¬ Begins (codes "\\)") (drop at text.now) }
     requires opens { Begins (codes "\\{") (drop at text.now) → HasNothingToRepeat (take at text.now) }
-    requires few { levels ≤ 256 }
+    requires few { levels ≤ most_levels }
     ensures read { IfOk result (λ piece. (p : ItemPlace) → AtomStands p levels text.now at piece) }
     ensures refused { IfErr result (λ fault. (p : ItemPlace) → IsRefused (HasNoAtom p levels (drop at text.now)) (IsShownIn text.now fault) fault) }
 {
@@ -189,7 +190,7 @@ fn read_atom(alloc: Global, text: &[u8], at: usize, levels: usize) -> Result<Pie
     requires within { at ≤ length text.now }
     requires item { HasItem (drop at text.now) }
     requires opens { Begins (codes "\\{") (drop at text.now) → HasNothingToRepeat (take at text.now) }
-    requires few { levels ≤ 256 }
+    requires few { levels ≤ most_levels }
     ensures read { IfOk result (λ piece. (p : ItemPlace) → MayBegin p (drop at text.now) → AtomStands p levels text.now at piece) }
     ensures refused { IfErr result (λ fault. (p : ItemPlace) → IsRefused (HasNoAtom p levels (drop at text.now)) (IsShownIn text.now fault) fault) }
 {
@@ -210,7 +211,7 @@ fn read_item(alloc: Global, text: &[u8], at: usize, levels: usize) -> Result<Pie
     requires within { at ≤ length text.now }
     requires item { HasItem (drop at text.now) }
     requires opens { Begins (codes "\\{") (drop at text.now) → HasNothingToRepeat (take at text.now) }
-    requires few { levels ≤ 256 }
+    requires few { levels ≤ most_levels }
     ensures read { IfOk result (λ piece. (p : ItemPlace) → MayBegin p (drop at text.now) → ItemStands p levels text.now at piece) }
     ensures refused { IfErr result (λ fault. (p : ItemPlace) → MayBegin p (drop at text.now) → IsRefused (HasNoItems p levels (drop at text.now)) (IsShownIn text.now fault) fault) }
 {
@@ -237,7 +238,7 @@ fn read_items(
 ) -> Result<Pieces, PatternFault>
     requires within { from ≤ length text.now }
     requires starts { IsStart (take from text.now) }
-    requires few { levels ≤ 256 }
+    requires few { levels ≤ most_levels }
     ensures read { IfOk result (ItemsStand levels text.now from) }
     ensures refused { IfErr result (λ fault. IsRefused (HasNoItems First levels (drop from text.now)) (IsShownIn text.now fault) fault) }
 {

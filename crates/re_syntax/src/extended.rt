@@ -4,6 +4,7 @@ ghost use Rattle.re_syntax.specs.Bytes.{Begins};
 ghost use Rattle.re_syntax.specs.Expression.{expression_of, choice};
 ghost use Rattle.re_syntax.specs.Extended.{Duplication};
 ghost use Rattle.re_syntax.specs.declared.syntax.Syntax.TheVariants.{Extended};
+ghost use Rattle.re_syntax.specs.Profile.{most_levels};
 ghost use Rattle.re_syntax.specs.Spelled.{IsSpelled, SpellsNoOther};
 ghost use Rattle.re_syntax.specs.ExtendedFaults.{OpensDuplication, IsStart, HasNothingToRepeat, IsShownIn, IsNoExtended};
 ghost use Rattle.re_syntax.specs.Working.PieceSteps.{IsRefused};
@@ -112,7 +113,7 @@ fn read_group(
     levels: usize,
 ) -> Result<Piece, PatternFault>
     requires opens { Begins (codes "(") (drop at text.now) }
-    requires few { levels ≤ 256 }
+    requires few { levels ≤ most_levels }
     ensures read { IfOk result (AtomStands in_group levels text.now at) }
     ensures refused { IfErr result (λ fault. IsRefused (HasNoAtom in_group levels (drop at text.now)) (IsShownIn text.now fault) fault) }
 {
@@ -148,7 +149,7 @@ fn read_atom(
 ) -> Result<Piece, PatternFault>
     requires within { at < length text.now }
     requires begins { MayBegin in_group (drop at text.now) }
-    requires few { levels ≤ 256 }
+    requires few { levels ≤ most_levels }
     ensures read { IfOk result (AtomStands in_group levels text.now at) }
     ensures refused { IfErr result (λ fault. IsRefused (HasNoAtom in_group levels (drop at text.now)) (IsShownIn text.now fault) fault) }
 {
@@ -187,7 +188,7 @@ fn read_item(
 ) -> Result<Piece, PatternFault>
     requires within { at < length text.now }
     requires begins { MayBegin in_group (drop at text.now) }
-    requires few { levels ≤ 256 }
+    requires few { levels ≤ most_levels }
     ensures read { IfOk result (ItemStands in_group levels text.now at) }
     ensures refused { IfErr result (λ fault. IsRefused (HasNoItems in_group levels (drop at text.now)) (IsShownIn text.now fault) fault) }
 {
@@ -216,7 +217,7 @@ fn read_next(
     requires within { at ≤ length text.now }
     requires goes_on { stops in_group (drop at text.now) ≡ false }
     requires opens { OpensDuplication (drop at text.now) → HasNothingToRepeat (take at text.now) }
-    requires few { levels ≤ 256 }
+    requires few { levels ≤ most_levels }
     ensures read { IfOk result (IsNext in_group levels text.now at) }
     ensures refused { IfErr result (λ fault. IsRefused (HasNoItems in_group levels (drop at text.now)) (IsShownIn text.now fault) fault) }
 {
@@ -247,7 +248,7 @@ fn read_branch(
 ) -> Result<Piece, PatternFault>
     requires within { from ≤ length text.now }
     requires starts { IsStart (take from text.now) }
-    requires few { levels ≤ 256 }
+    requires few { levels ≤ most_levels }
     ensures read { IfOk result (BranchStands in_group levels text.now from) }
     ensures refused { IfErr result (λ fault. IsRefused (HasNoItems in_group levels (drop from text.now)) (IsShownIn text.now fault) fault) }
 {
@@ -278,7 +279,7 @@ fn read_branches(
 ) -> Result<Pieces, PatternFault>
     requires within { from ≤ length text.now }
     requires starts { IsStart (take from text.now) }
-    requires few { levels ≤ 256 }
+    requires few { levels ≤ most_levels }
     ensures read { IfOk result (BranchesStand in_group levels text.now from) }
     ensures refused { IfErr result (λ fault. IsRefused (HasNoBranches in_group levels (drop from text.now)) (IsShownIn text.now fault) fault) }
 {

@@ -3,6 +3,7 @@ ghost use Rattle.std.specs.Prelude.{◌≡◌, ◌<◌, Some, IfOk, IfErr, slice
 ghost use Rattle.re_syntax.specs.Sets.{members};
 ghost use Rattle.re_syntax.specs.declared.fault.FaultKind.{FaultKind};
 ghost use Rattle.re_syntax.specs.Faults.{IsNoBracket};
+ghost use Rattle.re_syntax.specs.Profile.{most_levels};
 ghost use Rattle.re_syntax.specs.Working.PieceSteps.{meant_bytes, IsBracketPiece, IsRepeated, IsJoined};
 
 use crate::bracket::read_bracket;
@@ -68,7 +69,7 @@ pub fn repeated(
     counts: Counts,
     behind: usize,
 ) -> Result<Piece, PatternFault>
-    requires { piece.height < 256 }
+    requires { piece.height < most_levels }
     ensures made { IfOk result (IsRepeated piece counts behind) }
     ensures refused { IfErr result (λ fault. fault ≡ record { kind = FaultKind.Memory; at = 0 }) }
 {

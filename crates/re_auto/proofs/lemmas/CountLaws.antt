@@ -3,6 +3,7 @@ use Rattle.std.proofs.Common.{◌≡◌, ℕ, zero, suc, ◌+◌, ◌*◌, ◌<�
 use Rattle.std.proofs.lemmas.List.{take_more, map-append}
 use Rattle.re_syntax.specs.Expression.{Expression, cat, alt, expression_of}
 use Rattle.re_syntax.specs.Holds.{positions, copies}
+use Rattle.re_syntax.specs.Profile.{most_positions}
 use Rattle.re_syntax.specs.declared.tree.Tree.{Tree}
 use Rattle.re_syntax.specs.declared.tree.Tree.TheVariants.{Alt, Repeat}
 use Rattle.re_syntax.proofs.lemmas.ExpressionLaws.{expression-Alt, expression-Repeat}
@@ -31,8 +32,8 @@ min_product (suc a) b limit = omega (arith, min_product a b limit)
 
 -- one more member, up to the limit
 pub counted_more : (members : List Tree) (i : ℕ) (member : Tree) → i < length members → member ≡ get_or members i member → (count more next : ℕ) →
-    count ≡ min (positions (cat (map expression_of (take i members)))) 4097 → more ≡ min (positions (expression_of member)) 4097 → next ≡ min (count + more) 4097 →
-    next ≡ min (positions (cat (map expression_of (take (i + 1) members)))) 4097
+    count ≡ min (positions (cat (map expression_of (take i members)))) (most_positions + 1) → more ≡ min (positions (expression_of member)) (most_positions + 1) → next ≡ min (count + more) (most_positions + 1) →
+    next ≡ min (positions (cat (map expression_of (take (i + 1) members)))) (most_positions + 1)
 counted_more members i member lt is count more next counted of step =
     let front : map expression_of (take (i + 1) members) ≡ map expression_of (take i members) ++ (expression_of member ∷ []) =
     ap (map expression_of) (take_more members i member lt) ∙ map-append expression_of (take i members) (get_or members i member ∷ [])

@@ -4,6 +4,7 @@ use Rattle.std.proofs.lemmas.List.{get_or-take, get_or-drop}
 use Rattle.std.specs.Int.{bit_at}
 use Rattle.re_syntax.specs.Expression.{Expression}
 use Rattle.re_syntax.specs.Holds.{positions}
+use Rattle.re_syntax.specs.Profile.{most_positions}
 use Rattle.re_auto.specs.declared.classes.Classes.{Classes}
 use Rattle.re_auto.specs.declared.ends.Ends.{Ends}
 use Rattle.re_auto.specs.declared.rows.Rows.{Rows}
@@ -29,7 +30,7 @@ none_in_row table width p q none h =
     none (start * 64 + q) (rw (at, bit) (sym (ap (λ x. bit_at x (q % 64)) word) ∙ h))
 
 -- what was added to blank rows is all that they tell
-pub tells : (e : Expression) (count : ℕ) (r0 r1 : Rows) (a : Ends) (classes : Classes) (marks : List Bool) → count ≡ positions e → count ≤ 4096 → AreBlankRows count r0 → IsAddedOf e count r0 r1 a →
+pub tells : (e : Expression) (count : ℕ) (r0 r1 : Rows) (a : Ends) (classes : Classes) (marks : List Bool) → count ≡ positions e → count ≤ most_positions → AreBlankRows count r0 → IsAddedOf e count r0 r1 a →
     AreClasses r1.takes.items r1.width classes →
     Marks marks (λ c. (q : ℕ) × Has a.first_inside.items q × Has (row_of r1.takes.items r1.width c) q) →
     AreTablesOf e (record {

@@ -2,6 +2,7 @@
 use Rattle.std.proofs.Common.{◌≡◌, ℕ, zero, suc, ◌+◌, ◌-◌, ◌*◌, ◌<◌, ◌≤◌, min, max, Bool, true, false, IsTrue, le-leb, length, inl, inr, ◌↔◌, Option, Some, None, IfSome, sym, ap, ◌∙◌, subst, arith, mul-le-mul_right}
 use Rattle.std.proofs.lemmas.Bool.{lt-leb}
 use Rattle.re_syntax.specs.Expression.{Expression, repeat}
+use Rattle.re_syntax.specs.Profile.{most_positions}
 use Rattle.re_syntax.specs.Holds.{positions}
 use Rattle.re_auto.specs.declared.ends.Ends.{Ends}
 use Rattle.re_auto.specs.declared.rows.Rows.{Rows}
@@ -86,12 +87,12 @@ any_added e behind r0 r1 a r added begins shows =
     (optional_added (copies_before (part_of e) (positions e) 0 (tail_of (part_of e) (positions e) None)) (0 * positions e + 1 * positions e) behind r0 r1 a r added begins shows)
 
 -- a count up to its limit is the count itself where as many copies fit
-pub counted_whole : (n most size behind : ℕ) → size ≡ min n 4097 → most * n ≤ behind → behind ≤ 4096 → most * size ≡ most * n
+pub counted_whole : (n most size behind : ℕ) → size ≡ min n (most_positions + 1) → most * n ≤ behind → behind ≤ most_positions → most * size ≡ most * n
 counted_whole n zero size behind is fits few = omega arith
 counted_whole n (suc most) size behind is fits few = ap (λ k. suc most * k) (let h : size ≡ n = omega (arith, fits) in h)
 
 -- a part that never holds keeps the numbers of its copies
-pub never_added : (e : Expression) (least most size behind : ℕ) (empty : Empty) (rows : Rows) (a : Ends) → most < least → size ≡ min (positions e) 4097 → most * positions e ≤ behind → behind ≤ 4096 →
+pub never_added : (e : Expression) (least most size behind : ℕ) (empty : Empty) (rows : Rows) (a : Ends) → most < least → size ≡ min (positions e) (most_positions + 1) → most * positions e ≤ behind → behind ≤ most_positions →
     ((b z : Bool) → ¬ IsTrue (empty_at empty b z)) → IsBlank rows.width (behind - most * size) empty a → IsAddedOf (repeat e least (Some most)) behind rows rows a
 never_added e least most size behind empty rows a lt is fits few nowhere blank =
     let whole = counted_whole (positions e) most size behind is fits few in

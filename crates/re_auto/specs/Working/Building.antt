@@ -10,7 +10,7 @@ use Rattle.re_auto.specs.declared.rows.Rows.{Rows}
 use Rattle.re_auto.specs.declared.tables.Empty.{Empty}
 use Rattle.re_auto.specs.Working.Bits.{Has, row_of, Are}
 use Rattle.re_auto.specs.Working.Positions.{Part, without_positions, one_position, again, copies_before, up_to, part_of}
-use Rattle.re_auto.specs.Working.Tables.{TellsEmpty, words_for}
+use Rattle.re_auto.specs.Working.Tables.{TellsEmpty, most_words, words_for}
 
 -- the words are the set, and so many
 abbrev pub IsSet : (ℕ → Type 0) → ℕ → Vec ℕ Global → Type 0
@@ -36,7 +36,7 @@ pub record Adds (part : Part) (old new : Rows) : Type 0 where
 
 -- there are rows for each number before `behind`, and rows for each byte
 pub record HasRoom (behind : ℕ) (rows : Rows) : Type 0 where
-  pub few : rows.width ≤ 64
+  pub few : rows.width ≤ most_words
   pub numbers : behind ≤ rows.width * 64
   pub follow : behind * rows.width ≤ length rows.follow.items
   pub takes : length rows.takes.items ≡ 256 * rows.width

@@ -14,6 +14,10 @@ use Rattle.re_auto.specs.Working.Positions.{Part, part_of}
 abbrev pub words_for : ℕ → ℕ
 words_for count = (count + 63) / 64
 
+-- how many words a set of positions has at most
+abbrev pub most_words : ℕ
+most_words = words_for most_positions
+
 -- a set of the expression's positions is one word
 abbrev pub HasOneWord : Expression → Type 0
 HasOneWord e = (1 ≤ positions e) × (positions e ≤ 64)
@@ -43,7 +47,7 @@ pub record TellsTakes (part : Part) (tables : Tables) : Type 0 where
 pub record AreTablesOf (e : Expression) (tables : Tables) : Type 0 where
   pub size : tables.size ≡ positions e
   pub width : tables.width ≡ words_for (positions e)
-  pub few : positions e ≤ 4096
+  pub few : positions e ≤ most_positions
   pub taken : TellsTakes (part_of e 0) tables
   pub follow : RowsAre tables.follow.items (part_of e 0).follow (positions e) tables.width
   pub first_at_begin : Are tables.first_at_begin.items ((part_of e 0).first true) tables.width

@@ -13,6 +13,7 @@ use Rattle.re_syntax.specs.Basic.{ItemPlace, First, of_text, of_group, Items, At
 use Rattle.re_syntax.specs.BasicFaults.{OpensUnclosed, IsShownIn, IsNoBasic}
 use Rattle.re_syntax.specs.Working.BasicSteps.{IsStart, AtomStands, HasNoAtom, HasNoItems, ItemsStand}
 use Rattle.re_syntax.specs.Working.PieceSteps.{IsRefused, memory, told}
+use Rattle.re_syntax.specs.Profile.{most_levels}
 use Rattle.re_syntax.specs.Spelled.{IsSpelled, as_basic}
 use Rattle.re_syntax.proofs.lemmas.BracketsUnique.{heads, tails, apart, bracket_front}
 use Rattle.re_syntax.proofs.lemmas.AtomFronts.{not_ordinary, never_backslash, undefined_apart}
@@ -114,7 +115,7 @@ opens_unclosed levels text at items b s k = record {
 -- A whole expression.
 
 -- items up to the text's end
-pub whole_read : (text : Text) (items : Pieces) (e : Expression) → ItemsStand 256 text 0 items → length text ≤ items.behind → e ≡ sequence (map expression_of items.trees.items) →
+pub whole_read : (text : Text) (items : Pieces) (e : Expression) → ItemsStand most_levels text 0 items → length text ≤ items.behind → e ≡ sequence (map expression_of items.trees.items) →
     IsSpelled Basic text e
 whole_read text items e s h f =
     let es = map expression_of items.trees.items in
@@ -123,11 +124,11 @@ whole_read text items e s h f =
     rw f (as_basic all s.height)
 
 -- what is spelled has items
-spelled_items : {text : Text} {e : Expression} → IsSpelled Basic text e → (h : ℕ) × (es : List Expression) × Items First h text [] es × (h ≤ 256)
+spelled_items : {text : Text} {e : Expression} → IsSpelled Basic text e → (h : ℕ) × (es : List Expression) × Items First h text [] es × (h ≤ most_levels)
 spelled_items (as_basic {h = h} {es = es} is le) = (h, es, is, le)
 
 -- items up to a closing that no group has
-pub not_whole : (text : Text) (items : Pieces) → ItemsStand 256 text 0 items → items.behind < length text → IsNoBasic text (record { kind = UnopenedGroup; at = items.behind })
+pub not_whole : (text : Text) (items : Pieces) → ItemsStand most_levels text 0 items → items.behind < length text → IsNoBasic text (record { kind = UnopenedGroup; at = items.behind })
 not_whole text items s h = record {
   none = λ e spelled. let (k, es, is, le) = spelled_items spelled in
       let same = items-unique is s.stands refl of_text s.at_end in
@@ -145,11 +146,11 @@ not_whole text items s h = record {
     closing (inr b) = b
 
 -- where no items stand nothing is spelled
-nothing_spelled : (text : Text) (fault : PatternFault) → HasNoItems First 256 text → IsShownIn text fault → IsNoBasic text fault
+nothing_spelled : (text : Text) (fault : PatternFault) → HasNoItems First most_levels text → IsShownIn text fault → IsNoBasic text fault
 nothing_spelled text fault k shown = record { none = λ e spelled. let (h, es, is, le) = spelled_items spelled in k.none h [] es is of_text le; shown = shown }
 
 -- memory ran out, or nothing is spelled
-pub memory_or_none : (text : Text) (fault : PatternFault) → IsRefused (HasNoItems First 256 text) (IsShownIn text fault) fault →
+pub memory_or_none : (text : Text) (fault : PatternFault) → IsRefused (HasNoItems First most_levels text) (IsShownIn text fault) fault →
     ◌≡◌ {A = PatternFault} fault (record { kind = Memory; at = 0 }) ⊎ IsNoBasic text fault
 memory_or_none text fault (memory e) = inl e
 memory_or_none text fault (told k shown) = inr (nothing_spelled text fault k shown)

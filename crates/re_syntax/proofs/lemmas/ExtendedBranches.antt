@@ -13,6 +13,7 @@ use Rattle.re_syntax.specs.Extended.{Branches, last, more, Items, Atom, group}
 use Rattle.re_syntax.specs.ExtendedFaults.{IsStart, OpensUnclosed, IsShownIn, IsNoExtended}
 use Rattle.re_syntax.specs.Working.ExtendedSteps.{stops, ends, AtomStands, HasNoAtom, HasNoItems, BranchStands, HasNoBranches, BranchesStand}
 use Rattle.re_syntax.specs.Working.PieceSteps.{IsRefused, memory, told, IsJoined}
+use Rattle.re_syntax.specs.Profile.{most_levels}
 use Rattle.re_syntax.specs.Spelled.{IsSpelled, as_extended}
 use Rattle.re_syntax.proofs.lemmas.BracketsUnique.{tails}
 use Rattle.re_syntax.proofs.lemmas.ExtendedFronts.{is_group}
@@ -212,7 +213,7 @@ nothing_left [] h = refl
 nothing_left (b ∷ t) h = let k : false ≡ true = h in cc
 
 -- branches up to the text's end
-pub whole_read : (text : Text) (branches : Pieces) (e : Expression) → BranchesStand false 256 text 0 branches →
+pub whole_read : (text : Text) (branches : Pieces) (e : Expression) → BranchesStand false most_levels text 0 branches →
     e ≡ choice (map expression_of branches.trees.items) → IsSpelled Extended text e
 whole_read text branches e s f =
     let es = map expression_of branches.trees.items in
@@ -221,11 +222,11 @@ whole_read text branches e s f =
     rw f (as_extended all s.height)
 
 -- where no branches stand nothing is spelled
-nothing_spelled : (text : Text) → HasNoBranches false 256 text → (e : Expression) → ¬ IsSpelled Extended text e
+nothing_spelled : (text : Text) → HasNoBranches false most_levels text → (e : Expression) → ¬ IsSpelled Extended text e
 nothing_spelled text k e (as_extended {h = h} {es = es} bs le) = k.none h [] es bs refl le
 
 -- memory ran out, or nothing is spelled
-pub memory_or_none : (text : Text) (fault : PatternFault) → IsRefused (HasNoBranches false 256 text) (IsShownIn text fault) fault →
+pub memory_or_none : (text : Text) (fault : PatternFault) → IsRefused (HasNoBranches false most_levels text) (IsShownIn text fault) fault →
     ◌≡◌ {A = PatternFault} fault (record { kind = Memory; at = 0 }) ⊎ IsNoExtended text fault
 memory_or_none text fault (memory e) = inl e
 memory_or_none text fault (told k shown) = inr (record { none = nothing_spelled text k; shown = shown })
