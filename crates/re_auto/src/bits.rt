@@ -68,6 +68,20 @@ pub fn is_clear(words: &[u64]) -> bool
     words.iter().all(|word| *word == 0)
 }
 
+/// Takes the lowest number out of a set that is one word and has a number.
+#[inline(always)]
+pub fn take_lowest(left: &mut u64) -> usize
+    requires { 0 < left.old }
+    ensures small { result < 64 }
+    ensures held { InWord left.old result }
+    ensures less { left.new < left.old }
+    ensures rest { (b : ℕ) → b < 64 → InWord left.old b ↔ (InWord left.new b ⊎ (b ≡ result)) }
+{
+    let lowest = left.trailing_zeros() as usize;
+    *left &= !(1u64 << lowest);
+    lowest
+}
+
 /// Row `r` of a table whose rows have `width` words.
 #[inline(always)]
 pub fn row(table: &[u64], width: usize, r: usize) -> &[u64]
@@ -89,8 +103,7 @@ fn add_rows_of_word(into: &mut [u64], table: &[u64], k: usize, word: u64)
     let width = into.len();
     let mut left = word;
     'bits: while left != 0 {
-        let bit = left.trailing_zeros() as usize;
-        left &= !(1u64 << bit);
+        let bit = take_lowest(&mut left);
         add(into, row(table, width, k * 64 + bit));
     }
 }

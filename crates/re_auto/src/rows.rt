@@ -95,8 +95,7 @@ fn cross_word(follow: &mut [u64], width: usize, k: usize, word: u64, first: &[u6
 {
     let mut left = word;
     'bits: while left != 0 {
-        let bit = left.trailing_zeros() as usize;
-        left &= !(1u64 << bit);
+        let bit = bits::take_lowest(&mut left);
         bits::add_to_row(follow, width, k * 64 + bit, first);
     }
 }

@@ -148,10 +148,18 @@ lowest word some fits =
       ];
     }
 
+-- the numbers of the one word are all in the other
+abbrev pub AreAmong : ℕ → ℕ → Type 0
+AreAmong left word = (b : ℕ) → b < 64 → bit_at left b ≡ 1 → bit_at word b ≡ 1
+
+-- what is there now, and R of what is left of a word, make up what was there and R of the whole word
+abbrev pub AddsUp : (now old : Type 0) (R : ℕ → Type 0) (left word : ℕ) → Type 0
+AddsUp now old R left word = (now ⊎ ((b : ℕ) × (b < 64) × (bit_at left b ≡ 1) × R b)) ↔ (old ⊎ ((b : ℕ) × (b < 64) × (bit_at word b ≡ 1) × R b))
+
 -- one more added, one less left
 pub one_added : (A B : Type 0) (R : ℕ → Type 0) (old new k : ℕ) → k < 64 → (B ↔ (A ⊎ R k)) →
     ((b : ℕ) → b < 64 → (bit_at old b ≡ 1) ↔ ((bit_at new b ≡ 1) ⊎ (b ≡ k))) →
-    (B ⊎ ((b : ℕ) × (b < 64) × (bit_at new b ≡ 1) × R b)) ↔ (A ⊎ ((b : ℕ) × (b < 64) × (bit_at old b ≡ 1) × R b))
+    AddsUp B A R new old
 one_added A B R old new k small add rest = (to, back)
   where
     at : A ⊎ R k → A ⊎ ((b : ℕ) × (b < 64) × (bit_at old b ≡ 1) × R b)

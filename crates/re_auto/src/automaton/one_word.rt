@@ -76,8 +76,7 @@ impl Automaton {
         let mut next = word;
         let mut left = from;
         'bits: while left != 0 {
-            let p = left.trailing_zeros() as usize;
-            left &= !(1u64 << p);
+            let p = bits::take_lowest(&mut left);
             next |= bits::only_word(self.following(p));
         }
         next

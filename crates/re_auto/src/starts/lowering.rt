@@ -44,8 +44,7 @@ impl Starts {
     {
         let mut left = from.held[k];
         'bits: while left != 0 {
-            let bit = left.trailing_zeros() as usize;
-            left &= !(1u64 << bit);
+            let bit = bits::take_lowest(&mut left);
             let p = k * 64 + bit;
             self.lower_row(automaton.following(p), taking, from.starts[p]);
         }
@@ -92,8 +91,7 @@ impl Starts {
     {
         let mut left = word;
         'bits: while left != 0 {
-            let bit = left.trailing_zeros() as usize;
-            left &= !(1u64 << bit);
+            let bit = bits::take_lowest(&mut left);
             self.lower(k * 64 + bit, start);
         }
     }

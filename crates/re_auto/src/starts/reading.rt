@@ -4,6 +4,7 @@ ghost use Rattle.std.specs.Int.{bit_at};
 ghost use Rattle.re_auto.specs.Working.Bits.{Has};
 ghost use Rattle.re_auto.specs.Working.StartSets.{AtMost};
 
+use crate::bits;
 use crate::starts::Starts;
 
 impl Starts {
@@ -29,8 +30,7 @@ impl Starts {
         let mut found = least;
         let mut left = word;
         'bits: while left != 0 {
-            let bit = left.trailing_zeros() as usize;
-            left &= !(1u64 << bit);
+            let bit = bits::take_lowest(&mut left);
             found = Some(lesser(found, self.starts[k * 64 + bit]));
         }
         found

@@ -1,17 +1,15 @@
-use Rattle.std.proofs.Common.{◌≡◌, ℕ, ◌<◌, ◌⊎◌}
-use Rattle.std.specs.Prelude.{◌↔◌}
-use Rattle.std.specs.Int.{bit_at}
+use Rattle.std.proofs.Common.{ℕ}
 use Rattle.re_syntax.specs.Expression.{expression_of}
 use Rattle.re_auto.specs.Working.Bits.{InWord}
 use Rattle.re_auto.specs.Working.Positions.{part_of}
+use Rattle.re_auto.proofs.lemmas.BitLemmas.{AreAmong, AddsUp}
 use Rattle.re_auto.proofs.automaton.Automaton.with_followers.Given as goal
 
 -- what is added already and what is left to add make up the whole
 abbrev pub invariant-bits : goal.invariant-bits
 invariant-bits l =
-    ((b : ℕ) → b < 64 → bit_at l.left b ≡ 1 → bit_at l.from b ≡ 1)
-    × ((q : ℕ) → (InWord l.next q ⊎ ((b : ℕ) × (b < 64) × (bit_at l.left b ≡ 1) × (part_of (expression_of l.self) 0).follow b q))
-    ↔ (InWord l.word q ⊎ ((p : ℕ) × InWord l.from p × (part_of (expression_of l.self) 0).follow p q)))
+    AreAmong l.left l.from
+    × ((q : ℕ) → AddsUp (InWord l.next q) (InWord l.word q) (λ b. (part_of (expression_of l.self) 0).follow b q) l.left l.from)
 
 abbrev pub decreases-bits : goal.decreases-bits
 decreases-bits l = l.left
