@@ -5,7 +5,7 @@ pub mod Occurrences
 pub mod OneText
 pub mod Passing
 pub mod ReadingLaws
-pub mod TwoLists
+pub mod PartOfBoth
 pub mod Turns
 pub mod SetSteps
 pub mod SetTries

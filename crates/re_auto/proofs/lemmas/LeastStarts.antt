@@ -7,7 +7,7 @@ use Rattle.re_auto.specs.Working.Stepping.{MayBegin}
 use Rattle.re_auto.specs.Working.Starts.{Least, IsLeast, StartsAfter, Brought, IsNextStarts, Told, IsMatched, IsBest, better}
 use Rattle.re_auto.specs.Laws.{PassBegins, StartsStay, StartsTell, OnePassIsEnough, SpentIsOver}
 use Rattle.re_auto.proofs.lemmas.Chains.{reaches_bounds, reaches_on, reaches_back}
-use Rattle.re_auto.proofs.lemmas.Theorem.{positions_tell}
+use Rattle.re_auto.proofs.lemmas.PositionsTell.{positions_tell}
 
 -- a number of P is no less than the least one
 at_least : (P : ℕ → Type 0) (o : Option ℕ) → Least P o → (k : ℕ) → P k → (m : ℕ) × (o ≡ Some m) × (m ≤ k) × P m

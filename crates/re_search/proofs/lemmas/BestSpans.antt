@@ -16,7 +16,7 @@ use Rattle.re_auto.specs.Working.StartSets.{StartsAt}
 use Rattle.re_auto.specs.Working.Tables.{CanBegin}
 use Rattle.re_auto.proofs.lemmas.Chains.{not_at_begin, reaches_bounds}
 use Rattle.re_auto.proofs.lemmas.LeastStarts.{one_pass_is_enough}
-use Rattle.re_auto.proofs.lemmas.Theorem.{positions_tell}
+use Rattle.re_auto.proofs.lemmas.PositionsTell.{positions_tell}
 use Rattle.re_search.specs.declared.span.Span.{Span}
 use Rattle.re_search.specs.Searching.{FindsPart}
 use Rattle.re_search.specs.Working.Simulations.{places, better_span, IsBestSpan, Carries}

@@ -12,7 +12,7 @@ use Rattle.re_auto.specs.Working.Positions.{PartHolds, part_of, is_begin, is_end
 use Rattle.re_auto.specs.Working.StateSets.{IsNowhere, StandsAt}
 use Rattle.re_auto.proofs.lemmas.Chains.{not_at_begin, not_at_end}
 use Rattle.re_auto.proofs.lemmas.LeastStarts.{passes}
-use Rattle.re_auto.proofs.lemmas.Theorem.{positions_tell}
+use Rattle.re_auto.proofs.lemmas.PositionsTell.{positions_tell}
 use Rattle.re_search.specs.Searching.{AddsAtMost}
 use Rattle.re_search.specs.Working.Simulations.{EndsAt, NoneEndsBefore}
 

@@ -22,7 +22,7 @@ use Rattle.re_auto.specs.Working.StateSets.{IsSame, IsNowhere, IsNextSet, IsAcce
 use Rattle.re_auto.specs.Working.Stepping.{Accepts, IsAfter, IsNext}
 use Rattle.re_auto.specs.Working.Tables.{CanBegin}
 use Rattle.re_auto.proofs.lemmas.Chains.{not_at_end}
-use Rattle.re_auto.proofs.lemmas.Steps.{stands_next, matched_by, nowhere_stays}
+use Rattle.re_auto.proofs.lemmas.SetsByWords.{stands_next, matched_by, nowhere_stays}
 use Rattle.re_search.specs.Searching.{AddsAtMost}
 use Rattle.re_search.specs.Working.Simulations.{EndsAt, NoneEndsBefore}
 use Rattle.re_search.specs.Working.Stages.{Cache, Stage, AreAlike, IsHeld, HoldsNoOther, IsPlain, GoesOver, Goes, Finishes, Searches, Lacks, IsReadied, IsSettled, AnswersLine, mode_for}

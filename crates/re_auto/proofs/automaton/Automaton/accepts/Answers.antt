@@ -1,7 +1,7 @@
 use Rattle.re_syntax.specs.Expression.{expression_of}
 use Rattle.re_auto.specs.Working.Positions.{part_of}
 use Rattle.re_auto.specs.Working.StateSets.{IsAccepting}
-use Rattle.re_auto.proofs.lemmas.Steps.{accepted, matched_by}
+use Rattle.re_auto.proofs.lemmas.SetsByWords.{accepted, matched_by}
 use Rattle.re_auto.proofs.automaton.Automaton.accepts.Goals as goal
 
 pub returns-clause-told : goal.returns-clause-told

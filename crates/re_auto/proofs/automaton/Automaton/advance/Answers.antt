@@ -6,7 +6,7 @@ use Rattle.re_auto.specs.Working.Positions.{part_of}
 use Rattle.re_auto.specs.Working.Stepping.{IsNext}
 use Rattle.re_auto.specs.Working.Bits.{Has}
 use Rattle.re_auto.specs.Working.StateSets.{IsNextSet}
-use Rattle.re_auto.proofs.lemmas.Steps.{stands_next, next_small}
+use Rattle.re_auto.proofs.lemmas.SetsByWords.{stands_next, next_small}
 use Rattle.re_auto.proofs.automaton.Automaton.advance.Goals as goal
 
 is_written : (c : goal.After-add_built) → (with_items c.args.into.now.words c.step.new.into).items ≡ c.step.new.into

@@ -6,7 +6,7 @@ use Rattle.re_auto.specs.Working.Positions.{part_of}
 use Rattle.re_auto.specs.Working.Stepping.{IsNext}
 use Rattle.re_auto.specs.Working.Bits.{Has}
 use Rattle.re_auto.specs.Working.StateSets.{IsNextSet}
-use Rattle.re_auto.proofs.lemmas.Steps.{stands_next, next_small}
+use Rattle.re_auto.proofs.lemmas.SetsByWords.{stands_next, next_small}
 use Rattle.re_auto.proofs.lemmas.WordLemmas.{next_of_word, turned}
 use Rattle.re_auto.proofs.automaton.Automaton.advance_in_place.Goals as goal
 

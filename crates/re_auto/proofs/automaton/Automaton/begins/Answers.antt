@@ -1,7 +1,7 @@
 use Rattle.std.proofs.Common.{true≢false, sym, ◌∙◌}
 use Rattle.re_syntax.specs.Expression.{expression_of}
 use Rattle.re_auto.specs.Working.Tables.{AreTablesOf}
-use Rattle.re_auto.proofs.lemmas.Steps.{nowhere_stays}
+use Rattle.re_auto.proofs.lemmas.SetsByWords.{nowhere_stays}
 use Rattle.re_auto.proofs.automaton.Automaton.begins.Goals as goal
 
 known : (c : goal.After-has) → AreTablesOf (expression_of c.args.self.now) c.self.inside.tables

@@ -1,7 +1,7 @@
 use Rattle.std.proofs.Common.{refl, ◌∙◌}
 use Rattle.std.proofs.lemmas.List.{with_items_is}
 use Rattle.re_syntax.specs.Expression.{expression_of}
-use Rattle.re_auto.proofs.lemmas.Steps.{starts_at}
+use Rattle.re_auto.proofs.lemmas.SetsByWords.{starts_at}
 use Rattle.re_auto.proofs.automaton.Automaton.start.Goals as goal
 
 pub returns-clause-stands : goal.returns-clause-stands

@@ -1,5 +1,5 @@
 use Rattle.re_syntax.specs.Expression.{expression_of}
-use Rattle.re_auto.proofs.lemmas.StartSteps.{told_least}
+use Rattle.re_auto.proofs.lemmas.StartsByLists.{told_least}
 use Rattle.re_auto.proofs.starts.Starts.accepts.Goals as goal
 
 pub returns : goal.returns

@@ -6,7 +6,7 @@ use Rattle.re_auto.specs.Working.Positions.{part_of}
 use Rattle.re_auto.specs.Working.Starts.{IsNextStarts}
 use Rattle.re_auto.specs.Working.StartSets.{least_of, AreNext}
 use Rattle.re_auto.proofs.lemmas.Numbered.{part_numbered}
-use Rattle.re_auto.proofs.lemmas.StartSteps.{next_starts, starts_next}
+use Rattle.re_auto.proofs.lemmas.StartsByLists.{next_starts, starts_next}
 use Rattle.re_auto.proofs.starts.Starts.advance.Goals as goal
 
 written : (c : goal.After-add_built) → (with_items c.args.into.now.held c.clear.new.into).items ≡ c.clear.new.into

@@ -1,4 +1,4 @@
-use Rattle.re_auto.proofs.lemmas.StartSteps.{first_row}
+use Rattle.re_auto.proofs.lemmas.StartsByLists.{first_row}
 use Rattle.re_auto.proofs.starts.Starts.begin.Goals as goal
 
 pub returns-then-may_begin-clause-begun : goal.returns-then-may_begin-clause-begun

@@ -4,7 +4,7 @@ use Rattle.re_syntax.specs.Expression.{expression_of}
 use Rattle.re_auto.specs.Working.Bits.{Has}
 use Rattle.re_auto.specs.Working.StartSets.{Carries, Brings}
 use Rattle.re_auto.proofs.lemmas.BitLemmas.{at_word}
-use Rattle.re_auto.proofs.lemmas.StartSteps.{one_row}
+use Rattle.re_auto.proofs.lemmas.StartsByLists.{one_row}
 use Rattle.re_auto.proofs.lemmas.BitLemmas.{one_added, none_left, chained}
 use Rattle.re_auto.proofs.starts.Starts.carry_word.Goals as goal
 

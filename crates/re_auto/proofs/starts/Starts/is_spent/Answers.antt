@@ -1,7 +1,7 @@
 use Rattle.std.proofs.Common.{refl, Some, None}
 use Rattle.re_auto.specs.Working.Starts.{IsSpent}
 use Rattle.re_auto.specs.Working.StartSets.{least_of}
-use Rattle.re_auto.proofs.lemmas.StartSteps.{spent_by, spent_some, over_by}
+use Rattle.re_auto.proofs.lemmas.StartsByLists.{spent_by, spent_some, over_by}
 use Rattle.re_auto.proofs.starts.Starts.is_spent.Goals as goal
 
 pub returns-in-Some-clause-spent : goal.returns-in-Some-clause-spent

@@ -1,6 +1,6 @@
 use Rattle.std.proofs.Common.{refl, ◌∙◌}
 use Rattle.std.proofs.lemmas.List.{with_items_is}
-use Rattle.re_auto.proofs.lemmas.StartSteps.{starts_begin}
+use Rattle.re_auto.proofs.lemmas.StartsByLists.{starts_begin}
 use Rattle.re_auto.proofs.starts.Starts.start.Goals as goal
 
 pub returns-clause-stands : goal.returns-clause-stands

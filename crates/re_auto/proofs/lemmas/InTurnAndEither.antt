@@ -5,7 +5,7 @@ use Rattle.re_syntax.specs.Bytes.{Text}
 use Rattle.re_auto.specs.Working.Positions.{Part, is_begin, is_end, Reaches, PartHolds, in_turn, either}
 use Rattle.re_auto.proofs.lemmas.Numbered.{IsNumbered}
 use Rattle.re_auto.proofs.lemmas.Chains.{not_at_begin, not_at_end, reaches_bounds, graft, widen}
-use Rattle.re_auto.proofs.lemmas.Joining.{Run, of_first, of_second, of_both, run}
+use Rattle.re_auto.proofs.lemmas.JoinedChains.{Run, of_first, of_second, of_both, run}
 
 module _ (f g : Part) (line : Text) where
   -- a chain of the first part that ends, and one of the second behind it

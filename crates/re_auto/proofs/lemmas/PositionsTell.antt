@@ -8,8 +8,8 @@ use Rattle.re_syntax.specs.Holds.{Holds, positions}
 use Rattle.re_auto.specs.Working.Positions.{is_begin, is_end, Reaches, PartHolds, without_positions, one_position, part_of}
 use Rattle.re_auto.specs.Laws.{PositionsTell}
 use Rattle.re_auto.proofs.lemmas.Numbered.{part_numbered}
-use Rattle.re_auto.proofs.lemmas.Turns.{cut, joint, choose, chosen}
-use Rattle.re_auto.proofs.lemmas.Repeats.{repeated_give, repeated_need}
+use Rattle.re_auto.proofs.lemmas.InTurnAndEither.{cut, joint, choose, chosen}
+use Rattle.re_auto.proofs.lemmas.RepeatedByCopies.{repeated_give, repeated_need}
 
 -- one byte that passes a test is told by one position that takes such bytes
 byte_tells : (P : ℕ → Type 0) (n : ℕ) (line : Text) (i j : ℕ) →

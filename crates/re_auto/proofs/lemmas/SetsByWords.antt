@@ -15,7 +15,7 @@ use Rattle.re_auto.specs.Working.StateSets.{IsNowhere, StandsAt, IsNextSet, IsAc
 use Rattle.re_auto.specs.Working.Tables.{CanBegin}
 use Rattle.re_auto.proofs.lemmas.Chains.{not_at_begin}
 use Rattle.re_auto.proofs.lemmas.Numbered.{part_numbered}
-use Rattle.re_auto.proofs.lemmas.Stepping.{none_is_right, step_is_right, accept_is_right}
+use Rattle.re_auto.proofs.lemmas.SetsByChains.{none_is_right, step_is_right, accept_is_right}
 
 -- a set without positions is right at a line's first place
 pub starts_at : (e : Expression) (mode : Mode) (line : Text) (set : StateSet) → set.at_begin ≡ true → ((q : ℕ) → Has set.words.items q → ⊥) → StandsAt e mode line 0 set

@@ -7,7 +7,7 @@ use Rattle.re_auto.specs.declared.mode.Mode.{Mode}
 use Rattle.re_auto.specs.Working.Positions.{Part, is_begin, is_end, Reaches, PartHolds, part_of}
 use Rattle.re_auto.specs.Working.Stepping.{MayBegin, IsAfter, IsNext, Accepts}
 use Rattle.re_auto.proofs.lemmas.Chains.{reaches_on, reaches_back}
-use Rattle.re_auto.proofs.lemmas.Theorem.{positions_tell}
+use Rattle.re_auto.proofs.lemmas.PositionsTell.{positions_tell}
 
 -- no position is reached at the line's first place
 pub none_is_right : (part : Part) (mode : Mode) (line : Text) (S : ℕ → Type 0) → ((q : ℕ) → ¬ S q) → IsAfter part mode line 0 S
