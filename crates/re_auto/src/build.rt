@@ -1,3 +1,12 @@
+//! Building: from an expression to the tables of its automaton.
+
+mod classes;
+mod count;
+mod ends;
+pub mod filling;
+mod parts;
+mod rows;
+
 /// Why an automaton or a set for one could not be made.
 #[derive(Clone, Copy, PartialEq, Eq, Debug, Drop)]
 pub enum BuildFault {

@@ -2,29 +2,21 @@
 //! positions that are stepped over the line one byte at a time.
 #![tactic(auto)]
 
-mod automaton;
 mod beginnings;
 mod bits;
 mod build;
-mod classes;
-mod count;
-mod ends;
-mod filling;
 mod laws;
 mod meter;
 mod mode;
-mod parts;
-mod rows;
-mod starts;
-mod state_set;
+mod step;
 mod tables;
 #[cfg(test)]
 mod tests;
 
-pub use automaton::Automaton;
 pub use build::BuildFault;
 pub use laws::{fronts_tell, least_starts_are_enough, positions_tell};
 pub use meter::{Meter, fresh_meter};
 pub use mode::Mode;
-pub use starts::Starts;
-pub use state_set::StateSet;
+pub use step::automaton::Automaton;
+pub use step::starts::Starts;
+pub use step::state_set::StateSet;

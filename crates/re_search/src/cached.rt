@@ -42,7 +42,7 @@ pub struct Cached {
 impl Model for Cached {
     ghost use Rattle.re_syntax.specs.Expression.{expression_of};
     ghost use Rattle.re_syntax.specs.contracts.tree.Tree as e;
-    ghost use Rattle.re_auto.specs.contracts.state_set.StateSet as s;
+    ghost use Rattle.re_auto.specs.contracts.step.state_set.StateSet as s;
     ghost use Rattle.std.specs.Coded.{codes};
     ghost use Rattle.re_auto.specs.Working.StateSets.{IsMadeFor};
     ghost use Rattle.re_search.specs.Working.Rows.{cache_of};

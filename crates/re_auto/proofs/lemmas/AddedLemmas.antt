@@ -3,8 +3,8 @@ use Rattle.std.proofs.Common.{◌≡◌, ℕ, zero, suc, ◌+◌, ◌-◌, ◌<�
 use Rattle.re_syntax.specs.Expression.{Expression, cat, alt, expression_of}
 use Rattle.re_syntax.specs.Holds.{positions}
 use Rattle.re_syntax.specs.declared.tree.Tree.{Tree}
-use Rattle.re_auto.specs.declared.ends.Ends.{Ends}
-use Rattle.re_auto.specs.declared.rows.Rows.{Rows}
+use Rattle.re_auto.specs.declared.build.ends.Ends.{Ends}
+use Rattle.re_auto.specs.declared.build.rows.Rows.{Rows}
 use Rattle.re_auto.specs.declared.tables.Empty.{Empty}
 use Rattle.re_auto.specs.Working.Bits.{Has}
 use Rattle.re_auto.specs.Working.Positions.{Part, in_turn, either, again, optional, part_of}

@@ -5,9 +5,9 @@ use Rattle.std.specs.Int.{bit_at}
 use Rattle.re_syntax.specs.Expression.{Expression}
 use Rattle.re_syntax.specs.Holds.{positions}
 use Rattle.re_syntax.specs.Profile.{most_positions}
-use Rattle.re_auto.specs.declared.classes.Classes.{Classes}
-use Rattle.re_auto.specs.declared.ends.Ends.{Ends}
-use Rattle.re_auto.specs.declared.rows.Rows.{Rows}
+use Rattle.re_auto.specs.declared.build.classes.Classes.{Classes}
+use Rattle.re_auto.specs.declared.build.ends.Ends.{Ends}
+use Rattle.re_auto.specs.declared.build.rows.Rows.{Rows}
 use Rattle.re_auto.specs.Working.Bits.{Has, row_of}
 use Rattle.re_auto.specs.Working.Positions.{Part, part_of}
 use Rattle.re_auto.specs.Working.Tables.{Marks, AreTablesOf, words_for}

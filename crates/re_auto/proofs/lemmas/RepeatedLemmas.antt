@@ -4,8 +4,8 @@ use Rattle.std.proofs.lemmas.Bool.{lt-leb}
 use Rattle.re_syntax.specs.Expression.{Expression, repeat}
 use Rattle.re_syntax.specs.Profile.{most_positions}
 use Rattle.re_syntax.specs.Holds.{positions}
-use Rattle.re_auto.specs.declared.ends.Ends.{Ends}
-use Rattle.re_auto.specs.declared.rows.Rows.{Rows}
+use Rattle.re_auto.specs.declared.build.ends.Ends.{Ends}
+use Rattle.re_auto.specs.declared.build.rows.Rows.{Rows}
 use Rattle.re_auto.specs.declared.tables.Empty.{Empty}
 use Rattle.re_auto.specs.Working.Positions.{Part, in_turn, again, optional, copies_before, up_to, only_if, part_of}
 use Rattle.re_auto.specs.Working.Building.{Shows, Adds, IsAdded, IsAddedOf, IsBlank, AreTurns, AreUpTo, IsTail, tail_of, tail_copies, empty_at, shown}

@@ -7,7 +7,7 @@ use Rattle.re_syntax.specs.Expression.{Expression}
 use Rattle.re_syntax.specs.Holds.{Holds, positions}
 use Rattle.re_auto.specs.declared.mode.Mode.{Mode}
 use Rattle.re_auto.specs.declared.mode.Mode.TheVariants.{Search}
-use Rattle.re_auto.specs.declared.state_set.StateSet.{StateSet}
+use Rattle.re_auto.specs.declared.step.state_set.StateSet.{StateSet}
 use Rattle.re_auto.specs.Working.Bits.{Has}
 use Rattle.re_auto.specs.Working.Positions.{Part, part_of, is_begin, is_end}
 use Rattle.re_auto.specs.Working.Stepping.{MayBegin, IsNext, Accepts}

@@ -7,7 +7,7 @@ use Rattle.std.proofs.lemmas.Option.{slice_get_within, get_or_from_slice_get}
 use Rattle.re_syntax.specs.Bytes.{Text}
 use Rattle.re_syntax.specs.Expression.{Expression}
 use Rattle.re_auto.specs.declared.mode.Mode.{Mode}
-use Rattle.re_auto.specs.declared.starts.Starts.{Starts}
+use Rattle.re_auto.specs.declared.step.starts.Starts.{Starts}
 use Rattle.re_auto.specs.Working.Bits.{Has}
 use Rattle.re_auto.specs.Working.Positions.{part_of, is_begin, is_end}
 use Rattle.re_auto.specs.Working.Starts.{Least, Brought, IsNextStarts, Told, IsMatched, IsSpent}

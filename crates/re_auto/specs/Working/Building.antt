@@ -5,8 +5,8 @@ use Rattle.re_syntax.specs.Expression.{Expression, repeat}
 use Rattle.re_syntax.specs.Holds.{positions}
 use Rattle.re_syntax.specs.Sets.{members}
 use Rattle.re_syntax.specs.declared.bytes.ByteSet.{ByteSet}
-use Rattle.re_auto.specs.declared.ends.Ends.{Ends}
-use Rattle.re_auto.specs.declared.rows.Rows.{Rows}
+use Rattle.re_auto.specs.declared.build.ends.Ends.{Ends}
+use Rattle.re_auto.specs.declared.build.rows.Rows.{Rows}
 use Rattle.re_auto.specs.declared.tables.Empty.{Empty}
 use Rattle.re_auto.specs.Working.Bits.{Has, row_of, Are}
 use Rattle.re_auto.specs.Working.Positions.{Part, without_positions, one_position, again, copies_before, up_to, part_of}

@@ -5,7 +5,7 @@ use Rattle.re_syntax.specs.Bytes.{Text}
 use Rattle.re_syntax.specs.Expression.{Expression}
 use Rattle.re_syntax.specs.Holds.{positions}
 use Rattle.re_auto.specs.declared.mode.Mode.{Mode}
-use Rattle.re_auto.specs.declared.starts.Starts.{Starts}
+use Rattle.re_auto.specs.declared.step.starts.Starts.{Starts}
 use Rattle.re_auto.specs.Working.Bits.{Has}
 use Rattle.re_auto.specs.Working.Positions.{part_of}
 use Rattle.re_auto.specs.Working.Starts.{StartsAfter, IsNextStarts}

@@ -57,7 +57,7 @@ pub record AreTablesOf (e : Expression) (tables : Tables) : Type 0 where
   pub empty : TellsEmpty (part_of e 0) tables.empty
   pub beginnings : Marks tables.beginnings (CanBegin (part_of e 0))
 
--- what a refusal says of the count of positions: too large exactly where there are more than 4,096
+-- what a refusal says of the count of positions: too large exactly where there are more than an automaton may have
 abbrev pub IsRefused : ℕ → BuildFault → Type 0
 IsRefused count TooLarge = most_positions < count
 IsRefused count Memory = count ≤ most_positions

@@ -9,7 +9,7 @@ use Rattle.re_syntax.specs.Parts.{IsFound}
 use Rattle.re_syntax.proofs.lemmas.Decisions.{Any-first}
 use Rattle.re_auto.specs.declared.mode.Mode.{Mode}
 use Rattle.re_auto.specs.declared.mode.Mode.TheVariants.{Search}
-use Rattle.re_auto.specs.declared.starts.Starts.{Starts}
+use Rattle.re_auto.specs.declared.step.starts.Starts.{Starts}
 use Rattle.re_auto.specs.Working.Positions.{Part, PartHolds, Reaches, part_of, is_begin, is_end}
 use Rattle.re_auto.specs.Working.Starts.{Least, IsMatched, IsBest, better}
 use Rattle.re_auto.specs.Working.StartSets.{StartsAt}

@@ -6,7 +6,7 @@ use Rattle.re_syntax.specs.Bytes.{Text}
 use Rattle.re_syntax.specs.Expression.{Expression}
 use Rattle.re_syntax.specs.Holds.{Holds, Matches}
 use Rattle.re_auto.specs.declared.mode.Mode.TheVariants.{Search, Whole}
-use Rattle.re_auto.specs.declared.state_set.StateSet.{StateSet}
+use Rattle.re_auto.specs.declared.step.state_set.StateSet.{StateSet}
 use Rattle.re_auto.specs.Meters.{Steps}
 use Rattle.re_auto.specs.Working.Positions.{PartHolds, part_of, is_begin, is_end}
 use Rattle.re_auto.specs.Working.StateSets.{IsNowhere, StandsAt}

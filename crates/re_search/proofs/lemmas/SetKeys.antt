@@ -10,8 +10,8 @@ use Rattle.std.proofs.lemmas.Option.{slice_get-get_or, slice_get_within, get_or_
 use Rattle.std.proofs.Math.Bool.{beq}
 use lib.Pointwise.{pointwise}
 use Rattle.std.proofs.lemmas.Bool.{false≢true, lt-ltb}
-use Rattle.re_auto.specs.declared.state_set.StateSet.{StateSet}
-use Rattle.re_auto.specs.contracts.state_set.StateSetPartialEq.TheImpl.{eq-value}
+use Rattle.re_auto.specs.declared.step.state_set.StateSet.{StateSet}
+use Rattle.re_auto.specs.contracts.step.state_set.StateSetPartialEq.TheImpl.{eq-value}
 use Rattle.re_auto.specs.Working.StateSets.{IsSame}
 
 -- two sets are equal

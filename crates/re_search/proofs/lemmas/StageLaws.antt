@@ -14,7 +14,7 @@ use Rattle.re_syntax.specs.Expression.{Expression, byte, sequence}
 use Rattle.re_syntax.specs.Holds.{Matches}
 use Rattle.re_auto.specs.declared.mode.Mode.{Mode}
 use Rattle.re_auto.specs.declared.mode.Mode.TheVariants.{Search, Whole}
-use Rattle.re_auto.specs.declared.state_set.StateSet.{StateSet}
+use Rattle.re_auto.specs.declared.step.state_set.StateSet.{StateSet}
 use Rattle.re_auto.specs.Working.Bits.{Has}
 use Rattle.re_auto.specs.Meters.{Steps, many_built}
 use Rattle.re_auto.specs.Working.Positions.{part_of, is_end}

@@ -10,7 +10,7 @@ use Rattle.re_auto.specs.declared.mode.Mode.{Mode}
 use denote.Enum.Bare.{sameb}
 use Rattle.re_auto.specs.contracts.mode.Mode.{the_type}
 use Rattle.re_auto.specs.declared.mode.Mode.TheVariants.{Search, Whole}
-use Rattle.re_auto.specs.declared.state_set.StateSet.{StateSet}
+use Rattle.re_auto.specs.declared.step.state_set.StateSet.{StateSet}
 use Rattle.re_auto.specs.Meters.{Steps, many_built, many_reused}
 use Rattle.re_auto.specs.Working.StateSets.{IsSame, IsNextSet}
 use Rattle.re_search.specs.declared.cached.table.Mark.{Mark}

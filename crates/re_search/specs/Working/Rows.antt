@@ -4,7 +4,7 @@ use Rattle.re_syntax.specs.Bytes.{Text}
 use Rattle.re_syntax.specs.Expression.{Expression}
 use Rattle.re_auto.specs.declared.mode.Mode.{Mode}
 use Rattle.re_auto.specs.declared.mode.Mode.TheVariants.{Search}
-use Rattle.re_auto.specs.declared.state_set.StateSet.{StateSet}
+use Rattle.re_auto.specs.declared.step.state_set.StateSet.{StateSet}
 use Rattle.re_auto.specs.Meters.{Steps, many_reused}
 use Rattle.re_auto.specs.Working.StateSets.{IsMadeFor, IsSame, IsNowhere, IsNextSet, IsAccepting, StandsAt, AreAlikeInClasses}
 use Rattle.re_search.specs.declared.cached.table.Mark.{Mark}

@@ -5,7 +5,7 @@ use Rattle.re_syntax.specs.Expression.{Expression}
 use Rattle.re_syntax.specs.Holds.{Holds}
 use Rattle.re_auto.specs.declared.mode.Mode.{Mode}
 use Rattle.re_auto.specs.declared.mode.Mode.TheVariants.{Search}
-use Rattle.re_auto.specs.declared.starts.Starts.{Starts}
+use Rattle.re_auto.specs.declared.step.starts.Starts.{Starts}
 use Rattle.re_auto.specs.Working.Positions.{is_begin}
 use Rattle.re_auto.specs.Working.StateSets.{IsMadeFor}
 use Rattle.re_auto.specs.Working.StartSets.{IsMadeForStarts, StartsAt}

@@ -6,7 +6,7 @@ use Rattle.re_syntax.specs.Bytes.{Text}
 use Rattle.re_syntax.specs.Expression.{Expression, byte, sequence}
 use Rattle.re_auto.specs.declared.mode.Mode.{Mode}
 use Rattle.re_auto.specs.declared.mode.Mode.TheVariants.{Search, Whole}
-use Rattle.re_auto.specs.declared.state_set.StateSet.{StateSet}
+use Rattle.re_auto.specs.declared.step.state_set.StateSet.{StateSet}
 use Rattle.re_auto.specs.Meters.{Steps, many_built, many_reused}
 use Rattle.re_auto.specs.Working.Positions.{part_of}
 use Rattle.re_auto.specs.Working.StateSets.{IsSame, IsNowhere, IsNextSet, IsAccepting, StandsAt, TakenAlike}

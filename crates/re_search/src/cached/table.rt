@@ -2,7 +2,7 @@
 ghost use Rattle.std.specs.Prelude.{◌≡◌, ℕ, ◌+◌, ◌-◌, ◌*◌, ◌<◌, ◌≤◌, ◌↔◌, [], ◌∷◌, ◌++◌, false, Some, IsTrue, IfOk, OnOk, IfSome, length, slice_get, slice_index};
 ghost use Rattle.std.specs.NonZero.{non_zero_usize_get};
 ghost use Rattle.re_syntax.specs.Expression.{expression_of};
-ghost use Rattle.re_auto.specs.declared.state_set.StateSet.{StateSet as Set};
+ghost use Rattle.re_auto.specs.declared.step.state_set.StateSet.{StateSet as Set};
 ghost use Rattle.re_auto.specs.declared.mode.Mode.TheVariants.{Search};
 ghost use Rattle.re_auto.specs.Working.StateSets.{IsMadeFor, IsSame, IsAccepting, AreAlikeInClasses};
 ghost use Rattle.re_search.specs.Working.Rows.{limit, IsSound, IsRight, IsBlank, IsMarkOf, IsCellOf, Extends};

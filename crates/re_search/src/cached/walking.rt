@@ -2,7 +2,7 @@
 ghost use Rattle.std.specs.Prelude.{◌≡◌, ℕ, suc, ◌+◌, ◌-◌, ◌*◌, ◌<◌, ◌≤◌, false, Some, IsTrue, IfSome, IfNone, length, slice_get, slice_index};
 ghost use Rattle.re_syntax.specs.Bytes.{Text};
 ghost use Rattle.re_syntax.specs.Expression.{expression_of};
-ghost use Rattle.re_auto.specs.declared.state_set.StateSet.{StateSet as Set};
+ghost use Rattle.re_auto.specs.declared.step.state_set.StateSet.{StateSet as Set};
 ghost use Rattle.re_auto.specs.declared.mode.Mode.TheVariants.{Search};
 ghost use Rattle.re_auto.specs.Meters.{Steps, many_built};
 ghost use Rattle.re_auto.specs.Working.StateSets.{IsMadeFor, IsNextSet, IsAccepting};

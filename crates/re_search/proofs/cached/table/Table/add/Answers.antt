@@ -1,7 +1,7 @@
 use Rattle.std.proofs.Common.{◌≡◌, ◌++◌, ◌∷◌, [], ℕ, Some, length, length-append, replicate, slice_get, refl, ap, ◌∙◌, subst, arith}
 use Rattle.std.proofs.lemmas.List.{get_or_append_left}
 use Rattle.re_syntax.specs.Expression.{expression_of}
-use Rattle.re_auto.specs.declared.state_set.StateSet.{StateSet}
+use Rattle.re_auto.specs.declared.step.state_set.StateSet.{StateSet}
 use Rattle.re_auto.specs.Working.StateSets.{IsSame}
 use Rattle.re_search.specs.Working.Pairs.{unknown, Mirrors}
 use Rattle.re_search.proofs.lemmas.SetKeys.{new_last, new_number}

@@ -3,7 +3,7 @@ use Rattle.std.proofs.lemmas.Bool.{false≢true}
 use Rattle.re_syntax.specs.Bytes.{Text}
 use Rattle.re_syntax.specs.Expression.{Expression, expression_of}
 use Rattle.re_auto.specs.declared.mode.Mode.{Mode}
-use Rattle.re_auto.specs.declared.state_set.StateSet.{StateSet}
+use Rattle.re_auto.specs.declared.step.state_set.StateSet.{StateSet}
 use Rattle.re_auto.specs.Working.StateSets.{StandsAt}
 use Rattle.re_search.proofs.lemmas.StageLaws.{nowhere_same, stands_same}
 use Rattle.re_search.proofs.lemmas.RowLaws.{get_cases}

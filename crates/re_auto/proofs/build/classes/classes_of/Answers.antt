@@ -1,0 +1,31 @@
+use Rattle.std.proofs.Common.{rules, arith, ◌≡◌, ◌+◌, ◌*◌, ◌<◌, ◌++◌, ◌∷◌, [], length, length-append, max, get_or, sym, ap, ◌∙◌, subst}
+use Rattle.re_auto.specs.Working.Bits.{row_of}
+use Rattle.re_auto.proofs.lemmas.RowLemmas.{row_within}
+use Rattle.re_auto.proofs.lemmas.ClassLemmas.{pushed}
+use Rattle.re_auto.proofs.build.classes.classes_of.Goals as goal
+
+pub bytes-preserved : goal.bytes-preserved
+bytes-preserved c =
+    let was = c.bytes.invariant in
+    let classed = c.in_ok-class.ensures in
+    let next : c.max-count.result ≡ max c.bytes.count (c.in_ok-class.class + 1) = omega arith in
+    let items : c.push.new.self.items ≡ c.bytes.class_of.items ++ (c.in_ok-class.class ∷ []) = search rules in
+    record {
+      bytes = omega (arith, ap length items, length-append c.bytes.class_of.items (c.in_ok-class.class ∷ []), was.bytes);
+      few = omega (arith, classed.known, was.few);
+      table = classed.longer ∙ ap (λ n. n * c.args.width) (sym next);
+      known = λ b lt. subst (λ xs. get_or xs b 0 < c.max-count.result) (sym items)
+          (pushed (λ b k. k < c.max-count.result) c.bytes.class_of.items c.in_ok-class.class c.bytes.c was.bytes (λ b lt. omega (arith, was.known b lt)) (omega arith) b lt);
+      same = λ b lt. subst (λ xs. row_of c.add_class.new.takes.items c.args.width (get_or xs b 0) ≡ row_of c.args.rows.now c.args.width b) (sym items)
+          (pushed (λ b k. row_of c.add_class.new.takes.items c.args.width k ≡ row_of c.args.rows.now c.args.width b) c.bytes.class_of.items c.in_ok-class.class c.bytes.c was.bytes
+          (λ b lt. classed.kept (get_or c.bytes.class_of.items b 0) (was.known b lt) ∙ was.same b lt) (classed.same ∙ c.row.ensures.is) b lt);
+    }
+
+pub returns : goal.returns
+returns c =
+    let was = c.bytes.invariant in
+    let all : c.bytes.c ≡ 256 = omega arith in record {
+      bytes = was.bytes ∙ all;
+      within = λ b lt. rw was.table (row_within (get_or c.bytes.class_of.items b 0) c.bytes.count c.args.width (was.known b (omega arith)));
+      same = λ b lt. was.same b (omega arith);
+    }

@@ -1,0 +1,10 @@
+use Rattle.std.proofs.Common.{subst, sym}
+use Rattle.std.proofs.lemmas.Result.{IfOk-weaker}
+use Rattle.re_auto.specs.Working.Bits.{Are}
+use Rattle.re_auto.proofs.lemmas.BitLemmas.{zeros_are}
+use Rattle.re_auto.proofs.build.ends.blank_set.Goals as goal
+
+pub returns : goal.returns
+returns c =
+    IfOk-weaker c.vec.result _ _
+    (λ words zeros. subst (λ xs. Are xs (λ _. ⊥) c.args.width) (sym (zeros (λ y h. h))) (zeros_are c.args.width)) c.vec.ensures.items_if_clones_equal

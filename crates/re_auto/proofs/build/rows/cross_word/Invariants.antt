@@ -1,0 +1,15 @@
+use Rattle.std.proofs.Common.{◌≡◌, ℕ, ◌+◌, ◌*◌, ◌≤◌, length}
+use Rattle.re_auto.specs.Working.Bits.{Has, row_of}
+use Rattle.re_auto.proofs.lemmas.BitLemmas.{AreAmong, AddsUp}
+use Rattle.re_auto.proofs.build.rows.cross_word.Given as goal
+
+-- what is added already and what is left to add make up the whole
+abbrev pub invariant-bits : goal.invariant-bits
+invariant-bits l =
+    (length l.follow ≡ length l.fn.follow)
+    × AreAmong l.left l.word
+    × ((x q : ℕ) → x * l.width + l.width ≤ length l.fn.follow →
+    AddsUp (Has (row_of l.follow l.width x) q) (Has (row_of l.fn.follow l.width x) q) (λ b. (x ≡ l.k * 64 + b) × Has l.first q) l.left l.word)
+
+abbrev pub decreases-bits : goal.decreases-bits
+decreases-bits l = l.left

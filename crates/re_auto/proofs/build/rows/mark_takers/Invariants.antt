@@ -1,0 +1,10 @@
+use Rattle.std.proofs.Common.{◌≡◌, ℕ, ◌<◌, length, ◌⊎◌}
+use Rattle.std.specs.Prelude.{◌↔◌}
+use Rattle.re_syntax.specs.Sets.{members}
+use Rattle.re_auto.specs.Working.Bits.{Has, row_of}
+use Rattle.re_auto.proofs.build.rows.mark_takers.Given as goal
+
+abbrev pub invariant-bytes : goal.invariant-bytes
+invariant-bytes l =
+    (length l.takes ≡ length l.fn.takes)
+    × ((c q : ℕ) → c < 256 → Has (row_of l.takes l.width c) q ↔ (Has (row_of l.fn.takes l.width c) q ⊎ ((c < l.c) × (members l.set c ≡ l.wanted) × (q ≡ l.position))))

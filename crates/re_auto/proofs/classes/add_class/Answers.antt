@@ -1,7 +1,0 @@
-use Rattle.re_auto.proofs.lemmas.ClassLemmas.{new_class}
-use Rattle.re_auto.proofs.classes.add_class.Goals as goal
-
-pub returns-in_ok-extend_from_slice : goal.returns-in_ok-extend_from_slice
-returns-in_ok-extend_from_slice c =
-    new_class c.args.count c.args.width c.args.row.now c.args.takes.now.items c.extend_from_slice.new.self.items c.find_class-class.result
-    c.requires.table c.requires.same c.if-class-count.true c.in_ok-extend_from_slice.ensures.items

@@ -1,9 +1,0 @@
-use Rattle.std.proofs.Common.{◌≡◌, ℕ, ◌<◌, false, IsTrue, length, get_or}
-use Rattle.std.specs.Prelude.{◌↔◌}
-use Rattle.re_auto.specs.Working.Bits.{Has, row_of}
-use Rattle.re_auto.proofs.classes.bytes_meeting.Given as goal
-
-abbrev pub invariant-bytes : goal.invariant-bytes
-invariant-bytes l =
-    (length l.marks ≡ 256)
-    × ((k : ℕ) → k < l.c → IsTrue (get_or l.marks k false) ↔ ((q : ℕ) × Has l.set q × Has (row_of l.rows l.width k) q))

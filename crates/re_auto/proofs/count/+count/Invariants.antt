@@ -1,8 +1,0 @@
-use Rattle.std.proofs.Common.{◌+◌, ◌≡◌, map, min, take}
-use Rattle.re_syntax.specs.Expression.{cat, expression_of}
-use Rattle.re_syntax.specs.Holds.{positions}
-use Rattle.re_syntax.specs.Profile.{most_positions}
-use Rattle.re_auto.proofs.count.+count.Given as goal
-
-abbrev pub invariant-count_all-members : goal.invariant-count_all-members
-invariant-count_all-members l = l.count ≡ min (positions (cat (map expression_of (take l.i l.members)))) (most_positions + 1)

@@ -1,5 +1,0 @@
-use Rattle.std.proofs.Common.{◌∙◌, refl}
-use Rattle.re_auto.proofs.state_set.StateSet.copy_from.Goals as goal
-
-pub returns : goal.returns
-returns c = (c.copy_from_slice.ensures.items ∙ c.deref.ensures.value, refl)

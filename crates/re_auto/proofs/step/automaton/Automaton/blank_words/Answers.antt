@@ -1,0 +1,21 @@
+use Rattle.std.proofs.Common.{ℕ, subst, sym}
+use Rattle.std.proofs.lemmas.Result.{IfOk-weaker}
+use Rattle.std.proofs.Math.ListN.{replicate}
+use Rattle.re_syntax.specs.Expression.{expression_of}
+use Rattle.re_syntax.specs.Holds.{positions}
+use Rattle.re_auto.specs.Working.Bits.{Are}
+use Rattle.re_auto.specs.Working.Tables.{AreTablesOf, words_for}
+use Rattle.re_auto.proofs.lemmas.BitLemmas.{zeros_are}
+use Rattle.re_auto.proofs.step.automaton.Automaton.blank_words.Goals as goal
+
+pub returns-clause-blank : goal.returns-clause-blank
+returns-clause-blank c = IfOk-weaker c.vec.result _ _ (λ words zeros. subst (λ xs. Are xs (λ _. ⊥) count) (sym (zeros (λ y h. h))) are) c.vec.ensures.items_if_clones_equal
+  where
+    count : ℕ
+    count = words_for (positions (expression_of c.args.self.now))
+
+    known : AreTablesOf (expression_of c.args.self.now) c.self.inside.tables
+    known = rw c.self.view_is at c.self.invariant
+
+    are : Are (replicate c.self.inside.tables.width 0) (λ _. ⊥) count
+    are = rw known.width (zeros_are count)

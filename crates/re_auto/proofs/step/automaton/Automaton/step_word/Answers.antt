@@ -1,0 +1,10 @@
+use Rattle.re_syntax.specs.Expression.{expression_of}
+use Rattle.re_auto.specs.Working.Positions.{part_of}
+use Rattle.re_auto.proofs.lemmas.BitLemmas.{chained}
+use Rattle.re_auto.proofs.lemmas.WordLemmas.{next_word}
+use Rattle.re_auto.proofs.step.automaton.Automaton.step_word.Goals as goal
+
+pub returns : goal.returns
+returns c =
+    next_word (part_of (expression_of c.args.self.now) 0) c.args.mode c.args.at_begin c.args.byte c.args.from c.first_word-first.result c.with_followers.result c.only_word.result
+    c.first_word-first.ensures c.with_followers.ensures (λ q. chained (c.only_word.ensures q) (c.taking.ensures.1 q))

@@ -1,0 +1,15 @@
+use Rattle.std.proofs.Common.{ℕ}
+use Rattle.re_syntax.specs.Expression.{expression_of}
+use Rattle.re_auto.specs.Working.Bits.{InWord}
+use Rattle.re_auto.specs.Working.Positions.{part_of}
+use Rattle.re_auto.proofs.lemmas.BitLemmas.{AreAmong, AddsUp}
+use Rattle.re_auto.proofs.step.automaton.Automaton.with_followers.Given as goal
+
+-- what is added already and what is left to add make up the whole
+abbrev pub invariant-bits : goal.invariant-bits
+invariant-bits l =
+    AreAmong l.left l.from
+    × ((q : ℕ) → AddsUp (InWord l.next q) (InWord l.word q) (λ b. (part_of (expression_of l.self) 0).follow b q) l.left l.from)
+
+abbrev pub decreases-bits : goal.decreases-bits
+decreases-bits l = l.left

@@ -1,0 +1,13 @@
+use Rattle.std.proofs.Common.{ℕ, ◌*◌, ◌≤◌, ◌⊎◌}
+use Rattle.std.specs.Prelude.{◌↔◌}
+use Rattle.re_syntax.specs.Expression.{expression_of}
+use Rattle.re_auto.specs.Working.Bits.{Has}
+use Rattle.re_auto.specs.Working.StartSets.{AreAlike, Carries, Brings}
+use Rattle.re_auto.proofs.step.starts.Starts.carry.Given as goal
+
+-- what is carried already and what is left to carry make up the whole
+abbrev pub invariant-words : goal.invariant-words
+invariant-words l =
+    AreAlike l.self l.fn.self
+    × ((q m : ℕ) → (Carries l.self q m ⊎ ((p : ℕ) × (l.k * 64 ≤ p) × Has l.from.held.items p × Brings (expression_of l.automaton) l.from l.taking p q m))
+    ↔ (Carries l.fn.self q m ⊎ ((p : ℕ) × Has l.from.held.items p × Brings (expression_of l.automaton) l.from l.taking p q m)))

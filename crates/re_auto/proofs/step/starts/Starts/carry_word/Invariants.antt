@@ -1,0 +1,15 @@
+use Rattle.std.proofs.Common.{ℕ, ◌+◌, ◌*◌, get_or}
+use Rattle.re_syntax.specs.Expression.{expression_of}
+use Rattle.re_auto.specs.Working.StartSets.{AreAlike, Carries, Brings}
+use Rattle.re_auto.proofs.lemmas.BitLemmas.{AreAmong, AddsUp}
+use Rattle.re_auto.proofs.step.starts.Starts.carry_word.Given as goal
+
+-- what is carried already and what is left to carry make up the whole, which has none but members of `from`
+abbrev pub invariant-bits : goal.invariant-bits
+invariant-bits l =
+    AreAlike l.self l.fn.self
+    × AreAmong l.left (get_or l.from.held.items l.k 0)
+    × ((q m : ℕ) → AddsUp (Carries l.self q m) (Carries l.fn.self q m) (λ b. Brings (expression_of l.automaton) l.from l.taking (l.k * 64 + b) q m) l.left (get_or l.from.held.items l.k 0))
+
+abbrev pub decreases-bits : goal.decreases-bits
+decreases-bits l = l.left

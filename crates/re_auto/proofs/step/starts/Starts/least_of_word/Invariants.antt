@@ -1,0 +1,13 @@
+use Rattle.std.proofs.Common.{ℕ, ◌+◌, ◌*◌, ◌≤◌, get_or}
+use Rattle.re_auto.specs.Working.StartSets.{AtMost}
+use Rattle.re_auto.proofs.lemmas.BitLemmas.{AreAmong, AddsUp}
+use Rattle.re_auto.proofs.step.starts.Starts.least_of_word.Given as goal
+
+-- what is found already and what is left to see make up the whole
+abbrev pub invariant-bits : goal.invariant-bits
+invariant-bits l =
+    AreAmong l.left l.word
+    × ((m : ℕ) → AddsUp (AtMost l.found m) (AtMost l.fn.least m) (λ b. get_or l.self.starts.items (l.k * 64 + b) 0 ≤ m) l.left l.word)
+
+abbrev pub decreases-bits : goal.decreases-bits
+decreases-bits l = l.left

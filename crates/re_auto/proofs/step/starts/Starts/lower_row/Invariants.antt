@@ -1,0 +1,12 @@
+use Rattle.std.proofs.Common.{◌≡◌, ℕ, ◌*◌, ◌≤◌, ◌⊎◌}
+use Rattle.std.specs.Prelude.{◌↔◌}
+use Rattle.re_auto.specs.Working.Bits.{Has}
+use Rattle.re_auto.specs.Working.StartSets.{AreAlike, Carries}
+use Rattle.re_auto.proofs.step.starts.Starts.lower_row.Given as goal
+
+-- what is given already and what is left to give make up the whole
+abbrev pub invariant-words : goal.invariant-words
+invariant-words l =
+    AreAlike l.self l.fn.self
+    × ((q m : ℕ) → (Carries l.self q m ⊎ ((p : ℕ) × (l.k * 64 ≤ p) × (Has l.row p × Has l.taking p) × ((q ≡ p) × (l.start ≤ m))))
+    ↔ (Carries l.fn.self q m ⊎ ((p : ℕ) × (Has l.row p × Has l.taking p) × ((q ≡ p) × (l.start ≤ m)))))

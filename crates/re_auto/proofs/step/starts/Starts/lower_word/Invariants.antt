@@ -1,0 +1,14 @@
+use Rattle.std.proofs.Common.{◌≡◌, ℕ, ◌+◌, ◌*◌, ◌≤◌}
+use Rattle.re_auto.specs.Working.StartSets.{AreAlike, Carries}
+use Rattle.re_auto.proofs.lemmas.BitLemmas.{AreAmong, AddsUp}
+use Rattle.re_auto.proofs.step.starts.Starts.lower_word.Given as goal
+
+-- what is given already and what is left to give make up the whole
+abbrev pub invariant-bits : goal.invariant-bits
+invariant-bits l =
+    AreAlike l.self l.fn.self
+    × AreAmong l.left l.word
+    × ((q m : ℕ) → AddsUp (Carries l.self q m) (Carries l.fn.self q m) (λ b. (q ≡ l.k * 64 + b) × (l.start ≤ m)) l.left l.word)
+
+abbrev pub decreases-bits : goal.decreases-bits
+decreases-bits l = l.left

@@ -1,0 +1,138 @@
+//! The rows of an automaton's tables, while they are written.
+ghost use Rattle.std.specs.Prelude.{◌≡◌, ℕ, ◌+◌, ◌*◌, ◌<◌, ◌≤◌, ◌↔◌, ◌⊎◌, IfOk, length};
+ghost use Rattle.std.specs.Int.{bit_at};
+ghost use Rattle.re_syntax.specs.Profile.{most_positions};
+ghost use Rattle.re_syntax.specs.Sets.{members};
+ghost use Rattle.re_auto.specs.Working.Bits.{Has, row_of};
+ghost use Rattle.re_auto.specs.Working.Building.{Adds, AreBlankRows, HasRows, HasWidth, Shows, Wanted, crossing, shown};
+ghost use Rattle.re_auto.specs.Working.Positions.{again, in_turn, one_position};
+ghost use Rattle.re_auto.specs.Working.Tables.{most_words};
+
+use crate::bits;
+use crate::build::ends::{Ends, blank_set};
+use re_syntax::ByteSet;
+use std::alloc::{AllocError, Global};
+
+/// For each position a row, those that can come directly after it, and for each byte a row, the
+/// positions that take it; a row has `width` words.
+#[derive(Drop)]
+pub struct Rows {
+    /// How many words a row has.
+    pub width: usize,
+    /// The row of each position.
+    pub follow: Vec<u64>,
+    /// The row of each of the 256 bytes.
+    pub takes: Vec<u64>,
+}
+
+impl Rows {
+    /// Rows without members, for so many positions.
+    pub fn blank(alloc: Global, count: usize) -> Result<Rows, AllocError>
+        requires { count ≤ most_positions }
+        ensures { IfOk result (AreBlankRows count) }
+    {
+        let width = (count + 63) / 64;
+        let follow = blank_set(alloc, count * width)?;
+        let takes = blank_set(alloc, 256 * width)?;
+        Ok(Rows {
+            width,
+            follow,
+            takes,
+        })
+    }
+
+    /// Adds that the second part can follow the first, and gives the ends of both in turn.
+    pub fn in_turn(&mut self, part: Ends, rest: Ends) -> Ends
+        requires left { HasWidth self.old.width part }
+        requires right { HasWidth self.old.width rest }
+        requires few { self.old.width ≤ most_words }
+        requires rows { HasRows (Has part.last_inside.items) self.old }
+        ensures begins { result.begins ≡ part.begins }
+        ensures shows { Shows (in_turn (shown part) (shown rest)) self.old.width result }
+        ensures adds { Adds (in_turn (shown part) (shown rest)) self.old self.new }
+    {
+        self.cross(&part.last_inside, &rest.first_inside);
+        part.in_turn(rest)
+    }
+
+    /// Adds that the part can follow itself.
+    pub fn again(&mut self, part: &Ends)
+        requires width { HasWidth self.old.width part.now }
+        requires few { self.old.width ≤ most_words }
+        requires rows { HasRows (Has part.now.last_inside.items) self.old }
+        ensures { Adds (again (shown part.now)) self.old self.new }
+    {
+        self.cross(&part.last_inside, &part.first_inside);
+    }
+
+    /// Adds a position that takes the bytes of the set, or those that are not in it.
+    pub fn take(&mut self, set: &ByteSet, wanted: bool, position: usize)
+        requires room { length self.old.takes.items ≡ 256 * self.old.width }
+        requires small { position < self.old.width * 64 }
+        ensures { Adds (one_position position (Wanted set.now wanted)) self.old self.new }
+    {
+        mark_takers(&mut self.takes, self.width, set, wanted, position);
+    }
+
+    // Adds that each position of `first` can come after each of `last`.
+    fn cross(&mut self, last: &Vec<u64>, first: &Vec<u64>)
+        requires same { length first.now.items ≡ self.old.width }
+        requires few { length last.now.items ≤ most_words }
+        requires rows { HasRows (Has last.now.items) self.old }
+        ensures { Adds (crossing (Has last.now.items) (Has first.now.items)) self.old self.new }
+    {
+        cross_rows(&mut self.follow, self.width, last, first);
+    }
+}
+
+// Adds the members of `first` to the row of each member of word `k` of a set.
+fn cross_word(follow: &mut [u64], width: usize, k: usize, word: u64, first: &[u64])
+    requires same { length first.now ≡ width }
+    requires rows { (b : ℕ) → b < 64 → bit_at word b ≡ 1 → (k * 64 + b) * width + width ≤ length follow.old }
+    requires few { k < most_words }
+    ensures len { length follow.new ≡ length follow.old }
+    ensures added { (x q : ℕ) → x * width + width ≤ length follow.old → Has (row_of follow.new width x) q ↔ (Has (row_of follow.old width x) q ⊎ ((b : ℕ) × (b < 64) × (bit_at word b ≡ 1) × ((x ≡ k * 64 + b) × Has first.now q))) }
+{
+    let mut left = word;
+    'bits: while left != 0 {
+        let bit = bits::take_lowest(&mut left);
+        bits::add_to_row(follow, width, k * 64 + bit, first);
+    }
+}
+
+// Adds the members of `first` to the row of each member of `last`.
+fn cross_rows(follow: &mut [u64], width: usize, last: &[u64], first: &[u64])
+    requires same { length first.now ≡ width }
+    requires few { length last.now ≤ most_words }
+    requires rows { (p : ℕ) → Has last.now p → p * width + width ≤ length follow.old }
+    ensures len { length follow.new ≡ length follow.old }
+    ensures added { (x q : ℕ) → x * width + width ≤ length follow.old → Has (row_of follow.new width x) q ↔ (Has (row_of follow.old width x) q ⊎ Has last.now x × Has first.now q) }
+{
+    'words: for k in 0..last.len() {
+        cross_word(follow, width, k, last[k], first);
+    }
+}
+
+// Adds one number to row `r` of a table.
+fn insert_in_row(table: &mut [u64], width: usize, r: usize, e: usize)
+    requires room { r * width + width ≤ length table.old }
+    requires small { e < width * 64 }
+    ensures len { length table.new ≡ length table.old }
+    ensures added { (x q : ℕ) → x * width + width ≤ length table.old → Has (row_of table.new width x) q ↔ (Has (row_of table.old width x) q ⊎ (x ≡ r) × (q ≡ e)) }
+{
+    bits::insert(&mut table[r * width..r * width + width], e);
+}
+
+// Adds a position to the row of each byte that is in the set, or of each that is not.
+fn mark_takers(takes: &mut [u64], width: usize, set: &ByteSet, wanted: bool, position: usize)
+    requires room { length takes.old ≡ 256 * width }
+    requires small { position < width * 64 }
+    ensures len { length takes.new ≡ length takes.old }
+    ensures added { (c q : ℕ) → c < 256 → Has (row_of takes.new width c) q ↔ (Has (row_of takes.old width c) q ⊎ (members set.now c ≡ wanted) × (q ≡ position)) }
+{
+    'bytes: for c in 0..256usize {
+        if set.has(c as u8) == wanted {
+            insert_in_row(takes, width, c, position);
+        }
+    }
+}

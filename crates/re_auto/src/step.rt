@@ -1,0 +1,6 @@
+//! Stepping over a line: the automaton, and the sets of its positions and least starts that are
+//! stepped.
+
+pub mod automaton;
+pub mod starts;
+pub mod state_set;

@@ -1,0 +1,53 @@
+//! Sets of positions on the way over a line.
+ghost use Rattle.std.specs.Prelude.{◌≡◌, IsTrue, ◌↔◌, IfOk, IfErr};
+ghost use Rattle.re_syntax.specs.Expression.{expression_of};
+ghost use Rattle.re_auto.specs.declared.build.BuildFault.TheVariants.{Memory};
+ghost use Rattle.re_auto.specs.Working.StateSets.{IsMadeFor, IsAlike, IsSame, IsNowhere};
+
+use crate::bits;
+use crate::build::BuildFault;
+use crate::step::automaton::Automaton;
+use std::alloc::Global;
+
+/// A set of positions of an automaton, and a mark 'at the line's first place'. What it stands for
+/// on a line and a place is `StandsAt` in `specs/Working/StateSets.antt`.
+#[derive(PartialEq, Eq, Hash, Drop)]
+pub struct StateSet {
+    pub(crate) words: Vec<u64>,
+    pub(crate) at_begin: bool,
+}
+
+impl StateSet {
+    /// A set without positions and without the mark, for this automaton. The only call that takes
+    /// memory; its one error is `Memory`.
+    pub fn blank(alloc: Global, automaton: &Automaton) -> Result<StateSet, BuildFault>
+        ensures made { IfOk result (IsMadeFor (expression_of automaton.now)) }
+        ensures nowhere { IfOk result IsNowhere }
+        ensures refused { IfErr result (λ fault. fault ≡ Memory) }
+    {
+        match automaton.blank_words(alloc) {
+            Ok(words) => Ok(StateSet {
+                words,
+                at_begin: false,
+            }),
+            Err(_) => Err(BuildFault::Memory),
+        }
+    }
+
+    /// Makes this set that one, without memory. Both were made for the same automaton.
+    pub fn copy_from(&mut self, from: &StateSet)
+        requires alike { IsAlike self.old from.now }
+        ensures { IsSame self.new from.now }
+    {
+        self.words.copy_from_slice(&from.words);
+        self.at_begin = from.at_begin;
+    }
+
+    /// Whether it holds no position and has no mark: no stretch is on its way.
+    pub fn is_nowhere(&self) -> bool
+        ensures { IsTrue result ↔ IsNowhere self.now }
+    {
+        let clear = bits::is_clear(&self.words);
+        !self.at_begin & clear
+    }
+}
