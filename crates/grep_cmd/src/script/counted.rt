@@ -3,26 +3,14 @@ ghost use Rattle.std.specs.Prelude.{◌≡◌, [], ◌∷◌, ◌++◌, List, If
 ghost use Rattle.std.specs.Result.{result_map_both};
 ghost use Rattle.re_syntax.specs.Bytes.{Text};
 ghost use Rattle.re_syntax.specs.Lines.{joined, newline};
-ghost use Rattle.grep_core.specs.Written.{Writes};
 ghost use Rattle.grep_core.specs.Working.Numbered.{HasHanded};
 ghost use Rattle.grep_cmd.specs.Working.Answered.{ReadsNext, TakesLines, Flushes};
 
 use crate::script::ScriptFault;
-use grep_core::{CountedRead, CountedWrite, NumberedLines, ReadFault, WriteFault};
+use grep_core::{
+    CountedRead, CountedWrite, NumberedLines, ReadFault, WriteFault, send_before_read,
+};
 use std::alloc::{AllocError, Global};
-
-/// Sends what was gathered where the next line has to be read.
-fn send_before_read<R: CountedRead, W: CountedWrite>(
-    lines: &NumberedLines<R>,
-    out: &mut W,
-) -> Result<(), WriteFault>
-    ensures { Writes W.contents W.failures out.old out.new [] result }
-{
-    if lines.has_line() {
-        return Ok(());
-    }
-    out.flush()
-}
 
 /// Hands out the next line of a script, and answers whether there was one. Where it has to be read,
 /// all replies are sent before.
