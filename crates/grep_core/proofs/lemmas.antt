@@ -1,6 +1,7 @@
 pub mod LimitedLemmas
 pub mod WindowLemmas
 pub mod RowLemmas
+pub mod SentLemmas
 pub mod BufferLemmas
 pub mod MessageLemmas
 pub mod ChooseLaws

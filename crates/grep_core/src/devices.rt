@@ -3,3 +3,4 @@
 pub mod buffered;
 pub mod counted;
 pub mod limited;
+pub mod sending;
