@@ -4,3 +4,4 @@ pub mod buffered;
 pub mod counted;
 pub mod limited;
 pub mod sending;
+pub mod whole_lines;

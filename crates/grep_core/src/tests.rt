@@ -129,3 +129,52 @@ fn a_row_longer_than_the_buffer_is_parted(rt: HostRuntime) -> Result<(), Fail> {
     assert!(rt; bytes.ends_with(b"aa|aaaa\n|"));
     Ok(())
 }
+
+#[test]
+fn a_message_is_one_write(rt: HostRuntime) -> Result<(), Fail> {
+    let mut out = WholeLines::new(rt.alloc(), unwritten(&rt, usize::MAX, usize::MAX))?;
+    assert_eq!(rt; write_cannot_open(&mut out, b"a.txt"), Ok(()));
+    assert_eq!(rt; push_all(&mut out, b"ab\ncd\nef"), Ok(()));
+    assert_eq!(rt; write_line(&mut out, b"gh"), Ok(()));
+    assert_eq!(rt; push_all(&mut out, b"ij"), Ok(()));
+    assert_eq!(rt; out.flush(), Ok(()));
+    let bytes = out.into_inner().into_inner().bytes;
+    let want = b"grep: a.txt: cannot open\n|ab\ncd\n|efgh\n|ij|";
+    assert_eq!(rt; bytes.as_slice(), want.as_slice());
+    Ok(())
+}
+
+#[test]
+fn a_line_longer_than_the_room_goes_in_pieces(rt: HostRuntime) -> Result<(), Fail> {
+    let line = vec![in rt.alloc(); b'a'; 4_100]?;
+    let mut out = WholeLines::new(rt.alloc(), unwritten(&rt, usize::MAX, usize::MAX))?;
+    assert_eq!(rt; write_line(&mut out, &line), Ok(()));
+    let bytes = out.into_inner().into_inner().bytes;
+    assert_eq!(rt; bytes.len(), 4_103);
+    assert!(rt; bytes.ends_with(b"aa|aaaa\n|"));
+    Ok(())
+}
+
+#[test]
+fn a_line_that_is_taken_in_part_goes_on(rt: HostRuntime) -> Result<(), Fail> {
+    let mut out = WholeLines::new(rt.alloc(), unwritten(&rt, 1, usize::MAX))?;
+    assert_eq!(rt; write_line(&mut out, b"ab"), Ok(()));
+    assert_eq!(rt; push_all(&mut out, b"cd\ne"), Ok(()));
+    assert_eq!(rt; out.flush(), Ok(()));
+    let bytes = out.into_inner().into_inner().bytes;
+    assert_eq!(rt; bytes.as_slice(), b"a|b|\n|c|d|\n|e|".as_slice());
+    Ok(())
+}
+
+#[test]
+fn a_failed_line_goes_once(rt: HostRuntime) -> Result<(), Fail> {
+    let mut out = WholeLines::new(rt.alloc(), unwritten(&rt, 2, 1))?;
+    assert_eq!(rt; push_all(&mut out, b"abcd"), Ok(()));
+    assert_eq!(rt; push_all(&mut out, b"ef\n"), Err(WriteFault));
+    assert_eq!(rt; out.failures(), 1);
+    assert_eq!(rt; push_all(&mut out, b"ef\n"), Ok(()));
+    assert_eq!(rt; out.failures(), 1);
+    let bytes = out.into_inner().into_inner().bytes;
+    assert_eq!(rt; bytes.as_slice(), b"ab|cd|ef|\n|".as_slice());
+    Ok(())
+}
