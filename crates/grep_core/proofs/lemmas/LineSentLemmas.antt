@@ -8,7 +8,7 @@ use Rattle.std.specs.Io.KnownBytes.{Keeps, Appends, append_known}
 use Rattle.re_syntax.specs.Bytes.{Text}
 use Rattle.re_syntax.specs.Lines.{newline, HasNoNewline}
 use Rattle.grep_core.specs.Counted.{one_more, Counts, PushAppends}
-use Rattle.grep_core.specs.Buffer.{BufferedWriter, Sends, SendsSome, all_contents}
+use Rattle.grep_core.specs.Buffer.{BufferedWriter, SendsSome, all_contents}
 use Rattle.grep_core.specs.Working.Sent.{SendsFront, SendsLine}
 use Rattle.grep_core.proofs.lemmas.BufferLemmas.{kept_by_some}
 
@@ -68,15 +68,10 @@ no_newline_behind text front rest cut none =
 pub no_newline_in_both : (held more both : Text) → both ≡ held ++ more → HasNoNewline held → HasNoNewline more → HasNoNewline both
 no_newline_in_both held more both joined first second = subst HasNoNewline (sym joined) (All-append (λ b. b ≢ newline) held more first second)
 
-pub no_newline_in_none : (rest : Text) → rest ≡ [] → HasNoNewline rest
+no_newline_in_none : (rest : Text) → rest ≡ [] → HasNoNewline rest
 no_newline_in_none rest none = subst HasNoNewline (sym none) (All-nil (λ b. b ≢ newline))
 
 module _ {W : Type 0} (contents : W → Option Text) (failures : W → ℕ) where
-  -- no newline waits behind a send
-  pub no_newline_left : {T E : Type 0} (old new : BufferedWriter W) (r : Result T E) → Sends contents failures old new r → HasNoNewline old.waiting → HasNoNewline new.waiting
-  no_newline_left old new (Ok v) went none = no_newline_in_none new.waiting went.none_waits
-  no_newline_left old new (Err e) went none = no_newline_behind old.waiting went.front new.waiting went.cut none
-
   -- no newline waits behind a beginning that was to go out
   pub no_newline_behind_front : {T E : Type 0} (old new : BufferedWriter W) (n : ℕ) (r : Result T E)
       → MatchResult r (λ _. SendsFront contents failures n old new) (λ _. SendsSome contents failures old new) → HasNoNewline old.waiting → HasNoNewline new.waiting
@@ -111,4 +106,4 @@ module _ {W : Type 0} (contents : W → Option Text) (failures : W → ℕ) wher
   line_counted old mid new line None same went = went.counted ∙ ap one_more same
   line_counted old mid new line (Some n) same went = went.3 ∙ same
 
-pub ruleset gathering_lines = (no_newline_in_both, no_newline_in_none, no_newline_left, no_newline_waits, line_taken, line_within, line_written, line_counted, append_known-grown)
+pub ruleset gathering_lines = (no_newline_in_both, no_newline_waits, line_taken, line_within, line_written, line_counted, append_known-grown)
