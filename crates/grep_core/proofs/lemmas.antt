@@ -1,7 +1,9 @@
 pub mod LimitedLemmas
 pub mod WindowLemmas
 pub mod RowLemmas
+pub mod SentLemmas
 pub mod BufferLemmas
+pub mod LineSentLemmas
 pub mod MessageLemmas
 pub mod ChooseLaws
 pub mod AnyLaws

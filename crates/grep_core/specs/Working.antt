@@ -1,4 +1,5 @@
 pub mod Limited
+pub mod Sent
 pub mod LineReader
 pub mod Held
 pub mod Refilled

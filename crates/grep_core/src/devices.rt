@@ -3,3 +3,5 @@
 pub mod buffered;
 pub mod counted;
 pub mod limited;
+pub mod sending;
+pub mod whole_lines;

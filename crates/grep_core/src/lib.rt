@@ -13,6 +13,7 @@ mod status;
 pub use devices::buffered::Buffered;
 pub use devices::counted::{CountedRead, CountedWrite, Tally, WriteFault};
 pub use devices::limited::Limited;
+pub use devices::whole_lines::WholeLines;
 pub use input::lines::{Lines, ReadFault, Stage};
 pub use input::numbered::NumberedLines;
 pub use input::sources::Sources;

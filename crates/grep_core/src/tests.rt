@@ -1,4 +1,5 @@
 use super::*;
+use std::io::{Error, ErrorKind, Write};
 use std::test::Fail;
 
 // The length of the next line. A growth that is refused is asked for once more.
@@ -63,5 +64,117 @@ fn a_failed_flush_keeps_a_beginning(rt: HostRuntime) -> Result<(), Fail> {
     assert_eq!(rt; out.failures(), 1);
     let bytes = out.into_inner().into_inner().into_inner();
     assert_eq!(rt; bytes.as_slice(), b"0123456".as_slice());
+    Ok(())
+}
+
+/// A device of which each write takes at most `step` bytes and puts a bar behind them. The write
+/// after the first `good` ones fails, and those behind it go on.
+#[derive(Drop)]
+struct Barred {
+    bytes: Vec<u8>,
+    step: usize,
+    good: usize,
+}
+
+impl Write for Barred {
+    fn write(&mut self, buf: &[u8]) -> std::io::Result<usize> {
+        if self.good == 0 {
+            self.good = usize::MAX;
+            return Err(Error::from(ErrorKind::Other));
+        }
+        self.good -= 1;
+        let count = buf.len().min(self.step);
+        if self.bytes.extend_from_slice(&buf[..count]).is_err() {
+            return Err(Error::from(ErrorKind::Other));
+        }
+        if self.bytes.push(b'|').is_err() {
+            return Err(Error::from(ErrorKind::Other));
+        }
+        Ok(count)
+    }
+
+    fn flush(&mut self) -> std::io::Result<()> {
+        Ok(())
+    }
+}
+
+// A device on which nothing was written yet.
+fn unwritten(rt: &HostRuntime, step: usize, good: usize) -> Tally<Barred> {
+    let bytes = Vec::new(rt.alloc());
+    Tally::new(Barred { bytes, step, good })
+}
+
+#[test]
+fn rows_are_sent_whole(rt: HostRuntime) -> Result<(), Fail> {
+    let row = vec![in rt.alloc(); b'a'; 65_530]?;
+    let mut out = Buffered::new(rt.alloc(), unwritten(&rt, usize::MAX, usize::MAX))?;
+    assert_eq!(rt; write_line(&mut out, &row), Ok(()));
+    assert_eq!(rt; push_all(&mut out, b"bbbb"), Ok(()));
+    assert_eq!(rt; write_line(&mut out, b"cccc"), Ok(()));
+    assert_eq!(rt; out.send(), Ok(()));
+    let bytes = out.into_inner().into_inner().bytes;
+    assert_eq!(rt; bytes.len(), 65_542);
+    assert!(rt; bytes.ends_with(b"aa\n|bbbbcccc\n|"));
+    Ok(())
+}
+
+#[test]
+fn a_row_longer_than_the_buffer_is_parted(rt: HostRuntime) -> Result<(), Fail> {
+    let row = vec![in rt.alloc(); b'a'; 65_540]?;
+    let mut out = Buffered::new(rt.alloc(), unwritten(&rt, usize::MAX, usize::MAX))?;
+    assert_eq!(rt; write_line(&mut out, &row), Ok(()));
+    assert_eq!(rt; out.send(), Ok(()));
+    let bytes = out.into_inner().into_inner().bytes;
+    assert_eq!(rt; bytes.len(), 65_543);
+    assert!(rt; bytes.ends_with(b"aa|aaaa\n|"));
+    Ok(())
+}
+
+#[test]
+fn a_message_is_one_write(rt: HostRuntime) -> Result<(), Fail> {
+    let mut out = WholeLines::new(rt.alloc(), unwritten(&rt, usize::MAX, usize::MAX))?;
+    assert_eq!(rt; write_cannot_open(&mut out, b"a.txt"), Ok(()));
+    assert_eq!(rt; push_all(&mut out, b"ab\ncd\nef"), Ok(()));
+    assert_eq!(rt; write_line(&mut out, b"gh"), Ok(()));
+    assert_eq!(rt; push_all(&mut out, b"ij"), Ok(()));
+    assert_eq!(rt; out.flush(), Ok(()));
+    let bytes = out.into_inner().into_inner().bytes;
+    let want = b"grep: a.txt: cannot open\n|ab\ncd\n|efgh\n|ij|";
+    assert_eq!(rt; bytes.as_slice(), want.as_slice());
+    Ok(())
+}
+
+#[test]
+fn a_line_longer_than_the_room_goes_in_pieces(rt: HostRuntime) -> Result<(), Fail> {
+    let line = vec![in rt.alloc(); b'a'; 4_100]?;
+    let mut out = WholeLines::new(rt.alloc(), unwritten(&rt, usize::MAX, usize::MAX))?;
+    assert_eq!(rt; write_line(&mut out, &line), Ok(()));
+    let bytes = out.into_inner().into_inner().bytes;
+    assert_eq!(rt; bytes.len(), 4_103);
+    assert!(rt; bytes.ends_with(b"aa|aaaa\n|"));
+    Ok(())
+}
+
+#[test]
+fn a_line_that_is_taken_in_part_goes_on(rt: HostRuntime) -> Result<(), Fail> {
+    let mut out = WholeLines::new(rt.alloc(), unwritten(&rt, 1, usize::MAX))?;
+    assert_eq!(rt; write_line(&mut out, b"ab"), Ok(()));
+    assert_eq!(rt; push_all(&mut out, b"cd\ne"), Ok(()));
+    assert_eq!(rt; out.flush(), Ok(()));
+    let bytes = out.into_inner().into_inner().bytes;
+    assert_eq!(rt; bytes.as_slice(), b"a|b|\n|c|d|\n|e|".as_slice());
+    Ok(())
+}
+
+#[test]
+fn a_failed_line_goes_once(rt: HostRuntime) -> Result<(), Fail> {
+    let mut out = WholeLines::new(rt.alloc(), unwritten(&rt, 2, 1))?;
+    assert_eq!(rt; push_all(&mut out, b"abcd"), Ok(()));
+    assert_eq!(rt; push_all(&mut out, b"ef\n"), Err(WriteFault));
+    assert_eq!(rt; out.failures(), 1);
+    assert_eq!(rt; push_all(&mut out, b"ef\n"), Ok(()));
+    assert_eq!(rt; out.failures(), 1);
+    let bytes = out.into_inner().into_inner().bytes;
+    assert_eq!(rt; bytes.as_slice(), b"ab|cd|ef|\n|".as_slice());
     Ok(())
 }

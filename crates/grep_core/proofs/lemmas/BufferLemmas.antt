@@ -1,38 +1,64 @@
 -- Bytes that move from a buffer to a writer.
-use Rattle.std.proofs.Common.{◌≡◌, ℕ, [], ◌++◌, Option, ◌≤◌, length, take, drop, refl, sym, ap, ◌∙◌, append-nil, take-append-drop, subst}
+use Rattle.std.proofs.Common.{◌≡◌, ℕ, ◌-◌, ◌<◌, [], ◌++◌, Option, Result, Ok, Err, MatchResult, IfOk, inl, inr, ⊎_elim, length, take, refl, sym, ap, ◌∙◌, arith, append-nil, take-append-drop, length-drop, subst}
 use Rattle.std.proofs.KnownBytes.{append_known-moved, append_known-grown, Appends-nil, Appends-kept}
-use Rattle.std.proofs.lemmas.List.{take_all}
+use Rattle.std.proofs.lemmas.List.{take_all, drop_all}
 use Rattle.std.specs.Io.KnownBytes.{Keeps, Appends}
 use Rattle.re_syntax.specs.Bytes.{Text}
-use Rattle.grep_core.specs.Counted.{one_more}
+use Rattle.re_syntax.specs.Lines.{HasNoNewline}
 use Rattle.grep_core.specs.Written.{StopsWithin}
-use Rattle.grep_core.specs.Buffer.{BufferedWriter, SendsAll, SendsSome, all_contents}
+use Rattle.grep_core.specs.Buffer.{BufferedWriter, Sends, SendsAll, SendsSome, all_contents}
+use Rattle.grep_core.specs.Working.Sent.{EndsRows, SendsFront, SendsWhole, SendsRows}
 
 module _ {W : Type 0} (contents : W → Option Text) (failures : W → ℕ) where
-  -- as many bytes went out as waited
-  pub sends_all : (old : BufferedWriter W) (inner : W) (n : ℕ) → length old.waiting ≤ n → Appends (contents old.inner) (contents inner) (take n old.waiting)
-      → failures inner ≡ failures old.inner → SendsAll contents failures old (record { inner = inner; waiting = [] })
-  sends_all old inner n all went same = record {
-    written = subst (Appends (contents old.inner) (contents inner)) (take_all n old.waiting all) went;
-    none_waits = refl;
-    none_failed = same;
+  -- the first n bytes went, and as many waited
+  whole_front_sent : (old new : BufferedWriter W) (n : ℕ) → n ≡ length old.waiting → SendsFront contents failures n old new → SendsAll contents failures old new
+  whole_front_sent old new n all went = record {
+    written = subst (Appends (contents old.inner) (contents new.inner)) (take_all n old.waiting (omega (arith, all))) went.written;
+    none_waits = went.rest ∙ drop_all n old.waiting (omega (arith, all));
+    none_failed = went.none_failed;
   }
 
-  -- the first n bytes went out, and a write failed
-  pub sends_some : (old : BufferedWriter W) (inner : W) (n : ℕ) → Appends (contents old.inner) (contents inner) (take n old.waiting)
-      → failures inner ≡ one_more (failures old.inner) → SendsSome contents failures old (record { inner = inner; waiting = drop n old.waiting })
-  sends_some old inner n went more = record {
-    front = take n old.waiting;
-    cut = sym (take-append-drop n old.waiting);
-    written = went;
-    counted = more;
-  }
+  -- all that waited was to go
+  pub all_sent : {T E : Type 0} (old new : BufferedWriter W) (n : ℕ) (r : Result T E) → n ≡ length old.waiting
+      → MatchResult r (λ _. SendsFront contents failures n old new) (λ _. SendsSome contents failures old new) → Sends contents failures old new r
+  all_sent old new n (Ok v) all went = whole_front_sent old new n all went
+  all_sent old new n (Err e) all went = went
+
+  -- the rows that waited whole were to go
+  pub rows_sent : {T E : Type 0} (old new : BufferedWriter W) (n : ℕ) (r : Result T E) → EndsRows old.waiting n
+      → MatchResult r (λ _. SendsFront contents failures n old new) (λ _. SendsSome contents failures old new) → SendsRows contents failures old new r
+  rows_sent old new n (Ok v) ended went = record { count = n; whole = inl ended; front = went }
+  rows_sent old new n (Err e) ended went = went
+
+  -- no row waited whole, and all was to go
+  pub part_sent : {T E : Type 0} (old new : BufferedWriter W) (n : ℕ) (r : Result T E) → HasNoNewline old.waiting → n ≡ length old.waiting
+      → MatchResult r (λ _. SendsFront contents failures n old new) (λ _. SendsSome contents failures old new) → SendsRows contents failures old new r
+  part_sent old new n (Ok v) none all went = record { count = n; whole = inr (none, all); front = went }
+  part_sent old new n (Err e) none all went = went
+
+  -- where bytes waited and rows went, fewer wait
+  fewer_wait : (old new : BufferedWriter W) → SendsWhole contents failures old new → 0 < length old.waiting → length new.waiting < length old.waiting
+  fewer_wait old new went some =
+      let count_some : 0 < went.count = ⊎_elim (λ ended. ended.some) (λ all. omega (arith, some, all.1)) went.whole in
+      let left : length new.waiting ≡ length old.waiting - went.count = ap length went.front.rest ∙ length-drop went.count old.waiting in
+      omega (arith, some, count_some, left)
+
+  pub rows_make_room : {T E : Type 0} (old new : BufferedWriter W) (r : Result T E) → SendsRows contents failures old new r
+      → IfOk r (λ _. 0 < length old.waiting → length new.waiting < length old.waiting)
+  rows_make_room old new (Ok v) went = fewer_wait old new went
+  rows_make_room old new (Err e) went = tt
 
   -- no byte is lost where all went out
   pub kept_by_all : (old new : BufferedWriter W) → SendsAll contents failures old new → Keeps (all_contents contents old) (all_contents contents new)
   kept_by_all old new sends =
       append_known-moved (contents old.inner) (contents new.inner) old.waiting new.waiting old.waiting sends.written
       (sym (append-nil old.waiting) ∙ ap (λ l. old.waiting ++ l) (sym sends.none_waits))
+
+  -- no byte is lost where whole rows went out
+  pub kept_by_rows : (old new : BufferedWriter W) → SendsWhole contents failures old new → Keeps (all_contents contents old) (all_contents contents new)
+  kept_by_rows old new sends =
+      append_known-moved (contents old.inner) (contents new.inner) (take sends.count old.waiting) new.waiting old.waiting sends.front.written
+      (sym (take-append-drop sends.count old.waiting) ∙ ap (λ l. take sends.count old.waiting ++ l) (sym sends.front.rest))
 
   -- no byte is lost where some went out
   pub kept_by_some : (old new : BufferedWriter W) → SendsSome contents failures old new → Keeps (all_contents contents old) (all_contents contents new)
@@ -50,4 +76,4 @@ module _ {W : Type 0} (contents : W → Option Text) (failures : W → ℕ) wher
     counted = sends.counted;
   }
 
-pub ruleset moving = (sends_all, sends_some, kept_by_all, kept_by_some, append_known-grown, stops_with_none)
+pub ruleset moving = (all_sent, rows_sent, part_sent, rows_make_room, kept_by_all, kept_by_rows, kept_by_some, append_known-grown, stops_with_none)

@@ -1,17 +1,22 @@
 // A writer that gathers bytes before they go to the device.
-ghost use Rattle.std.specs.Prelude.{◌≡◌, ◌+◌, [], IfOk, length};
+ghost use Rattle.std.specs.Prelude.{◌≡◌, ◌+◌, ◌<◌, [], IfOk, OnErr, length};
+ghost use Rattle.std.specs.Io.KnownBytes.{Keeps};
+ghost use Rattle.grep_core.specs.Counted.{one_more};
 ghost use Rattle.grep_core.specs.Buffer.{Sends, all_contents};
+ghost use Rattle.grep_core.specs.Working.Sent.{SendsRows};
 
 use crate::devices::counted::{CountedWrite, WriteFault};
-use crate::output::push::push_most;
+use crate::devices::sending::{gather, rows_end, send_front};
 use std::alloc::{AllocError, Global};
 use std::marker::Model;
 
 // How many bytes are gathered.
 const ROOM: usize = 65_536;
 
-/// A writer that gathers up to 65,536 bytes before they go to the inner writer. A failed write of
-/// the inner one ends the call that made it, and is not tried again in that call.
+/// A writer that gathers up to 65,536 bytes before they go to the inner writer. Where it is full it
+/// sends the rows that are whole, so that no row that fits is parted between two sends; where no
+/// newline waits it sends all. A failed write of the inner writer ends the call that made it, and is
+/// not tried again in that call.
 /// Contracts see it as the inner writer and the bytes that wait. Bytes that still wait when it is
 /// dropped are lost: call `send` or `flush` first.
 #[derive(Drop)]
@@ -60,13 +65,36 @@ impl<W: CountedWrite> Buffered<W> {
     pub fn send(&mut self) -> Result<(), WriteFault>
         ensures { Sends W.contents W.failures self.old self.new result }
     {
-        let sent = push_most(&mut self.inner, &self.buffer);
-        if sent < self.buffer.len() {
-            self.buffer.drain(..sent);
-            return Err(WriteFault);
+        let all = self.buffer.len();
+        send_front(&mut self.inner, &mut self.buffer, all)
+    }
+
+    // Sends the rows that wait whole, or all bytes that wait where no row is whole.
+    #[inline(never)]
+    fn send_rows(&mut self) -> Result<(), WriteFault>
+        ensures sent { SendsRows W.contents W.failures self.old self.new result }
+        ensures room { IfOk result (λ _. 0 < length self.old.waiting
+            → length self.new.waiting < length self.old.waiting) }
+    {
+        let Some(end) = rows_end(&self.buffer) else {
+            let all = self.buffer.len();
+            return send_front(&mut self.inner, &mut self.buffer, all);
+        };
+        send_front(&mut self.inner, &mut self.buffer, end)
+    }
+
+    // Sends the rows that wait whole, where there is no room for another byte.
+    #[inline]
+    fn make_room(&mut self) -> Result<(), WriteFault>
+        ensures kept { Keeps (all_contents W.contents self.old) (all_contents W.contents self.new) }
+        ensures room { IfOk result (λ _. length self.new.waiting < 65536) }
+        ensures none_failed { IfOk result (λ _. W.failures self.new.inner ≡ W.failures self.old.inner) }
+        ensures one_failed { OnErr result (W.failures self.new.inner ≡ one_more (W.failures self.old.inner)) }
+    {
+        if self.buffer.len() < ROOM {
+            return Ok(());
         }
-        self.buffer.clear();
-        Ok(())
+        self.send_rows()
     }
 }
 
@@ -79,14 +107,12 @@ impl<W: CountedWrite> CountedWrite for Buffered<W> {
     ghost waiting = { λ out. length out.waiting + W.waiting out.inner };
 
     fn push(&mut self, from: &[u8]) -> Option<usize> {
-        if self.buffer.len() == ROOM && self.send().is_err() {
+        if self.make_room().is_err() {
             return None;
         }
         let count = from.len().min(ROOM - self.buffer.len());
-        match self.buffer.extend_from_slice(&from[..count]) {
-            Ok(()) => Some(count),
-            Err(_) => unreachable!(),
-        }
+        gather(&mut self.buffer, &from[..count]);
+        Some(count)
     }
 
     fn flush(&mut self) -> Result<(), WriteFault> {

@@ -1,0 +1,9 @@
+use Rattle.std.proofs.Common.{◌∙◌, rules}
+use Rattle.grep_core.proofs.lemmas.LineSentLemmas.{line_goes}
+use Rattle.grep_core.proofs.devices.whole_lines.push_line.Goals as goal
+
+pub returns-clause-sent : goal.returns-clause-sent
+returns-clause-sent g c =
+    line_goes g.W.CountedWrite.contents g.W.CountedWrite.failures c.args.out.now c.push_past-sent.new.out c.args.buffer.now.items c.args.line.now c.deref.result.now c.clear.new.self.items
+    c.push_past-sent.result c.len-held.result (c.deref.ensures.value ∙ c.gather.ensures.items) (search rules) c.if-sent-held.false c.push_past-sent.ensures.within
+    c.push_past-sent.ensures.written (c.push_past-sent.ensures.none_failed c.if-sent-held.false) c.clear.ensures.items
