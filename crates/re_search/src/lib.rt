@@ -2,6 +2,7 @@
 //! counted steps.
 #![tactic(auto)]
 
+mod block;
 mod cached;
 mod filter;
 mod fixed;
