@@ -1,5 +1,6 @@
 pub mod LimitedLemmas
 pub mod WindowLemmas
+pub mod WindowBlocks
 pub mod RowLemmas
 pub mod BufferLemmas
 pub mod MessageLemmas
@@ -20,6 +21,7 @@ pub mod FileLaws
 pub mod WriterLaws
 pub mod HandedLemmas
 pub mod NumberedLemmas
+pub mod PassedLemmas
 pub mod PassLemmas
 pub mod OneFile
 pub mod OneLineLemmas
