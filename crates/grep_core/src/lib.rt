@@ -27,6 +27,7 @@ pub use output::wanted::Wanted;
 pub use search::file::{FileEnd, FileFound, count_found};
 pub use search::matching::next_part;
 pub use search::run::{search_all, search_filtered};
+pub use search::sending::send_before_read;
 pub use search::serving::serves_for_others;
 pub use status::{RunFault, Status};
 

@@ -4,4 +4,5 @@ pub mod file;
 pub mod line;
 pub mod matching;
 pub mod run;
+pub mod sending;
 pub mod serving;

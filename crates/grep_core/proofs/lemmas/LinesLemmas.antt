@@ -1,5 +1,5 @@
 -- A search of the lines of an open source, one more line at a time, and what it says of the source's file.
-use Rattle.std.proofs.Common.{◌≡◌, ℕ, ◌+◌, nat_lt, ◌<◌, ◌≤◌, ◌⊎◌, Bool, true, false, ◌&&◌, IsTrue, Decides, List, [], ◌∷◌, ◌++◌, Option, length, take, refl, sym, ap, subst, ◌∙◌, inl, inr, arith, Any, if◌then◌else◌}
+use Rattle.std.proofs.Common.{◌≡◌, ℕ, ◌+◌, ◌-◌, ◌^◌, nat_lt, ◌<◌, ◌≤◌, ◌⊎◌, Bool, true, false, ◌&&◌, IsTrue, Decides, List, [], ◌∷◌, ◌++◌, Option, length, take, refl, sym, ap, subst, ◌∙◌, append-nil, inl, inr, arith, Any, if◌then◌else◌}
 use Rattle.std.proofs.Math.Seq.{take-append_seam}
 use Rattle.std.proofs.lemmas.Bool.{false≢true, cases_Bool, cond-true, cond-false}
 use Rattle.std.proofs.lemmas.List.{length_push, length-append}
@@ -10,13 +10,13 @@ use Rattle.grep_core.specs.declared.options.Options.{Options}
 use Rattle.grep_core.specs.declared.input.lines.Stage.TheVariants.{Open}
 use Rattle.grep_core.specs.declared.search.file.FileEnd.TheVariants.{Whole, Broken, Left}
 use Rattle.grep_core.specs.Counted.{one_more}
-use Rattle.grep_core.specs.Working.LineReader.{LineReader, HandsOut, IsUsedUp, IsCutOff, RunsOutOfMemory}
+use Rattle.grep_core.specs.Working.Numbered.{Numbered, HasHanded, StandsAs}
 use Rattle.grep_core.specs.Files.{File, whole, broken, Selected, HasSelected}
 use Rattle.grep_core.specs.Output.{nothing, names, form, OutAs, SelectedLines}
 use Rattle.grep_core.specs.Messages.{FaultMet}
 use Rattle.grep_core.specs.Reading.{open_source, file_of, failures_of, most_lines, OneLeft}
-use Rattle.grep_core.specs.Run.{Writer, TakesAll, RowsAs, first_lines}
-use Rattle.grep_core.specs.Working.Handed.{HandsLines, StandsFor, BeginsWith, file_so_far}
+use Rattle.grep_core.specs.Run.{Writer, TakesAll, TakesFront, RowsAs, first_lines}
+use Rattle.grep_core.specs.Working.Handed.{StandsFor, BeginsWith, file_so_far}
 use Rattle.grep_core.specs.Cost.{SearchesLine, SearchesLines}
 use Rattle.grep_core.specs.Working.OneLine.{LineRowsOf, TakesLine, BreaksLine}
 use Rattle.grep_core.specs.Working.Searched.{leaves_early, summary_as, BreaksSource, StopsSource, SearchesSource}
@@ -27,7 +27,8 @@ use Rattle.grep_core.proofs.lemmas.CostLaws.{searched_no_line, searched_one_line
 use Rattle.grep_core.proofs.lemmas.WriterLaws.{TakesAll-nothing, TakesAll-more, TakesFront-more, TakesFront-longer}
 use Rattle.grep_core.proofs.lemmas.OneFile.{whole-failures}
 use Rattle.grep_core.proofs.lemmas.FileLaws.{FaultMet-left}
-use Rattle.grep_core.proofs.lemmas.HandedLemmas.{HandsLines-none, HandsLines-line, HandsLines-stays, begins_with, stands_whole, stands_broken, stands_cut}
+use Rattle.grep_core.proofs.lemmas.HandedLemmas.{begins_with}
+use Rattle.grep_core.proofs.lemmas.NumberedLemmas.{has_handed_none}
 use Rattle.grep_core.proofs.lemmas.FileOutput.{positive, chosen_tells, rows_none, rows_line, chosen_line, chosen_count, output_all, output_left, output_front, rows_as}
 
 -- where a file is left early, only its name is written, if that
@@ -62,6 +63,12 @@ module _ (es : List Expression) (options : Options) (many : Bool) (name : Text) 
     are_chosen = chosen_line es options many name lines line w.chosen found w.are_chosen t.told;
     counted = chosen_count w.chosen (length lines + 1, line) selected found w.counted;
   }
+
+  -- what was gathered was sent
+  writes_sent : (lines : List Text) (old mid new : Writer) (selected : ℕ) → WritesLines lines old mid selected → TakesAll mid new [] → WritesLines lines old new selected
+  writes_sent lines old mid new selected w sent =
+      let wrote = subst (TakesAll old new) (append-nil w.rows) (TakesAll-more old mid new w.rows [] w.wrote sent) in
+      record { rows = w.rows; are_rows = w.are_rows; wrote = wrote; chosen = w.chosen; are_chosen = w.are_chosen; counted = w.counted }
 
   -- the number tells whether a line is selected
   some_tells : (lines : List Text) (old new : Writer) (selected : ℕ) → WritesLines lines old new selected → Decides (nat_lt 0 selected) (Any (Selected es options) lines)
@@ -150,31 +157,42 @@ module _ (es : List Expression) (options : Options) (many : Bool) (name : Text) 
           steps = subst (λ ls. SearchesLines es options (length es) ls began ended) (sym b.has_lines) (searched_first_lines es options (length es) lines b.more began ended spent);
         }
 
-  -- a write failed within the rows of the next line
-  pub breaks_within : (known rest : Option Text) (lines : List Text) (line : Text) (old mid new : Writer) (began ended : Steps) (selected : ℕ) → WritesLines lines old mid selected → SearchesLines es options (length es) (lines ++ line ∷ []) began ended
-      → BeginsWith name known (lines ++ line ∷ []) → BreaksLine es options many name (length lines + 1) line mid new → (failed_before failed : ℕ) → failed ≡ failed_before
-      → BreaksSource es options many (open_source name known) (OneLeft rest) failed_before failed old new began ended
-  breaks_within known rest lines line old mid new began ended selected w spent b broke failed_before failed none_failed =
-      let rows = w.rows ++ broke.rows in
-      let these = rows_line es options many name (form options) lines line w.rows broke.rows w.are_rows broke.are_rows in
-      let all = output_front es options many (file_of name b.reading) name (lines ++ line ∷ []) b.more (form options) rows b.named b.has_lines these in
-      record {
-        reading = b.reading;
-        is_reading = b.is_reading;
-        failures = record {
-          own = 0;
-          are_own = elim (dec_fault_met es options (file_of name b.reading)) [ yes met ↦ inl (met, sym b.none_fails) | no unmet ↦ inr (unmet, refl) ];
-          counted = none_failed;
-          left = rest ∷ [];
-          are_left = b.is_left rest;
-          gave_back = refl;
-        };
-        rows = rows ++ all.0;
-        are_rows = all.1;
-        wrote = TakesFront-longer old new rows all.0 (TakesFront-more old mid new w.rows broke.rows w.wrote broke.wrote);
-        counted = broke.counted ∙ ap one_more w.wrote.none_failed;
-        steps = subst (λ ls. SearchesLines es options (length es) ls began ended) (sym b.has_lines) (searched_first_lines es options (length es) (lines ++ line ∷ []) b.more began ended spent);
-      }
+  module _ (known rest : Option Text) (old mid new : Writer) (began ended : Steps) (selected failed_before failed : ℕ) (none_failed : failed ≡ failed_before) where
+    -- a write failed within the rows of these lines
+    breaks_in : (lines rows : List Text) → LineRowsOf es options many (form options) (file_so_far name lines) rows → TakesFront old new rows → new.failures ≡ one_more old.failures
+        → SearchesLines es options (length es) lines began ended → BeginsWith name known lines → BreaksSource es options many (open_source name known) (OneLeft rest) failed_before failed old new began ended
+    breaks_in lines rows are_rows front counted spent b =
+        let all = output_front es options many (file_of name b.reading) name lines b.more (form options) rows b.named b.has_lines are_rows in
+        record {
+          reading = b.reading;
+          is_reading = b.is_reading;
+          failures = record {
+            own = 0;
+            are_own = elim (dec_fault_met es options (file_of name b.reading)) [ yes met ↦ inl (met, sym b.none_fails) | no unmet ↦ inr (unmet, refl) ];
+            counted = none_failed;
+            left = rest ∷ [];
+            are_left = b.is_left rest;
+            gave_back = refl;
+          };
+          rows = rows ++ all.0;
+          are_rows = all.1;
+          wrote = TakesFront-longer old new rows all.0 front;
+          counted = counted;
+          steps = subst (λ ls. SearchesLines es options (length es) ls began ended) (sym b.has_lines) (searched_first_lines es options (length es) lines b.more began ended spent);
+        }
+
+    -- a write failed within the rows of the next line
+    breaks_within : (lines : List Text) (line : Text) → WritesLines lines old mid selected → SearchesLines es options (length es) (lines ++ line ∷ []) began ended → BeginsWith name known (lines ++ line ∷ [])
+        → BreaksLine es options many name (length lines + 1) line mid new → BreaksSource es options many (open_source name known) (OneLeft rest) failed_before failed old new began ended
+    breaks_within lines line w spent b broke =
+        breaks_in (lines ++ line ∷ []) (w.rows ++ broke.rows) (rows_line es options many name (form options) lines line w.rows broke.rows w.are_rows broke.are_rows)
+        (TakesFront-more old mid new w.rows broke.rows w.wrote broke.wrote) (broke.counted ∙ ap one_more w.wrote.none_failed) spent b
+
+    -- all rows so far were written, and what was gathered could not be sent
+    breaks_behind : (lines : List Text) → WritesLines lines old mid selected → SearchesLines es options (length es) lines began ended → BeginsWith name known lines → TakesFront mid new [] → new.failures ≡ one_more mid.failures
+        → BreaksSource es options many (open_source name known) (OneLeft rest) failed_before failed old new began ended
+    breaks_behind lines w spent b front counted =
+        breaks_in lines w.rows w.are_rows (subst (TakesFront old new) (append-nil w.rows) (TakesFront-more old mid new w.rows [] w.wrote front)) (counted ∙ ap one_more w.wrote.none_failed) spent b
 
 -- ---- the turns of the search
 
@@ -185,105 +203,117 @@ goes_on true false asked is both early = absurd (false≢true (is ∙ early))
 goes_on false b asked is both early = refl
 
 module _ {R : Type 0} (remaining : R → Option Text) (failures : R → ℕ) (es : List Expression) (options : Options) (many : Bool) (name : Text) (reader : R) where
-  -- so many lines were handed out and searched, and their rows written; under `-q` and `-l` none of them is selected
-  pub record SearchedSoFar (now : LineReader R) (old new : Writer) (began ended : Steps) (count selected : ℕ) : Type 0 where
+  -- the lines that were handed out were searched, and their rows written; under `-q` and `-l` none of them is selected
+  pub record SearchedSoFar (now : Numbered R) (old new : Writer) (began ended : Steps) (selected : ℕ) : Type 0 where
     pub lines : List Text
-    pub is_count : length lines ≡ count
-    pub hands : HandsLines remaining failures reader now lines
+    pub handed : HasHanded remaining failures reader now lines
     pub wrote : WritesLines es options many name lines old new selected
-    pub few : selected ≤ count
+    pub few : selected ≤ now.number
     pub none_early : IsTrue (leaves_early options) → selected ≡ 0
     pub steps : SearchesLines es options (length es) lines began ended
 
-  pub searched_none : (now : LineReader R) (w : Writer) (steps : Steps) → now.reader ≡ reader → now.ahead ≡ [] → now.stage ≡ Open → SearchedSoFar now w w steps steps 0 0
-  searched_none now w steps same none is_open = record {
+  pub searched_none : (now : Numbered R) (w : Writer) (steps : Steps) → now.lines.reader ≡ reader → now.lines.ahead ≡ [] → now.lines.stage ≡ Open → now.number ≡ 0 → SearchedSoFar now w w steps steps 0
+  searched_none now w steps same none is_open zero = record {
     lines = [];
-    is_count = refl;
-    hands = subst (λ r. HandsLines remaining failures r now []) same (HandsLines-none remaining failures now none is_open);
+    handed = subst (λ r. HasHanded remaining failures r now []) same (has_handed_none remaining failures now none is_open zero);
     wrote = writes_none es options many name w;
     few = omega arith;
     none_early = λ _. refl;
     steps = searched_no_line es options (length es) steps;
   }
 
-  module _ (before now : LineReader R) (old mid new : Writer) (began amid ended : Steps) (count selected : ℕ) (s : SearchedSoFar before old mid began amid count selected) where
-    -- the next line
-    next_line : (line : Text) → HandsOut remaining failures before now → line ≡ now.line → HandsLines remaining failures reader now (s.lines ++ line ∷ [])
-    next_line line h is = subst (λ l. HandsLines remaining failures reader now (s.lines ++ l ∷ [])) (sym is) (HandsLines-line remaining failures reader before now s.lines s.hands h)
+  -- the source begins with the lines that were handed out
+  begins : (now : Numbered R) (lines : List Text) → HasHanded remaining failures reader now lines → BeginsWith name (remaining reader) lines
+  begins now lines h = begins_with remaining failures name reader now.lines lines h.hands h.few
 
-    number : count + 1 ≡ length s.lines + 1
-    number = ap (λ n. n + 1) (sym s.is_count)
+  module _ (now : Numbered R) (old mid new : Writer) (began ended : Steps) (selected : ℕ) (s : SearchedSoFar now old mid began ended selected) where
+    -- what was gathered was sent
+    pub searched_sent : TakesAll mid new [] → SearchedSoFar now old new began ended selected
+    searched_sent sent = record { lines = s.lines; handed = s.handed; wrote = writes_sent es options many name s.lines old mid new selected s.wrote sent; few = s.few; none_early = s.none_early; steps = s.steps }
 
-    took : (line : Text) (found : Bool) → TakesLine es options many name (count + 1) line mid new found → WritesLines es options many name (s.lines ++ line ∷ []) old new (if found then selected + 1 else selected)
-    took line found t = writes_line es options many name s.lines line old mid new selected found s.wrote (subst (λ n. TakesLine es options many name n line mid new found) number t)
+    -- it could not be sent
+    pub breaks_sending : TakesFront mid new [] → new.failures ≡ one_more mid.failures
+        → BreaksSource es options many (open_source name (remaining reader)) (OneLeft (remaining now.lines.reader)) (failures reader) (failures now.lines.reader) old new began ended
+    breaks_sending front counted =
+        breaks_behind es options many name (remaining reader) (remaining now.lines.reader) old mid new began ended selected (failures reader) (failures now.lines.reader) s.handed.hands.none_failed
+        s.lines s.wrote s.steps (begins now s.lines s.handed) front counted
 
-    spent : (line : Text) → SearchesLine es options (length es) line amid ended → SearchesLines es options (length es) (s.lines ++ line ∷ []) began ended
-    spent line one = searched_one_line es options (length es) s.lines line began amid ended s.steps one
+  -- one more line was handed out
+  module _ (before now : Numbered R) (old mid : Writer) (began amid : Steps) (selected : ℕ) (s : SearchedSoFar before old mid began amid selected) (next : HasHanded remaining failures reader now (s.lines ++ now.lines.line ∷ [])) where
+    -- its number
+    pub is_next : now.number ≡ before.number + 1
+    is_next = sym next.counted ∙ length_push s.lines now.lines.line ∙ ap (λ n. n + 1) s.handed.counted
 
-    -- it was searched, and the search goes on
-    pub searched_line : (line : Text) (found : Bool) (more : ℕ) → HandsOut remaining failures before now → line ≡ now.line → TakesLine es options many name (count + 1) line mid new found → SearchesLine es options (length es) line amid ended
-        → more ≡ (if found then selected + 1 else selected) → (IsTrue (leaves_early options) → found ≡ false) → SearchedSoFar now old new began ended (count + 1) more
-    searched_line line found more h is t one e goes_on = record {
-      lines = s.lines ++ line ∷ [];
-      is_count = length_push s.lines line ∙ ap (λ n. n + 1) s.is_count;
-      hands = next_line line h is;
-      wrote = subst (WritesLines es options many name (s.lines ++ line ∷ []) old new) (sym e) (took line found t);
-      few = at_most found e;
-      none_early = λ early. e ∙ ap (λ b. if b then selected + 1 else selected) (goes_on early) ∙ s.none_early early;
-      steps = spent line one;
-    }
-      where
-        at_most : (b : Bool) → more ≡ (if b then selected + 1 else selected) → more ≤ count + 1
-        at_most true eq = omega (arith, eq, s.few)
-        at_most false eq = omega (arith, eq, s.few)
+    -- fewer lines are selected than can be counted
+    pub may_count : selected < most_lines
+    may_count = omega (arith, s.few, is_next, next.counted, next.few)
 
-    -- it is selected, and the source is left there
-    leaves_here : (line : Text) (more : ℕ) → HandsOut remaining failures before now → line ≡ now.line → TakesLine es options many name (count + 1) line mid new true → SearchesLine es options (length es) line amid ended → more ≡ selected + 1
-        → count < most_lines → IsTrue (leaves_early options) → SearchesSource es options many (open_source name (remaining reader)) (OneLeft (remaining now.reader)) (failures reader) (failures now.reader) old new began ended Left more
-    leaves_here line more h is t one e few early =
-        let lines = next_line line h is in
-        let within : length (s.lines ++ line ∷ []) ≤ most_lines = omega (arith, length_push s.lines line, s.is_count) in
-        searches_left es options many name (remaining reader) (remaining now.reader) old new began ended (failures reader) (failures now.reader) (s.lines ++ line ∷ []) more (subst (WritesLines es options many name (s.lines ++ line ∷ []) old new) (sym e) (took line true t)) (spent line one)
-        (begins_with remaining failures name reader now (s.lines ++ line ∷ []) lines within) lines.none_failed early (omega (arith, e))
+    -- fewer numbers are left
+    pub fewer_left : 2 ^ 64 - now.number < 2 ^ 64 - before.number
+    fewer_left = omega (arith, is_next, next.counted, next.few)
 
-    pub leaves_at : (line : Text) (found early : Bool) (more : ℕ) → HandsOut remaining failures before now → line ≡ now.line → TakesLine es options many name (count + 1) line mid new found → SearchesLine es options (length es) line amid ended
-        → more ≡ (if found then selected + 1 else selected) → count < most_lines → early ≡ leaves_early options → (found && early) ≡ true
-        → SearchesSource es options many (open_source name (remaining reader)) (OneLeft (remaining now.reader)) (failures reader) (failures now.reader) old new began ended Left more
-    leaves_at line true true more h is t one e few is_early both = leaves_here line more h is t one e few (sym is_early)
-    leaves_at line true false more h is t one e few is_early both = absurd (false≢true both)
-    leaves_at line false early more h is t one e few is_early both = absurd (false≢true both)
+    module _ (new : Writer) (ended : Steps) (line : Text) (is : line ≡ now.lines.line) (count : ℕ) (is_number : count ≡ now.number) where
+      handed : HasHanded remaining failures reader now (s.lines ++ line ∷ [])
+      handed = subst (λ l. HasHanded remaining failures reader now (s.lines ++ l ∷ [])) (sym is) next
 
-    -- a write failed in its rows
-    pub breaks_at : (line : Text) → HandsOut remaining failures before now → line ≡ now.line → count < most_lines → BreaksLine es options many name (count + 1) line mid new → SearchesLine es options (length es) line amid ended
-        → BreaksSource es options many (open_source name (remaining reader)) (OneLeft (remaining now.reader)) (failures reader) (failures now.reader) old new began ended
-    breaks_at line h is few broke one =
-        let lines = next_line line h is in
-        let within : length (s.lines ++ line ∷ []) ≤ most_lines = omega (arith, length_push s.lines line, s.is_count) in
-        breaks_within es options many name (remaining reader) (remaining now.reader) s.lines line old mid new began ended selected s.wrote (spent line one) (begins_with remaining failures name reader now (s.lines ++ line ∷ []) lines within) (subst (λ n. BreaksLine es options many name n line mid new) number broke)
-        (failures reader) (failures now.reader) lines.none_failed
+      number : count ≡ length s.lines + 1
+      number = is_number ∙ is_next ∙ ap (λ n. n + 1) (sym s.handed.counted)
 
-  module _ (before now : LineReader R) (old new : Writer) (began ended : Steps) (count selected : ℕ) (s : SearchedSoFar before old new began ended count selected) (few : count ≤ most_lines) where
-    within : length s.lines ≤ most_lines
-    within = omega (arith, s.is_count, few)
+      took : (found : Bool) → TakesLine es options many name count line mid new found → WritesLines es options many name (s.lines ++ line ∷ []) old new (if found then selected + 1 else selected)
+      took found t = writes_line es options many name s.lines line old mid new selected found s.wrote (subst (λ n. TakesLine es options many name n line mid new found) number t)
 
+      spent : SearchesLine es options (length es) line amid ended → SearchesLines es options (length es) (s.lines ++ line ∷ []) began ended
+      spent one = searched_one_line es options (length es) s.lines line began amid ended s.steps one
+
+      -- it was searched, and the search goes on
+      pub searched_line : (found : Bool) (more : ℕ) → TakesLine es options many name count line mid new found → SearchesLine es options (length es) line amid ended
+          → more ≡ (if found then selected + 1 else selected) → (IsTrue (leaves_early options) → found ≡ false) → SearchedSoFar now old new began ended more
+      searched_line found more t one e goes_on = record {
+        lines = s.lines ++ line ∷ [];
+        handed = handed;
+        wrote = subst (WritesLines es options many name (s.lines ++ line ∷ []) old new) (sym e) (took found t);
+        few = at_most found e;
+        none_early = λ early. e ∙ ap (λ b. if b then selected + 1 else selected) (goes_on early) ∙ s.none_early early;
+        steps = spent one;
+      }
+        where
+          at_most : (b : Bool) → more ≡ (if b then selected + 1 else selected) → more ≤ now.number
+          at_most true eq = omega (arith, eq, s.few, is_next)
+          at_most false eq = omega (arith, eq, s.few, is_next)
+
+      -- it is selected, and the source is left there
+      leaves_here : (more : ℕ) → TakesLine es options many name count line mid new true → SearchesLine es options (length es) line amid ended → more ≡ selected + 1 → IsTrue (leaves_early options)
+          → SearchesSource es options many (open_source name (remaining reader)) (OneLeft (remaining now.lines.reader)) (failures reader) (failures now.lines.reader) old new began ended Left more
+      leaves_here more t one e early =
+          searches_left es options many name (remaining reader) (remaining now.lines.reader) old new began ended (failures reader) (failures now.lines.reader) (s.lines ++ line ∷ []) more (subst (WritesLines es options many name (s.lines ++ line ∷ []) old new) (sym e) (took true t)) (spent one)
+          (begins now (s.lines ++ line ∷ []) handed) next.hands.none_failed early (omega (arith, e))
+
+      pub leaves_at : (found early : Bool) (more : ℕ) → TakesLine es options many name count line mid new found → SearchesLine es options (length es) line amid ended
+          → more ≡ (if found then selected + 1 else selected) → early ≡ leaves_early options → (found && early) ≡ true
+          → SearchesSource es options many (open_source name (remaining reader)) (OneLeft (remaining now.lines.reader)) (failures reader) (failures now.lines.reader) old new began ended Left more
+      leaves_at true true more t one e is_early both = leaves_here more t one e (sym is_early)
+      leaves_at true false more t one e is_early both = absurd (false≢true both)
+      leaves_at false early more t one e is_early both = absurd (false≢true both)
+
+      -- a write failed in its rows
+      pub breaks_at : BreaksLine es options many name count line mid new → SearchesLine es options (length es) line amid ended
+          → BreaksSource es options many (open_source name (remaining reader)) (OneLeft (remaining now.lines.reader)) (failures reader) (failures now.lines.reader) old new began ended
+      breaks_at broke one =
+          breaks_within es options many name (remaining reader) (remaining now.lines.reader) old mid new began ended selected (failures reader) (failures now.lines.reader) next.hands.none_failed
+          s.lines line s.wrote (spent one) (begins now (s.lines ++ line ∷ []) handed) (subst (λ n. BreaksLine es options many name n line mid new) number broke)
+
+  module _ (before now : Numbered R) (old new : Writer) (began ended : Steps) (selected : ℕ) (s : SearchedSoFar before old new began ended selected) where
     -- no line is left
-    pub ends_whole : IsUsedUp remaining failures before now → SearchesSource es options many (open_source name (remaining reader)) (OneLeft (remaining now.reader)) (failures reader) (failures now.reader) old new began ended Whole selected
-    ends_whole h = searches_whole es options many name (remaining reader) (remaining now.reader) old new began ended (failures reader) (failures now.reader) s.lines selected s.wrote s.steps (stands_whole remaining failures name reader before now s.lines s.hands within h)
+    pub ends_whole : StandsAs remaining failures reader now s.lines whole → SearchesSource es options many (open_source name (remaining reader)) (OneLeft (remaining now.lines.reader)) (failures reader) (failures now.lines.reader) old new began ended Whole selected
+    ends_whole stands = searches_whole es options many name (remaining reader) (remaining now.lines.reader) old new began ended (failures reader) (failures now.lines.reader) s.lines selected s.wrote s.steps (stands name)
 
-    -- a read failed
-    pub ends_broken : before.stage ≡ Open → IsCutOff remaining failures before now → SearchesSource es options many (open_source name (remaining reader)) (OneLeft (remaining now.reader)) (failures reader) (failures now.reader) old new began ended Broken selected
-    ends_broken was_open h =
-        searches_broken es options many name (remaining reader) (remaining now.reader) old new began ended (failures reader) (failures now.reader) s.lines selected s.wrote s.steps (stands_broken remaining failures name reader before now s.lines s.hands within was_open h) s.none_early
-
-    -- there is one line too many
-    pub ends_cut : count ≡ most_lines → HandsOut remaining failures before now → SearchesSource es options many (open_source name (remaining reader)) (OneLeft (remaining now.reader)) (failures reader) (failures now.reader) old new began ended Broken selected
-    ends_cut full h =
-        searches_broken es options many name (remaining reader) (remaining now.reader) old new began ended (failures reader) (failures now.reader) s.lines selected s.wrote s.steps
-        (stands_cut remaining failures name reader now s.lines now.line (HandsLines-line remaining failures reader before now s.lines s.hands h) (s.is_count ∙ full)) s.none_early
+    -- a read failed, or there is one line too many
+    pub ends_broken : StandsAs remaining failures reader now s.lines broken → SearchesSource es options many (open_source name (remaining reader)) (OneLeft (remaining now.lines.reader)) (failures reader) (failures now.lines.reader) old new began ended Broken selected
+    ends_broken stands = searches_broken es options many name (remaining reader) (remaining now.lines.reader) old new began ended (failures reader) (failures now.lines.reader) s.lines selected s.wrote s.steps (stands name) s.none_early
 
     -- want of memory
-    pub runs_out : before.stage ≡ Open → RunsOutOfMemory remaining failures before now → StopsSource es options many (open_source name (remaining reader)) (OneLeft (remaining now.reader)) count (failures reader) (failures now.reader) old new began ended
-    runs_out was_open h =
-        let stays = HandsLines-stays remaining failures reader before now s.lines s.hands was_open h in
-        stops_behind es options many name (remaining reader) (remaining now.reader) old new began ended s.lines selected count s.wrote s.steps (begins_with remaining failures name reader now s.lines stays within) s.is_count
-        (failures reader) (failures now.reader) stays.none_failed
+    pub runs_out : HasHanded remaining failures reader now s.lines → (count : ℕ) → now.number ≡ count
+        → StopsSource es options many (open_source name (remaining reader)) (OneLeft (remaining now.lines.reader)) count (failures reader) (failures now.lines.reader) old new began ended
+    runs_out handed count is_count =
+        stops_behind es options many name (remaining reader) (remaining now.lines.reader) old new began ended s.lines selected count s.wrote s.steps (begins now s.lines handed) (handed.counted ∙ is_count)
+        (failures reader) (failures now.lines.reader) handed.hands.none_failed

@@ -1,5 +1,5 @@
 -- Writes one after another.
-use Rattle.std.proofs.Common.{◌≡◌, ℕ, ◌+◌, ◌≤◌, [], ◌∷◌, ◌++◌, Option, Result, Ok, Err, length, take, drop, slice_range, refl, sym, ap, ◌∙◌, arith, append_assoc, take-append-drop, subst}
+use Rattle.std.proofs.Common.{◌≡◌, ℕ, ◌+◌, ◌≤◌, [], ◌∷◌, ◌++◌, Option, Result, Ok, Err, length, take, drop, slice_range, refl, sym, ap, ◌∙◌, arith, append_assoc, append-nil, take-append-drop, subst}
 use Rattle.std.proofs.KnownBytes.{Appends-trans, Appends-nil}
 use Rattle.std.specs.Io.KnownBytes.{Appends}
 use Rattle.std.proofs.lemmas.List.{take-take, drop-take, take_rest, take_all}
@@ -83,6 +83,10 @@ module _ {W : Type 0} (contents : W → Option Text) (failures : W → ℕ) wher
   pub writes_last : {T E : Type 0} (a b c : W) (xs ys : Text) (r : Result T E) → GoesOut contents failures a b xs → Writes contents failures b c ys r → Writes contents failures a c (xs ++ ys) r
   writes_last a b c xs ys (Ok v) p q = goes_on a b c xs ys p q
   writes_last a b c xs ys (Err e) p q = stops_later a b c xs ys p q
+
+  -- the bytes went out, and nothing more was written
+  pub writes_then_nothing : {T E : Type 0} (a b c : W) (xs : Text) (r : Result T E) → GoesOut contents failures a b xs → Writes contents failures b c [] r → Writes contents failures a c xs r
+  writes_then_nothing a b c xs r p q = subst (λ bytes. Writes contents failures a c bytes r) (append-nil xs) (writes_last a b c xs [] r p q)
 
   -- the margin, and then the rest of an output line
   pub writes_row : {T E : Type 0} (a b c : W) (margin front text : Text) (r : Result T E) → GoesOut contents failures a b margin

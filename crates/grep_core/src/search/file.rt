@@ -8,11 +8,13 @@ ghost use Rattle.grep_core.specs.Sources.{source_at, GivesBack};
 ghost use Rattle.grep_core.specs.Working.Searched.{is_missing, is_fault, SearchesSource, BreaksSource, StopsSource};
 
 use crate::devices::counted::{CountedRead, CountedWrite, WriteFault};
-use crate::input::lines::{Lines, ReadFault, Stage};
+use crate::input::lines::{ReadFault, Stage};
+use crate::input::numbered::NumberedLines;
 use crate::input::sources::Sources;
 use crate::options::Options;
 use crate::output::wanted::Wanted;
 use crate::search::line::search_line;
+use crate::search::sending::send_before_read;
 use re_search::{FixedSet, LineMatch, Meter};
 use std::alloc::Global;
 
@@ -101,40 +103,43 @@ pub fn count_found(selected: u64, found: bool) -> u64
 }
 
 /// Searches the lines of a reader, from the first on: writes the rows of the selected lines, and
-/// under `-q` and `-l` stops at the first.
+/// under `-q` and `-l` stops at the first. What was gathered is sent before a read, which may wait.
 fn search_lines<R: CountedRead, M: LineMatch, W: CountedWrite>(
-    lines: &mut Lines<R>,
+    lines: &mut NumberedLines<R>,
     matchers: &mut [M],
     filter: Option<&FixedSet>,
     wanted: &Wanted,
     out: &mut W,
     meter: &mut Meter,
 ) -> Result<FileFound, SearchFault>
-    requires none_ahead { lines.old.ahead ≡ [] }
-    requires still_open { lines.old.stage ≡ Stage.Open }
+    requires none_ahead { lines.old.lines.ahead ≡ [] }
+    requires still_open { lines.old.lines.stage ≡ Stage.Open }
+    requires none_numbered { lines.old.number ≡ 0 }
     requires whole { AllAnswer wanted.now.options.line_regexp (map M.whole matchers.old) }
     requires needed { IfSome filter (λ f. AreNeeded f.now (map M.expression matchers.old)) }
     ensures ok { IfOk result (λ found. SearchesSource (map M.expression matchers.old) wanted.now.options wanted.now.many
-        (open_source wanted.now.name.now (R.remaining lines.old.reader)) (OneLeft (R.remaining lines.new.reader)) (R.failures lines.old.reader) (R.failures lines.new.reader)
+        (open_source wanted.now.name.now (R.remaining lines.old.lines.reader)) (OneLeft (R.remaining lines.new.lines.reader))
+        (R.failures lines.old.lines.reader) (R.failures lines.new.lines.reader)
         (writer W.contents W.failures out.old) (writer W.contents W.failures out.new)
         meter.old meter.new found.end found.selected) }
     ensures write { result ≡ Err SearchFault.Write → BreaksSource (map M.expression matchers.old) wanted.now.options wanted.now.many
-        (open_source wanted.now.name.now (R.remaining lines.old.reader)) (OneLeft (R.remaining lines.new.reader)) (R.failures lines.old.reader) (R.failures lines.new.reader)
+        (open_source wanted.now.name.now (R.remaining lines.old.lines.reader)) (OneLeft (R.remaining lines.new.lines.reader))
+        (R.failures lines.old.lines.reader) (R.failures lines.new.lines.reader)
         (writer W.contents W.failures out.old) (writer W.contents W.failures out.new) meter.old meter.new }
     ensures memory { (count : ℕ) → result ≡ Err (SearchFault.Memory count) → StopsSource (map M.expression matchers.old)
-        wanted.now.options wanted.now.many (open_source wanted.now.name.now (R.remaining lines.old.reader)) (OneLeft (R.remaining lines.new.reader)) count
-        (R.failures lines.old.reader) (R.failures lines.new.reader)
+        wanted.now.options wanted.now.many (open_source wanted.now.name.now (R.remaining lines.old.lines.reader))
+        (OneLeft (R.remaining lines.new.lines.reader)) count (R.failures lines.old.lines.reader) (R.failures lines.new.lines.reader)
         (writer W.contents W.failures out.old) (writer W.contents W.failures out.new) meter.old meter.new }
     ensures same_expressions { map M.expression matchers.new ≡ map M.expression matchers.old }
     ensures same_wholes { map M.whole matchers.new ≡ map M.whole matchers.old }
 {
     let early = wanted.options.leaves_early();
-    let mut count: u64 = 0;
     let mut selected: u64 = 0;
     loop {
+        send_before_read(lines, out)?;
         match lines.next_line() {
-            Ok(true) if count < u64::MAX => {
-                count += 1;
+            Ok(true) => {
+                let count = lines.number();
                 let found = search_line(matchers, filter, wanted, count, lines.line(), out, meter)?;
                 selected = count_found(selected, found);
                 if found & early {
@@ -146,15 +151,11 @@ fn search_lines<R: CountedRead, M: LineMatch, W: CountedWrite>(
                 let end = FileEnd::Whole;
                 return Ok(FileFound { end, selected });
             }
-            Ok(true) => {
-                let end = FileEnd::Broken;
-                return Ok(FileFound { end, selected });
-            }
             Err(ReadFault::Device) => {
                 let end = FileEnd::Broken;
                 return Ok(FileFound { end, selected });
             }
-            Err(ReadFault::Memory) => return Err(SearchFault::Memory(count)),
+            Err(ReadFault::Memory) => return Err(SearchFault::Memory(lines.number())),
         }
     }
 }
@@ -195,7 +196,7 @@ pub fn search_file<S: Sources, M: LineMatch, W: CountedWrite>(
         let end = FileEnd::Missing;
         return Ok(FileFound { end, selected: 0 });
     };
-    let mut lines = match Lines::new(alloc, reader) {
+    let mut lines = match NumberedLines::new(alloc, reader) {
         Ok(lines) => lines,
         Err(reader) => {
             sources.close(reader);

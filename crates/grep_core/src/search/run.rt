@@ -1,10 +1,12 @@
 //! The one pass over all sources.
-ghost use Rattle.std.specs.Prelude.{◌≡◌, ◌+◌, ◌<◌, map, length, IfSome};
+ghost use Rattle.std.specs.Prelude.{◌≡◌, ◌+◌, ◌<◌, [], map, length, IfSome};
 ghost use Rattle.re_search.specs.Working.Filters.{AreNeeded};
 ghost use Rattle.re_search.specs.Searching.{AllAnswer};
+ghost use Rattle.grep_core.specs.Output.{form, written};
 ghost use Rattle.grep_core.specs.Run.{writer, RunGives, devices};
 ghost use Rattle.grep_core.specs.Sources.{source_at, GivesBack};
-ghost use Rattle.grep_core.specs.Working.Searched.{SourceGives};
+ghost use Rattle.grep_core.specs.Working.Searched.{summary_as, SourceGives};
+ghost use Rattle.grep_core.specs.Written.{Writes};
 
 use crate::devices::counted::{CountedWrite, WriteFault};
 use crate::input::sources::Sources;
@@ -15,6 +17,24 @@ use crate::search::file::{FileFound, SearchFault, search_file};
 use crate::status::{RunFault, Status};
 use re_search::{FixedSet, LineMatch, Meter};
 use std::alloc::Global;
+
+/// Writes what comes behind the rows of a source's lines. Where a message will be told of it, what
+/// was gathered is sent before, so that output and messages stand in order where both go to one
+/// place.
+fn end_output<W: CountedWrite>(
+    wanted: &Wanted,
+    found: FileFound,
+    out: &mut W,
+) -> Result<(), WriteFault>
+    ensures { Writes W.contents W.failures out.old out.new (written []
+        (summary_as (form wanted.now.options) wanted.now.many wanted.now.name.now found.end found.selected)) result }
+{
+    write_summary(wanted, found, out, b"")?;
+    if wanted.options.no_messages | !found.end.is_fault() {
+        return Ok(());
+    }
+    out.flush()
+}
 
 /// Writes the output and the message for the next source.
 fn search_source<S: Sources, M: LineMatch, W: CountedWrite, N: CountedWrite>(
@@ -57,7 +77,7 @@ fn search_source<S: Sources, M: LineMatch, W: CountedWrite, N: CountedWrite>(
         many,
         name: sources.name(k),
     };
-    match write_summary(&wanted, found, out, b"") {
+    match end_output(&wanted, found, out) {
         Ok(()) => {}
         Err(WriteFault) => return Err(RunFault::Write),
     }
@@ -78,6 +98,9 @@ fn search_source<S: Sources, M: LineMatch, W: CountedWrite, N: CountedWrite>(
 ///
 /// The steps that the meter counts are at most those of one search of each line by each matcher,
 /// and where parts are written, of one more for each part of the line and one for its end.
+///
+/// What a gathering writer holds is sent before a read, which may wait, and before a message; what
+/// it holds at the end is left to the caller.
 ///
 /// `RunFault::Write` and `RunFault::MessageWrite` come where a write fails, and what went out are
 /// beginnings of the output and of the messages. `RunFault::Memory` comes where a growth is

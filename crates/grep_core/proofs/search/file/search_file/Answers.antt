@@ -1,5 +1,5 @@
 use Rattle.std.proofs.Common.{◌≡◌, [], ◌∷◌, map, ap, subst, ◌∙◌}
-use Rattle.grep_core.specs.Working.LineReader.{LineReader}
+use Rattle.grep_core.specs.Working.Numbered.{Numbered}
 use Rattle.grep_core.specs.Run.{writer, count_more}
 use Rattle.grep_core.specs.Sources.{source_at, GivesBack}
 use Rattle.grep_core.proofs.lemmas.SourceLaws.{gives_both}
@@ -31,7 +31,7 @@ returns-clause-ok g c =
     let counted = c.close-2.ensures.counted ∙ (λ i. count_more (opened.3 i) (g.S.Reader.CountedRead.failures (c.into_reader.ensures i))) in
     let gives = subst (λ rest. GivesBack g.S.Sources.given_back c.args.sources.now c.close-2.new.self (rest ∷ [])) (ap g.S.Reader.CountedRead.remaining c.into_reader.ensures)
     (gives_both g.S.Sources.given_back c.args.sources.now c.open.new.self c.close-2.new.self [] _ c.open.ensures.none_back c.close-2.ensures.back) in
-    found_in g.S.Reader.CountedRead.remaining g.S.Reader.CountedRead.failures es c.args.options c.args.many source _ _ gives opened.0 c.in-Some.reader opened.1 opened.2 c.in-Ok.lines (ap (λ (l : LineReader _). l.reader) c.in-Ok.ensures.ok)
+    found_in g.S.Reader.CountedRead.remaining g.S.Reader.CountedRead.failures es c.args.options c.args.many source _ _ gives opened.0 c.in-Some.reader opened.1 opened.2 c.in-Ok.lines.lines (ap (λ (n : Numbered _). n.lines.reader) c.in-Ok.ensures.ok)
     c.name.result.now named _ _ _ _ _ _ _ counted c.search_lines-found.result c.search_lines-found.ensures.ok
 
 pub returns-clause-write : goal.returns-clause-write
@@ -43,7 +43,7 @@ returns-clause-write g c = λ is.
     let counted = c.close-2.ensures.counted ∙ (λ i. count_more (opened.3 i) (g.S.Reader.CountedRead.failures (c.into_reader.ensures i))) in
     let gives = subst (λ rest. GivesBack g.S.Sources.given_back c.args.sources.now c.close-2.new.self (rest ∷ [])) (ap g.S.Reader.CountedRead.remaining c.into_reader.ensures)
     (gives_both g.S.Sources.given_back c.args.sources.now c.open.new.self c.close-2.new.self [] _ c.open.ensures.none_back c.close-2.ensures.back) in
-    broken_in g.S.Reader.CountedRead.remaining g.S.Reader.CountedRead.failures es c.args.options c.args.many source _ _ gives opened.0 c.in-Some.reader opened.1 opened.2 c.in-Ok.lines (ap (λ (l : LineReader _). l.reader) c.in-Ok.ensures.ok)
+    broken_in g.S.Reader.CountedRead.remaining g.S.Reader.CountedRead.failures es c.args.options c.args.many source _ _ gives opened.0 c.in-Some.reader opened.1 opened.2 c.in-Ok.lines.lines (ap (λ (n : Numbered _). n.lines.reader) c.in-Ok.ensures.ok)
     c.name.result.now named _ _ _ _ _ _ _ counted (c.search_lines-found.ensures.write is)
 
 pub returns-clause-memory : goal.returns-clause-memory
@@ -55,5 +55,5 @@ returns-clause-memory g c = λ count is.
     let counted = c.close-2.ensures.counted ∙ (λ i. count_more (opened.3 i) (g.S.Reader.CountedRead.failures (c.into_reader.ensures i))) in
     let gives = subst (λ rest. GivesBack g.S.Sources.given_back c.args.sources.now c.close-2.new.self (rest ∷ [])) (ap g.S.Reader.CountedRead.remaining c.into_reader.ensures)
     (gives_both g.S.Sources.given_back c.args.sources.now c.open.new.self c.close-2.new.self [] _ c.open.ensures.none_back c.close-2.ensures.back) in
-    stopped_in g.S.Reader.CountedRead.remaining g.S.Reader.CountedRead.failures es c.args.options c.args.many source _ _ gives opened.0 c.in-Some.reader opened.1 opened.2 c.in-Ok.lines (ap (λ (l : LineReader _). l.reader) c.in-Ok.ensures.ok)
+    stopped_in g.S.Reader.CountedRead.remaining g.S.Reader.CountedRead.failures es c.args.options c.args.many source _ _ gives opened.0 c.in-Some.reader opened.1 opened.2 c.in-Ok.lines.lines (ap (λ (n : Numbered _). n.lines.reader) c.in-Ok.ensures.ok)
     c.name.result.now named _ _ _ _ _ _ _ counted count (c.search_lines-found.ensures.memory count is)
