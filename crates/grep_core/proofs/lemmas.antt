@@ -22,6 +22,7 @@ pub mod WriterLaws
 pub mod HandedLemmas
 pub mod NumberedLemmas
 pub mod PassedLemmas
+pub mod PassedLines
 pub mod PassLemmas
 pub mod OneFile
 pub mod OneLineLemmas

@@ -1,5 +1,5 @@
 -- Whole lines that are passed in one sweep.
-use Rattle.std.proofs.Common.{◌≡◌, ℕ, zero, suc, ◌+◌, ◌≤◌, ◌⊎◌, inl, inr, List, [], ◌∷◌, ◌++◌, All, Option, None, Some, length, take, drop, get_or, refl, sym, ap, ◌∙◌, subst, arith, length-append, append_assoc}
+use Rattle.std.proofs.Common.{◌≡◌, ℕ, zero, suc, ◌+◌, ◌-◌, ◌≤◌, List, [], ◌∷◌, ◌++◌, All, Option, None, Some, length, take, drop, get_or, refl, sym, ap, ◌∙◌, subst, arith, length-append, append_assoc}
 use Rattle.std.proofs.KnownBytes.{Consumes-trans, Keeps-refl, prepend_known-read}
 use Rattle.std.proofs.Math.Seq.{take-append_seam}
 use Rattle.std.proofs.lemmas.Bool.{cond-true, cond-false}
@@ -9,7 +9,7 @@ use Rattle.std.specs.Io.KnownBytes.{prepend_known, Consumes, Keeps, IsAtEnd}
 use Rattle.re_syntax.specs.Bytes.{Text}
 use Rattle.re_syntax.specs.Lines.{newline, terminated, lines_of, HasNoNewline}
 use Rattle.re_syntax.proofs.lemmas.LinesLaws.{first_differs, rest_has_none, all_head, all_tail}
-use Rattle.memchr.specs.Find.{is_byte, places_from}
+use Rattle.memchr.specs.Find.{is_byte, places, places_from}
 use Rattle.grep_core.specs.declared.input.lines.Stage.{Stage}
 use Rattle.grep_core.specs.declared.input.lines.Stage.TheVariants.{Open, Ended, Failed}
 use Rattle.grep_core.specs.Reading.{most_lines}
@@ -57,13 +57,13 @@ module _ (hay : Text) where
   count_from [] i (suc m) free e many = absurd (omega (arith, many))
   count_from (t ∷ ts) i m free e many =
       let rest : drop (i + length t + 1) hay ≡ terminated ts =
-          ap (λ n. drop n hay) (omega arith) ∙ sym (drop-drop (length t + 1) i hay) ∙ ap (drop (length t + 1)) e ∙ drop_line t (terminated ts) in
+      ap (λ n. drop n hay) (omega arith) ∙ sym (drop-drop (length t + 1) i hay) ∙ ap (drop (length t + 1)) e ∙ drop_line t (terminated ts) in
       in_line t (terminated ts) i (length (terminated ts)) m (i + length t + 1) (all_head t ts free) e (omega (arith, many, length-append t (newline ∷ terminated ts))) refl
       ∙ ap suc (count_from ts (i + length t + 1) (length (terminated ts)) (all_tail t ts free) rest refl)
 
 -- whole lines hold as many newlines as they are
-pub count_lines : (bytes : Text) (ts : List Text) → All HasNoNewline ts → bytes ≡ terminated ts → length (places_from (is_byte newline) bytes 0 (length bytes)) ≡ length ts
-count_lines bytes ts free e = count_from bytes ts 0 (length bytes) free e (ap length e)
+pub count_lines : (bytes : Text) (ts : List Text) → All HasNoNewline ts → bytes ≡ terminated ts → length (places (is_byte newline) bytes) ≡ length ts
+count_lines bytes ts free e = count_from bytes ts 0 (length bytes - 0) free e (omega (arith, ap length e))
 
 -- ---- what was handed out and what is passed
 

@@ -50,7 +50,7 @@ newline_before buffer start last end k within free below is =
       | inr le ↦
           let place : last + (start + k - last) ≡ start + k = omega (arith, le) in
           let here : get_or (slice_range buffer last end) (start + k - last) 0 ≡ newline =
-              at_range buffer last end (start + k - last) (omega (arith, le, below)) ∙ ap (λ n. get_or buffer n 0) place ∙ is in
+          at_range buffer last end (start + k - last) (omega (arith, le, below)) ∙ ap (λ n. get_or buffer n 0) place ∙ is in
           absurd (free (start + k - last) 0 (omega (arith, le, below, length_range buffer last end within)) here)
     ]
 
@@ -65,7 +65,7 @@ module _ (buffer before : Text) (start last end : ℕ) (ordered : start ≤ last
           let below : start < last = ltb-true start last e in
           let k : ℕ = last - 1 - start in
           let here : get_or (before ++ slice_range buffer start end) (length before + k) 0 ≡ newline =
-              get_or-append-add before (slice_range buffer start end) k 0 ∙ at_range buffer start end k (omega (arith, below)) ∙ ap (λ n. get_or buffer n 0) (omega (arith, below)) ∙ ended below in
+          get_or-append-add before (slice_range buffer start end) k 0 ∙ at_range buffer start end k (omega (arith, below)) ∙ ap (λ n. get_or buffer n 0) (omega (arith, below)) ∙ ended below in
           free (length before + k) 0 (omega (arith, below, length-append before (slice_range buffer start end), length_range buffer start end within)) here
       go false e =
           let same : last ≡ start = omega (arith, ltb-false start last e) in
@@ -131,11 +131,10 @@ drop_past (x ∷ xs) ys n =
 -- the last of the bytes that are passed is a newline
 pub passes_newline : (bytes : Text) (count : ℕ) → PassesAll (λ _. ⊤) bytes count → 0 < count → (count ≤ length bytes) × (get_or bytes (count - 1) 0 ≡ newline)
 passes_newline bytes count (lines, rest, free, any, is, counted) some =
-    let long : length bytes ≡ length (terminated lines) + length rest = ap length is ∙ length-append (terminated lines) rest in
-    (
+    let long : length bytes ≡ length (terminated lines) + length rest = ap length is ∙ length-append (terminated lines) rest in (
       omega (arith, long, counted),
       ap (λ l. get_or l (count - 1) 0) is ∙ get_or_append_left (terminated lines) rest 0 (count - 1) (omega (arith, some, counted))
-      ∙ ap (λ n. get_or (terminated lines) (n - 1) 0) counted ∙ ends_in_newline lines (omega (arith, some, counted)),
+          ∙ ap (λ n. get_or (terminated lines) (n - 1) 0) counted ∙ ends_in_newline lines (omega (arith, some, counted)),
     )
 
 module _ (buffer before : Text) (start last end count : ℕ) (within : end ≤ length buffer) (ordered : start ≤ end) (cut_off : HasNoNewline (slice_range buffer last end))
@@ -160,12 +159,12 @@ module _ (buffer before : Text) (start last end count : ℕ) (within : end ≤ l
       let k : ℕ = count - 1 - length before in
       let below : start + k < end = omega (arith, past_waiting, last_byte.0, ordered, length-append before part, length_range buffer start end within) in
       let here : get_or buffer (start + k) 0 ≡ newline =
-          sym (at_range buffer start end k below) ∙ sym (get_or-append-add before part k 0) ∙ ap (λ n. get_or (before ++ part) n 0) (omega (arith, past_waiting)) ∙ last_byte.1 in
+      sym (at_range buffer start end k below) ∙ sym (get_or-append-add before part k 0) ∙ ap (λ n. get_or (before ++ part) n 0) (omega (arith, past_waiting)) ∙ last_byte.1 in
       omega (arith, newline_before buffer start last end k within cut_off below here, past_waiting)
 
   -- and what follows them is ahead
   pub ahead_behind : last ≤ end → before ++ part ≡ take count (before ++ part) ++ slice_range buffer (start + (count - length before)) end
   ahead_behind inside =
       let rest : drop count (before ++ part) ≡ slice_range buffer (start + (count - length before)) end =
-          ap (λ n. drop n (before ++ part)) (omega (arith, past_waiting)) ∙ drop_past before part (count - length before) ∙ drop_range buffer start end (count - length before) (omega (arith, passed_before, inside)) in
+      ap (λ n. drop n (before ++ part)) (omega (arith, past_waiting)) ∙ drop_past before part (count - length before) ∙ drop_range buffer start end (count - length before) (omega (arith, passed_before, inside)) in
       sym (take-append-drop count (before ++ part)) ∙ ap (λ l. take count (before ++ part) ++ l) rest

@@ -1,8 +1,8 @@
 -- Lines of a block in which a text does not stand.
-use Rattle.std.proofs.Common.{◌≡◌, ℕ, ◌+◌, ◌<◌, ◌≤◌, Bool, true, false, List, [], ◌∷◌, ◌++◌, All, Some, None, length, take, drop, get_or, refl, sym, ap, ◌∙◌, subst, arith, append_assoc, append-nil, length-append, length-take, take-append-drop}
+use Rattle.std.proofs.Common.{◌≡◌, ℕ, ◌+◌, ◌<◌, ◌≤◌, Bool, true, false, List, [], ◌∷◌, ◌++◌, All, Some, None, length, map, take, drop, get_or, refl, sym, ap, ◌∙◌, subst, arith, append_assoc, append-nil, length-append, length-take, take-append-drop}
 use Rattle.std.specs.Prelude.{⊤}
 use Rattle.std.proofs.lemmas.List.{length_push, get_or_append_left, get_or-append-add}
-use Rattle.std.proofs.lemmas.List.Elements.{All-push, All-nil, All-cons}
+use Rattle.std.proofs.lemmas.List.Elements.{All-push, All-nil, All-cons, All-head}
 use Rattle.re_syntax.specs.Bytes.{Text}
 use Rattle.re_syntax.specs.Expression.{Expression}
 use Rattle.re_syntax.specs.Holds.{Matches}
@@ -10,8 +10,10 @@ use Rattle.re_syntax.specs.Lines.{newline, terminated, HasNoNewline, ended_lines
 use Rattle.re_syntax.proofs.lemmas.LinesLaws.{all_none, all_tail}
 use Rattle.re_syntax.proofs.lemmas.EndedLinesLaws.{AreEndedLines-ended_lines_of}
 use Rattle.memchr.specs.Find.{OccursAt, FindsNeedle}
-use Rattle.re_search.specs.Working.Blocks.{IsBlock, Lacks, PassesAll, PassesUnmatched}
+use Rattle.re_search.specs.Working.Blocks.{IsBlock, Lacks, PassesAll, PassesUnmatched, PassesUnmatchedByAll}
 use Rattle.re_search.specs.Working.Needles.{IsNeeded}
+use Rattle.re_search.specs.Searching.{AllAnswer, SomeMatches}
+use Rattle.re_search.proofs.lemmas.AnyLaws.{Any-single}
 
 -- ---- where lines begin
 
@@ -117,3 +119,20 @@ unmatched e text line true needed lacks holds = let there = needed line 0 (lengt
 pub passes_unmatched : (e : Expression) (text : Text) (whole : Bool) → IsNeeded text e → (block : Text) (count : ℕ) → PassesAll (Lacks text) block count → PassesUnmatched e whole block count
 passes_unmatched e text whole needed block count (lines, rest, free, lack, is, counted) =
     (lines, rest, free, λ i d below. unmatched e text _ whole needed (lack i d below), is, counted)
+
+-- one expression that does not match the line is all of them
+none_of_one : (es : List Expression) (e : Expression) (whole asked : Bool) (line : Text) → es ≡ e ∷ [] → whole ≡ asked → ¬ Matches e line whole → ¬ SomeMatches es line asked
+none_of_one es e whole asked line one same none h =
+    none (subst (Matches e line) (sym same) (Any-single (λ x. Matches x line asked) e (subst (λ xs. SomeMatches xs line asked) one h)))
+
+-- of one matcher the lines that it does not match are passed
+pub passes_of_one : (es : List Expression) (wholes : List Bool) (e : Expression) (whole : Bool) → es ≡ e ∷ [] → wholes ≡ whole ∷ [] → (block : Text) (count : ℕ) → PassesUnmatched e whole block count → PassesUnmatchedByAll es wholes block count
+passes_of_one es wholes e whole one alike block count (lines, rest, free, none, is, counted) = λ asked all.
+    let same : whole ≡ asked = All-head (λ w. w ≡ asked) whole [] (subst (AllAnswer asked) alike all) in
+    (lines, rest, free, λ i d below. none_of_one es e whole asked (get_or lines i d) one same (none i d below), is, counted)
+
+-- a list of one
+pub only_one : {A B : Type 0} (f : A → B) (xs : List A) (x : A) → length xs ≡ 1 → get_or xs 0 x ≡ x → map f xs ≡ f x ∷ []
+only_one f [] x one is = absurd (omega (arith, one))
+only_one f (y ∷ []) x one is = ap (λ z. f z ∷ []) is
+only_one f (y ∷ z ∷ xs) x one is = absurd (omega (arith, one))

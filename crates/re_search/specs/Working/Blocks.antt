@@ -5,6 +5,7 @@ use Rattle.re_syntax.specs.Expression.{Expression}
 use Rattle.re_syntax.specs.Holds.{Matches}
 use Rattle.re_syntax.specs.Lines.{terminated, HasNoNewline}
 use Rattle.memchr.specs.Find.{OccursAt}
+use Rattle.re_search.specs.Searching.{AllAnswer, SomeMatches}
 
 -- each line of the text is ended by a newline
 abbrev pub IsBlock : Text → Type 0
@@ -22,3 +23,7 @@ PassesAll Holds bytes count =
 -- the first `count` bytes are whole lines, none of which the expression matches
 abbrev pub PassesUnmatched : Expression → Bool → Text → ℕ → Type 0
 PassesUnmatched e whole block count = PassesAll (λ line. ¬ Matches e line whole) block count
+
+-- none of which any of the expressions matches, by the answer that all matchers give
+abbrev pub PassesUnmatchedByAll : List Expression → List Bool → Text → ℕ → Type 0
+PassesUnmatchedByAll es wholes block count = (whole : Bool) → AllAnswer whole wholes → PassesAll (λ line. ¬ SomeMatches es line whole) block count

@@ -32,7 +32,7 @@ invariant_of-self-2 c =
     let below : a.start + c.in-Some.length < a.end = below_range a.buffer.items a.start a.end c.in-Some.length found.0 in
     let inside : a.end ≤ length a.buffer.items = omega (arith, i.within, i.full) in
     let here : get_or a.buffer.items (a.start + c.in-Some.length) 0 ≡ newline =
-        sym (at_range a.buffer.items a.start a.end c.in-Some.length below) ∙ byte_at (slice_range a.buffer.items a.start a.end) c.in-Some.length found.0 found.1 in
+    sym (at_range a.buffer.items a.start a.end c.in-Some.length below) ∙ byte_at (slice_range a.buffer.items a.start a.end) c.in-Some.length found.0 found.1 in
     record {
       full = i.full;
       ordered = newline_before a.buffer.items a.start a.last a.end c.in-Some.length inside i.cut_off below here;

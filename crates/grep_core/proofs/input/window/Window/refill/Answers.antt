@@ -14,9 +14,9 @@ invariant_of-self-in-Some g c =
     let same : c.deref-in-Some.result.now ≡ buffer = c.deref-in-Some.ensures.value in
     let inside : last ≤ length (take count buffer) = subst (λ (b : Text). last ≤ length (take count b)) same c.lines_end-self-inside.ensures.within in
     let ended : 0 < last → get_or (take count buffer) (last - 1) 0 ≡ newline =
-        subst (λ (b : Text). 0 < last → get_or (take count b) (last - 1) 0 ≡ newline) same c.lines_end-self-inside.ensures.ended in
+    subst (λ (b : Text). 0 < last → get_or (take count b) (last - 1) 0 ≡ newline) same c.lines_end-self-inside.ensures.ended in
     let cut_off : HasNoNewline (drop last (take count buffer)) =
-        subst (λ (b : Text). HasNoNewline (drop last (take count b))) same c.lines_end-self-inside.ensures.cut_off in
+    subst (λ (b : Text). HasNoNewline (drop last (take count b))) same c.lines_end-self-inside.ensures.cut_off in
     let before_end : last ≤ count = omega (arith, inside, length-take count buffer) in
     record {
       full = full;
