@@ -1,5 +1,6 @@
 pub mod LimitedLemmas
 pub mod WindowLemmas
+pub mod WindowBlocks
 pub mod RowLemmas
 pub mod SentLemmas
 pub mod BufferLemmas
@@ -22,6 +23,8 @@ pub mod FileLaws
 pub mod WriterLaws
 pub mod HandedLemmas
 pub mod NumberedLemmas
+pub mod PassedLemmas
+pub mod PassedLines
 pub mod PassLemmas
 pub mod OneFile
 pub mod OneLineLemmas

@@ -5,6 +5,7 @@ pub mod Held
 pub mod Refilled
 pub mod Handed
 pub mod Numbered
+pub mod Passed
 pub mod Wanted
 pub mod OneLine
 pub mod Searched

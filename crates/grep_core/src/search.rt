@@ -3,6 +3,7 @@
 pub mod file;
 pub mod line;
 pub mod matching;
+pub mod passing;
 pub mod run;
 pub mod sending;
 pub mod serving;

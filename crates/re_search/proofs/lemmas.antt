@@ -1,6 +1,7 @@
 pub mod AnyLaws
 pub mod BestSpans
 pub mod NeededLaws
+pub mod BlockLemmas
 pub mod Occurrences
 pub mod OneText
 pub mod Passing

@@ -1,5 +1,6 @@
 pub mod Literals
 pub mod Needles
+pub mod Blocks
 pub mod Simulated
 pub mod Simulations
 pub mod FixedSets

@@ -5,6 +5,7 @@ ghost use Rattle.re_syntax.specs.Expression.{expression_of};
 ghost use Rattle.re_syntax.specs.Holds.{Matches};
 ghost use Rattle.re_search.specs.Working.Needles.{IsNeeded};
 ghost use Rattle.re_search.specs.Searching.{FindsPart, AddsAtMost};
+ghost use Rattle.re_search.specs.Working.Blocks.{IsBlock, PassesUnmatched};
 ghost use Rattle.re_search.specs.Working.Rows.{IsBlank, IsRight, cache_of};
 ghost use Rattle.re_search.specs.Working.CachedMatchers.{IsKnownFor};
 ghost use Rattle.re_search.specs.Working.Stages.{Searches, AnswersLine, IsReadied, mode_for};
@@ -193,5 +194,12 @@ impl LineMatch for Cached {
         ensures same { self.new ≡ self.old }
     {
         self.simulated.find(line, from, meter)
+    }
+
+    fn first_candidate(&self, block: &[u8]) -> usize
+        requires { IsBlock block.now }
+        ensures { PassesUnmatched (expression_of self.now.tree) self.now.whole block.now result }
+    {
+        self.simulated.first_candidate(block)
     }
 }

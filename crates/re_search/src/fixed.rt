@@ -4,7 +4,9 @@ ghost use Rattle.re_syntax.specs.Holds.{Matches};
 ghost use Rattle.re_auto.specs.Meters.{many_built};
 ghost use Rattle.re_search.specs.Working.Literals.{literal_expression};
 ghost use Rattle.re_search.specs.Searching.{FindsPart, AddsAtMost};
+ghost use Rattle.re_search.specs.Working.Blocks.{IsBlock, PassesUnmatched};
 
+use crate::block::first_line_with;
 use crate::line_match::LineMatch;
 use crate::span::Span;
 use memchr::memmem::Finder;
@@ -118,5 +120,12 @@ impl LineMatch for Fixed {
             return self.whole_line(line, from);
         }
         self.occurrence(line, from)
+    }
+
+    fn first_candidate(&self, block: &[u8]) -> usize
+        requires { IsBlock block.now }
+        ensures { PassesUnmatched (literal_expression self.now) self.now.whole block.now result }
+    {
+        first_line_with(&self.finder, block)
     }
 }

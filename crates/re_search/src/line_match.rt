@@ -2,6 +2,7 @@ ghost use Rattle.std.specs.Prelude.{◌≡◌, Bool, ◌+◌, ◌-◌, ◌≤◌
 ghost use Rattle.re_syntax.specs.Expression.{Expression};
 ghost use Rattle.re_syntax.specs.Holds.{Matches};
 ghost use Rattle.re_search.specs.Searching.{FindsPart, AddsAtMost};
+ghost use Rattle.re_search.specs.Working.Blocks.{IsBlock, PassesUnmatched};
 
 use crate::span::Span;
 use re_auto::Meter;
@@ -30,4 +31,13 @@ pub trait LineMatch {
         ensures same_expression { expression self.new ≡ expression self.old }
         ensures same_whole { whole self.new ≡ whole self.old }
         ensures steps { AddsAtMost (length line.now - from + 1) meter.old meter.new };
+
+    /// Where in a block of whole lines the first line begins that may be matched: no line before
+    /// it is. No step is taken. Where only a search would tell, that is the first line.
+    fn first_candidate(&self, block: &[u8]) -> usize
+        requires { IsBlock block.now }
+        ensures { PassesUnmatched (expression self.now) (whole self.now) block.now result }
+    {
+        0
+    }
 }

@@ -8,6 +8,7 @@ ghost use Rattle.re_search.specs.Working.Needles.{IsNeeded};
 ghost use Rattle.re_search.specs.Reading.{IsSmallFor, IsReadable, IsOutOfMemory, IsNotSpelled, IsRefusedFor};
 ghost use Rattle.re_search.specs.Working.Matchers.{matched_expression, wants_whole, is_fixed, room_of, entries_of, CountsSteps, IsBuildFault};
 ghost use Rattle.re_search.specs.Searching.{FindsPart, AddsAtMost};
+ghost use Rattle.re_search.specs.Working.Blocks.{IsBlock, PassesUnmatched};
 
 use crate::cached::Cached;
 use crate::fixed::Fixed;
@@ -130,6 +131,18 @@ impl LineMatch for Matcher {
             Matcher::FixedSet(set) => set.find(line, from, meter),
             Matcher::Simulated(simulated) => simulated.find(line, from, meter),
             Matcher::Cached(cached) => cached.find(line, from, meter),
+        }
+    }
+
+    fn first_candidate(&self, block: &[u8]) -> usize
+        requires { IsBlock block.now }
+        ensures { PassesUnmatched (matched_expression self.now) (wants_whole self.now) block.now result }
+    {
+        match self {
+            Matcher::Fixed(fixed) => fixed.first_candidate(block),
+            Matcher::FixedSet(set) => set.first_candidate(block),
+            Matcher::Simulated(simulated) => simulated.first_candidate(block),
+            Matcher::Cached(cached) => cached.first_candidate(block),
         }
     }
 }

@@ -4,6 +4,7 @@ ghost use Rattle.std.specs.Prelude.{ℕ, Bool, List, ◌≡◌, ◌+◌, ◌-◌
 ghost use Rattle.re_syntax.specs.Bytes.{Text};
 ghost use Rattle.re_syntax.specs.Expression.{Expression};
 ghost use Rattle.re_search.specs.Searching.{FindsPart, FindsPartOfAll, TellsMatchOfAll, AllAnswer, AddsAtMost};
+ghost use Rattle.re_search.specs.Working.Blocks.{IsBlock, PassesUnmatchedByAll};
 
 use crate::line_match::LineMatch;
 use crate::span::Span;
@@ -72,4 +73,17 @@ pub fn is_matched<M: LineMatch>(matchers: &mut [M], line: &[u8], meter: &mut Met
         }
     }
     false
+}
+
+/// Where in a block of whole lines the first line begins that some matcher may match: no line
+/// before it is matched by any. All matchers have to agree on whether the whole line has to be
+/// matched. No step is taken. Of several matchers none is asked.
+pub fn first_candidate<M: LineMatch>(matchers: &[M], block: &[u8]) -> usize
+    requires { IsBlock block.now }
+    ensures { PassesUnmatchedByAll (map M.expression matchers.now) (map M.whole matchers.now) block.now result }
+{
+    if matchers.len() != 1 {
+        return 0;
+    }
+    matchers[0].first_candidate(block)
 }

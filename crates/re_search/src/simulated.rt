@@ -8,10 +8,12 @@ ghost use Rattle.re_search.specs.Working.Needles.{IsNeeded};
 ghost use Rattle.re_auto.specs.Working.StateSets.{IsMadeFor};
 ghost use Rattle.re_search.specs.Working.Stages.{Cache, Searches, FinishesFrom, IsSettled, mode_for};
 ghost use Rattle.re_search.specs.Searching.{FindsPart, AddsAtMost};
+ghost use Rattle.re_search.specs.Working.Blocks.{IsBlock, PassesUnmatched};
 
 mod least;
 mod sets;
 
+use crate::block::first_line_with;
 use crate::line_match::LineMatch;
 use crate::needle::Needle;
 use crate::span::Span;
@@ -224,5 +226,15 @@ impl LineMatch for Simulated {
             return self.whole_line(line, from, meter);
         }
         self.part(line, from, meter)
+    }
+
+    fn first_candidate(&self, block: &[u8]) -> usize
+        requires { IsBlock block.now }
+        ensures { PassesUnmatched (expression_of self.now.tree) self.now.whole block.now result }
+    {
+        match &self.needle {
+            Some(needle) => first_line_with(&needle.finder, block),
+            None => 0,
+        }
     }
 }

@@ -1,8 +1,9 @@
 -- A search of the lines of an open source, one more line at a time, and what it says of the source's file.
-use Rattle.std.proofs.Common.{◌≡◌, ℕ, ◌+◌, ◌-◌, ◌^◌, nat_lt, ◌<◌, ◌≤◌, ◌⊎◌, Bool, true, false, ◌&&◌, IsTrue, Decides, List, [], ◌∷◌, ◌++◌, Option, length, take, refl, sym, ap, subst, ◌∙◌, append-nil, inl, inr, arith, Any, if◌then◌else◌}
+use Rattle.std.proofs.Common.{◌≡◌, ℕ, ◌+◌, ◌-◌, ◌^◌, nat_lt, ◌<◌, ◌≤◌, ◌⊎◌, Bool, true, false, ◌&&◌, IsTrue, Decides, List, [], ◌∷◌, ◌++◌, All, Option, length, take, refl, sym, ap, subst, ◌∙◌, append-nil, append_assoc, inl, inr, arith, Any, if◌then◌else◌}
 use Rattle.std.proofs.Math.Seq.{take-append_seam}
 use Rattle.std.proofs.lemmas.Bool.{false≢true, cases_Bool, cond-true, cond-false}
 use Rattle.std.proofs.lemmas.List.{length_push, length-append}
+use Rattle.std.proofs.lemmas.List.Elements.{All-head, All-tail}
 use Rattle.re_syntax.specs.Bytes.{Text}
 use Rattle.re_syntax.specs.Expression.{Expression}
 use Rattle.re_search.specs.Meters.{Steps}
@@ -18,6 +19,7 @@ use Rattle.grep_core.specs.Reading.{open_source, file_of, failures_of, most_line
 use Rattle.grep_core.specs.Run.{Writer, TakesAll, TakesFront, RowsAs, first_lines}
 use Rattle.grep_core.specs.Working.Handed.{StandsFor, BeginsWith, file_so_far}
 use Rattle.grep_core.specs.Cost.{SearchesLine, SearchesLines}
+use Rattle.grep_core.specs.Working.Passed.{PassesUnselected}
 use Rattle.grep_core.specs.Working.OneLine.{LineRowsOf, TakesLine, BreaksLine}
 use Rattle.grep_core.specs.Working.Searched.{leaves_early, summary_as, BreaksSource, StopsSource, SearchesSource}
 use Rattle.grep_core.proofs.lemmas.AnyLaws.{Any-left}
@@ -25,6 +27,7 @@ use Rattle.grep_core.proofs.lemmas.Verdicts.{decided_yes, decided_no, picked}
 use Rattle.grep_core.proofs.lemmas.Decided.{dec_fault_met}
 use Rattle.grep_core.proofs.lemmas.CostLaws.{searched_no_line, searched_one_line, searched_first_lines}
 use Rattle.grep_core.proofs.lemmas.WriterLaws.{TakesAll-nothing, TakesAll-more, TakesFront-more, TakesFront-longer}
+use Rattle.grep_core.proofs.lemmas.OneLineLemmas.{line_passed}
 use Rattle.grep_core.proofs.lemmas.OneFile.{whole-failures}
 use Rattle.grep_core.proofs.lemmas.FileLaws.{FaultMet-left}
 use Rattle.grep_core.proofs.lemmas.HandedLemmas.{begins_with}
@@ -63,6 +66,14 @@ module _ (es : List Expression) (options : Options) (many : Bool) (name : Text) 
     are_chosen = chosen_line es options many name lines line w.chosen found w.are_chosen t.told;
     counted = chosen_count w.chosen (length lines + 1, line) selected found w.counted;
   }
+
+  -- lines of which none is selected were passed
+  writes_passed : (passed lines : List Text) (old new : Writer) (selected : ℕ) → WritesLines lines old new selected → All (λ line. ¬ Selected es options line) passed → WritesLines (lines ++ passed) old new selected
+  writes_passed [] lines old new selected w none = subst (λ ls. WritesLines ls old new selected) (sym (append-nil lines)) w
+  writes_passed (line ∷ passed) lines old new selected w none =
+      let skipped = line_passed es options many name (length lines + 1) line new false refl (decided_no (All-head (λ l. ¬ Selected es options l) line passed none)) in
+      subst (λ ls. WritesLines ls old new selected) (append_assoc lines (line ∷ []) passed)
+      (writes_passed passed (lines ++ line ∷ []) old new selected (writes_line lines line old new new selected false w skipped) (All-tail (λ l. ¬ Selected es options l) line passed none))
 
   -- what was gathered was sent
   writes_sent : (lines : List Text) (old mid new : Writer) (selected : ℕ) → WritesLines lines old mid selected → TakesAll mid new [] → WritesLines lines old new selected
@@ -225,6 +236,22 @@ module _ {R : Type 0} (remaining : R → Option Text) (failures : R → ℕ) (es
   -- the source begins with the lines that were handed out
   begins : (now : Numbered R) (lines : List Text) → HasHanded remaining failures reader now lines → BeginsWith name (remaining reader) lines
   begins now lines h = begins_with remaining failures name reader now.lines lines h.hands h.few
+
+  -- some lines were passed
+  pub searched_passed : (before now : Numbered R) (old new : Writer) (began ended : Steps) (selected : ℕ) (s : SearchedSoFar before old new began ended selected) → PassesUnselected remaining failures es options reader s.lines now
+      → SearchedSoFar now old new began ended selected
+  searched_passed before now old new began ended selected s p = record {
+    lines = s.lines ++ p.passed;
+    handed = p.handed_too;
+    wrote = writes_passed es options many name p.passed s.lines old new selected s.wrote p.unselected;
+    few = omega (arith, s.few, s.handed.counted, p.handed_too.counted, length-append s.lines p.passed);
+    none_early = s.none_early;
+    steps = searched_first_lines es options (length es) s.lines p.passed began ended s.steps;
+  }
+
+  -- no line is numbered twice
+  pub passed_further : (before now : Numbered R) (lines : List Text) → HasHanded remaining failures reader before lines → PassesUnselected remaining failures es options reader lines now → before.number ≤ now.number
+  passed_further before now lines h p = omega (arith, h.counted, p.handed_too.counted, length-append lines p.passed)
 
   module _ (now : Numbered R) (old mid new : Writer) (began ended : Steps) (selected : ℕ) (s : SearchedSoFar now old mid began ended selected) where
     -- what was gathered was sent

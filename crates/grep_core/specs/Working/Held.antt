@@ -1,7 +1,7 @@
 -- The bytes that are held between two calls, and the line that was handed out.
-use Rattle.std.specs.Prelude.{◌≡◌, ℕ, ◌-◌, ◌≤◌, Bool, true, false, [], length, take, slice_range, ⊤}
+use Rattle.std.specs.Prelude.{◌≡◌, ℕ, ◌-◌, ◌<◌, ◌≤◌, Bool, true, false, [], length, get_or, take, slice_range, ⊤}
 use Rattle.re_syntax.specs.Bytes.{Text}
-use Rattle.re_syntax.specs.Lines.{HasNoNewline}
+use Rattle.re_syntax.specs.Lines.{newline, HasNoNewline}
 use Rattle.grep_core.specs.declared.input.window.Shown.{Shown}
 use Rattle.grep_core.specs.declared.input.window.Shown.TheVariants.{Nothing, Short, Long}
 
@@ -37,10 +37,14 @@ ShownFits Nothing = ⊤
 ShownFits (Short from to) = (from ≤ to) × (to ≤ 65536)
 ShownFits Long = ⊤
 
--- the buffer is whole, its places are in order, and what waits is the beginning of one line
-pub record IsSound (buffer : ℕ) (start end : ℕ) (shown : Shown) (spill : Text) : Type 0 where
-  pub full : buffer ≡ 65536
-  pub ordered : start ≤ end
+-- the buffer is full, its places are in order, what waits is the beginning of one line, and what is ahead in the buffer has its last
+-- newline before the place `last`, if any
+pub record IsSound (buffer : Text) (start last end : ℕ) (shown : Shown) (spill : Text) : Type 0 where
+  pub full : length buffer ≡ 65536
+  pub ordered : start ≤ last
+  pub before_end : last ≤ end
   pub within : end ≤ 65536
+  pub ended : start < last → get_or buffer (last - 1) 0 ≡ newline
+  pub cut_off : HasNoNewline (slice_range buffer last end)
   pub shown_fits : ShownFits shown
   pub unfinished : HasNoNewline (waiting shown spill)

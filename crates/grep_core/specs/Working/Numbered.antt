@@ -1,6 +1,7 @@
 -- What a reader of numbered lines has handed out, and what a call for the next line does.
-use Rattle.std.specs.Prelude.{◌≡◌, ℕ, ◌≤◌, Bool, true, false, List, [], ◌∷◌, ◌++◌, length, Option, Result, Ok, Err}
+use Rattle.std.specs.Prelude.{◌≡◌, ℕ, ◌≤◌, ◌⊎◌, All, Bool, true, false, List, [], ◌∷◌, ◌++◌, length, Option, Result, Ok, Err}
 use Rattle.re_syntax.specs.Bytes.{Text}
+use Rattle.re_syntax.specs.Lines.{terminated, HasNoNewline}
 use Rattle.grep_core.specs.declared.input.lines.ReadFault.{ReadFault}
 use Rattle.grep_core.specs.declared.input.lines.ReadFault.TheVariants.{Device, Memory}
 use Rattle.grep_core.specs.Files.{Ending, whole, broken}
@@ -35,3 +36,9 @@ module _ {R : Type 0} (remaining : R → Option Text) (failures : R → ℕ) whe
 
   abbrev pub HandsNext : Numbered R → Numbered R → Result Bool ReadFault → Type 0
   HandsNext old new result = (reader : R) (handed : List Text) → HasHanded reader old handed → NextIs reader handed new result
+
+  -- whole lines of so many bytes were passed, as if they had been handed out; or none was
+  abbrev pub PassesNext : Numbered R → Numbered R → ℕ → Type 0
+  PassesNext old new count =
+      (lines : List Text) (rest : Text) → All HasNoNewline lines → old.lines.ahead ≡ terminated lines ++ rest → count ≡ length (terminated lines)
+      → (reader : R) (handed : List Text) → HasHanded reader old handed → HasHanded reader new handed ⊎ HasHanded reader new (handed ++ lines)

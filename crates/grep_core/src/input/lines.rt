@@ -1,5 +1,7 @@
 // The lines that a reader gives, one at a time.
-ghost use Rattle.std.specs.Prelude.{◌≡◌, [], Ok, Err, IfOk, IfErr, MatchBool, false, length};
+ghost use Rattle.std.specs.Prelude.{◌≡◌, [], ◌++◌, ⊤, Ok, Err, IfOk, IfErr, MatchBool, false, length, take};
+ghost use Rattle.re_syntax.specs.Bytes.{Text};
+ghost use Rattle.re_search.specs.Working.Blocks.{IsBlock, PassesAll};
 ghost use Rattle.grep_core.specs.Working.Held.{HasWholeLine};
 ghost use Rattle.grep_core.specs.Working.LineReader.{HandsOut, IsUsedUp, IsCutOff, RunsOutOfMemory};
 
@@ -103,6 +105,25 @@ impl<R: CountedRead> Lines<R> {
         ensures { HasWholeLine self.now.ahead result }
     {
         self.window.has_line()
+    }
+
+    /// The next lines, each with its newline, as far as they are held in one piece.
+    pub fn ready(&self) -> &[u8]
+        ensures block { IsBlock result.now }
+        ensures ahead { (rest : Text) × (self.now.ahead ≡ result.now ++ rest) }
+    {
+        self.window.ready()
+    }
+
+    /// Passes the next lines, of so many bytes, without handing them out.
+    pub fn pass(&mut self, count: usize)
+        requires { PassesAll (λ _. ⊤) self.old.ahead count }
+        ensures ahead { self.old.ahead ≡ take count self.old.ahead ++ self.new.ahead }
+        ensures reader { self.new.reader ≡ self.old.reader }
+        ensures stage { self.new.stage ≡ self.old.stage }
+        ensures ended { self.old.stage ≡ Stage.Ended → self.old.ahead ≡ [] }
+    {
+        self.window.pass(count);
     }
 
     /// The reader, without the bytes that are held.

@@ -1,11 +1,14 @@
 // The lines of a reader, of which no more are handed out than can be numbered.
-ghost use Rattle.std.specs.Prelude.{◌≡◌, ◌+◌, [], IfOk, IfErr, length};
+ghost use Rattle.std.specs.Prelude.{◌≡◌, ◌+◌, [], ◌++◌, ⊤, IfOk, IfErr, length};
+ghost use Rattle.re_syntax.specs.Bytes.{Text};
+ghost use Rattle.re_search.specs.Working.Blocks.{IsBlock, PassesAll};
 ghost use Rattle.grep_core.specs.declared.input.lines.Stage.{Stage};
 ghost use Rattle.grep_core.specs.Working.Held.{HasWholeLine};
-ghost use Rattle.grep_core.specs.Working.Numbered.{HandsNext};
+ghost use Rattle.grep_core.specs.Working.Numbered.{HandsNext, PassesNext};
 
 use crate::devices::counted::CountedRead;
 use crate::input::lines::{Lines, ReadFault};
+use memchr::memchr_iter;
 use std::alloc::Global;
 use std::marker::Model;
 
@@ -60,6 +63,32 @@ impl<R: CountedRead> NumberedLines<R> {
         ensures { HasWholeLine self.now.lines.ahead result }
     {
         self.lines.has_line()
+    }
+
+    /// The next lines, each with its newline, as far as they are held in one piece.
+    pub fn ready(&self) -> &[u8]
+        ensures block { IsBlock result.now }
+        ensures ahead { (rest : Text) × (self.now.lines.ahead ≡ result.now ++ rest) }
+    {
+        self.lines.ready()
+    }
+
+    /// Passes the first of the lines that are ready, of so many bytes, without handing them out.
+    /// None is passed where they are more than can be numbered, or are not all ready.
+    pub fn pass(&mut self, count: usize)
+        requires { PassesAll (λ _. ⊤) self.old.lines.ahead count }
+        ensures passed { PassesNext R.remaining R.failures self.old self.new count }
+        ensures same_loan { R.loan self.new.lines.reader ≡ R.loan self.old.lines.reader }
+    {
+        let Some(bytes) = self.lines.ready().get(..count) else {
+            return;
+        };
+        let passed = memchr_iter(b'\n', bytes).count() as u64;
+        let Some(number) = self.number.checked_add(passed) else {
+            return;
+        };
+        self.number = number;
+        self.lines.pass(count);
     }
 
     /// The reader, without the bytes that are held.

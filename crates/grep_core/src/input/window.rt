@@ -1,12 +1,14 @@
 // The buffer of a reader of lines.
-ghost use Rattle.std.specs.Prelude.{◌≡◌, ◌+◌, ◌^◌, ◌<◌, ◌≤◌, [], ◌∷◌, ◌++◌, ⊤, IfOk, OnErr, IfSome, MatchBool, MatchOption, length, take, drop, slice_range, vec_len};
+ghost use Rattle.std.specs.Prelude.{◌≡◌, ◌+◌, ◌-◌, ◌^◌, ◌<◌, ◌≤◌, [], ◌∷◌, ◌++◌, ⊤, get_or, IfOk, OnErr, IfSome, MatchBool, MatchOption, length, take, drop, slice_range, vec_len};
+ghost use Rattle.re_syntax.specs.Bytes.{Text};
 ghost use Rattle.re_syntax.specs.Lines.{newline, HasNoNewline};
+ghost use Rattle.re_search.specs.Working.Blocks.{IsBlock, PassesAll};
 ghost use Rattle.grep_core.specs.Counted.{PullConsumes, Counts};
 ghost use Rattle.grep_core.specs.Working.Refilled.{Refilled};
 ghost use Rattle.grep_core.specs.Working.Held.{IsOneLineAndFew, HasWholeLine, waiting, shown_line, ShownFits};
 
 use crate::devices::counted::CountedRead;
-use memchr::memchr;
+use memchr::{memchr, memrchr};
 use std::alloc::{AllocError, Global};
 use std::marker::Model;
 
@@ -35,12 +37,13 @@ pub enum Refill {
 }
 
 /// The bytes that were taken from a reader and not handed out, and the line handed out last.
-// `buffer[start..end]` is read and not handed out. What was read before and goes on into it is
-// spilled.
+// `buffer[start..end]` is read and not handed out, and no newline stands from `last` on in it. What
+// was read before and goes on into it is spilled.
 #[derive(Drop)]
 pub struct Window {
     buffer: Vec<u8>,
     start: usize,
+    last: usize,
     end: usize,
     spill: Vec<u8>,
     shown: Shown,
@@ -57,7 +60,7 @@ impl Model for Window {
       line = shown_line a.shown a.spill.items a.buffer.items;
     } };
 
-    ghost invariant = { λ a. IsSound (vec_len a.buffer) a.start a.end a.shown a.spill.items };
+    ghost invariant = { λ a. IsSound a.buffer.items a.start a.last a.end a.shown a.spill.items };
 }
 
 impl Window {
@@ -70,6 +73,7 @@ impl Window {
         Ok(Window {
             buffer,
             start: 0,
+            last: 0,
             end: 0,
             spill: Vec::new(alloc),
             shown: Shown::Nothing,
@@ -102,7 +106,32 @@ impl Window {
     pub fn has_line(&self) -> bool
         ensures { HasWholeLine self.now.ahead result }
     {
-        first_newline(&self.buffer[self.start..self.end]).is_some()
+        self.start < self.last
+    }
+
+    /// The first lines that are ahead, each with its newline, as far as they lie in one piece.
+    pub fn ready(&self) -> &[u8]
+        ensures block { IsBlock result.now }
+        ensures ahead { (rest : Text) × (self.now.ahead ≡ result.now ++ rest) }
+    {
+        if self.len() > self.end - self.start {
+            return &[];
+        }
+        &self.buffer[self.start..self.last]
+    }
+
+    /// Passes the first bytes that are ahead, which are whole lines.
+    pub fn pass(&mut self, count: usize)
+        requires { PassesAll (λ _. ⊤) self.old.ahead count }
+        ensures ahead { self.old.ahead ≡ take count self.old.ahead ++ self.new.ahead }
+        ensures line { self.new.line ≡ [] }
+    {
+        empty_where_shown(&mut self.spill, self.shown);
+        self.shown = Shown::Nothing;
+        if count > 0 {
+            self.start += count - self.spill.len();
+            self.spill.clear();
+        }
     }
 
     /// Forgets the line handed out last.
@@ -154,6 +183,7 @@ impl Window {
         self.spill
             .extend_from_slice(&self.buffer[self.start..self.end])?;
         self.start = 0;
+        self.last = 0;
         self.end = 0;
         match pull_over(reader, &mut self.buffer) {
             None => Ok(Refill::Failed),
@@ -162,6 +192,7 @@ impl Window {
                 Ok(Refill::Ended)
             }
             Some(count) => {
+                self.last = lines_end(&self.buffer[..count]);
                 self.end = count;
                 Ok(Refill::More)
             }
@@ -188,6 +219,18 @@ fn first_newline(bytes: &[u8]) -> Option<usize>
         × (bytes.now ≡ take k bytes.now ++ newline ∷ drop (k + 1) bytes.now)) }
 {
     memchr(b'\n', bytes)
+}
+
+// Where the lines end that newlines end: behind the last newline.
+fn lines_end(bytes: &[u8]) -> usize
+    ensures within { result ≤ length bytes.now }
+    ensures ended { 0 < result → get_or bytes.now (result - 1) 0 ≡ newline }
+    ensures cut_off { HasNoNewline (drop result bytes.now) }
+{
+    match memrchr(b'\n', bytes) {
+        Some(at) => at + 1,
+        None => 0,
+    }
 }
 
 // Shows the line that begins with what was spilled and goes on in the buffer.

@@ -14,6 +14,7 @@ use crate::input::sources::Sources;
 use crate::options::Options;
 use crate::output::wanted::Wanted;
 use crate::search::line::search_line;
+use crate::search::passing::pass_unselected;
 use crate::search::sending::send_before_read;
 use re_search::{FixedSet, LineMatch, Meter};
 use std::alloc::Global;
@@ -136,6 +137,7 @@ fn search_lines<R: CountedRead, M: LineMatch, W: CountedWrite>(
     let early = wanted.options.leaves_early();
     let mut selected: u64 = 0;
     loop {
+        pass_unselected(lines, matchers, &wanted.options);
         send_before_read(lines, out)?;
         match lines.next_line() {
             Ok(true) => {

@@ -1,5 +1,8 @@
-use Rattle.std.proofs.Common.{◌+◌, ◌<◌, ap, sym, ◌∙◌, arith}
+use Rattle.std.proofs.Common.{◌≡◌, ◌+◌, ◌<◌, ◌≤◌, length, get_or, slice_range, ap, sym, ◌∙◌, arith}
+use Rattle.re_syntax.specs.Lines.{newline}
+use Rattle.re_syntax.proofs.lemmas.LinesLaws.{none_in_empty}
 use Rattle.grep_core.specs.Working.Held.{Held, waiting}
+use Rattle.grep_core.proofs.lemmas.WindowBlocks.{at_range, byte_at, newline_before}
 use Rattle.grep_core.proofs.lemmas.WindowLemmas.{ahead_at_newline, line_has_no_newline, below_range}
 use Rattle.grep_core.proofs.input.window.Window.next_line.Goals as goal
 
@@ -20,3 +23,23 @@ returns-clause-no_newline c =
     let line = rw (c.deref-2.ensures.value, c.empty_where_shown.ensures) at c.in_ok-self-inside.ensures.line in
     let within : a.start + c.in-Some.length < a.end = below_range a.buffer.items a.start a.end c.in-Some.length found.0 in
     line_has_no_newline a.buffer.items (waiting a.shown a.spill.items) _ a.start a.end c.in-Some.length (omega arith) c.self.invariant.unfinished front line
+
+pub invariant_of-self-2 : goal.invariant_of-self-2
+invariant_of-self-2 c =
+    let a = c.self.inside in
+    let i = c.self.invariant in
+    let found = rw c.deref.ensures.value at c.in-Some.ensures.some in
+    let below : a.start + c.in-Some.length < a.end = below_range a.buffer.items a.start a.end c.in-Some.length found.0 in
+    let inside : a.end ≤ length a.buffer.items = omega (arith, i.within, i.full) in
+    let here : get_or a.buffer.items (a.start + c.in-Some.length) 0 ≡ newline =
+    sym (at_range a.buffer.items a.start a.end c.in-Some.length below) ∙ byte_at (slice_range a.buffer.items a.start a.end) c.in-Some.length found.0 found.1 in
+    record {
+      full = i.full;
+      ordered = newline_before a.buffer.items a.start a.last a.end c.in-Some.length inside i.cut_off below here;
+      before_end = i.before_end;
+      within = i.within;
+      ended = λ later. i.ended (omega (arith, later));
+      cut_off = i.cut_off;
+      shown_fits = c.in_ok-self-inside.ensures.fits;
+      unfinished = rw c.in_ok-self-inside.ensures.none_waiting none_in_empty;
+    }

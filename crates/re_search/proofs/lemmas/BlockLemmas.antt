@@ -1,0 +1,138 @@
+-- Lines of a block in which a text does not stand.
+use Rattle.std.proofs.Common.{◌≡◌, ℕ, ◌+◌, ◌<◌, ◌≤◌, Bool, true, false, List, [], ◌∷◌, ◌++◌, All, Some, None, length, map, take, drop, get_or, refl, sym, ap, ◌∙◌, subst, arith, append_assoc, append-nil, length-append, length-take, take-append-drop}
+use Rattle.std.specs.Prelude.{⊤}
+use Rattle.std.proofs.lemmas.List.{length_push, get_or_append_left, get_or-append-add}
+use Rattle.std.proofs.lemmas.List.Elements.{All-push, All-nil, All-cons, All-head}
+use Rattle.re_syntax.specs.Bytes.{Text}
+use Rattle.re_syntax.specs.Expression.{Expression}
+use Rattle.re_syntax.specs.Holds.{Matches}
+use Rattle.re_syntax.specs.Lines.{newline, terminated, HasNoNewline, ended_lines_of}
+use Rattle.re_syntax.proofs.lemmas.LinesLaws.{all_none, all_tail}
+use Rattle.re_syntax.proofs.lemmas.EndedLinesLaws.{AreEndedLines-ended_lines_of}
+use Rattle.memchr.specs.Find.{OccursAt, FindsNeedle}
+use Rattle.re_search.specs.Working.Blocks.{IsBlock, Lacks, PassesAll, PassesUnmatched, PassesUnmatchedByAll}
+use Rattle.re_search.specs.Working.Needles.{IsNeeded}
+use Rattle.re_search.specs.Searching.{AllAnswer, SomeMatches}
+use Rattle.re_search.proofs.lemmas.AnyLaws.{Any-single}
+
+-- ---- where lines begin
+
+terminated-push : (ts : List Text) (t : Text) → terminated ts ++ (t ++ newline ∷ []) ≡ terminated (ts ++ t ∷ [])
+terminated-push [] t = refl
+terminated-push (u ∷ ts) t =
+    append_assoc u (newline ∷ terminated ts) (t ++ newline ∷ []) ∙ ap (λ l. u ++ newline ∷ l) (terminated-push ts t)
+
+-- a text and a newline behind it are whole lines
+pub ended_text : (t : Text) → IsBlock (t ++ newline ∷ [])
+ended_text t =
+    let ended = AreEndedLines-ended_lines_of t in
+    let lines = ended_lines_of t in
+    let rest : Text = ended.1.0 in (
+      lines ++ rest ∷ [],
+      All-push HasNoNewline lines rest ended.0 ended.1.1,
+      ap (λ l. l ++ newline ∷ []) ended.1.2 ∙ append_assoc (terminated lines) rest (newline ∷ []) ∙ terminated-push lines rest,
+    )
+
+-- ---- occurrences in a line and in a block
+
+occurs_before : (line after text : Text) (k : ℕ) → OccursAt line text k → OccursAt (line ++ after) text k
+occurs_before line after text k o =
+    let fits : k + length text ≤ length line = o.fits in record {
+      fits = omega (arith, length-append line after);
+      reads = λ j below. get_or_append_left line after 0 (k + j) (omega arith) ∙ o.reads j below;
+    }
+
+occurs_behind : (before line text : Text) (k : ℕ) → OccursAt line text k → OccursAt (before ++ line) text (length before + k)
+occurs_behind before line text k o =
+    let fits : k + length text ≤ length line = o.fits in record {
+      fits = omega (arith, length-append before line);
+      reads = λ j below.
+          let place : length before + k + j ≡ length before + (k + j) = omega arith in
+          ap (λ n. get_or (before ++ line) n 0) place ∙ get_or-append-add before line (k + j) 0 ∙ o.reads j below;
+    }
+
+-- a text that does not begin in the first lines of a block stands in none of them
+pub lines_lack : (text : Text) (lines : List Text) (rest : Text) → ((k : ℕ) → k < length (terminated lines) → ¬ OccursAt (terminated lines ++ rest) text k) → All (Lacks text) lines
+lines_lack text [] rest none = All-nil (Lacks text)
+lines_lack text (t ∷ ts) rest none = All-cons (Lacks text) t ts first (lines_lack text ts rest later)
+  where
+    long : length (terminated (t ∷ ts)) ≡ length t + 1 + length (terminated ts)
+    long = omega (arith, length-append t (newline ∷ terminated ts))
+
+    first : Lacks text t
+    first k o =
+        let fits : k + length text ≤ length t = o.fits in
+        none k (omega (arith, long))
+        (subst (λ l. OccursAt l text k) (sym (append_assoc t (newline ∷ terminated ts) rest)) (occurs_before t (newline ∷ terminated ts ++ rest) text k o))
+
+    cut : (t ++ newline ∷ []) ++ (terminated ts ++ rest) ≡ terminated (t ∷ ts) ++ rest
+    cut = append_assoc t (newline ∷ []) (terminated ts ++ rest) ∙ sym (append_assoc t (newline ∷ terminated ts) rest)
+
+    later : (k : ℕ) → k < length (terminated ts) → ¬ OccursAt (terminated ts ++ rest) text k
+    later k below o =
+        let place : length (t ++ newline ∷ []) + k < length (terminated (t ∷ ts)) = omega (arith, long, below, length-append t (newline ∷ [])) in
+        none (length (t ++ newline ∷ []) + k) place (subst (λ l. OccursAt l text (length (t ++ newline ∷ []) + k)) cut (occurs_behind (t ++ newline ∷ []) (terminated ts ++ rest) text k o))
+
+-- ---- lines that are passed
+
+-- no line is passed
+pub passes_none : (Holds : Text → Type 0) (bytes : Text) → PassesAll Holds bytes 0
+passes_none Holds bytes = ([], bytes, all_none, All-nil Holds, refl, refl)
+
+-- behind a newline a line begins
+pub passes_behind : (bytes : Text) (at : ℕ) → at < length bytes → bytes ≡ take at bytes ++ newline ∷ drop (at + 1) bytes → PassesAll (λ _. ⊤) bytes (at + 1)
+passes_behind bytes at below cut =
+    let front = ended_text (take at bytes) in
+    let lines : List Text = front.0 in (
+      lines,
+      drop (at + 1) bytes,
+      front.1,
+      λ i d h. tt,
+      cut ∙ sym (append_assoc (take at bytes) (newline ∷ []) (drop (at + 1) bytes)) ∙ ap (λ l. l ++ drop (at + 1) bytes) front.2,
+      omega (arith, ap length front.2, length_push (take at bytes) newline, length-take at bytes),
+    )
+
+-- a block in which the text does not stand is passed as a whole
+pub passes_whole : (text block : Text) → IsBlock block → FindsNeedle block text 0 None → PassesAll (Lacks text) block (length block)
+passes_whole text block (lines, free, is) none =
+    let all : terminated lines ++ [] ≡ block = append-nil (terminated lines) ∙ sym is in
+    let nowhere : (k : ℕ) → k < length (terminated lines) → ¬ OccursAt (terminated lines ++ []) text k =
+    λ k below o. none k (omega arith) (omega (arith, below, ap length is)) (subst (λ l. OccursAt l text k) all o) in
+    (lines, [], free, lines_lack text lines [] nowhere, sym all, ap length is)
+
+-- the lines before the one in which the text stands first are passed
+pub passes_front : (text block : Text) (at count : ℕ) → FindsNeedle block text 0 (Some at) → PassesAll (λ _. ⊤) (take at block) count → PassesAll (Lacks text) block count
+passes_front text block at count (first, stands) (lines, rest, free, any, is, counted) =
+    let before : length (terminated lines) ≤ at = omega (arith, ap length is, length-append (terminated lines) rest, length-take at block, first.high) in
+    let all : terminated lines ++ (rest ++ drop at block) ≡ block =
+    sym (append_assoc (terminated lines) rest (drop at block)) ∙ ap (λ l. l ++ drop at block) (sym is) ∙ take-append-drop at block in
+    let nowhere : (k : ℕ) → k < length (terminated lines) → ¬ OccursAt (terminated lines ++ (rest ++ drop at block)) text k =
+    λ k below o. first.before k (omega arith) (omega (arith, below, before)) (subst (λ l. OccursAt l text k) all o) in
+    (lines, rest ++ drop at block, free, lines_lack text lines (rest ++ drop at block) nowhere, sym all, counted)
+
+-- a line in which a text does not stand that the expression needs is not matched
+pub unmatched : (e : Expression) (text line : Text) (whole : Bool) → IsNeeded text e → Lacks text line → ¬ Matches e line whole
+unmatched e text line false needed lacks (i, j, within, holds) = let there = needed line i j within holds in lacks there.0 there.3
+unmatched e text line true needed lacks holds = let there = needed line 0 (length line) (omega arith) holds in lacks there.0 there.3
+
+-- lines without the text that an expression needs are passed unmatched
+pub passes_unmatched : (e : Expression) (text : Text) (whole : Bool) → IsNeeded text e → (block : Text) (count : ℕ) → PassesAll (Lacks text) block count → PassesUnmatched e whole block count
+passes_unmatched e text whole needed block count (lines, rest, free, lack, is, counted) =
+    (lines, rest, free, λ i d below. unmatched e text _ whole needed (lack i d below), is, counted)
+
+-- one expression that does not match the line is all of them
+none_of_one : (es : List Expression) (e : Expression) (whole asked : Bool) (line : Text) → es ≡ e ∷ [] → whole ≡ asked → ¬ Matches e line whole → ¬ SomeMatches es line asked
+none_of_one es e whole asked line one same none h =
+    none (subst (Matches e line) (sym same) (Any-single (λ x. Matches x line asked) e (subst (λ xs. SomeMatches xs line asked) one h)))
+
+-- of one matcher the lines that it does not match are passed
+pub passes_of_one : (es : List Expression) (wholes : List Bool) (e : Expression) (whole : Bool) → es ≡ e ∷ [] → wholes ≡ whole ∷ [] → (block : Text) (count : ℕ) → PassesUnmatched e whole block count → PassesUnmatchedByAll es wholes block count
+passes_of_one es wholes e whole one alike block count (lines, rest, free, none, is, counted) = λ asked all.
+    let same : whole ≡ asked = All-head (λ w. w ≡ asked) whole [] (subst (AllAnswer asked) alike all) in
+    (lines, rest, free, λ i d below. none_of_one es e whole asked (get_or lines i d) one same (none i d below), is, counted)
+
+-- a list of one
+pub only_one : {A B : Type 0} (f : A → B) (xs : List A) (x : A) → length xs ≡ 1 → get_or xs 0 x ≡ x → map f xs ≡ f x ∷ []
+only_one f [] x one is = absurd (omega (arith, one))
+only_one f (y ∷ []) x one is = ap (λ z. f z ∷ []) is
+only_one f (y ∷ z ∷ xs) x one is = absurd (omega (arith, one))

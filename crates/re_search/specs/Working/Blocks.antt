@@ -1,0 +1,29 @@
+-- Blocks of whole lines, and what a look at one tells of its first lines.
+use Rattle.std.specs.Prelude.{◌≡◌, ℕ, Bool, List, ◌++◌, All, length}
+use Rattle.re_syntax.specs.Bytes.{Text}
+use Rattle.re_syntax.specs.Expression.{Expression}
+use Rattle.re_syntax.specs.Holds.{Matches}
+use Rattle.re_syntax.specs.Lines.{terminated, HasNoNewline}
+use Rattle.memchr.specs.Find.{OccursAt}
+use Rattle.re_search.specs.Searching.{AllAnswer, SomeMatches}
+
+-- each line of the text is ended by a newline
+abbrev pub IsBlock : Text → Type 0
+IsBlock text = (lines : List Text) × All HasNoNewline lines × (text ≡ terminated lines)
+
+-- the text stands nowhere in the line
+abbrev pub Lacks : Text → Text → Type 0
+Lacks text line = (k : ℕ) → ¬ OccursAt line text k
+
+-- the first `count` bytes are whole lines, of each of which this holds
+abbrev pub PassesAll : (Text → Type 0) → Text → ℕ → Type 0
+PassesAll Holds bytes count =
+    (lines : List Text) × (rest : Text) × All HasNoNewline lines × All Holds lines × (bytes ≡ terminated lines ++ rest) × (count ≡ length (terminated lines))
+
+-- the first `count` bytes are whole lines, none of which the expression matches
+abbrev pub PassesUnmatched : Expression → Bool → Text → ℕ → Type 0
+PassesUnmatched e whole block count = PassesAll (λ line. ¬ Matches e line whole) block count
+
+-- none of which any of the expressions matches, by the answer that all matchers give
+abbrev pub PassesUnmatchedByAll : List Expression → List Bool → Text → ℕ → Type 0
+PassesUnmatchedByAll es wholes block count = (whole : Bool) → AllAnswer whole wholes → PassesAll (λ line. ¬ SomeMatches es line whole) block count
