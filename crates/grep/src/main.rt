@@ -12,10 +12,10 @@ ghost use Rattle.grep.specs.Exit.{ProgramGives, streams};
 use crate::disk::DiskFiles;
 use crate::ending::{finish, refuse_memory, refuse_words};
 use grep_cmd::{Files, run_grep};
-use grep_core::{Buffered, CountedWrite, Tally};
+use grep_core::{Buffered, CountedWrite, Tally, WholeLines};
 use re_auto::{Meter, fresh_meter};
 use std::alloc::Global;
-use std::io::{ErrorKind, IsTerminal};
+use std::io::ErrorKind;
 use std::process::ExitCode;
 use std::{env, io};
 
@@ -37,35 +37,24 @@ fn run_gathered<F: Files, W: CountedWrite, M: CountedWrite>(
     finish(out, messages, found)
 }
 
-/// Runs the command on the devices of the system. On a terminal output is written at once, so that
-/// each line is seen when it was found; elsewhere it is gathered.
+/// Runs the command on the devices of the system. Output is gathered, and goes out before each read
+/// that may wait; a message goes out as a whole line.
 fn run(rt: &HostRuntime, words: &[String]) -> u8 {
     let alloc = rt.alloc();
-    let mut files = DiskFiles::new(rt);
-    let mut messages = Tally::new(rt.stderr());
-    let mut meter = fresh_meter();
-    if rt.stdout().is_terminal() {
-        let mut out = Tally::new(rt.stdout());
-        return run_grep(
-            alloc,
-            words,
-            &mut files,
-            &mut out,
-            &mut messages,
-            &mut meter,
-        );
-    }
-    match Buffered::new(alloc, Tally::new(rt.stdout())) {
-        Ok(mut out) => run_gathered(
-            alloc,
-            words,
-            &mut files,
-            &mut out,
-            &mut messages,
-            &mut meter,
-        ),
-        Err(_) => refuse_memory(&mut messages),
-    }
+    let Ok(mut messages) = WholeLines::new(alloc, Tally::new(rt.stderr())) else {
+        return refuse_memory(&mut Tally::new(rt.stderr()));
+    };
+    let Ok(mut out) = Buffered::new(alloc, Tally::new(rt.stdout())) else {
+        return refuse_memory(&mut messages);
+    };
+    run_gathered(
+        alloc,
+        words,
+        &mut DiskFiles::new(rt),
+        &mut out,
+        &mut messages,
+        &mut fresh_meter(),
+    )
 }
 
 /// The words that follow the program's name.

@@ -11,7 +11,7 @@ ghost use Rattle.grep_cmd.specs.Words.{given_source};
 
 use crate::files::{Files, open_named};
 use crate::words::PatternSource;
-use grep_core::{CountedRead, Lines, ReadFault};
+use grep_core::{CountedRead, NumberedLines, ReadFault};
 use std::alloc::{AllocError, Global};
 
 /// How a pattern file was read.
@@ -48,22 +48,24 @@ fn add_text(texts: &mut Vec<u8>, text: &[u8]) -> Result<(), AllocError>
 
 /// Adds the lines of a reader, and answers whether they are all, which they are not where a read
 /// failed or there are more than can be numbered.
-fn add_lines<R: CountedRead>(lines: &mut Lines<R>, texts: &mut Vec<u8>) -> Result<bool, AllocError>
-    requires none_ahead { lines.old.ahead ≡ [] }
-    requires still_open { lines.old.stage ≡ Stage.Open }
-    ensures ok { IfOk result (λ all. AddsLines (R.remaining lines.old.reader) (R.remaining lines.new.reader) (R.failures lines.old.reader)
-        (R.failures lines.new.reader) texts.old.items texts.new.items all) }
-    ensures err { OnErr result (R.failures lines.new.reader ≡ R.failures lines.old.reader) }
+fn add_lines<R: CountedRead>(
+    lines: &mut NumberedLines<R>,
+    texts: &mut Vec<u8>,
+) -> Result<bool, AllocError>
+    requires none_ahead { lines.old.lines.ahead ≡ [] }
+    requires still_open { lines.old.lines.stage ≡ Stage.Open }
+    requires none_handed { lines.old.number ≡ 0 }
+    ensures ok { IfOk result (λ all. AddsLines
+        (R.remaining lines.old.lines.reader) (R.remaining lines.new.lines.reader)
+        (R.failures lines.old.lines.reader) (R.failures lines.new.lines.reader)
+        texts.old.items texts.new.items all) }
+    ensures err { OnErr result
+        (R.failures lines.new.lines.reader ≡ R.failures lines.old.lines.reader) }
 {
-    let mut count: u64 = 0;
     loop {
         match lines.next_line() {
-            Ok(true) if count < u64::MAX => {
-                count += 1;
-                add_text(texts, lines.line())?;
-            }
+            Ok(true) => add_text(texts, lines.line())?,
             Ok(false) => return Ok(true),
-            Ok(true) => return Ok(false),
             Err(ReadFault::Device) => return Ok(false),
             Err(ReadFault::Memory) => return Err(AllocError),
         }
@@ -87,7 +89,7 @@ fn add_file<F: Files>(
     let Some(reader) = open_named(files, word) else {
         return Ok(FileRead::Missing);
     };
-    let mut lines = match Lines::new(alloc, reader) {
+    let mut lines = match NumberedLines::new(alloc, reader) {
         Ok(lines) => lines,
         Err(reader) => {
             files.close(reader);

@@ -1,5 +1,5 @@
 -- What the words of the command line choose: occur [--states N] [SCRIPT].
-use Rattle.std.specs.Prelude.{◌≡◌, ◌≢◌, ◌==◌, Bool, true, not, ⊤, List, [], ◌∷◌, Option, None, Some, Ok, Err, Result, map, option_map, IsSomeAnd, codes, String, string_bytes}
+use Rattle.std.specs.Prelude.{◌≡◌, ◌≢◌, ◌==◌, Bool, true, not, ⊤, List, [], ◌∷◌, Option, None, Some, Ok, Err, Result, map, option_map, IsSomeAnd, codes, String, string_bytes, if◌then◌else◌}
 use Rattle.std.specs.Option.{option_map_or}
 use Rattle.std.specs.Str.Parse.{digits_value, without_leading_plus}
 use Rattle.clap.specs.Words.{App, IsUnsignedIn, Row, Rule, Text, first_of, kind_of, new_app, new_rule, one_of, one_text, with_rule}
@@ -9,6 +9,7 @@ use Rattle.clap.specs.declared.builder.value_parser.ValueParser.TheVariants.{Uns
 use Rattle.clap.specs.declared.error.Error.{Error}
 use Rattle.clap.specs.declared.error.kind.ErrorKind.TheVariants.{DisplayHelp, OutOfMemory}
 use Rattle.clap.specs.declared.parser.matches.Found.{Found}
+use Rattle.grep_cmd.specs.Folder.{is_standard}
 use Rattle.occur.specs.declared.words.Choices.{Choices}
 use Rattle.occur.specs.declared.words.OccurFault.{OccurFault}
 use Rattle.occur.specs.declared.words.OccurFault.TheVariants as fault
@@ -44,6 +45,11 @@ pub record IsChosenBy (rows : List Row) (choices : Choices) : Type 0 where
   pub has_number : one_of (codes "states") rows ≡ Some number
   pub states : choices.states ≡ digits_value 10 (without_leading_plus number)
   pub script : option_map string_bytes choices.script ≡ first_of (codes "script") rows
+
+-- the file that has the script: none where standard input has it, for which no operand stands, or `-`
+abbrev pub script_file : Option Text → Option Text
+script_file None = None
+script_file (Some name) = if is_standard name then None else Some name
 
 -- an error of the library as a fault
 abbrev pub Tells : Error → OccurFault → Type 0

@@ -36,12 +36,12 @@ fn run(rt: &HostRuntime, choices: &Choices) -> u8
     requires least { 1 ≤ choices.now.states }
     requires most { choices.now.states ≤ most_states }
 {
-    let Some(name) = &choices.script else {
+    let Some(name) = choices.script_file() else {
         return run_from(rt, &mut Tally::new(rt.stdin()), choices.states);
     };
-    match fs::open(rt, name.as_str()) {
+    match fs::open(rt, name) {
         Ok(file) => run_from(rt, &mut Tally::new(file), choices.states),
-        Err(_) => refuse_script(&mut Tally::new(rt.stderr()), name.as_str()),
+        Err(_) => refuse_script(&mut Tally::new(rt.stderr()), name),
     }
 }
 

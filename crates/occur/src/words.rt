@@ -3,7 +3,7 @@ ghost use Rattle.std.specs.Prelude.{[], ◌∷◌, ◌≡◌, ◌≤◌, IfOk, O
 ghost use Rattle.clap.specs.Words.{Text, app_of, fault_of, found_of, matches_of, rows_of};
 ghost use Rattle.clap.specs.Words.{rule_of};
 ghost use Rattle.occur.specs.Words.{AsksForHelp, HasStates, IsChosenBy, Tells, TellsAmong, occur_app};
-ghost use Rattle.occur.specs.Words.{Reads, form_words, is_no_option, script_rule, states_rule, texts_of};
+ghost use Rattle.occur.specs.Words.{Reads, form_words, is_no_option, script_file, script_rule, states_rule, texts_of};
 ghost use Rattle.occur.specs.declared.words.OccurFault.TheVariants.{Memory};
 
 use crate::help::{ABOUT, commands_help};
@@ -17,8 +17,23 @@ use thiserror::Error;
 pub struct Choices {
     /// How many states are kept of each pattern.
     pub states: usize,
-    /// The file that has the script; it is standard input where no file is named.
+    /// The operand SCRIPT, as it was given.
     pub script: Option<String>,
+}
+
+impl Choices {
+    /// The file that has the script. There is none where standard input has it, for which no
+    /// operand stands, or `-` (XBD 12.2, Guideline 13).
+    pub fn script_file(&self) -> Option<&str>
+        ensures { option_map (λ s. s.now) result
+            ≡ script_file (option_map string_bytes self.now.script) }
+    {
+        match &self.script {
+            None => None,
+            Some(name) if name.as_str() == "-" => None,
+            Some(name) => Some(name.as_str()),
+        }
+    }
 }
 
 /// Why the words choose nothing.

@@ -1,15 +1,17 @@
 -- The patterns that were gathered, one more line of a file at a time.
-use Rattle.std.proofs.Common.{◌≡◌, ℕ, ◌+◌, ◌≤◌, true, false, List, [], ◌∷◌, ◌++◌, Option, length, refl, sym, ap, ◌∙◌, append_assoc, append-nil, arith}
+use Rattle.std.proofs.Common.{◌≡◌, ℕ, ◌-◌, ◌<◌, true, false, List, [], ◌∷◌, ◌++◌, All, Option, Ok, Err, refl, sym, ap, subst, ◌∙◌, append_assoc, append-nil, arith}
 use Rattle.std.proofs.lemmas.List.{length_push}
 use Rattle.std.proofs.lemmas.List.Elements.{All-push, All-append}
 use Rattle.re_syntax.specs.Bytes.{Text}
 use Rattle.re_syntax.specs.Lines.{newline, terminated, HasNoNewline}
-use Rattle.re_syntax.proofs.lemmas.LinesLaws.{all_none}
-use Rattle.grep_core.specs.declared.input.lines.Stage.TheVariants.{Open}
-use Rattle.grep_core.specs.Working.LineReader.{LineReader, HandsOut, IsUsedUp, IsCutOff}
-use Rattle.grep_core.specs.Working.Handed.{HandsLines}
+use Rattle.re_syntax.proofs.lemmas.LinesLaws.{all_none, AreLines-lines_of}
+use Rattle.grep_core.specs.declared.input.lines.ReadFault.TheVariants.{Device}
+use Rattle.grep_core.specs.declared.input.lines.Stage.{Stage}
+use Rattle.grep_core.specs.declared.input.lines.Stage.TheVariants.{Open, Ended, Failed}
 use Rattle.grep_core.specs.Reading.{most_lines}
-use Rattle.grep_core.proofs.lemmas.HandedLemmas.{HandsLines-none, HandsLines-line, stands_whole, stands_broken, stands_cut}
+use Rattle.grep_core.specs.Working.Handed.{AreHanded}
+use Rattle.grep_core.specs.Working.Numbered.{Numbered, HasHanded, NextIs}
+use Rattle.grep_core.proofs.lemmas.NumberedLemmas.{has_handed_none}
 use Rattle.grep_cmd.specs.Working.Gathered.{Adds, AddsLines}
 
 -- texts behind others
@@ -32,49 +34,48 @@ Adds-trans old mid new ts us h k = record {
 pub Adds-one : (old new : Text) (t : Text) → HasNoNewline t → new ≡ old ++ (t ++ newline ∷ []) → Adds old new (t ∷ [])
 Adds-one old new t h is = record { bytes = is; no_newlines = All-push HasNoNewline [] t all_none h }
 
+-- no line that was handed out has a newline
+free_lines : (stage : Stage) (given : Text) (handed : List Text) → AreHanded stage given handed → All HasNoNewline handed
+free_lines Open given handed h = h.1
+free_lines Ended given handed h = subst (All HasNoNewline) h (AreLines-lines_of given).0
+free_lines Failed given handed h = absurd h
+
 module _ {R : Type 0} (remaining : R → Option Text) (failures : R → ℕ) where
-  -- so many lines of a reader were handed out and added
-  pub record LinesSoFar (reader : R) (now : LineReader R) (before after : Text) (count : ℕ) : Type 0 where
+  -- the lines of a reader that were handed out were added
+  pub record LinesSoFar (reader : R) (now : Numbered R) (before after : Text) : Type 0 where
     pub lines : List Text
-    pub counted : length lines ≡ count
-    pub hands : HandsLines remaining failures reader now lines
-    pub adds : Adds before after lines
+    pub handed : HasHanded remaining failures reader now lines
+    pub bytes : after ≡ before ++ terminated lines
 
   -- none yet
-  pub so_far_none : (now : LineReader R) (bytes : Text) → now.ahead ≡ [] → now.stage ≡ Open → LinesSoFar now.reader now bytes bytes 0
-  so_far_none now bytes none is_open =
-      record { lines = []; counted = refl; hands = HandsLines-none remaining failures now none is_open; adds = Adds-none bytes }
+  pub so_far_none : (now : Numbered R) (bytes : Text) → now.lines.ahead ≡ [] → now.lines.stage ≡ Open → now.number ≡ 0 → LinesSoFar now.lines.reader now bytes bytes
+  so_far_none now bytes none is_open zero =
+      record { lines = []; handed = has_handed_none remaining failures now none is_open zero; bytes = sym (append-nil bytes) }
 
-  module _ (reader : R) (old new : LineReader R) (before mid : Text) (count : ℕ) (s : LinesSoFar reader old before mid count) where
+  module _ (reader : R) (old new : Numbered R) (before mid : Text) (s : LinesSoFar reader old before mid) where
+    added : Adds before mid s.lines
+    added = record { bytes = s.bytes; no_newlines = free_lines old.lines.stage s.handed.hands.given s.lines s.handed.hands.are_handed }
+
     -- one more line
-    pub so_far_line : (after line : Text) → HandsOut remaining failures old new → line ≡ new.line → after ≡ mid ++ (line ++ newline ∷ []) → LinesSoFar reader new before after (count + 1)
-    so_far_line after line h is added = record {
-      lines = s.lines ++ new.line ∷ [];
-      counted = length_push s.lines new.line ∙ ap (λ n. n + 1) s.counted;
-      hands = HandsLines-line remaining failures reader old new s.lines s.hands h;
-      adds = Adds-trans before mid after s.lines (new.line ∷ []) s.adds (Adds-one mid after new.line h.no_newline (added ∙ ap (λ l. mid ++ (l ++ newline ∷ [])) is));
-    }
+    pub so_far_line : (after line : Text) → NextIs remaining failures reader s.lines new (Ok true) → line ≡ new.lines.line → after ≡ mid ++ (line ++ newline ∷ []) → LinesSoFar reader new before after
+    so_far_line after line next is pushed =
+        let behind : after ≡ mid ++ terminated (new.lines.line ∷ []) = pushed ∙ ap (λ l. mid ++ (l ++ newline ∷ [])) is in
+        record {
+          lines = s.lines ++ new.lines.line ∷ [];
+          handed = next;
+          bytes =
+              behind ∙ ap (λ l. l ++ terminated (new.lines.line ∷ [])) s.bytes ∙ append_assoc before (terminated s.lines) (terminated (new.lines.line ∷ []))
+              ∙ ap (λ l. before ++ l) (sym (terminated-append s.lines (new.lines.line ∷ [])));
+        }
 
     -- no line is left
-    pub all_added : count ≤ most_lines → IsUsedUp remaining failures old new → AddsLines (remaining reader) (remaining new.reader) (failures reader) (failures new.reader) before mid true
-    all_added few h = record {
-      texts = s.lines;
-      adds = s.adds;
-      stands = λ name. stands_whole remaining failures name reader old new s.lines s.hands (omega (arith, s.counted)) h;
-    }
+    pub all_added : NextIs remaining failures reader s.lines new (Ok false) → AddsLines (remaining reader) (remaining new.lines.reader) (failures reader) (failures new.lines.reader) before mid true
+    all_added stands = record { texts = s.lines; adds = added; stands = stands }
 
-    -- a read failed
-    pub some_added : count ≤ most_lines → old.stage ≡ Open → IsCutOff remaining failures old new → AddsLines (remaining reader) (remaining new.reader) (failures reader) (failures new.reader) before mid false
-    some_added few was_open h = record {
-      texts = s.lines;
-      adds = s.adds;
-      stands = λ name. stands_broken remaining failures name reader old new s.lines s.hands (omega (arith, s.counted)) was_open h;
-    }
+    -- a read failed, or there is one line more than can be numbered
+    pub some_added : NextIs remaining failures reader s.lines new (Err Device) → AddsLines (remaining reader) (remaining new.lines.reader) (failures reader) (failures new.lines.reader) before mid false
+    some_added stands = record { texts = s.lines; adds = added; stands = stands }
 
-    -- there is one line more than can be numbered
-    pub most_added : count ≡ most_lines → HandsOut remaining failures old new → AddsLines (remaining reader) (remaining new.reader) (failures reader) (failures new.reader) before mid false
-    most_added full h = record {
-      texts = s.lines;
-      adds = s.adds;
-      stands = λ name. stands_cut remaining failures name reader new s.lines new.line (HandsLines-line remaining failures reader old new s.lines s.hands h) (s.counted ∙ full);
-    }
+    -- with each line there are fewer that can be numbered
+    pub fewer_left : NextIs remaining failures reader s.lines new (Ok true) → most_lines - new.number < most_lines - old.number
+    fewer_left next = omega (arith, next.few, next.counted, s.handed.counted, length_push s.lines new.lines.line)
