@@ -1,6 +1,6 @@
 #!/usr/bin/env python3
-"""Runs built programs on the rows of tests/rows, the scripts of tests/scripts and the devices of
-tests/devices.py and tests/occur_devices.py.
+"""Runs built programs on the rows of tests/rows, the scripts of tests/scripts, the devices of
+tests/devices.py and tests/occur_devices.py, and the live and long inputs of tests/live.py.
 
     tests/run.py GREP [OCCUR] [--only TEXT]
 
@@ -22,6 +22,7 @@ from collections.abc import Iterable
 from pathlib import Path
 
 import devices
+import live
 import occur_devices
 import row
 import script
@@ -78,7 +79,7 @@ def try_case(programs: Programs, case: Case) -> str:
 
 def all_cases() -> list[Case]:
     """The cases of all programs. No two have one name."""
-    cases = [*row.cases(), *script.cases(), *devices.cases(), *occur_devices.cases()]
+    cases = [*row.cases(), *script.cases(), *devices.cases(), *live.cases(), *occur_devices.cases()]
     names = Counter(case.name for case in cases)
     if twice := [name for name, count in names.items() if count > 1]:
         raise row.BadRow(f"names that stand twice: {twice}")
