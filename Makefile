@@ -2,6 +2,7 @@
 # make gate       proofs from nothing, edits that must fail, tests, the programs' stored runs
 # make test       the gate, and then the programs built anew and run on the cases of tests/
 # make test-program  runs the built programs on the cases of tests/ (wants Python 3.11)
+# make test-random  compares the built occur with the built grep on 100,000 random edits
 # make test-memory  runs the program, matchers and sessions with each of their allocations refused in turn (wants a C compiler)
 # make install    copies the programs and their manual pages below $(DESTDIR)$(PREFIX)
 # make clean      removes what make built; what rt keeps of its proofs stays
@@ -9,7 +10,7 @@
 PREFIX = /usr/local
 DESTDIR =
 
-.PHONY: all prove programs first-rows gate test test-program test-memory install clean
+.PHONY: all prove programs first-rows gate test test-program test-random test-memory install clean
 
 all: first-rows
 
@@ -46,6 +47,9 @@ test: gate
 
 test-program: build/grep build/occur
 	python3 tests/run.py build/grep build/occur
+
+test-random: build/grep build/occur
+	python3 tests/random_edits.py build/grep build/occur
 
 test-memory: build/grep
 	tools/refuse_allocations.sh

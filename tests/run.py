@@ -1,6 +1,7 @@
 #!/usr/bin/env python3
 """Runs built programs on the rows of tests/rows, the scripts of tests/scripts, the devices of
-tests/devices.py and tests/occur_devices.py, and the live and long inputs of tests/live.py.
+tests/devices.py and tests/occur_devices.py, the live and long inputs of tests/live.py and the
+hostile texts of tests/hostile.py.
 
     tests/run.py GREP [OCCUR] [--only TEXT]
 
@@ -22,6 +23,7 @@ from collections.abc import Iterable
 from pathlib import Path
 
 import devices
+import hostile
 import live
 import occur_devices
 import row
@@ -79,7 +81,8 @@ def try_case(programs: Programs, case: Case) -> str:
 
 def all_cases() -> list[Case]:
     """The cases of all programs. No two have one name."""
-    cases = [*row.cases(), *script.cases(), *devices.cases(), *live.cases(), *occur_devices.cases()]
+    cases = [*row.cases(), *script.cases(), *devices.cases(), *live.cases(), *hostile.cases()]
+    cases += occur_devices.cases()
     names = Counter(case.name for case in cases)
     if twice := [name for name, count in names.items() if count > 1]:
         raise row.BadRow(f"names that stand twice: {twice}")
