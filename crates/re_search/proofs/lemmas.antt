@@ -2,7 +2,6 @@ pub mod AnyLaws
 pub mod BestSpans
 pub mod NeededLaws
 pub mod BlockLemmas
-pub mod SetBlocks
 pub mod Occurrences
 pub mod OneText
 pub mod Passing

@@ -18,8 +18,8 @@ pub fn first_line_with(finder: &Finder<'_>, block: &[u8]) -> usize
     }
 }
 
-/// Where the last line of the bytes begins, which no newline has to end.
-pub fn line_start(bytes: &[u8]) -> usize
+// Where the last line of the bytes begins, which no newline has to end.
+fn line_start(bytes: &[u8]) -> usize
     ensures { PassesAll (λ _. ⊤) bytes.now result }
 {
     match last_newline(bytes) {

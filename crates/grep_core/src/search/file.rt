@@ -137,7 +137,7 @@ fn search_lines<R: CountedRead, M: LineMatch, W: CountedWrite>(
     let early = wanted.options.leaves_early();
     let mut selected: u64 = 0;
     loop {
-        pass_unselected(lines, matchers, filter, &wanted.options);
+        pass_unselected(lines, matchers, &wanted.options);
         send_before_read(lines, out)?;
         match lines.next_line() {
             Ok(true) => {

@@ -1,26 +1,23 @@
 //! Lines that are passed in one sweep, without being handed out.
-ghost use Rattle.std.specs.Prelude.{◌≡◌, List, IfSome, map};
+ghost use Rattle.std.specs.Prelude.{◌≡◌, List, map};
 ghost use Rattle.re_syntax.specs.Bytes.{Text};
 ghost use Rattle.re_search.specs.Searching.{AllAnswer};
-ghost use Rattle.re_search.specs.Working.Filters.{AreNeeded};
 ghost use Rattle.grep_core.specs.Working.Numbered.{HasHanded};
 ghost use Rattle.grep_core.specs.Working.Passed.{PassesUnselected};
 
 use crate::devices::counted::CountedRead;
 use crate::input::numbered::NumberedLines;
 use crate::options::Options;
-use re_search::{FixedSet, LineMatch, first_candidate};
+use re_search::{LineMatch, first_candidate};
 
-/// Passes the next lines, as far as they are held and it is known without a step that none of
+/// Passes the next lines, as far as they are held and it is known without a search that none of
 /// them is selected. Under `-v` none is passed.
 pub fn pass_unselected<R: CountedRead, M: LineMatch>(
     lines: &mut NumberedLines<R>,
     matchers: &[M],
-    filter: Option<&FixedSet>,
     options: &Options,
 )
-    requires whole { AllAnswer options.now.line_regexp (map M.whole matchers.now) }
-    requires needed { IfSome filter (λ f. AreNeeded f.now (map M.expression matchers.now)) }
+    requires { AllAnswer options.now.line_regexp (map M.whole matchers.now) }
     ensures passed { (reader : R) (handed : List Text)
         → HasHanded R.remaining R.failures reader lines.old handed
         → PassesUnselected R.remaining R.failures (map M.expression matchers.now) options.now
@@ -30,9 +27,6 @@ pub fn pass_unselected<R: CountedRead, M: LineMatch>(
     if options.invert_match {
         return;
     }
-    let count = first_candidate(matchers, filter, lines.ready());
-    if count == 0 {
-        return;
-    }
+    let count = first_candidate(matchers, lines.ready());
     lines.pass(count);
 }

@@ -11,8 +11,6 @@ use Rattle.re_syntax.proofs.lemmas.LinesLaws.{all_none, all_tail}
 use Rattle.re_syntax.proofs.lemmas.EndedLinesLaws.{AreEndedLines-ended_lines_of}
 use Rattle.memchr.specs.Find.{OccursAt, FindsNeedle}
 use Rattle.re_search.specs.Working.Blocks.{IsBlock, Lacks, PassesAll, PassesUnmatched, PassesUnmatchedByAll}
-use Rattle.re_search.specs.Working.Filters.{AreNeeded}
-use Rattle.re_search.specs.Working.Literals.{Literals, any_literal}
 use Rattle.re_search.specs.Working.Needles.{IsNeeded}
 use Rattle.re_search.specs.Searching.{AllAnswer, SomeMatches}
 use Rattle.re_search.proofs.lemmas.AnyLaws.{Any-single}
@@ -35,55 +33,45 @@ ended_text t =
       ap (λ l. l ++ newline ∷ []) ended.1.2 ∙ append_assoc (terminated lines) rest (newline ∷ []) ∙ terminated-push lines rest,
     )
 
--- ---- what begins in a line begins in a block
+-- ---- occurrences in a line and in a block
 
--- of something that may begin at places of a text
-module _ (Begins : Text → ℕ → Type 0) (within : (line : Text) (k : ℕ) → Begins line k → k ≤ length line)
-    (before : (line after : Text) (k : ℕ) → Begins line k → Begins (line ++ after) k)
-    (behind : (front line : Text) (k : ℕ) → Begins line k → Begins (front ++ line) (length front + k)) where
-  -- it begins nowhere in the line
-  abbrev pub Free : Text → Type 0
-  Free line = (k : ℕ) → ¬ Begins line k
+occurs_before : (line after text : Text) (k : ℕ) → OccursAt line text k → OccursAt (line ++ after) text k
+occurs_before line after text k o =
+    let fits : k + length text ≤ length line = o.fits in record {
+      fits = omega (arith, length-append line after);
+      reads = λ j below. get_or_append_left line after 0 (k + j) (omega arith) ∙ o.reads j below;
+    }
 
-  -- where it does not begin in the first lines of a block it does in none of them
-  lines_free : (lines : List Text) (rest : Text) → ((k : ℕ) → k < length (terminated lines) → ¬ Begins (terminated lines ++ rest) k) → All Free lines
-  lines_free [] rest none = All-nil Free
-  lines_free (t ∷ ts) rest none = All-cons Free t ts first (lines_free ts rest later)
-    where
-      long : length (terminated (t ∷ ts)) ≡ length t + 1 + length (terminated ts)
-      long = omega (arith, length-append t (newline ∷ terminated ts))
+occurs_behind : (before line text : Text) (k : ℕ) → OccursAt line text k → OccursAt (before ++ line) text (length before + k)
+occurs_behind before line text k o =
+    let fits : k + length text ≤ length line = o.fits in record {
+      fits = omega (arith, length-append before line);
+      reads = λ j below.
+          let place : length before + k + j ≡ length before + (k + j) = omega arith in
+          ap (λ n. get_or (before ++ line) n 0) place ∙ get_or-append-add before line (k + j) 0 ∙ o.reads j below;
+    }
 
-      first : Free t
-      first k o =
-          let inside : k ≤ length t = within t k o in
-          none k (omega (arith, long, inside))
-          (subst (λ l. Begins l k) (sym (append_assoc t (newline ∷ terminated ts) rest)) (before t (newline ∷ terminated ts ++ rest) k o))
+-- a text that does not begin in the first lines of a block stands in none of them
+pub lines_lack : (text : Text) (lines : List Text) (rest : Text) → ((k : ℕ) → k < length (terminated lines) → ¬ OccursAt (terminated lines ++ rest) text k) → All (Lacks text) lines
+lines_lack text [] rest none = All-nil (Lacks text)
+lines_lack text (t ∷ ts) rest none = All-cons (Lacks text) t ts first (lines_lack text ts rest later)
+  where
+    long : length (terminated (t ∷ ts)) ≡ length t + 1 + length (terminated ts)
+    long = omega (arith, length-append t (newline ∷ terminated ts))
 
-      cut : (t ++ newline ∷ []) ++ (terminated ts ++ rest) ≡ terminated (t ∷ ts) ++ rest
-      cut = append_assoc t (newline ∷ []) (terminated ts ++ rest) ∙ sym (append_assoc t (newline ∷ terminated ts) rest)
+    first : Lacks text t
+    first k o =
+        let fits : k + length text ≤ length t = o.fits in
+        none k (omega (arith, long))
+        (subst (λ l. OccursAt l text k) (sym (append_assoc t (newline ∷ terminated ts) rest)) (occurs_before t (newline ∷ terminated ts ++ rest) text k o))
 
-      later : (k : ℕ) → k < length (terminated ts) → ¬ Begins (terminated ts ++ rest) k
-      later k below o =
-          let place : length (t ++ newline ∷ []) + k < length (terminated (t ∷ ts)) = omega (arith, long, below, length-append t (newline ∷ [])) in
-          none (length (t ++ newline ∷ []) + k) place (subst (λ l. Begins l (length (t ++ newline ∷ []) + k)) cut (behind (t ++ newline ∷ []) (terminated ts ++ rest) k o))
+    cut : (t ++ newline ∷ []) ++ (terminated ts ++ rest) ≡ terminated (t ∷ ts) ++ rest
+    cut = append_assoc t (newline ∷ []) (terminated ts ++ rest) ∙ sym (append_assoc t (newline ∷ terminated ts) rest)
 
-  -- a block in which it begins nowhere is passed as a whole
-  pub passes_free_block : (block : Text) → IsBlock block → ((k : ℕ) → k < length block → ¬ Begins block k) → PassesAll Free block (length block)
-  passes_free_block block (lines, free, is) none =
-      let all : terminated lines ++ [] ≡ block = append-nil (terminated lines) ∙ sym is in
-      let nowhere : (k : ℕ) → k < length (terminated lines) → ¬ Begins (terminated lines ++ []) k =
-      λ k below o. none k (omega (arith, below, ap length is)) (subst (λ l. Begins l k) all o) in
-      (lines, [], free, lines_free lines [] nowhere, sym all, ap length is)
-
-  -- the lines before the one in which it begins first are passed
-  pub passes_free_front : (block : Text) (at count : ℕ) → at ≤ length block → ((k : ℕ) → k < at → ¬ Begins block k) → PassesAll (λ _. ⊤) (take at block) count → PassesAll Free block count
-  passes_free_front block at count inside none (lines, rest, free, any, is, counted) =
-      let low : length (terminated lines) ≤ at = omega (arith, ap length is, length-append (terminated lines) rest, length-take at block, inside) in
-      let all : terminated lines ++ (rest ++ drop at block) ≡ block =
-      sym (append_assoc (terminated lines) rest (drop at block)) ∙ ap (λ l. l ++ drop at block) (sym is) ∙ take-append-drop at block in
-      let nowhere : (k : ℕ) → k < length (terminated lines) → ¬ Begins (terminated lines ++ (rest ++ drop at block)) k =
-      λ k below o. none k (omega (arith, below, low)) (subst (λ l. Begins l k) all o) in
-      (lines, rest ++ drop at block, free, lines_free lines (rest ++ drop at block) nowhere, sym all, counted)
+    later : (k : ℕ) → k < length (terminated ts) → ¬ OccursAt (terminated ts ++ rest) text k
+    later k below o =
+        let place : length (t ++ newline ∷ []) + k < length (terminated (t ∷ ts)) = omega (arith, long, below, length-append t (newline ∷ [])) in
+        none (length (t ++ newline ∷ []) + k) place (subst (λ l. OccursAt l text (length (t ++ newline ∷ []) + k)) cut (occurs_behind (t ++ newline ∷ []) (terminated ts ++ rest) text k o))
 
 -- ---- lines that are passed
 
@@ -104,37 +92,23 @@ passes_behind bytes at below cut =
       omega (arith, ap length front.2, length_push (take at bytes) newline, length-take at bytes),
     )
 
--- ---- where a text stands
-
-occurs_within : (text line : Text) (k : ℕ) → OccursAt line text k → k ≤ length line
-occurs_within text line k o = let fits : k + length text ≤ length line = o.fits in omega (arith, fits)
-
-occurs_before : (text line after : Text) (k : ℕ) → OccursAt line text k → OccursAt (line ++ after) text k
-occurs_before text line after k o =
-    let fits : k + length text ≤ length line = o.fits in record {
-      fits = omega (arith, length-append line after);
-      reads = λ j below. get_or_append_left line after 0 (k + j) (omega arith) ∙ o.reads j below;
-    }
-
-occurs_behind : (text before line : Text) (k : ℕ) → OccursAt line text k → OccursAt (before ++ line) text (length before + k)
-occurs_behind text before line k o =
-    let fits : k + length text ≤ length line = o.fits in record {
-      fits = omega (arith, length-append before line);
-      reads = λ j below.
-          let place : length before + k + j ≡ length before + (k + j) = omega arith in
-          ap (λ n. get_or (before ++ line) n 0) place ∙ get_or-append-add before line (k + j) 0 ∙ o.reads j below;
-    }
-
 -- a block in which the text does not stand is passed as a whole
 pub passes_whole : (text block : Text) → IsBlock block → FindsNeedle block text 0 None → PassesAll (Lacks text) block (length block)
-passes_whole text block whole none =
-    passes_free_block (λ l k. OccursAt l text k) (occurs_within text) (occurs_before text) (occurs_behind text) block whole (λ k below o. none k (omega arith) (omega (arith, below)) o)
+passes_whole text block (lines, free, is) none =
+    let all : terminated lines ++ [] ≡ block = append-nil (terminated lines) ∙ sym is in
+    let nowhere : (k : ℕ) → k < length (terminated lines) → ¬ OccursAt (terminated lines ++ []) text k =
+    λ k below o. none k (omega arith) (omega (arith, below, ap length is)) (subst (λ l. OccursAt l text k) all o) in
+    (lines, [], free, lines_lack text lines [] nowhere, sym all, ap length is)
 
 -- the lines before the one in which the text stands first are passed
 pub passes_front : (text block : Text) (at count : ℕ) → FindsNeedle block text 0 (Some at) → PassesAll (λ _. ⊤) (take at block) count → PassesAll (Lacks text) block count
-passes_front text block at count (first, stands) front =
-    let inside : at ≤ length block = omega (arith, first.high) in
-    passes_free_front (λ l k. OccursAt l text k) (occurs_within text) (occurs_before text) (occurs_behind text) block at count inside (λ k below o. first.before k (omega arith) below o) front
+passes_front text block at count (first, stands) (lines, rest, free, any, is, counted) =
+    let before : length (terminated lines) ≤ at = omega (arith, ap length is, length-append (terminated lines) rest, length-take at block, first.high) in
+    let all : terminated lines ++ (rest ++ drop at block) ≡ block =
+    sym (append_assoc (terminated lines) rest (drop at block)) ∙ ap (λ l. l ++ drop at block) (sym is) ∙ take-append-drop at block in
+    let nowhere : (k : ℕ) → k < length (terminated lines) → ¬ OccursAt (terminated lines ++ (rest ++ drop at block)) text k =
+    λ k below o. first.before k (omega arith) (omega (arith, below, before)) (subst (λ l. OccursAt l text k) all o) in
+    (lines, rest ++ drop at block, free, lines_lack text lines (rest ++ drop at block) nowhere, sym all, counted)
 
 -- a line in which a text does not stand that the expression needs is not matched
 pub unmatched : (e : Expression) (text line : Text) (whole : Bool) → IsNeeded text e → Lacks text line → ¬ Matches e line whole
@@ -162,14 +136,3 @@ pub only_one : {A B : Type 0} (f : A → B) (xs : List A) (x : A) → length xs 
 only_one f [] x one is = absurd (omega (arith, one))
 only_one f (y ∷ []) x one is = ap (λ z. f z ∷ []) is
 only_one f (y ∷ z ∷ xs) x one is = absurd (omega (arith, one))
-
--- lines of which no part is matched aren't matched as a whole
-pub passes_whole_too : (e : Expression) (whole : Bool) (block : Text) (count : ℕ) → PassesUnmatched e false block count → PassesUnmatched e whole block count
-passes_whole_too e false block count passes = passes
-passes_whole_too e true block count (lines, rest, free, none, is, counted) =
-    (lines, rest, free, λ i d below holds. none i d below (0, length (get_or lines i d), omega arith, holds), is, counted)
-
--- where some of the strings of a filter stands on each line that is matched, lines without any are passed
-pub passes_by_filter : (strings : Literals) (es : List Expression) (wholes : List Bool) (block : Text) (count : ℕ) → AreNeeded strings es → PassesUnmatched (any_literal strings) false block count → PassesUnmatchedByAll es wholes block count
-passes_by_filter strings es wholes block count needed (lines, rest, free, none, is, counted) = λ whole all.
-    (lines, rest, free, λ i d below some. none i d below (needed (get_or lines i d) whole some), is, counted)
