@@ -1,7 +1,7 @@
 #!/usr/bin/env python3
 """Runs built programs on the rows of tests/rows, the scripts of tests/scripts, the devices of
-tests/devices.py and tests/occur_devices.py, the live and long inputs of tests/live.py and the
-hostile texts of tests/hostile.py.
+tests/devices.py and tests/occur_devices.py, the inputs that are the output of tests/same_file.py,
+the live and long inputs of tests/live.py and the hostile texts of tests/hostile.py.
 
     tests/run.py GREP [OCCUR] [--only TEXT]
 
@@ -27,6 +27,7 @@ import hostile
 import live
 import occur_devices
 import row
+import same_file
 import script
 from program import Answer, Bench, Case, Skipped, Verdict
 
@@ -82,6 +83,7 @@ def try_case(programs: Programs, case: Case) -> str:
 def all_cases() -> list[Case]:
     """The cases of all programs. No two have one name."""
     cases = [*row.cases(), *script.cases(), *devices.cases(), *live.cases(), *hostile.cases()]
+    cases += same_file.cases()
     cases += occur_devices.cases()
     names = Counter(case.name for case in cases)
     if twice := [name for name, count in names.items() if count > 1]:

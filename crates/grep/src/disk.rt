@@ -3,10 +3,11 @@ ghost use Rattle.std.specs.Prelude.{◌≡◌, false};
 ghost use Rattle.grep_core.specs.Run.{count_more};
 ghost use Rattle.grep.specs.Working.Disk.{known_bytes, folder_of};
 
+use crate::guard::OutputGuard;
 use grep_cmd::Files;
 use grep_core::{CountedRead, Tally};
 use std::fs::File;
-use std::io::{Read, Stdin};
+use std::io::{ErrorKind, Read, Stdin};
 use std::{fs, io};
 
 /// What is read: standard input, a file, or nothing. Contracts know of it what they know of the
@@ -17,6 +18,8 @@ pub enum Stream<I, F> {
     File(F),
     /// No byte is left of it.
     Empty,
+    /// The file to which rows are written: no byte of it is read.
+    Output,
 }
 
 impl<I: Read, F: Read> Read for Stream<I, F> {
@@ -27,6 +30,7 @@ impl<I: Read, F: Read> Read for Stream<I, F> {
             Stream::StandardInput(input) => input.read(buf),
             Stream::File(file) => file.read(buf),
             Stream::Empty => Ok(0),
+            Stream::Output => Err(io::Error::from(ErrorKind::InvalidInput)),
         }
     }
 }
@@ -36,6 +40,7 @@ impl<I: Read, F: Read> Read for Stream<I, F> {
 #[derive(Drop)]
 pub struct DiskFiles<'a> {
     rt: &'a HostRuntime,
+    guard: OutputGuard,
     /// Standard input was used.
     input_used: bool,
     /// How many attempts to open a file, and reads of streams that were given back, have failed.
@@ -43,13 +48,15 @@ pub struct DiskFiles<'a> {
 }
 
 impl<'a> DiskFiles<'a> {
-    /// All files, of which none was opened, and standard input, which was not used.
-    pub fn new(rt: &'a HostRuntime) -> DiskFiles<'a>
+    /// All files, of which none was opened, and standard input, which was not used. Of the inputs
+    /// that the guard tells to be standard output each read fails.
+    pub fn new(rt: &'a HostRuntime, guard: OutputGuard) -> DiskFiles<'a>
         ensures unused { result.input_used ≡ false }
         ensures none_failed { result.failed ≡ 0 }
     {
         DiskFiles {
             rt,
+            guard,
             input_used: false,
             failed: 0,
         }
@@ -70,11 +77,15 @@ impl Files for DiskFiles<'_> {
             return Tally::new(Stream::Empty);
         }
         self.input_used = true;
+        if self.guard.is_standard_input(self.rt) {
+            return Tally::new(Stream::Output);
+        }
         Tally::new(Stream::StandardInput(self.rt.stdin()))
     }
 
     fn open(&mut self, name: &str) -> Option<Tally<Stream<Stdin, File>>> {
         match fs::open(self.rt, name) {
+            Ok(file) if self.guard.is_file(&file) => Some(Tally::new(Stream::Output)),
             Ok(file) => Some(Tally::new(Stream::File(file))),
             Err(_) => {
                 self.failed = self.failed.saturating_add(1);

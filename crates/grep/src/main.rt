@@ -3,6 +3,7 @@
 
 mod disk;
 mod ending;
+mod guard;
 
 ghost use Rattle.grep_core.specs.Run.{writer};
 ghost use Rattle.grep_core.specs.Sources.{GivesBack};
@@ -11,6 +12,7 @@ ghost use Rattle.grep.specs.Exit.{ProgramGives, streams};
 
 use crate::disk::DiskFiles;
 use crate::ending::{finish, refuse_memory, refuse_words};
+use crate::guard::OutputGuard;
 use grep_cmd::{Files, run_grep};
 use grep_core::{Buffered, CountedWrite, Tally, WholeLines};
 use re_auto::{Meter, fresh_meter};
@@ -50,7 +52,7 @@ fn run(rt: &HostRuntime, words: &[String]) -> u8 {
     run_gathered(
         alloc,
         words,
-        &mut DiskFiles::new(rt),
+        &mut DiskFiles::new(rt, OutputGuard::new(rt, words)),
         &mut out,
         &mut messages,
         &mut fresh_meter(),

@@ -13,17 +13,36 @@ use crate::words::{Choices, OccurFault, occur_words};
 use clap::Error;
 use grep_cmd::{FAILED, ScriptFault, run_script};
 use grep_core::{Buffered, CountedRead, Tally};
+use std::fs::Metadata;
 use std::io::ErrorKind;
+use std::os::unix::fs::MetadataExt;
 use std::process::ExitCode;
 use std::{env, fs, io};
 
+/// Whether the script of this metadata is the regular file to which replies go: each reply would
+/// be a command again, without end.
+fn is_output(rt: &HostRuntime, script: io::Result<Metadata>) -> bool {
+    let (Ok(script), Ok(output)) = (script, fs::metadata(rt, "/dev/stdout")) else {
+        return false;
+    };
+    script.is_file() && script.dev() == output.dev() && script.ino() == output.ino()
+}
+
 /// Runs the script that the reader gives, with its replies on standard output, and answers the
-/// exit status.
-fn run_from<R: CountedRead>(rt: &HostRuntime, reader: &mut R, states: usize) -> u8
+/// exit status. A script that is standard output itself is not read.
+fn run_from<R: CountedRead>(
+    rt: &HostRuntime,
+    script: io::Result<Metadata>,
+    reader: &mut R,
+    states: usize,
+) -> u8
     requires least { 1 ≤ states }
     requires most { states ≤ most_states }
 {
     let mut messages = Tally::new(rt.stderr());
+    if is_output(rt, script) {
+        return end_script(&mut messages, Err(ScriptFault::Read));
+    }
     let Ok(mut writer) = Buffered::new(rt.alloc(), Tally::new(rt.stdout())) else {
         return refuse_memory(&mut messages);
     };
@@ -37,10 +56,11 @@ fn run(rt: &HostRuntime, choices: &Choices) -> u8
     requires most { choices.now.states ≤ most_states }
 {
     let Some(name) = choices.script_file() else {
-        return run_from(rt, &mut Tally::new(rt.stdin()), choices.states);
+        let script = fs::metadata(rt, "/dev/stdin");
+        return run_from(rt, script, &mut Tally::new(rt.stdin()), choices.states);
     };
     match fs::open(rt, name) {
-        Ok(file) => run_from(rt, &mut Tally::new(file), choices.states),
+        Ok(file) => run_from(rt, file.metadata(), &mut Tally::new(file), choices.states),
         Err(_) => refuse_script(&mut Tally::new(rt.stderr()), name),
     }
 }

@@ -3,13 +3,14 @@ use Rattle.std.specs.Prelude.{Bool, [], Option, None, Some, if◌then◌else◌}
 use Rattle.grep_cmd.specs.Bytes.{Text}
 use Rattle.grep_cmd.specs.Folder.{Folder}
 use Rattle.grep.specs.declared.disk.Stream.{Stream}
-use Rattle.grep.specs.declared.disk.Stream.TheVariants.{StandardInput, File, Empty}
+use Rattle.grep.specs.declared.disk.Stream.TheVariants.{StandardInput, File, Empty, Output}
 
 -- the bytes that a stream will give, by what is known of its device
 abbrev pub known_bytes : {I F : Type 0} → (I → Option Text) → (F → Option Text) → Stream I F → Option Text
 known_bytes of_input of_file (StandardInput input) = of_input input
 known_bytes of_input of_file (File file) = of_file file
 known_bytes of_input of_file Empty = Some []
+known_bytes of_input of_file Output = None
 
 -- nothing is known, but that standard input is empty once it was used
 abbrev pub folder_of : Bool → Folder
