@@ -3,7 +3,8 @@
 # make test       the gate, and then the programs built anew and run on the cases of tests/
 # make test-program  runs the built programs on the cases of tests/ (wants Python 3.11)
 # make test-random  compares the built occur with the built grep on 100,000 random edits
-# make test-memory  runs the program, matchers and sessions with each of their allocations refused in turn (wants a C compiler)
+# make test-memory  runs the programs, matchers and sessions with each of their allocations refused in turn (wants a C
+#                 compiler and Python 3.11)
 # make install    copies the programs and their manual pages below $(DESTDIR)$(PREFIX)
 # make clean      removes what make built; what rt keeps of its proofs stays
 
@@ -51,8 +52,9 @@ test-program: build/grep build/occur
 test-random: build/grep build/occur
 	python3 tests/random_edits.py build/grep build/occur
 
-test-memory: build/grep
+test-memory: build/grep build/occur
 	tools/refuse_allocations.sh
+	python3 tests/refused_growths.py build/occur
 	tools/refuse_growths.sh
 
 install: build/grep build/occur

@@ -139,7 +139,7 @@ def broken_input(name: str, words: list[str], content: bytes, wanted: Answer) ->
     case(name)(judge)
 
 
-for read, lines in ((0, 0), (2, 0), (3, 1), (5, 1)):
+for read, lines in enumerate((0, 0, 0, 1, 1, 1)):
     broken_input(
         f"Standard input fails after {read} of its bytes: whole lines searched before are {lines}.",
         ["-c", "."], b"ab\ncd"[:read], Answer(b"%d\n" % lines, INPUT_READ_ERROR, 2))

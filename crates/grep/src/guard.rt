@@ -58,22 +58,22 @@ impl OutputGuard {
         guard
     }
 
-    /// Whether the next input, which is opened already, is the guarded file.
-    fn is_output(&mut self, input: impl FnOnce() -> io::Result<Metadata>) -> bool {
+    /// Whether the next input is read in any case: as a pattern file, or since nothing is guarded.
+    fn passes(&mut self) -> bool {
         if self.pattern_files > 0 {
             self.pattern_files -= 1;
-            return false;
+            return true;
         }
-        self.output.is_some() && FileIdentity::of_regular(input()) == self.output
+        self.output.is_none()
     }
 
     /// Whether this file, the next input, is the guarded file.
     pub fn is_file(&mut self, file: &File) -> bool {
-        self.is_output(|| file.metadata())
+        !self.passes() && FileIdentity::of_regular(file.metadata()) == self.output
     }
 
     /// Whether standard input, the next input, is the guarded file.
     pub fn is_standard_input(&mut self, rt: &HostRuntime) -> bool {
-        self.is_output(|| fs::metadata(rt, "/dev/stdin"))
+        !self.passes() && FileIdentity::of_regular(fs::metadata(rt, "/dev/stdin")) == self.output
     }
 }

@@ -19,30 +19,27 @@ use std::os::unix::fs::MetadataExt;
 use std::process::ExitCode;
 use std::{env, fs, io};
 
-/// Whether the script of this metadata is the regular file to which replies go: each reply would
-/// be a command again, without end.
-fn is_output(rt: &HostRuntime, script: io::Result<Metadata>) -> bool {
-    let (Ok(script), Ok(output)) = (script, fs::metadata(rt, "/dev/stdout")) else {
+/// Whether a script is the regular file to which replies go: each reply would be a command again,
+/// without end.
+fn is_output(script: io::Result<Metadata>, output: io::Result<Metadata>) -> bool {
+    let (Ok(script), Ok(output)) = (script, output) else {
         return false;
     };
     script.is_file() && script.dev() == output.dev() && script.ino() == output.ino()
 }
 
+/// Tells a script that is the output as one that can't be read, and answers the exit status.
+fn refuse_output(rt: &HostRuntime) -> u8 {
+    end_script(&mut Tally::new(rt.stderr()), Err(ScriptFault::Read))
+}
+
 /// Runs the script that the reader gives, with its replies on standard output, and answers the
-/// exit status. A script that is standard output itself is not read.
-fn run_from<R: CountedRead>(
-    rt: &HostRuntime,
-    script: io::Result<Metadata>,
-    reader: &mut R,
-    states: usize,
-) -> u8
+/// exit status.
+fn run_from<R: CountedRead>(rt: &HostRuntime, reader: &mut R, states: usize) -> u8
     requires least { 1 ≤ states }
     requires most { states ≤ most_states }
 {
     let mut messages = Tally::new(rt.stderr());
-    if is_output(rt, script) {
-        return end_script(&mut messages, Err(ScriptFault::Read));
-    }
     let Ok(mut writer) = Buffered::new(rt.alloc(), Tally::new(rt.stdout())) else {
         return refuse_memory(&mut messages);
     };
@@ -50,19 +47,27 @@ fn run_from<R: CountedRead>(
     end_script(&mut messages, ended)
 }
 
-/// Runs the script that the words choose, and answers the exit status.
+/// Runs the script that the words choose, and answers the exit status. A script that is standard
+/// output itself is not read; that is asked before it is opened, since it could take the number of
+/// a standard output that is closed.
 fn run(rt: &HostRuntime, choices: &Choices) -> u8
     requires least { 1 ≤ choices.now.states }
     requires most { choices.now.states ≤ most_states }
 {
+    let output = fs::metadata(rt, "/dev/stdout");
     let Some(name) = choices.script_file() else {
-        let script = fs::metadata(rt, "/dev/stdin");
-        return run_from(rt, script, &mut Tally::new(rt.stdin()), choices.states);
+        if is_output(fs::metadata(rt, "/dev/stdin"), output) {
+            return refuse_output(rt);
+        }
+        return run_from(rt, &mut Tally::new(rt.stdin()), choices.states);
     };
-    match fs::open(rt, name) {
-        Ok(file) => run_from(rt, file.metadata(), &mut Tally::new(file), choices.states),
-        Err(_) => refuse_script(&mut Tally::new(rt.stderr()), name),
+    let Ok(file) = fs::open(rt, name) else {
+        return refuse_script(&mut Tally::new(rt.stderr()), name);
+    };
+    if is_output(file.metadata(), output) {
+        return refuse_output(rt);
     }
+    run_from(rt, &mut Tally::new(file), choices.states)
 }
 
 /// Prints what the words come to where no script is run, and answers the exit status. Where help
