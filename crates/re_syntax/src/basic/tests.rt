@@ -127,7 +127,7 @@ fn anchors_and_stars_go_by_their_place(rt: HostRuntime) {
     }
 }
 
-static DUPLICATIONS: [(&[u8], &[Shape]); 13] = [
+static DUPLICATIONS: [(&[u8], &[Shape]); 15] = [
     (
         b"a\\{2\\}*",
         &[
@@ -150,6 +150,14 @@ static DUPLICATIONS: [(&[u8], &[Shape]); 13] = [
         &[Shape::Repeat(1, Some(2)), Shape::Byte(b'a')],
     ),
     (b"a\\{0\\}", &[Shape::Repeat(0, Some(0)), Shape::Byte(b'a')]),
+    (
+        b"a\\{,2\\}",
+        &[Shape::Repeat(0, Some(2)), Shape::Byte(b'a')],
+    ),
+    (
+        b"a\\{,255\\}",
+        &[Shape::Repeat(0, Some(255)), Shape::Byte(b'a')],
+    ),
     (
         b"a\\{007\\}",
         &[Shape::Repeat(7, Some(7)), Shape::Byte(b'a')],
@@ -288,7 +296,7 @@ fn a_backslash_stands_before_each_byte(rt: HostRuntime) {
     }
 }
 
-static FAULTS: [(&[u8], FaultKind, usize); 34] = [
+static FAULTS: [(&[u8], FaultKind, usize); 37] = [
     (b"[b-a]", FaultKind::BadRange, 2),
     (b"[a-m--o]", FaultKind::BadRange, 5),
     (b"[a--@]", FaultKind::BadRange, 2),
@@ -315,7 +323,10 @@ static FAULTS: [(&[u8], FaultKind, usize); 34] = [
     (b"a\\{2x\\}", FaultKind::BadInterval, 1),
     (b"a\\{2}", FaultKind::BadInterval, 1),
     (b"\\(a\\{2\\)", FaultKind::BadInterval, 3),
-    (b"a\\{,2\\}", FaultKind::BadInterval, 1),
+    (b"a\\{,\\}", FaultKind::BadInterval, 1),
+    (b"a\\{,2", FaultKind::BadInterval, 1),
+    (b"a\\{,256\\}", FaultKind::IntervalTooLarge, 1),
+    (b"^\\{,2\\}", FaultKind::NothingToRepeat, 1),
     (b"a\\{2,1\\}", FaultKind::BadInterval, 1),
     (b"a\\{256\\}", FaultKind::IntervalTooLarge, 1),
     (b"a\\{300,2\\}", FaultKind::IntervalTooLarge, 1),
