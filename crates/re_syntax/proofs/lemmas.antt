@@ -30,6 +30,7 @@ pub mod BasicEnds
 pub mod BasicLeads
 pub mod BasicAtoms
 pub mod BasicItems
+pub mod BasicBranches
 pub mod BasicGroups
 pub mod ExtendedReading
 pub mod ExtendedBraces

@@ -1,3 +1,5 @@
+mod branches;
+
 use super::*;
 use crate::shapes::{Shape, copies, is_tree};
 use std::test::Fail;
@@ -276,10 +278,10 @@ fn escape_kind(byte: u8) -> Option<FaultKind> {
     match byte {
         b'(' => Some(FaultKind::UnclosedGroup),
         b')' => Some(FaultKind::UnopenedGroup),
-        b'{' => Some(FaultKind::NothingToRepeat),
+        b'{' | b'+' | b'?' => Some(FaultKind::NothingToRepeat),
         b'1'..=b'9' => Some(FaultKind::BackReference),
         b'0' | b'a'..=b'z' | b'A'..=b'Z' => Some(FaultKind::UndefinedEscape),
-        b'<' | b'>' | b'`' | b'\'' | b'+' | b'?' | b'|' => Some(FaultKind::UndefinedEscape),
+        b'<' | b'>' | b'`' | b'\'' => Some(FaultKind::UndefinedEscape),
         _ => None,
     }
 }
@@ -290,13 +292,18 @@ fn a_backslash_stands_before_each_byte(rt: HostRuntime) {
         let text = [b'\\', byte];
         let right = match escape_kind(byte) {
             Some(kind) => is_refused(&rt, &text, kind, 0),
+            None if byte == b'|' => is_read(
+                &rt,
+                &text,
+                &[Shape::Alt(2), Shape::Empty, Shape::Empty],
+            ),
             None => is_read(&rt, &text, &[Shape::Byte(byte)]),
         };
         assert!(rt; right, "{byte}");
     }
 }
 
-static FAULTS: [(&[u8], FaultKind, usize); 37] = [
+static FAULTS: [(&[u8], FaultKind, usize); 38] = [
     (b"[b-a]", FaultKind::BadRange, 2),
     (b"[a-m--o]", FaultKind::BadRange, 5),
     (b"[a--@]", FaultKind::BadRange, 2),
@@ -309,7 +316,7 @@ static FAULTS: [(&[u8], FaultKind, usize); 37] = [
     (b"a\\", FaultKind::TrailingBackslash, 1),
     (b"\\(\\", FaultKind::TrailingBackslash, 2),
     (b"\\w", FaultKind::UndefinedEscape, 0),
-    (b"\\+", FaultKind::UndefinedEscape, 0),
+    (b"\\<", FaultKind::UndefinedEscape, 0),
     (b"\\(a\\1\\)", FaultKind::BackReference, 3),
     (b"\\)", FaultKind::UnopenedGroup, 0),
     (b"a\\(b\\)c\\)", FaultKind::UnopenedGroup, 7),
@@ -336,6 +343,7 @@ static FAULTS: [(&[u8], FaultKind, usize); 37] = [
         1,
     ),
     (b"\\{2\\}", FaultKind::NothingToRepeat, 0),
+    (b"\\+", FaultKind::NothingToRepeat, 0),
     (b"^\\{300\\}", FaultKind::NothingToRepeat, 1),
     (b"\\(^\\{1\\}\\)", FaultKind::NothingToRepeat, 3),
 ];
