@@ -2,8 +2,8 @@
 use Rattle.std.proofs.Common.{◌≡◌, ℕ, zero, suc, ◌<◌, ◌≤◌, max, false, nat_eq, List, [], ◌∷◌, ◌++◌, Some, None, IsTrue, codes, refl, subst, arith}
 use Rattle.re_syntax.specs.declared.syntax.Syntax.TheVariants.{Basic}
 use Rattle.re_syntax.specs.Bytes.{Text}
-use Rattle.re_syntax.specs.Expression.{Expression, empty, begin, end, repeat, cat, byte}
-use Rattle.re_syntax.specs.Intervals.{IsNumber, IsAllowed, exactly, at_least}
+use Rattle.re_syntax.specs.Expression.{Expression, empty, begin, end, repeat, cat, alt, byte}
+use Rattle.re_syntax.specs.Intervals.{IsNumber, IsAllowed, exactly, at_least, up_to}
 use Rattle.re_syntax.specs.Basic.{ItemPlace, First, star, plus, question, interval, is_ordinary, IsAtEnd, of_text, of_group, of_branch, last, more, Items, none, leading, trailing, item, Item, atom, repeated, escaped, ordinary, group}
 use Rattle.re_syntax.specs.Spelled.{IsSpelled, as_basic}
 use Rattle.re_syntax.proofs.lemmas.BracketsUnique.{apart}
@@ -106,6 +106,45 @@ no_greatest = as_basic (last (item (repeated (itself 97 refl refl) (interval (at
 
     allowed : IsAllowed 3 None
     allowed = record { least_fits = omega arith; most_fits = tt; ordered = tt }
+
+-- `a\{,2\}`: no least count
+no_least : IsSpelled Basic (codes "a\\{,2\\}") (repeat (byte 97) 0 (Some 2))
+no_least = as_basic (last (item (repeated (itself 97 refl refl) (interval (up_to (codes "2") two) allowed)) none)) (omega arith)
+  where
+    two : IsNumber (codes "2")
+    two = record { not_empty = λ e. cc; digits = refl }
+
+    allowed : IsAllowed 0 (Some 2)
+    allowed = record { least_fits = omega arith; most_fits = omega arith; ordered = omega arith }
+
+-- `*\+` and `a\?`: the star is a byte, and repeated
+one_or_more : IsSpelled Basic (codes "*\\+") (repeat (byte 42) 1 None)
+one_or_more = as_basic (last (item (repeated (itself 42 refl refl) plus) none)) (omega arith)
+
+-- the other sign
+none_or_one : IsSpelled Basic (codes "a\\?") (repeat (byte 97) 0 (Some 1))
+none_or_one = as_basic (last (item (repeated (itself 97 refl refl) question) none)) (omega arith)
+
+-- `\|` and `\(a\|\)`: a branch may be empty
+empty_branches : IsSpelled Basic (codes "\\|") (alt (empty ∷ empty ∷ []))
+empty_branches = as_basic (more none (last none)) (omega arith)
+
+-- in a group
+empty_in_group : IsSpelled Basic (codes "\\(a\\|\\)") (alt (byte 97 ∷ empty ∷ []))
+empty_in_group = as_basic (last (item (atom (group (more (item (itself 97 refl refl) none) (last none)))) none)) (omega arith)
+
+-- `a\|*b` and `a\|^*b`: a star and a caret that are first in their branch
+star_in_branch : IsSpelled Basic (codes "a\\|*b") (alt (byte 97 ∷ cat (byte 42 ∷ byte 98 ∷ []) ∷ []))
+star_in_branch = as_basic (more (item (itself 97 refl refl) none) (last (item (itself 42 refl refl) (item (itself 98 refl refl) none)))) (omega arith)
+
+-- the anchor
+begin_in_branch : IsSpelled Basic (codes "a\\|^*b") (alt (byte 97 ∷ cat (begin ∷ byte 42 ∷ byte 98 ∷ []) ∷ []))
+begin_in_branch =
+    as_basic (more (item (itself 97 refl refl) none) (last (leading (item (itself 42 refl refl) (item (itself 98 refl refl) none))))) (omega arith)
+
+-- `a$\|b`: a dollar that is last in its branch
+end_in_branch : IsSpelled Basic (codes "a$\\|b") (alt (cat (byte 97 ∷ end ∷ []) ∷ byte 98 ∷ []))
+end_in_branch = as_basic (more (item (itself 97 refl refl) (trailing of_branch)) (last (item (itself 98 refl refl) none))) (omega arith)
 
 -- so many groups in one another
 

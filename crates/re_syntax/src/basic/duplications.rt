@@ -13,25 +13,16 @@ fn read_sign(text: &[u8], at: usize) -> Option<(Counts, usize)>
     ensures { MatchOption result (HasNoSign (drop at text.now)) (λ d. DuplicationStands text.now at d.0 d.1) }
 {
     if let Some(behind) = after(text, at, b"*") {
-        let counts = Counts {
-            least: 0,
-            most: None,
-        };
-        return Some((counts, behind));
+        let (least, most) = (0, None);
+        return Some((Counts { least, most }, behind));
     }
     if let Some(behind) = after(text, at, b"\\+") {
-        let counts = Counts {
-            least: 1,
-            most: None,
-        };
-        return Some((counts, behind));
+        let (least, most) = (1, None);
+        return Some((Counts { least, most }, behind));
     }
     let behind = after(text, at, b"\\?")?;
-    let counts = Counts {
-        least: 0,
-        most: Some(1),
-    };
-    Some((counts, behind))
+    let (least, most) = (0, Some(1));
+    Some((Counts { least, most }, behind))
 }
 
 /// The duplication that stands at a place of the text, if one does, and the place behind it.
