@@ -1,5 +1,5 @@
 -- Branches of basic expressions, from the items that stand there.
-use Rattle.std.proofs.Common.{◌≡◌, ℕ, ◌+◌, ◌≤◌, inr, max, List, [], ◌∷◌, ◌++◌, length, take, drop, map, codes, refl, sym, ap, ◌∙◌, subst, arith, append_assoc}
+use Rattle.std.proofs.Common.{◌≡◌, ℕ, ◌≤◌, inr, max, List, [], ◌∷◌, ◌++◌, length, take, drop, map, codes, refl, sym, ap, ◌∙◌, subst, arith, append_assoc}
 use Rattle.re_syntax.specs.declared.pieces.Piece.{Piece}
 use Rattle.re_syntax.specs.declared.pieces.Pieces.{Pieces}
 use Rattle.re_syntax.specs.Bytes.{Text, Begins}

@@ -2,7 +2,7 @@
 use Rattle.std.proofs.Common.{◌≡◌, ◌≢◌, ℕ, suc, ◌+◌, ◌<◌, ◌≤◌, max, ◌⊎◌, inl, inr, true, false, nat_eq, IsTrue, List, [], ◌∷◌, ◌++◌, refl, sym, ap, ◌∙◌, subst, arith}
 use Rattle.re_syntax.specs.Bytes.{Text}
 use Rattle.re_syntax.specs.Expression.{Expression, begin, byte, sequence, choice}
-use Rattle.re_syntax.specs.Basic.{ItemPlace, First, Later, Duplication, IsAtEnd, of_text, of_group, of_branch, Branches, last, more, Items, none, leading, trailing, item, Item, atom, repeated, Atom, bracket, period, escaped, ordinary, group}
+use Rattle.re_syntax.specs.Basic.{ItemPlace, Later, Duplication, IsAtEnd, of_text, of_group, of_branch, Branches, last, more, Items, none, leading, trailing, item, Item, atom, repeated, Atom, bracket, period, escaped, ordinary, group}
 use Rattle.re_syntax.specs.Working.BasicSteps.{NoDuplication, IsAtLast, text_ends, group_ends}
 use Rattle.re_syntax.proofs.lemmas.BracketsUnique.{heads, tails, apart, IsBracket-unique}
 use Rattle.re_syntax.proofs.lemmas.Chains.{SameItem, Chain, done, chain_snoc, chain_done, ItemChain, chain_same, chain_more, GoesOn, goes_on, longer, two_items, two_branches, same_heights}

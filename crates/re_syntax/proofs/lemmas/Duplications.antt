@@ -3,7 +3,7 @@ use Rattle.std.proofs.Common.{◌≡◌, ℕ, ◌⊎◌, inl, inr, Bool, nat_eq,
 use Rattle.re_syntax.specs.Bytes.{Text}
 use Rattle.re_syntax.specs.Basic.{Duplication, star, plus, question, interval}
 use Rattle.re_syntax.specs.Escapes.{is_in}
-use Rattle.re_syntax.proofs.lemmas.BracketsUnique.{heads, tails, apart}
+use Rattle.re_syntax.proofs.lemmas.BracketsUnique.{tails, apart}
 use Rattle.re_syntax.proofs.lemmas.Chains.{SameDuplication, AreUnique}
 use Rattle.re_syntax.proofs.lemmas.IntervalLaws.{cut-unique, Interval-unique, interval_lacks}
 

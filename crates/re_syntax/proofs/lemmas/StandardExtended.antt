@@ -1,5 +1,5 @@
 -- Extended expressions of the standard alone are spelled as there, where no `{,` stands in them.
-use Rattle.std.proofs.Common.{◌≡◌, ℕ, Bool, true, List, [], ◌∷◌, ◌++◌, Option, codes, refl, sym, ap, ◌∙◌, append_assoc}
+use Rattle.std.proofs.Common.{ℕ, Bool, List, [], ◌∷◌, ◌++◌, Option, codes, refl, sym, ap, ◌∙◌, append_assoc}
 use Rattle.re_syntax.specs.declared.syntax.Syntax.TheVariants.{Extended}
 use Rattle.re_syntax.specs.Bytes.{Text}
 use Rattle.re_syntax.specs.Expression.{Expression}

@@ -1,4 +1,4 @@
-use Rattle.std.proofs.Common.{◌+◌, ◌-◌, ◌≢◌, get_or, drop, refl, ap, ◌∙◌, arith, rules, codes}
+use Rattle.std.proofs.Common.{◌+◌, ◌-◌, ◌≢◌, get_or, drop, refl, ap, ◌∙◌, arith, rules}
 use Rattle.std.proofs.lemmas.Result.{err_from_is_err_and}
 use Rattle.re_syntax.specs.Expression.{one_of}
 use Rattle.re_syntax.specs.Working.BasicSteps.{DuplicationStands}
