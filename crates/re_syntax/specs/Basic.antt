@@ -1,6 +1,7 @@
--- Basic regular expressions (XBD 9.3), with branches and two duplications that the standard leaves undefined and GNU grep has. Each relation has a text at whose
--- front a part stands, the text that follows the part, and what the part means; a number is the part's height, how deep groups and duplications stand in one
--- another there.
+-- Basic regular expressions (XBD 9.3), with branches and two duplications that the standard leaves
+-- undefined and GNU grep has. Each relation has a text at whose front a part stands, the text that
+-- follows the part, and what the part means; a number is the part's height, how deep groups and
+-- duplications stand in one another there.
 use Rattle.std.specs.Prelude.{◌≡◌, ℕ, suc, max, Bool, not, List, [], ◌∷◌, ◌++◌, Option, Some, None, IsTrue, codes}
 use Rattle.re_syntax.specs.Bytes.{Text, any_but_nul}
 use Rattle.re_syntax.specs.Expression.{Expression, one_of, begin, end, repeat, byte, sequence, choice}
@@ -16,7 +17,8 @@ pub data Duplication : Text → ℕ → Option ℕ → Type 0 where
   question : Duplication (codes "\\?") 0 (Some 1)
   interval : {t : Text} {least : ℕ} {most : Option ℕ} → Interval t least most → IsAllowed least most → Duplication (codes "\\{" ++ t ++ codes "\\}") least most
 
--- where in its branch an item stands: first, directly after the anchor that is first, or after another item
+-- where in its branch an item stands: first, directly after the anchor that is first, or after
+-- another item
 pub data ItemPlace : Type 0 where
   First AfterAnchor Later : ItemPlace
 
@@ -35,8 +37,11 @@ pub data IsAtEnd : Text → Type 0 where
 mutual
   -- branches parted by `\|`, each a sequence, as GNU grep has them
   pub data Branches : ℕ → Text → Text → List Expression → Type 0 where
-    last : {h : ℕ} {t u : Text} {es : List Expression} → Items First h t u es → Branches h t u (sequence es ∷ [])
-    more : {h k : ℕ} {t u v : Text} {es fs : List Expression} → Items First h t (codes "\\|" ++ u) es → Branches k u v fs → Branches (max h k) t v (sequence es ∷ fs)
+    last : {h : ℕ} {t u : Text} {es : List Expression} → Items First h t u es →
+        Branches h t u (sequence es ∷ [])
+    more : {h k : ℕ} {t u v : Text} {es fs : List Expression} →
+        Items First h t (codes "\\|" ++ u) es → Branches k u v fs →
+        Branches (max h k) t v (sequence es ∷ fs)
 
   -- the items of a branch, one after another, from a place on
   pub data Items : ItemPlace → ℕ → Text → Text → List Expression → Type 0 where
@@ -58,4 +63,5 @@ mutual
     escaped : {p : ItemPlace} {u : Text} (b : ℕ) → ¬ IsTrue (is_undefined basic_escaped b) → Atom p 0 (codes "\\" ++ b ∷ u) u (byte b)
     -- a `$` is not last
     ordinary : {p : ItemPlace} {u : Text} (b : ℕ) → IsTrue (is_ordinary p b) → (b ≡ 36 → ¬ IsAtEnd u) → Atom p 0 (b ∷ u) u (byte b)
-    group : {p : ItemPlace} {h : ℕ} {t u : Text} {es : List Expression} → Branches h t (codes "\\)" ++ u) es → Atom p (suc h) (codes "\\(" ++ t) u (choice es)
+    group : {p : ItemPlace} {h : ℕ} {t u : Text} {es : List Expression} →
+        Branches h t (codes "\\)" ++ u) es → Atom p (suc h) (codes "\\(" ++ t) u (choice es)

@@ -1,5 +1,5 @@
--- Interval expressions (XBD 9.3.6 item 5, 9.4.6 item 5): what stands between the braces, and its two numbers. The form without a least number is no form of the
--- standard's, but one of GNU grep's.
+-- Interval expressions (XBD 9.3.6 item 5, 9.4.6 item 5): what stands between the braces, and its
+-- two numbers. The form without a least number is no form of the standard's, but one of GNU grep's.
 use Rattle.std.specs.Prelude.{◌≡◌, ◌≢◌, ℕ, ◌+◌, ◌-◌, ◌*◌, ◌≤◌, min, [], ◌∷◌, ◌++◌, Option, Some, None, IsTrue, IfSome, codes}
 use Rattle.std.specs.List.{list_all}
 use Rattle.re_syntax.specs.declared.class.Class.TheVariants.{Digit}

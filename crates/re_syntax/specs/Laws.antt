@@ -19,10 +19,12 @@ SpellsOne text = (syntax : Syntax) (d e : Expression) → IsSpelled syntax text 
 abbrev pub HasNoOpenComma : Text → Type 0
 HasNoOpenComma text = (front back : Text) → text ≢ front ++ (codes "{," ++ back)
 
--- what the standard alone makes of a text is what it spells here: of every basic text, and of every extended text without a `{,`
+-- what the standard alone makes of a text is what it spells here: of every basic text, and of every
+-- extended text without a `{,`
 pub record KeepsStandard (text : Text) : Type 0 where
   pub basic : (e : Expression) → IsStandardBasic text e → IsSpelled Basic text e
-  pub extended : (e : Expression) → IsStandardExtended text e → HasNoOpenComma text → IsSpelled Extended text e
+  pub extended : (e : Expression) → IsStandardExtended text e → HasNoOpenComma text →
+      IsSpelled Extended text e
 
 -- a text begins with at most one bracket expression, and that means one expression, whatever follows it
 abbrev pub BeginsWithOneBracket : Text → Type 0

@@ -12,9 +12,11 @@ use Rattle.re_syntax.specs.Extended.{Branches as ExtendedBranches}
 -- the rules by which a text is read; a syntax without a rule spells nothing
 pub data IsSpelled : Syntax → Text → Expression → Type 0 where
   -- a basic expression goes up to the text's end, and is not too deep
-  as_basic : {h : ℕ} {t : Text} {es : List Expression} → BasicBranches h t [] es → h ≤ most_levels → IsSpelled Basic t (choice es)
+  as_basic : {h : ℕ} {t : Text} {es : List Expression} → BasicBranches h t [] es →
+      h ≤ most_levels → IsSpelled Basic t (choice es)
   -- so does an extended expression, which stands inside no group
-  as_extended : {h : ℕ} {t : Text} {es : List Expression} → ExtendedBranches false h t [] es → h ≤ most_levels → IsSpelled Extended t (choice es)
+  as_extended : {h : ℕ} {t : Text} {es : List Expression} → ExtendedBranches false h t [] es →
+      h ≤ most_levels → IsSpelled Extended t (choice es)
   -- a fixed string is the sequence of its bytes
   as_fixed : {t : Text} → IsSpelled Fixed t (sequence (map byte t))
 

@@ -1,5 +1,5 @@
-//! Basic regular expressions (XBD 9.3), with GNU grep's `\+`, `\?` and `\|`, read in one pass from left to
-//! right.
+//! Basic regular expressions (XBD 9.3), with GNU grep's `\+`, `\?` and `\|`, read in one pass from
+//! left to right.
 ghost use Rattle.std.specs.Prelude.{◌≡◌, ℕ, ◌≤◌, ◌⊎◌, IfOk, IfErr, MatchOption, MatchBool, codes, length, take, drop};
 ghost use Rattle.re_syntax.specs.Bytes.{Begins};
 ghost use Rattle.re_syntax.specs.Expression.{expression_of};
@@ -244,7 +244,8 @@ fn read_branches(
     requires starts { IsStart (take from text.now) }
     requires few { levels ≤ most_levels }
     ensures read { IfOk result (BranchesStand levels text.now from) }
-    ensures refused { IfErr result (λ fault. IsRefused (HasNoBranches levels (drop from text.now)) (IsShownIn text.now fault) fault) }
+    ensures refused { IfErr result (λ fault. IsRefused (HasNoBranches levels (drop from text.now))
+        (IsShownIn text.now fault) fault) }
 {
     let none = Pieces {
         trees: Vec::new(alloc),
@@ -260,9 +261,9 @@ fn read_branches(
     Ok(branches)
 }
 
-/// The tree of a basic regular expression (XBD 9.3, with GNU grep's `\+`, `\?` and `\|`): `Set`, `Not`,
-/// `Begin`, `End` and `Repeat` for its items, of a branch without items `Empty`, with several a `Cat`
-/// in order, and of several branches an `Alt` in order.
+/// The tree of a basic regular expression (XBD 9.3, with GNU grep's `\+`, `\?` and `\|`): `Set`,
+/// `Not`, `Begin`, `End` and `Repeat` for its items, of a branch without items `Empty`, with several
+/// a `Cat` in order, and of several branches an `Alt` in order.
 ///
 /// # Errors
 ///

@@ -57,7 +57,8 @@ fn read_number(text: &[u8], at: usize) -> Option<(u16, usize)>
 fn read_greatest(text: &[u8], comma: usize, closing: &[u8]) -> Option<(Counts, usize)>
     requires within { comma ≤ length text.now }
     requires closes { IsNoPart closing.now }
-    ensures { MatchOption result (HasNoGreatest closing.now (drop comma text.now)) (λ found. GreatestStands closing.now text.now comma found.0 found.1) }
+    ensures { MatchOption result (HasNoGreatest closing.now (drop comma text.now))
+        (λ found. GreatestStands closing.now text.now comma found.0 found.1) }
 {
     let (greatest, behind) = read_number(text, comma)?;
     let end = after(text, behind, closing)?;
@@ -65,8 +66,8 @@ fn read_greatest(text: &[u8], comma: usize, closing: &[u8]) -> Option<(Counts, u
     Some((Counts { least: 0, most }, end))
 }
 
-/// The counts that stand at a place of the text (`m`, `m,`, `m,n` or `,n`) and what closes them, and
-/// the place behind that.
+/// The counts that stand at a place of the text (`m`, `m,`, `m,n` or `,n`) and what closes them,
+/// and the place behind that.
 pub fn read_interval(text: &[u8], at: usize, closing: &[u8]) -> Option<(Counts, usize)>
     requires within { at ≤ length text.now }
     requires closes { IsNoPart closing.now }

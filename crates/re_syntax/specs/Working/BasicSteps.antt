@@ -51,7 +51,8 @@ pub data HasNoItem : Text → Type 0 where
   at_end : {t : Text} → IsAtEnd t → HasNoItem t
   at_tail : {t u : Text} → t ≡ codes "$" ++ u → IsAtEnd u → HasNoItem t
 
--- at this place of its branch nothing else comes first than an item: no anchor that is first, and after another item no duplication
+-- at this place of its branch nothing else comes first than an item: no anchor that is first, and
+-- after another item no duplication
 pub record MayBegin (p : ItemPlace) (t : Text) : Type 0 where
   pub no_lead : p ≡ First → ¬ Begins (codes "^") t
   pub no_duplication : p ≡ Later → OpensNoDuplication t
@@ -122,7 +123,8 @@ pub record BranchStands (levels : ℕ) (text : Text) (from : ℕ) (piece : Piece
 
 -- no branches of an expression stand there, or only higher ones
 pub record HasNoBranches (levels : ℕ) (t : Text) : Type 0 where
-  pub none : (h : ℕ) (u : Text) (es : List Expression) → Branches h t u es → IsAtLast u → h ≤ levels → ⊥
+  pub none : (h : ℕ) (u : Text) (es : List Expression) → Branches h t u es → IsAtLast u →
+      h ≤ levels → ⊥
 
 -- the branches of an expression stand from one place up to its end, at most so high
 pub record BranchesStand (levels : ℕ) (text : Text) (from : ℕ) (branches : Pieces) : Type 0 where

@@ -33,7 +33,8 @@ pub record NumberStands (text : Text) (at count behind : ℕ) : Type 0 where
 pub record HasNoGreatest (close t : Text) : Type 0 where
   pub none : (n u : Text) → IsNumber n → t ≡ n ++ (close ++ u) → ⊥
 
--- a number stands from one place up to another, and what closes it is the last of it; it is the greatest count, and the least is none
+-- a number stands from one place up to another, and what closes it is the last of it; it is the
+-- greatest count, and the least is none
 pub record GreatestStands (close text : Text) (at : ℕ) (counts : Counts) (behind : ℕ) : Type 0 where
   pub within : behind ≤ length text
   pub digits : Text

@@ -10,7 +10,8 @@ use crate::interval::{Counts, counts_fault, read_interval};
 /// The duplication without numbers that stands at a place, if one does, and the place behind it.
 fn read_sign(text: &[u8], at: usize) -> Option<(Counts, usize)>
     requires { at ≤ length text.now }
-    ensures { MatchOption result (HasNoSign (drop at text.now)) (λ d. DuplicationStands text.now at d.0 d.1) }
+    ensures { MatchOption result (HasNoSign (drop at text.now))
+        (λ d. DuplicationStands text.now at d.0 d.1) }
 {
     if let Some(behind) = after(text, at, b"*") {
         let (least, most) = (0, None);
@@ -28,7 +29,8 @@ fn read_sign(text: &[u8], at: usize) -> Option<(Counts, usize)>
 /// The duplication that stands at a place of the text, if one does, and the place behind it.
 pub fn read_duplication(text: &[u8], at: usize) -> Result<Option<(Counts, usize)>, PatternFault>
     requires { at ≤ length text.now }
-    ensures read { IfOk result (λ found. MatchOption found (OpensNoDuplication (drop at text.now)) (λ d. DuplicationStands text.now at d.0 d.1)) }
+    ensures read { IfOk result (λ found. MatchOption found (OpensNoDuplication (drop at text.now))
+        (λ d. DuplicationStands text.now at d.0 d.1)) }
     ensures refused { IfErr result (HasBadInterval text.now at) }
 {
     if let Some(sign) = read_sign(text, at) {
