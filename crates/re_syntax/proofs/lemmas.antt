@@ -30,6 +30,7 @@ pub mod BasicEnds
 pub mod BasicLeads
 pub mod BasicAtoms
 pub mod BasicItems
+pub mod BasicBranches
 pub mod BasicGroups
 pub mod ExtendedReading
 pub mod ExtendedBraces
@@ -47,7 +48,12 @@ pub mod BracketPoints
 pub mod BracketElements
 pub mod BracketNamed
 pub mod BracketLists
+pub mod BracketRests
 pub mod BracketWhole
+pub mod StandardIntervals
+pub mod StandardBasic
+pub mod StandardExtended
+pub mod StandardKept
 pub mod ExpressionLaws
 pub mod ClosedLaws
 pub mod FoldedLaws

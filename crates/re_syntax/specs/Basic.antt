@@ -1,19 +1,24 @@
--- Basic regular expressions (XBD 9.3). Each relation has a text at whose front a part stands, the text that follows the part, and what the part means; a number
--- is the part's height, how deep groups and duplications stand in one another there.
-use Rattle.std.specs.Prelude.{◌≡◌, ℕ, suc, max, Bool, not, List, [], ◌∷◌, ◌++◌, Option, None, IsTrue, codes}
+-- Basic regular expressions (XBD 9.3), with branches and two duplications that the standard leaves
+-- undefined and GNU grep has. Each relation has a text at whose front a part stands, the text that
+-- follows the part, and what the part means; a number is the part's height, how deep groups and
+-- duplications stand in one another there.
+use Rattle.std.specs.Prelude.{◌≡◌, ℕ, suc, max, Bool, not, List, [], ◌∷◌, ◌++◌, Option, Some, None, IsTrue, codes}
 use Rattle.re_syntax.specs.Bytes.{Text, any_but_nul}
-use Rattle.re_syntax.specs.Expression.{Expression, one_of, begin, end, repeat, byte, sequence}
+use Rattle.re_syntax.specs.Expression.{Expression, one_of, begin, end, repeat, byte, sequence, choice}
 use Rattle.re_syntax.specs.Brackets.{IsBracket}
 use Rattle.re_syntax.specs.Intervals.{Interval, IsAllowed}
 use Rattle.re_syntax.specs.Profile.{basic_escaped}
 use Rattle.re_syntax.specs.Escapes.{is_in, is_undefined}
 
--- `*`, or an interval in `\{` and `\}` (XBD 9.3.6)
+-- `*`, or an interval in `\{` and `\}` (XBD 9.3.6); `\+` and `\?` as GNU grep has them
 pub data Duplication : Text → ℕ → Option ℕ → Type 0 where
   star : Duplication (codes "*") 0 None
+  plus : Duplication (codes "\\+") 1 None
+  question : Duplication (codes "\\?") 0 (Some 1)
   interval : {t : Text} {least : ℕ} {most : Option ℕ} → Interval t least most → IsAllowed least most → Duplication (codes "\\{" ++ t ++ codes "\\}") least most
 
--- where in its expression an item stands: first, directly after the anchor that is first, or after another item
+-- where in its branch an item stands: first, directly after the anchor that is first, or after
+-- another item
 pub data ItemPlace : Type 0 where
   First AfterAnchor Later : ItemPlace
 
@@ -23,13 +28,22 @@ is_ordinary First b = not (is_in (codes "[.\\^") b)
 is_ordinary AfterAnchor b = not (is_in (codes "[.\\") b)
 is_ordinary Later b = not (is_in (codes "[.\\*") b)
 
--- the expression ends here: the text does, or the group
+-- a branch ends here: the text does, the group, or another branch follows
 pub data IsAtEnd : Text → Type 0 where
   of_text : IsAtEnd []
   of_group : {t : Text} → IsAtEnd (codes "\\)" ++ t)
+  of_branch : {t : Text} → IsAtEnd (codes "\\|" ++ t)
 
 mutual
-  -- the items of an expression, one after another, from a place on
+  -- branches parted by `\|`, each a sequence, as GNU grep has them
+  pub data Branches : ℕ → Text → Text → List Expression → Type 0 where
+    last : {h : ℕ} {t u : Text} {es : List Expression} → Items First h t u es →
+        Branches h t u (sequence es ∷ [])
+    more : {h k : ℕ} {t u v : Text} {es fs : List Expression} →
+        Items First h t (codes "\\|" ++ u) es → Branches k u v fs →
+        Branches (max h k) t v (sequence es ∷ fs)
+
+  -- the items of a branch, one after another, from a place on
   pub data Items : ItemPlace → ℕ → Text → Text → List Expression → Type 0 where
     none : {p : ItemPlace} {t : Text} → Items p 0 t t []
     -- a `^` that is first; a `$` that is last
@@ -49,4 +63,5 @@ mutual
     escaped : {p : ItemPlace} {u : Text} (b : ℕ) → ¬ IsTrue (is_undefined basic_escaped b) → Atom p 0 (codes "\\" ++ b ∷ u) u (byte b)
     -- a `$` is not last
     ordinary : {p : ItemPlace} {u : Text} (b : ℕ) → IsTrue (is_ordinary p b) → (b ≡ 36 → ¬ IsAtEnd u) → Atom p 0 (b ∷ u) u (byte b)
-    group : {p : ItemPlace} {h : ℕ} {t u : Text} {es : List Expression} → Items First h t (codes "\\)" ++ u) es → Atom p (suc h) (codes "\\(" ++ t) u (sequence es)
+    group : {p : ItemPlace} {h : ℕ} {t u : Text} {es : List Expression} →
+        Branches h t (codes "\\)" ++ u) es → Atom p (suc h) (codes "\\(" ++ t) u (choice es)

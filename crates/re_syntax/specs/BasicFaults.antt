@@ -6,7 +6,7 @@ use Rattle.re_syntax.specs.declared.fault.FaultKind.TheVariants.{UnclosedBracket
 use Rattle.re_syntax.specs.declared.fault.PatternFault.{PatternFault}
 use Rattle.re_syntax.specs.declared.syntax.Syntax.TheVariants.{Basic}
 use Rattle.re_syntax.specs.Bytes.{Text, Begins}
-use Rattle.re_syntax.specs.Basic.{First, Duplication, Items}
+use Rattle.re_syntax.specs.Basic.{Duplication, Branches}
 use Rattle.re_syntax.specs.EscapeFaults.{BeginsRefusedEscape}
 use Rattle.re_syntax.specs.Expression.{Expression}
 use Rattle.re_syntax.specs.Faults.{Ends, ShowsBracketFault, BeginsDuplication, OpensNoBracket}
@@ -21,24 +21,34 @@ pub record OpensNoInterval (t : Text) : Type 0 where
   pub opens : t ≡ codes "\\{" ++ inside
   pub none : HasNoInterval (codes "\\}") inside
 
--- a `\(` behind which items go on up to the text's end
+-- a `\{` of any form or none, a `\+` or a `\?`: no byte of its own, so it needs an item before it
+pub data NeedsItem : Text → Type 0 where
+  needs_interval : {u : Text} → NeedsItem (codes "\\{" ++ u)
+  needs_plus : {u : Text} → NeedsItem (codes "\\+" ++ u)
+  needs_question : {u : Text} → NeedsItem (codes "\\?" ++ u)
+
+-- a `\(` behind which branches go on up to the text's end
 pub record OpensUnclosed (t : Text) : Type 0 where
   pub inside : Text
   pub height : ℕ
   pub members : List Expression
   pub opens : t ≡ codes "\\(" ++ inside
-  pub goes_on : Items First height inside [] members
+  pub goes_on : Branches height inside [] members
 
--- a `\)` that comes behind items from the text's start on, and so is in no group
+-- a `\)` that comes behind branches from the text's start on, and so is in no group
 pub record ClosesNone (before t : Text) : Type 0 where
   pub height : ℕ
   pub members : List Expression
   pub closes : Begins (codes "\\)") t
-  pub stands : Items First height (before ++ t) t members
+  pub stands : Branches height (before ++ t) t members
 
--- what a `\{` has nothing to repeat behind: nothing, a group's opening, or a caret
+-- what stands before a branch: nothing, a group's opening, or a `\|`
+abbrev pub IsStart : Text → Type 0
+IsStart before = (before ≡ []) ⊎ (Ends (codes "\\(") before ⊎ Ends (codes "\\|") before)
+
+-- what a duplication has nothing to repeat behind: the start of a branch, or a caret
 abbrev pub HasNothingToRepeat : Text → Type 0
-HasNothingToRepeat before = (before ≡ []) ⊎ (Ends (codes "\\(") before ⊎ Ends (codes "^") before)
+HasNothingToRepeat before = IsStart before ⊎ Ends (codes "^") before
 
 -- the bytes where a fault shows: those before its place, and those from there on
 abbrev pub ShowsBasicFault : FaultKind → Text → Text → Type 0
@@ -50,7 +60,7 @@ ShowsBasicFault UnclosedGroup before t = OpensUnclosed t
 ShowsBasicFault UnopenedGroup before t = ClosesNone before t
 ShowsBasicFault BadInterval before t = OpensNoInterval t ⊎ OpensDisallowed (codes "\\{") (codes "\\}") BadInterval t
 ShowsBasicFault IntervalTooLarge before t = OpensDisallowed (codes "\\{") (codes "\\}") IntervalTooLarge t
-ShowsBasicFault NothingToRepeat before t = Begins (codes "\\{") t × HasNothingToRepeat before
+ShowsBasicFault NothingToRepeat before t = NeedsItem t × HasNothingToRepeat before
 ShowsBasicFault TrailingBackslash before t = t ≡ codes "\\"
 ShowsBasicFault UndefinedEscape before t = BeginsRefusedEscape basic_refused UndefinedEscape t
 ShowsBasicFault BackReference before t = BeginsRefusedEscape basic_refused BackReference t

@@ -1,4 +1,5 @@
--- Interval expressions (XBD 9.3.6 item 5, 9.4.6 item 5): what stands between the braces, and its two numbers.
+-- Interval expressions (XBD 9.3.6 item 5, 9.4.6 item 5): what stands between the braces, and its
+-- two numbers. The form without a least number is no form of the standard's, but one of GNU grep's.
 use Rattle.std.specs.Prelude.{◌≡◌, ◌≢◌, ℕ, ◌+◌, ◌-◌, ◌*◌, ◌≤◌, min, [], ◌∷◌, ◌++◌, Option, Some, None, IsTrue, IfSome, codes}
 use Rattle.std.specs.List.{list_all}
 use Rattle.re_syntax.specs.declared.class.Class.TheVariants.{Digit}
@@ -17,11 +18,12 @@ pub record IsNumber (t : Text) : Type 0 where
 abbrev pub value : Text → ℕ
 value = value_after 0
 
--- `m`, `m,` or `m,n`
+-- `m`, `m,`, `m,n`, or `,n` for none up to so many
 pub data Interval : Text → ℕ → Option ℕ → Type 0 where
   exactly : (m : Text) → IsNumber m → Interval m (value m) (Some (value m))
   at_least : (m : Text) → IsNumber m → Interval (m ++ codes ",") (value m) None
   between : (m n : Text) → IsNumber m → IsNumber n → Interval (m ++ codes "," ++ n) (value m) (Some (value n))
+  up_to : (n : Text) → IsNumber n → Interval (codes "," ++ n) 0 (Some (value n))
 
 -- both numbers are within the limit, and the first is not above the second
 pub record IsAllowed (least : ℕ) (most : Option ℕ) : Type 0 where

@@ -1,16 +1,30 @@
 -- What the definitions promise of themselves.
-use Rattle.std.specs.Prelude.{◌≡◌, ℕ, Bool, List}
+use Rattle.std.specs.Prelude.{◌≡◌, ◌≢◌, ℕ, Bool, List, ◌++◌, codes}
 use Rattle.re_syntax.specs.declared.syntax.Syntax.{Syntax}
+use Rattle.re_syntax.specs.declared.syntax.Syntax.TheVariants.{Basic, Extended}
 use Rattle.re_syntax.specs.Bytes.{Text}
 use Rattle.re_syntax.specs.Expression.{Expression}
 use Rattle.re_syntax.specs.Brackets.{IsBracket}
 use Rattle.re_syntax.specs.Lines.{lines_of, ended_lines_of, list_of, AreLines, AreEndedLines, AreListed}
 use Rattle.re_syntax.specs.Parts.{AreParts}
 use Rattle.re_syntax.specs.Spelled.{IsSpelled}
+use Rattle.re_syntax.specs.Working.StandardBasic.{IsStandardBasic}
+use Rattle.re_syntax.specs.Working.StandardExtended.{IsStandardExtended}
 
 -- a text spells at most one expression
 abbrev pub SpellsOne : Text → Type 0
 SpellsOne text = (syntax : Syntax) (d e : Expression) → IsSpelled syntax text d → IsSpelled syntax text e → d ≡ e
+
+-- nowhere in the text a `{` and a comma stand side by side
+abbrev pub HasNoOpenComma : Text → Type 0
+HasNoOpenComma text = (front back : Text) → text ≢ front ++ (codes "{," ++ back)
+
+-- what the standard alone makes of a text is what it spells here: of every basic text, and of every
+-- extended text without a `{,`
+pub record KeepsStandard (text : Text) : Type 0 where
+  pub basic : (e : Expression) → IsStandardBasic text e → IsSpelled Basic text e
+  pub extended : (e : Expression) → IsStandardExtended text e → HasNoOpenComma text →
+      IsSpelled Extended text e
 
 -- a text begins with at most one bracket expression, and that means one expression, whatever follows it
 abbrev pub BeginsWithOneBracket : Text → Type 0

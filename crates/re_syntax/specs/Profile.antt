@@ -24,11 +24,11 @@ most_states = 65536
 
 -- the bytes that a backslash may not stand before, beside letters and digits (XBD 9.3.3, 9.4.3): in a basic expression, and in an extended one
 abbrev pub basic_refused : Text
-basic_refused = codes "<>`'+?|"
+basic_refused = codes "<>`'"
 
 abbrev pub extended_refused : Text
 extended_refused = codes "<>`'"
 
 -- the bytes that do not stand for themselves behind a backslash in a basic expression, beside letters and digits: those, and the ones that have a meaning there
 abbrev pub basic_escaped : Text
-basic_escaped = codes "(){<>`'+?|"
+basic_escaped = codes "(){+?|<>`'"

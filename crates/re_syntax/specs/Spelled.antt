@@ -6,15 +6,17 @@ use Rattle.re_syntax.specs.Bytes.{Text}
 use Rattle.re_syntax.specs.Expression.{Expression, byte, sequence, choice}
 use Rattle.re_syntax.specs.Holds.{folded}
 use Rattle.re_syntax.specs.Profile.{most_levels}
-use Rattle.re_syntax.specs.Basic.{First, Items}
-use Rattle.re_syntax.specs.Extended.{Branches}
+use Rattle.re_syntax.specs.Basic.{Branches as BasicBranches}
+use Rattle.re_syntax.specs.Extended.{Branches as ExtendedBranches}
 
 -- the rules by which a text is read; a syntax without a rule spells nothing
 pub data IsSpelled : Syntax → Text → Expression → Type 0 where
   -- a basic expression goes up to the text's end, and is not too deep
-  as_basic : {h : ℕ} {t : Text} {es : List Expression} → Items First h t [] es → h ≤ most_levels → IsSpelled Basic t (sequence es)
+  as_basic : {h : ℕ} {t : Text} {es : List Expression} → BasicBranches h t [] es →
+      h ≤ most_levels → IsSpelled Basic t (choice es)
   -- so does an extended expression, which stands inside no group
-  as_extended : {h : ℕ} {t : Text} {es : List Expression} → Branches false h t [] es → h ≤ most_levels → IsSpelled Extended t (choice es)
+  as_extended : {h : ℕ} {t : Text} {es : List Expression} → ExtendedBranches false h t [] es →
+      h ≤ most_levels → IsSpelled Extended t (choice es)
   -- a fixed string is the sequence of its bytes
   as_fixed : {t : Text} → IsSpelled Fixed t (sequence (map byte t))
 

@@ -8,3 +8,7 @@ pub mod PieceSteps
 pub mod DuplicationSteps
 pub mod BasicSteps
 pub mod ExtendedSteps
+-- the grammars of the standard alone, for the law that they are kept
+pub mod StandardIntervals
+pub mod StandardBasic
+pub mod StandardExtended

@@ -1,4 +1,5 @@
-//! Basic regular expressions (XBD 9.3), read in one pass from left to right.
+//! Basic regular expressions (XBD 9.3), with GNU grep's `\+`, `\?` and `\|`, read in one pass from
+//! left to right.
 ghost use Rattle.std.specs.Prelude.{◌≡◌, ℕ, ◌≤◌, ◌⊎◌, IfOk, IfErr, MatchOption, MatchBool, codes, length, take, drop};
 ghost use Rattle.re_syntax.specs.Bytes.{Begins};
 ghost use Rattle.re_syntax.specs.Expression.{expression_of};
@@ -6,50 +7,23 @@ ghost use Rattle.re_syntax.specs.Basic.{ItemPlace, First, IsAtEnd};
 ghost use Rattle.re_syntax.specs.declared.syntax.Syntax.TheVariants.{Basic};
 ghost use Rattle.re_syntax.specs.Profile.{most_levels};
 ghost use Rattle.re_syntax.specs.Spelled.{IsSpelled, SpellsNoOther};
-ghost use Rattle.re_syntax.specs.BasicFaults.{HasNothingToRepeat, IsShownIn, IsNoBasic};
+ghost use Rattle.re_syntax.specs.BasicFaults.{NeedsItem, IsStart, HasNothingToRepeat, IsShownIn, IsNoBasic};
 ghost use Rattle.re_syntax.specs.Working.PieceSteps.{IsRefused};
-ghost use Rattle.re_syntax.specs.Working.BasicSteps.{OpensNoDuplication, DuplicationStands, HasBadInterval, AtomStands, HasNoAtom, HasItem, HasNoItem, HasNoTail, IsBehindTail, IsStart, SoFar, IsEnded, MayBegin, ItemStands, ItemsStand, HasNoItems};
+ghost use Rattle.re_syntax.specs.Working.BasicSteps.{AtomStands, HasNoAtom, HasItem, HasNoItem, HasNoTail, IsBehindTail, SoFar, IsEnded, MayBegin, ItemStands, HasNoItems, BranchStands, HasNoBranches, BranchesStand};
 
+use self::duplications::{needs_item, read_duplication};
 use crate::ahead::after;
 use crate::bytes::ByteSet;
 use crate::escape::read_escape;
 use crate::fault::{FaultKind, PatternFault};
 use crate::fixed::{out_of_memory, sequence_of};
-use crate::interval::{Counts, counts_fault, read_interval};
-use crate::pieces::{Piece, Pieces, joined, meant_by, read_bracket_atom, repeated};
+use crate::pieces::{Piece, Pieces, choice_of, joined, meant_by, read_bracket_atom, repeated};
 use crate::profile::{BASIC_REFUSED, MOST_LEVELS};
 use crate::tree::Tree;
 use std::alloc::Global;
 
-/// The duplication that stands at a place of the text, if one does, and the place behind it.
-fn read_duplication(text: &[u8], at: usize) -> Result<Option<(Counts, usize)>, PatternFault>
-    requires { at ≤ length text.now }
-    ensures read { IfOk result (λ found. MatchOption found (OpensNoDuplication (drop at text.now)) (λ d. DuplicationStands text.now at d.0 d.1)) }
-    ensures refused { IfErr result (HasBadInterval text.now at) }
-{
-    if let Some(behind) = after(text, at, b"*") {
-        let counts = Counts {
-            least: 0,
-            most: None,
-        };
-        return Ok(Some((counts, behind)));
-    }
-    match after(text, at, b"\\{") {
-        None => Ok(None),
-        Some(inside) => match read_interval(text, inside, b"\\}") {
-            None => Err(PatternFault {
-                kind: FaultKind::BadInterval,
-                at,
-            }),
-            Some((counts, behind)) => match counts_fault(counts) {
-                Some(kind) => Err(PatternFault { kind, at }),
-                None => Ok(Some((counts, behind))),
-            },
-        },
-    }
-}
-
-/// Whether an expression ends at a place: the text does, or a group is closed there.
+/// Whether a branch ends at a place: the text does, or a group is closed or another branch begins
+/// there.
 fn is_at_end(text: &[u8], at: usize) -> bool
     requires { at ≤ length text.now }
     ensures { MatchBool result (IsAtEnd (drop at text.now)) (¬ IsAtEnd (drop at text.now)) }
@@ -57,10 +31,13 @@ fn is_at_end(text: &[u8], at: usize) -> bool
     if at == text.len() {
         return true;
     }
+    if after(text, at, b"\\|").is_some() {
+        return true;
+    }
     after(text, at, b"\\)").is_some()
 }
 
-/// The place behind a `$` that is the last of its expression.
+/// The place behind a `$` that is the last of its branch.
 fn after_tail(text: &[u8], at: usize) -> Option<usize>
     requires { at ≤ length text.now }
     ensures { MatchOption result (HasNoTail (drop at text.now)) (IsBehindTail text.now at) }
@@ -73,7 +50,7 @@ fn after_tail(text: &[u8], at: usize) -> Option<usize>
     }
 }
 
-/// The anchor that an expression begins with, where one does.
+/// The anchor that a branch begins with, where one does.
 fn read_lead(alloc: Global, text: &[u8], from: usize) -> Result<Pieces, PatternFault>
     requires within { from ≤ length text.now }
     requires starts { IsStart (take from text.now) }
@@ -98,7 +75,7 @@ fn read_lead(alloc: Global, text: &[u8], from: usize) -> Result<Pieces, PatternF
     }
 }
 
-/// The items with the anchor that their expression ends with, where it does.
+/// The items with the anchor that their branch ends with, where it does.
 fn read_tail(text: &[u8], items: Pieces) -> Result<Pieces, PatternFault>
     requires within { items.behind ≤ length text.now }
     requires ends { HasNoItem (drop items.behind text.now) }
@@ -130,7 +107,7 @@ fn has_item(text: &[u8], at: usize) -> bool
 }
 
 /// The group whose `\(` stands at a place, at most so many levels high.
-#[cycle(read_items)]
+#[cycle(read_branches)]
 fn read_group(alloc: Global, text: &[u8], at: usize, levels: usize) -> Result<Piece, PatternFault>
     requires opens { Begins (codes "\\(") (drop at text.now) }
     requires few { levels ≤ most_levels }
@@ -143,26 +120,26 @@ fn read_group(alloc: Global, text: &[u8], at: usize, levels: usize) -> Result<Pi
             at,
         });
     }
-    let items = read_items(alloc, text, at + 2, levels - 1)?;
-    match after(text, items.behind, b"\\)") {
+    let branches = read_branches(alloc, text, at + 2, levels - 1)?;
+    match after(text, branches.behind, b"\\)") {
         None => Err(PatternFault {
             kind: FaultKind::UnclosedGroup,
             at,
         }),
         Some(behind) => Ok(Piece {
-            tree: sequence_of(items.trees),
-            height: items.height + 1,
+            tree: choice_of(branches.trees),
+            height: branches.height + 1,
             behind,
         }),
     }
 }
 
 /// The group or the escaped byte whose backslash stands at a place.
-#[cycle(read_items)]
+#[cycle(read_branches)]
 fn read_escaped(alloc: Global, text: &[u8], at: usize, levels: usize) -> Result<Piece, PatternFault>
     requires escapes { Begins (codes "\\") (drop at text.now) }
-    requires not_closing { ¬ Begins (codes "\\)") (drop at text.now) }
-    requires opens { Begins (codes "\\{") (drop at text.now) → HasNothingToRepeat (take at text.now) }
+    requires not_end { ¬ IsAtEnd (drop at text.now) }
+    requires opens { NeedsItem (drop at text.now) → HasNothingToRepeat (take at text.now) }
     requires few { levels ≤ most_levels }
     ensures read { IfOk result (λ piece. (p : ItemPlace) → AtomStands p levels text.now at piece) }
     ensures refused { IfErr result (λ fault. (p : ItemPlace) → IsRefused (HasNoAtom p levels (drop at text.now)) (IsShownIn text.now fault) fault) }
@@ -170,7 +147,7 @@ fn read_escaped(alloc: Global, text: &[u8], at: usize, levels: usize) -> Result<
     if after(text, at, b"\\(").is_some() {
         return read_group(alloc, text, at, levels);
     }
-    if after(text, at, b"\\{").is_some() {
+    if needs_item(text, at) {
         return Err(PatternFault {
             kind: FaultKind::NothingToRepeat,
             at,
@@ -185,11 +162,11 @@ fn read_escaped(alloc: Global, text: &[u8], at: usize, levels: usize) -> Result<
 }
 
 /// The atom that stands at a place, where neither an anchor nor a duplication does.
-#[cycle(read_items)]
+#[cycle(read_branches)]
 fn read_atom(alloc: Global, text: &[u8], at: usize, levels: usize) -> Result<Piece, PatternFault>
     requires within { at ≤ length text.now }
     requires item { HasItem (drop at text.now) }
-    requires opens { Begins (codes "\\{") (drop at text.now) → HasNothingToRepeat (take at text.now) }
+    requires opens { NeedsItem (drop at text.now) → HasNothingToRepeat (take at text.now) }
     requires few { levels ≤ most_levels }
     ensures read { IfOk result (λ piece. (p : ItemPlace) → MayBegin p (drop at text.now) → AtomStands p levels text.now at piece) }
     ensures refused { IfErr result (λ fault. (p : ItemPlace) → IsRefused (HasNoAtom p levels (drop at text.now)) (IsShownIn text.now fault) fault) }
@@ -206,11 +183,11 @@ fn read_atom(alloc: Global, text: &[u8], at: usize, levels: usize) -> Result<Pie
 }
 
 /// The atom that stands at a place, and the duplications after it.
-#[cycle(read_items)]
+#[cycle(read_branches)]
 fn read_item(alloc: Global, text: &[u8], at: usize, levels: usize) -> Result<Piece, PatternFault>
     requires within { at ≤ length text.now }
     requires item { HasItem (drop at text.now) }
-    requires opens { Begins (codes "\\{") (drop at text.now) → HasNothingToRepeat (take at text.now) }
+    requires opens { NeedsItem (drop at text.now) → HasNothingToRepeat (take at text.now) }
     requires few { levels ≤ most_levels }
     ensures read { IfOk result (λ piece. (p : ItemPlace) → MayBegin p (drop at text.now) → ItemStands p levels text.now at piece) }
     ensures refused { IfErr result (λ fault. (p : ItemPlace) → MayBegin p (drop at text.now) → IsRefused (HasNoItems p levels (drop at text.now)) (IsShownIn text.now fault) fault) }
@@ -228,9 +205,36 @@ fn read_item(alloc: Global, text: &[u8], at: usize, levels: usize) -> Result<Pie
     Ok(piece)
 }
 
-/// The items of the expression that begins at a place, up to where it ends.
-#[cycle(read_items)]
-fn read_items(
+/// The branch that begins at a place, up to where it ends.
+#[cycle(read_branches)]
+fn read_branch(
+    alloc: Global,
+    text: &[u8],
+    from: usize,
+    levels: usize,
+) -> Result<Piece, PatternFault>
+    requires within { from ≤ length text.now }
+    requires starts { IsStart (take from text.now) }
+    requires few { levels ≤ most_levels }
+    ensures read { IfOk result (BranchStands levels text.now from) }
+    ensures refused { IfErr result (λ fault. IsRefused (HasNoItems First levels (drop from text.now)) (IsShownIn text.now fault) fault) }
+{
+    let mut items = read_lead(alloc, text, from)?;
+    'items: while has_item(text, items.behind) {
+        let piece = read_item(alloc, text, items.behind, levels)?;
+        items = joined(items, piece)?;
+    }
+    let all = read_tail(text, items)?;
+    Ok(Piece {
+        tree: sequence_of(all.trees),
+        height: all.height,
+        behind: all.behind,
+    })
+}
+
+/// The branches of the expression that begins at a place, up to where it ends.
+#[cycle(read_branches)]
+fn read_branches(
     alloc: Global,
     text: &[u8],
     from: usize,
@@ -239,19 +243,27 @@ fn read_items(
     requires within { from ≤ length text.now }
     requires starts { IsStart (take from text.now) }
     requires few { levels ≤ most_levels }
-    ensures read { IfOk result (ItemsStand levels text.now from) }
-    ensures refused { IfErr result (λ fault. IsRefused (HasNoItems First levels (drop from text.now)) (IsShownIn text.now fault) fault) }
+    ensures read { IfOk result (BranchesStand levels text.now from) }
+    ensures refused { IfErr result (λ fault. IsRefused (HasNoBranches levels (drop from text.now))
+        (IsShownIn text.now fault) fault) }
 {
-    let mut items = read_lead(alloc, text, from)?;
-    'items: while has_item(text, items.behind) {
-        let piece = read_item(alloc, text, items.behind, levels)?;
-        items = joined(items, piece)?;
+    let none = Pieces {
+        trees: Vec::new(alloc),
+        height: 0,
+        behind: from,
+    };
+    let first = read_branch(alloc, text, from, levels)?;
+    let mut branches = joined(none, first)?;
+    'branches: while let Some(behind) = after(text, branches.behind, b"\\|") {
+        let branch = read_branch(alloc, text, behind, levels)?;
+        branches = joined(branches, branch)?;
     }
-    read_tail(text, items)
+    Ok(branches)
 }
 
-/// The tree of a basic regular expression (XBD 9.3): `Set`, `Not`, `Begin`, `End` and `Repeat` for
-/// its items, of no item `Empty`, of several a `Cat` in order.
+/// The tree of a basic regular expression (XBD 9.3, with GNU grep's `\+`, `\?` and `\|`): `Set`,
+/// `Not`, `Begin`, `End` and `Repeat` for its items, of a branch without items `Empty`, with several
+/// a `Cat` in order, and of several branches an `Alt` in order.
 ///
 /// # Errors
 ///
@@ -262,15 +274,16 @@ pub fn read_basic(alloc: Global, text: &[u8]) -> Result<Tree, PatternFault>
     ensures only { IfOk result (λ tree. SpellsNoOther Basic text.now (expression_of tree)) }
     ensures refused { IfErr result (λ fault. (fault ≡ record { kind = FaultKind.Memory; at = 0 }) ⊎ IsNoBasic text.now fault) }
 {
-    let items = read_items(alloc, text, 0, MOST_LEVELS)?;
-    if items.behind < text.len() {
+    let branches = read_branches(alloc, text, 0, MOST_LEVELS)?;
+    if branches.behind < text.len() {
         return Err(PatternFault {
             kind: FaultKind::UnopenedGroup,
-            at: items.behind,
+            at: branches.behind,
         });
     }
-    Ok(sequence_of(items.trees))
+    Ok(choice_of(branches.trees))
 }
 
+mod duplications;
 #[cfg(test)]
 mod tests;

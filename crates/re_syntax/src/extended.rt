@@ -1,7 +1,7 @@
 //! Extended regular expressions (XBD 9.4), read in one pass from left to right.
 ghost use Rattle.std.specs.Prelude.{◌≡◌, ◌≤◌, ◌<◌, ◌⊎◌, ◌∷◌, [], false, IfOk, IfErr, MatchOption, MatchBool, codes, length, take, drop, map};
 ghost use Rattle.re_syntax.specs.Bytes.{Begins};
-ghost use Rattle.re_syntax.specs.Expression.{expression_of, choice};
+ghost use Rattle.re_syntax.specs.Expression.{expression_of};
 ghost use Rattle.re_syntax.specs.Extended.{Duplication};
 ghost use Rattle.re_syntax.specs.declared.syntax.Syntax.TheVariants.{Extended};
 ghost use Rattle.re_syntax.specs.Profile.{most_levels};
@@ -16,7 +16,7 @@ use crate::escape::read_escape;
 use crate::fault::{FaultKind, PatternFault};
 use crate::fixed::sequence_of;
 use crate::interval::{Counts, counts_fault, read_interval};
-use crate::pieces::{Piece, Pieces, joined, meant_by, read_bracket_atom, repeated};
+use crate::pieces::{Piece, Pieces, choice_of, joined, meant_by, read_bracket_atom, repeated};
 use crate::profile::{EXTENDED_REFUSED, MOST_LEVELS};
 use crate::tree::Tree;
 use std::alloc::Global;
@@ -86,20 +86,6 @@ fn stops_at(text: &[u8], at: usize, in_group: bool) -> bool
     match byte_at(text, at) {
         None => true,
         Some(byte) => (byte == b'|') | (in_group & (byte == b')')),
-    }
-}
-
-/// One tree for the trees of an expression's branches, in order.
-fn choice_of(mut branches: Vec<Tree>) -> Tree
-    ensures { expression_of result ≡ choice (map expression_of branches.items) }
-{
-    if branches.len() < 2 {
-        match branches.pop() {
-            Some(only) => only,
-            None => Tree::Empty,
-        }
-    } else {
-        Tree::Alt(branches)
     }
 }
 

@@ -27,8 +27,7 @@ pub enum FaultKind {
     NothingToRepeat,
     /// A backslash that ends the text. At the place: that backslash.
     TrailingBackslash,
-    /// A backslash before a byte for which the standard defines no meaning. At the place: the
-    /// backslash.
+    /// A backslash before a byte with which it has no meaning. At the place: the backslash.
     UndefinedEscape,
     /// A backslash before a digit from 1 to 9, a back-reference, which this project leaves out. At
     /// the place: the backslash.

@@ -2,7 +2,7 @@
 ghost use Rattle.std.specs.Prelude.{◌≡◌, ◌≤◌, length, drop, MatchOption};
 ghost use Rattle.re_syntax.specs.Intervals.{IsNoPart, IsAllowed, value, capped, HasNoInterval};
 ghost use Rattle.re_syntax.specs.IntervalFaults.{IsDisallowed};
-ghost use Rattle.re_syntax.specs.Working.IntervalSteps.{AreDigits, HasNoDigit, IsDigitCount, NumberStands, IntervalStands};
+ghost use Rattle.re_syntax.specs.Working.IntervalSteps.{AreDigits, HasNoDigit, IsDigitCount, NumberStands, HasNoGreatest, GreatestStands, IntervalStands};
 
 use crate::ahead::after;
 use crate::fault::FaultKind;
@@ -52,13 +52,30 @@ fn read_number(text: &[u8], at: usize) -> Option<(u16, usize)>
     Some((capped_value(&text[at..at + count]), at + count))
 }
 
-/// The counts that stand at a place of the text (`m`, `m,` or `m,n`) and what closes them, and the
-/// place behind that.
+/// The counts of `,n`, given the place behind its comma, and what closes them, and the place behind
+/// that.
+fn read_greatest(text: &[u8], comma: usize, closing: &[u8]) -> Option<(Counts, usize)>
+    requires within { comma ≤ length text.now }
+    requires closes { IsNoPart closing.now }
+    ensures { MatchOption result (HasNoGreatest closing.now (drop comma text.now))
+        (λ found. GreatestStands closing.now text.now comma found.0 found.1) }
+{
+    let (greatest, behind) = read_number(text, comma)?;
+    let end = after(text, behind, closing)?;
+    let most = Some(greatest);
+    Some((Counts { least: 0, most }, end))
+}
+
+/// The counts that stand at a place of the text (`m`, `m,`, `m,n` or `,n`) and what closes them,
+/// and the place behind that.
 pub fn read_interval(text: &[u8], at: usize, closing: &[u8]) -> Option<(Counts, usize)>
     requires within { at ≤ length text.now }
     requires closes { IsNoPart closing.now }
     ensures { MatchOption result (HasNoInterval closing.now (drop at text.now)) (λ found. IntervalStands closing.now text.now at found.0 found.1) }
 {
+    if let Some(comma) = after(text, at, b",") {
+        return read_greatest(text, comma, closing);
+    }
     let (least, behind) = read_number(text, at)?;
     if let Some(end) = after(text, behind, closing) {
         let most = Some(least);

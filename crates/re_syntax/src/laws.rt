@@ -1,10 +1,17 @@
 //! Laws of the definitions, each the contract of a function that does nothing.
-ghost use Rattle.re_syntax.specs.Laws.{SpellsOne, BeginsWithOneBracket, HasOneSplit, HasOnePartList};
+ghost use Rattle.re_syntax.specs.Laws.{SpellsOne, KeepsStandard, BeginsWithOneBracket, HasOneSplit, HasOnePartList};
 
 /// A text spells at most one expression in each syntax.
 #[tactic(auto, using(crate::proofs::lemmas::SpelledUnique::spells_one))]
 pub fn spells_one(_text: &[u8])
     ensures { SpellsOne _text.now }
+{}
+
+/// What the standard defines keeps its meaning beside GNU grep's forms: a basic expression of the
+/// standard spells the tree that it has there, and so does an extended one without `{,`.
+#[tactic(auto, using(crate::proofs::lemmas::StandardKept::keeps_standard))]
+pub fn standard_is_kept(_text: &[u8])
+    ensures { KeepsStandard _text.now }
 {}
 
 /// A bracket expression is read in one way, whatever follows it.

@@ -32,7 +32,9 @@ pub use extended::read_extended;
 pub use fault::{FaultKind, PatternFault};
 pub use fixed::read_fixed;
 pub use folding::fold;
-pub use laws::{brackets_are_unique, has_one_split, parts_are_unique, spells_one};
+pub use laws::{
+    brackets_are_unique, has_one_split, parts_are_unique, spells_one, standard_is_kept,
+};
 pub use profile::{MOST_PATTERNS, MOST_POSITIONS};
 pub use split::{FilePatterns, Patterns, split_file, split_list};
 pub use syntax::Syntax;

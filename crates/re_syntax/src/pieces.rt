@@ -1,5 +1,6 @@
 //! Parts of an expression that were read, in basic and in extended expressions.
-ghost use Rattle.std.specs.Prelude.{◌≡◌, ◌<◌, Some, IfOk, IfErr, slice_get};
+ghost use Rattle.std.specs.Prelude.{◌≡◌, ◌<◌, Some, IfOk, IfErr, map, slice_get};
+ghost use Rattle.re_syntax.specs.Expression.{expression_of, choice};
 ghost use Rattle.re_syntax.specs.Sets.{members};
 ghost use Rattle.re_syntax.specs.declared.fault.FaultKind.{FaultKind};
 ghost use Rattle.re_syntax.specs.Faults.{IsNoBracket};
@@ -94,4 +95,18 @@ pub fn joined(mut pieces: Pieces, piece: Piece) -> Result<Pieces, PatternFault>
     pieces.height = pieces.height.max(piece.height);
     pieces.behind = piece.behind;
     Ok(pieces)
+}
+
+/// One tree for the trees of an expression's branches, in order.
+pub fn choice_of(mut branches: Vec<Tree>) -> Tree
+    ensures { expression_of result ≡ choice (map expression_of branches.items) }
+{
+    if branches.len() < 2 {
+        match branches.pop() {
+            Some(only) => only,
+            None => Tree::Empty,
+        }
+    } else {
+        Tree::Alt(branches)
+    }
 }

@@ -14,7 +14,7 @@ pub const MOST_PATTERNS: usize = 65535;
 
 /// The bytes that a backslash may not stand before in a basic expression, beside letters and digits
 /// (XBD 9.3.3).
-pub const BASIC_REFUSED: &[u8] = b"<>`'+?|";
+pub const BASIC_REFUSED: &[u8] = b"<>`'";
 
 /// The bytes that a backslash may not stand before in an extended expression, beside letters and
 /// digits (XBD 9.4.3).

@@ -7,7 +7,7 @@ aaaaaaaaaaaaaaaaaaaaaaaaaaaaaaaaaaaaaaaaaaaaaaaaaaaaaaaaaaaaaaaa\
 aaaaaaaaaaaaaaaaaaaaaaaaaaaaaaaaaaaaaaaaaaaaaaaaaaaaaaaaaaaaaaaa\
 aaaaaaaaaaaaaaaaaaaaaaaaaaaaaaaaaaaaaaaaaaaaaaaaaaaaaaaaaaaaaaa";
 
-static OF_INPUT: [Row<'static>; 33] = [
+static OF_INPUT: [Row<'static>; 36] = [
     ("b", b"b\nab\nB\n", b"b\nab\n", "", 0),
     ("", b"", b"", "", 1),
     ("", b"x", b"x\n", "", 0),
@@ -27,7 +27,10 @@ static OF_INPUT: [Row<'static>; 33] = [
     ("a^b", b"a^b\nab\n", b"a^b\n", "", 0),
     ("-E a)", b"a)\na\n", b"a)\n", "", 0),
     ("-E ((((){255}){255}){255}){255}", b"x\n", b"x\n", "", 0),
-    ("-E x{,2}", b"x{,2}\nxx\n", b"x{,2}\n", "", 0),
+    ("-E x{,2}", b"x{,2}\nxx\n", b"x{,2}\nxx\n", "", 0),
+    ("-E -o x{,2}", b"x{,2}\nxx\n", b"x\nxx\n", "", 0),
+    ("-x a\\|b\\+", b"a\nbb\nab\n\n", b"a\nbb\n", "", 0),
+    ("-x ab\\?\\|c\\{,2\\}", b"a\nab\ncc\n\nac\n", b"a\nab\ncc\n\n", "", 0),
     ("-o -v -c b", b"a\nb\n", b"1\n", "", 0),
     ("-F -n b", b"b\nab\nB\n", b"1:b\n2:ab\n", "", 0),
     ("-Fnv b", b"b\nab\nB", b"3:B\n", "", 0),

@@ -2,12 +2,12 @@
 use Rattle.std.proofs.Common.{◌≡◌, ℕ, zero, suc, ◌<◌, ◌≤◌, max, false, nat_eq, List, [], ◌∷◌, ◌++◌, Some, None, IsTrue, codes, refl, subst, arith}
 use Rattle.re_syntax.specs.declared.syntax.Syntax.TheVariants.{Basic}
 use Rattle.re_syntax.specs.Bytes.{Text}
-use Rattle.re_syntax.specs.Expression.{Expression, empty, begin, end, repeat, cat, byte}
-use Rattle.re_syntax.specs.Intervals.{IsNumber, IsAllowed, exactly, at_least}
-use Rattle.re_syntax.specs.Basic.{ItemPlace, First, star, interval, is_ordinary, IsAtEnd, of_text, of_group, Items, none, leading, trailing, item, Item, atom, repeated, escaped, ordinary, group}
+use Rattle.re_syntax.specs.Expression.{Expression, empty, begin, end, repeat, cat, alt, byte}
+use Rattle.re_syntax.specs.Intervals.{IsNumber, IsAllowed, exactly, at_least, up_to}
+use Rattle.re_syntax.specs.Basic.{ItemPlace, First, star, plus, question, interval, is_ordinary, IsAtEnd, of_text, of_group, of_branch, last, more, Items, none, leading, trailing, item, Item, atom, repeated, escaped, ordinary, group}
 use Rattle.re_syntax.specs.Spelled.{IsSpelled, as_basic}
 use Rattle.re_syntax.proofs.lemmas.BracketsUnique.{apart}
-use Rattle.re_syntax.proofs.lemmas.BasicUnique.{items-unique}
+use Rattle.re_syntax.proofs.lemmas.BasicUnique.{whole-branches}
 
 -- a byte that stands for itself and is no `$`
 itself : {p : ItemPlace} {t : Text} (b : ℕ) → IsTrue (is_ordinary p b) → nat_eq b 36 ≡ false → Item p 0 (b ∷ t) t (byte b)
@@ -17,6 +17,7 @@ itself b h n = atom (ordinary b h (λ e. absurd (apart b 36 e n)))
 not_end : {t u : Text} (c : ℕ) → IsAtEnd t → t ≡ c ∷ u → nat_eq c 92 ≡ false → ⊥
 not_end c of_text e n = cc
 not_end c of_group e n = apart c 92 (let same : c ≡ 92 = cc in same) n
+not_end c of_branch e n = apart c 92 (let same : c ≡ 92 = cc in same) n
 
 -- a `$` before a byte that is no backslash
 dollar : {p : ItemPlace} {t : Text} (c : ℕ) → IsTrue (is_ordinary p 36) → nat_eq c 92 ≡ false → Item p 0 (36 ∷ c ∷ t) (c ∷ t) (byte 36)
@@ -24,61 +25,61 @@ dollar c h n = atom (ordinary 36 h (λ e at_end. not_end c at_end refl n))
 
 -- `^*a` and `\(^*\)`: the star is the first item behind the anchor
 star_after_anchor : IsSpelled Basic (codes "^*a") (cat (begin ∷ byte 42 ∷ byte 97 ∷ []))
-star_after_anchor = as_basic (leading (item (itself 42 refl refl) (item (itself 97 refl refl) none))) (omega arith)
+star_after_anchor = as_basic (last (leading (item (itself 42 refl refl) (item (itself 97 refl refl) none)))) (omega arith)
 
 -- the same in a group
 star_in_group : IsSpelled Basic (codes "\\(^*\\)") (cat (begin ∷ byte 42 ∷ []))
-star_in_group = as_basic (item (atom (group (leading (item (itself 42 refl refl) none)))) none) (omega arith)
+star_in_group = as_basic (last (item (atom (group (last (leading (item (itself 42 refl refl) none))))) none)) (omega arith)
 
 -- `**` and `^**`: the first star is a byte, the second repeats it
 two_stars : IsSpelled Basic (codes "**") (repeat (byte 42) 0 None)
-two_stars = as_basic (item (repeated (itself 42 refl refl) star) none) (omega arith)
+two_stars = as_basic (last (item (repeated (itself 42 refl refl) star) none)) (omega arith)
 
 -- the same behind an anchor
 stars_after_anchor : IsSpelled Basic (codes "^**") (cat (begin ∷ repeat (byte 42) 0 None ∷ []))
-stars_after_anchor = as_basic (leading (item (repeated (itself 42 refl refl) star) none)) (omega arith)
+stars_after_anchor = as_basic (last (leading (item (repeated (itself 42 refl refl) star) none))) (omega arith)
 
 -- `a^b$c`: neither is an anchor
 inner_marks : IsSpelled Basic (codes "a^b$c") (cat (byte 97 ∷ byte 94 ∷ byte 98 ∷ byte 36 ∷ byte 99 ∷ []))
 inner_marks =
-    as_basic (item (itself 97 refl refl) (item (itself 94 refl refl) (item (itself 98 refl refl) (item (dollar 99 refl refl) (item (itself 99 refl refl) none)))))
+    as_basic (last (item (itself 97 refl refl) (item (itself 94 refl refl) (item (itself 98 refl refl) (item (dollar 99 refl refl) (item (itself 99 refl refl) none))))))
     (omega arith)
 
 -- `$`, `^$` and `$*`
 end_alone : IsSpelled Basic (codes "$") end
-end_alone = as_basic (trailing of_text) (omega arith)
+end_alone = as_basic (last (trailing of_text)) (omega arith)
 
 -- both anchors
 begin_end : IsSpelled Basic (codes "^$") (cat (begin ∷ end ∷ []))
-begin_end = as_basic (leading (trailing of_text)) (omega arith)
+begin_end = as_basic (last (leading (trailing of_text))) (omega arith)
 
 -- a dollar that is not last is a byte
 repeated_dollar : IsSpelled Basic (codes "$*") (repeat (byte 36) 0 None)
-repeated_dollar = as_basic (item (repeated (dollar 42 refl refl) star) none) (omega arith)
+repeated_dollar = as_basic (last (item (repeated (dollar 42 refl refl) star) none)) (omega arith)
 
 -- `^^` and `$$`: the outer of the two is the anchor
 two_carets : IsSpelled Basic (codes "^^") (cat (begin ∷ byte 94 ∷ []))
-two_carets = as_basic (leading (item (itself 94 refl refl) none)) (omega arith)
+two_carets = as_basic (last (leading (item (itself 94 refl refl) none))) (omega arith)
 
 -- the last of two
 two_dollars : IsSpelled Basic (codes "$$") (cat (byte 36 ∷ end ∷ []))
-two_dollars = as_basic (item (dollar 36 refl refl) (trailing of_text)) (omega arith)
+two_dollars = as_basic (last (item (dollar 36 refl refl) (trailing of_text))) (omega arith)
 
 -- `\(^a\)` and `a\(b$\)`: a group has anchors of its own
 begin_in_group : IsSpelled Basic (codes "\\(^a\\)") (cat (begin ∷ byte 97 ∷ []))
-begin_in_group = as_basic (item (atom (group (leading (item (itself 97 refl refl) none)))) none) (omega arith)
+begin_in_group = as_basic (last (item (atom (group (last (leading (item (itself 97 refl refl) none))))) none)) (omega arith)
 
 -- the other one
 end_in_group : IsSpelled Basic (codes "a\\(b$\\)") (cat (byte 97 ∷ cat (byte 98 ∷ end ∷ []) ∷ []))
-end_in_group = as_basic (item (itself 97 refl refl) (item (atom (group (item (itself 98 refl refl) (trailing of_group)))) none)) (omega arith)
+end_in_group = as_basic (last (item (itself 97 refl refl) (item (atom (group (last (item (itself 98 refl refl) (trailing of_group))))) none))) (omega arith)
 
 -- `a\}`: a closing brace of no interval stands for itself
 closing_brace : IsSpelled Basic (codes "a\\}") (cat (byte 97 ∷ byte 125 ∷ []))
-closing_brace = as_basic (item (itself 97 refl refl) (item (atom (escaped 125 (λ h. cc))) none)) (omega arith)
+closing_brace = as_basic (last (item (itself 97 refl refl) (item (atom (escaped 125 (λ h. cc))) none))) (omega arith)
 
 -- `a\{2\}*`: the duplications apply from left to right
 interval_star : IsSpelled Basic (codes "a\\{2\\}*") (repeat (repeat (byte 97) 2 (Some 2)) 0 None)
-interval_star = as_basic (item (repeated (repeated (itself 97 refl refl) (interval (exactly (codes "2") two) allowed)) star) none) (omega arith)
+interval_star = as_basic (last (item (repeated (repeated (itself 97 refl refl) (interval (exactly (codes "2") two) allowed)) star) none)) (omega arith)
   where
     two : IsNumber (codes "2")
     two = record { not_empty = λ e. cc; digits = refl }
@@ -88,7 +89,7 @@ interval_star = as_basic (item (repeated (repeated (itself 97 refl refl) (interv
 
 -- `a\{007\}` and `a\{0,\}`: leading zeros, and no greatest count
 leading_zeros : IsSpelled Basic (codes "a\\{007\\}") (repeat (byte 97) 7 (Some 7))
-leading_zeros = as_basic (item (repeated (itself 97 refl refl) (interval (exactly (codes "007") seven) allowed)) none) (omega arith)
+leading_zeros = as_basic (last (item (repeated (itself 97 refl refl) (interval (exactly (codes "007") seven) allowed)) none)) (omega arith)
   where
     seven : IsNumber (codes "007")
     seven = record { not_empty = λ e. cc; digits = refl }
@@ -98,13 +99,52 @@ leading_zeros = as_basic (item (repeated (itself 97 refl refl) (interval (exactl
 
 -- no greatest count
 no_greatest : IsSpelled Basic (codes "a\\{3,\\}") (repeat (byte 97) 3 None)
-no_greatest = as_basic (item (repeated (itself 97 refl refl) (interval (at_least (codes "3") three) allowed)) none) (omega arith)
+no_greatest = as_basic (last (item (repeated (itself 97 refl refl) (interval (at_least (codes "3") three) allowed)) none)) (omega arith)
   where
     three : IsNumber (codes "3")
     three = record { not_empty = λ e. cc; digits = refl }
 
     allowed : IsAllowed 3 None
     allowed = record { least_fits = omega arith; most_fits = tt; ordered = tt }
+
+-- `a\{,2\}`: no least count
+no_least : IsSpelled Basic (codes "a\\{,2\\}") (repeat (byte 97) 0 (Some 2))
+no_least = as_basic (last (item (repeated (itself 97 refl refl) (interval (up_to (codes "2") two) allowed)) none)) (omega arith)
+  where
+    two : IsNumber (codes "2")
+    two = record { not_empty = λ e. cc; digits = refl }
+
+    allowed : IsAllowed 0 (Some 2)
+    allowed = record { least_fits = omega arith; most_fits = omega arith; ordered = omega arith }
+
+-- `*\+` and `a\?`: the star is a byte, and repeated
+one_or_more : IsSpelled Basic (codes "*\\+") (repeat (byte 42) 1 None)
+one_or_more = as_basic (last (item (repeated (itself 42 refl refl) plus) none)) (omega arith)
+
+-- the other sign
+none_or_one : IsSpelled Basic (codes "a\\?") (repeat (byte 97) 0 (Some 1))
+none_or_one = as_basic (last (item (repeated (itself 97 refl refl) question) none)) (omega arith)
+
+-- `\|` and `\(a\|\)`: a branch may be empty
+empty_branches : IsSpelled Basic (codes "\\|") (alt (empty ∷ empty ∷ []))
+empty_branches = as_basic (more none (last none)) (omega arith)
+
+-- in a group
+empty_in_group : IsSpelled Basic (codes "\\(a\\|\\)") (alt (byte 97 ∷ empty ∷ []))
+empty_in_group = as_basic (last (item (atom (group (more (item (itself 97 refl refl) none) (last none)))) none)) (omega arith)
+
+-- `a\|*b` and `a\|^*b`: a star and a caret that are first in their branch
+star_in_branch : IsSpelled Basic (codes "a\\|*b") (alt (byte 97 ∷ cat (byte 42 ∷ byte 98 ∷ []) ∷ []))
+star_in_branch = as_basic (more (item (itself 97 refl refl) none) (last (item (itself 42 refl refl) (item (itself 98 refl refl) none)))) (omega arith)
+
+-- the anchor
+begin_in_branch : IsSpelled Basic (codes "a\\|^*b") (alt (byte 97 ∷ cat (begin ∷ byte 42 ∷ byte 98 ∷ []) ∷ []))
+begin_in_branch =
+    as_basic (more (item (itself 97 refl refl) none) (last (leading (item (itself 42 refl refl) (item (itself 98 refl refl) none))))) (omega arith)
+
+-- `a$\|b`: a dollar that is last in its branch
+end_in_branch : IsSpelled Basic (codes "a$\\|b") (alt (cat (byte 97 ∷ end ∷ []) ∷ byte 98 ∷ []))
+end_in_branch = as_basic (more (item (itself 97 refl refl) (trailing of_branch)) (last (item (itself 98 refl refl) none))) (omega arith)
 
 -- so many groups in one another
 
@@ -134,12 +174,12 @@ at_height {t = t} {u = u} {es = es} e is = subst (λ n. Items First n t u es) e 
 -- the groups are items
 nested_items : (n : ℕ) (t : Text) → Items First n (opened n (closed_after n t)) t (nested n)
 nested_items zero t = none
-nested_items (suc zero) t = at_height (max_zero 1) (item (atom (group (nested_items zero (codes "\\)" ++ t)))) none)
-nested_items (suc (suc n)) t = at_height (max_zero (suc (suc n))) (item (atom (group (nested_items (suc n) (codes "\\)" ++ t)))) none)
+nested_items (suc zero) t = at_height (max_zero 1) (item (atom (group (last (nested_items zero (codes "\\)" ++ t))))) none)
+nested_items (suc (suc n)) t = at_height (max_zero (suc (suc n))) (item (atom (group (last (nested_items (suc n) (codes "\\)" ++ t))))) none)
 
 -- groups in one another up to the deepest that is read
 pub nested_groups : (n : ℕ) → suc n ≤ 256 → IsSpelled Basic (opened (suc n) (closed_after (suc n) [])) empty
-nested_groups n h = as_basic (nested_items (suc n) []) h
+nested_groups n h = as_basic (last (nested_items (suc n) [])) h
 
 -- so many stars after one another
 
@@ -164,11 +204,11 @@ star_items n = at_height (max_zero n) (item (star_item n []) none)
 
 -- stars after one another up to the most that are read, and one more than that is not read
 pub starred_often : (n : ℕ) → n ≤ 256 → IsSpelled Basic (97 ∷ starred n []) (often n (byte 97))
-starred_often n h = as_basic (star_items n) h
+starred_often n h = as_basic (last (star_items n)) h
 
 -- what is read one way only and too high is not read
 too_high : {n : ℕ} {t : Text} {e : Expression} {es : List Expression} → Items First n t [] es → ¬ (n ≤ 256) → IsSpelled Basic t e → ⊥
-too_high is h (as_basic js k) = h (omega (arith, (items-unique is js refl of_text of_text).heights))
+too_high is h (as_basic bs k) = h (omega (arith, (whole-branches (last is) bs).heights))
 
 -- one star too many
 pub too_many_stars : (n : ℕ) (e : Expression) → 256 < n → ¬ IsSpelled Basic (97 ∷ starred n []) e

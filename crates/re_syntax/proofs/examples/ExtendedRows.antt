@@ -3,11 +3,11 @@ use Rattle.std.proofs.Common.{◌≡◌, ℕ, Bool, false, nat_eq, [], ◌∷◌
 use Rattle.re_syntax.specs.declared.syntax.Syntax.TheVariants.{Extended}
 use Rattle.re_syntax.specs.Bytes.{Text, any_but_nul}
 use Rattle.re_syntax.specs.Expression.{empty, one_of, begin, end, repeat, cat, alt, byte}
-use Rattle.re_syntax.specs.Intervals.{IsNumber, IsAllowed, exactly, at_least, between, HasNoInterval}
+use Rattle.re_syntax.specs.Intervals.{IsNumber, IsAllowed, exactly, at_least, between, up_to, HasNoInterval}
 use Rattle.re_syntax.specs.Extended.{star, plus, question, interval, is_ordinary, last, more, Items, none, anchor, item, Item, atom, repeated, dollar, period, escaped, ordinary, group}
 use Rattle.re_syntax.specs.Spelled.{IsSpelled, as_extended}
 use Rattle.re_syntax.proofs.lemmas.BracketsUnique.{apart}
-use Rattle.re_syntax.proofs.lemmas.ExtendedBraces.{not_digit_first, no_closing}
+use Rattle.re_syntax.proofs.lemmas.ExtendedBraces.{not_number_first, no_number_behind, no_closing}
 
 -- a byte that stands for itself and is no `{`
 itself : {g : Bool} {t : Text} (b : ℕ) → IsTrue (is_ordinary g b) → nat_eq b 123 ≡ false → Item g 0 (b ∷ t) t (byte b)
@@ -89,20 +89,19 @@ any_byte = as_extended (last (item (atom period) none)) (omega arith)
 escaped_plus : IsSpelled Extended (codes "\\+") (byte 43)
 escaped_plus = as_extended (last (item (atom (escaped 43 (λ h. cc))) none)) (omega arith)
 
--- `{`, `a{`, `{a` and `a{,2}`: no digit follows the brace
+-- `{`, `a{`, `{a` and `a{,}`: no number follows the brace
 brace_alone : IsSpelled Extended (codes "{") (byte 123)
-brace_alone = as_extended (last (item (brace refl (not_digit_first (codes "") refl)) none)) (omega arith)
+brace_alone = as_extended (last (item (brace refl (not_number_first (codes "") refl refl)) none)) (omega arith)
 
 brace_last : IsSpelled Extended (codes "a{") (cat (byte 97 ∷ byte 123 ∷ []))
-brace_last = as_extended (last (item (itself 97 refl refl) (item (brace refl (not_digit_first (codes "") refl)) none))) (omega arith)
+brace_last = as_extended (last (item (itself 97 refl refl) (item (brace refl (not_number_first (codes "") refl refl)) none))) (omega arith)
 
 brace_first : IsSpelled Extended (codes "{a") (cat (byte 123 ∷ byte 97 ∷ []))
-brace_first = as_extended (last (item (brace refl (not_digit_first (codes "a") refl)) (alone 97 refl refl))) (omega arith)
+brace_first = as_extended (last (item (brace refl (not_number_first (codes "a") refl refl)) (alone 97 refl refl))) (omega arith)
 
-no_least : IsSpelled Extended (codes "a{,2}") (cat (byte 97 ∷ byte 123 ∷ byte 44 ∷ byte 50 ∷ byte 125 ∷ []))
-no_least =
-    as_extended (last (item (itself 97 refl refl) (item (brace refl (not_digit_first (codes ",2}") refl))
-    (item (itself 44 refl refl) (item (itself 50 refl refl) (alone 125 refl refl)))))) (omega arith)
+no_numbers : IsSpelled Extended (codes "a{,}") (cat (byte 97 ∷ byte 123 ∷ byte 44 ∷ byte 125 ∷ []))
+no_numbers =
+    as_extended (last (item (itself 97 refl refl) (item (brace refl (no_number_behind (codes "}") refl)) (item (itself 44 refl refl) (alone 125 refl refl))))) (omega arith)
 
 -- `a{2`, `a{2,` and `(a{2)`: nothing closes the interval
 brace_open : IsSpelled Extended (codes "a{2") (cat (byte 97 ∷ byte 123 ∷ byte 50 ∷ []))
@@ -132,7 +131,7 @@ three_allowed = record { least_fits = omega arith; most_fits = omega arith; orde
 two_braces : IsSpelled Extended (codes "a{{2}") (cat (byte 97 ∷ repeat (byte 123) 2 (Some 2) ∷ []))
 two_braces =
     as_extended (last (item (itself 97 refl refl)
-    (item (repeated (brace refl (not_digit_first (codes "{2}") refl)) (interval (exactly (codes "2") two) two_allowed)) none))) (omega arith)
+    (item (repeated (brace refl (not_number_first (codes "{2}") refl refl)) (interval (exactly (codes "2") two) two_allowed)) none))) (omega arith)
 
 -- `a{2}{3}`, `a{2,}` and `a{2,3}`
 two_intervals : IsSpelled Extended (codes "a{2}{3}") (repeat (repeat (byte 97) 2 (Some 2)) 3 (Some 3))
@@ -150,6 +149,13 @@ least_and_greatest : IsSpelled Extended (codes "a{2,3}") (repeat (byte 97) 2 (So
 least_and_greatest = as_extended (last (item (repeated (itself 97 refl refl) (interval (between (codes "2") (codes "3") two three) allowed)) none)) (omega arith)
   where
     allowed : IsAllowed 2 (Some 3)
+    allowed = record { least_fits = omega arith; most_fits = omega arith; ordered = omega arith }
+
+-- `a{,2}`: no least number
+no_least : IsSpelled Extended (codes "a{,2}") (repeat (byte 97) 0 (Some 2))
+no_least = as_extended (last (item (repeated (itself 97 refl refl) (interval (up_to (codes "2") two) allowed)) none)) (omega arith)
+  where
+    allowed : IsAllowed 0 (Some 2)
     allowed = record { least_fits = omega arith; most_fits = omega arith; ordered = omega arith }
 
 -- `(a{255}){16}` and `(a{255}){17}`: how often the whole is repeated is no matter of reading

@@ -1,11 +1,12 @@
 -- What an atom of a basic expression begins with: a byte that has no other meaning there, and which tells the kind of atom.
-use Rattle.std.proofs.Common.{◌≡◌, ◌≢◌, ℕ, Bool, true, false, nat_eq, [], ◌∷◌, IsTrue, codes, if◌then◌else◌, refl, ◌∙◌, arith}
+use Rattle.std.proofs.Common.{◌≡◌, ◌≢◌, ℕ, Bool, true, false, nat_eq, [], ◌∷◌, IsTrue, codes, if◌then◌else◌, refl, sym, ap, ◌∙◌, arith}
 use Rattle.std.proofs.lemmas.Bool.{ne_eqb, cond-false}
 use Rattle.re_syntax.specs.Bytes.{Text}
 use Rattle.re_syntax.specs.Expression.{Expression}
-use Rattle.re_syntax.specs.Escapes.{is_undefined}
+use Rattle.re_syntax.specs.Escapes.{is_in, is_undefined}
 use Rattle.re_syntax.specs.Basic.{ItemPlace, First, AfterAnchor, Later, is_ordinary, IsAtEnd, Atom, bracket, period, escaped, ordinary, group}
 use Rattle.re_syntax.proofs.lemmas.BracketsUnique.{heads, bracket_front}
+use Rattle.re_syntax.proofs.lemmas.Duplications.{is_sign}
 
 -- what follows a backslash that opens a group
 abbrev pub is_opening : Text → Bool
@@ -17,13 +18,17 @@ abbrev pub kind_of : Text → ℕ
 kind_of [] = 9
 kind_of (b ∷ w) = if nat_eq b 91 then 0 else if nat_eq b 46 then 1 else if nat_eq b 92 then (if is_opening w then 3 else 2) else 4
 
+-- the bytes behind a backslash that make it an end
+abbrev pub is_ending : ℕ → Bool
+is_ending b = is_in (codes ")|") b
+
 -- the byte that the atom begins with has no other meaning
 pub record IsFront (p : ItemPlace) (b : ℕ) (w : Text) : Type 0 where
   pub not_caret : p ≡ First → b ≢ 94
   pub not_star : p ≡ Later → b ≢ 42
   pub not_tail : b ≡ 36 → ¬ IsAtEnd w
-  pub no_interval : b ≡ 92 → (v : Text) → w ≢ 123 ∷ v
-  pub no_closing : b ≡ 92 → (v : Text) → w ≢ 41 ∷ v
+  pub no_duplication : b ≡ 92 → (c : ℕ) (v : Text) → w ≡ c ∷ v → ¬ IsTrue (is_sign c)
+  pub no_end : b ≡ 92 → (c : ℕ) (v : Text) → w ≡ c ∷ v → ¬ IsTrue (is_ending c)
 
 pub record Front (p : ItemPlace) (t : Text) (kind : ℕ) : Type 0 where
   pub front : ℕ
@@ -78,23 +83,41 @@ fixed_front p b w caret st tail back = record {
   not_caret = λ e. caret;
   not_star = λ e. st;
   not_tail = λ e. absurd (tail e);
-  no_interval = λ e. absurd (back e);
-  no_closing = λ e. absurd (back e);
+  no_duplication = λ e. absurd (back e);
+  no_end = λ e. absurd (back e);
 }
 
--- an escape is no interval's opening and no group's end
-backslash_front : (p : ItemPlace) (c : ℕ) (w : Text) → c ≢ 123 → c ≢ 41 → IsFront p 92 (c ∷ w)
+-- a byte that a test fails for is none that it holds for
+tested_apart : (test : ℕ → Bool) (b c : ℕ) → test b ≡ false → b ≡ c → ¬ IsTrue (test c)
+tested_apart test b c n e h = let f : test b ≡ true = ap test e ∙ h in let g : false ≡ true = sym n ∙ f in cc
+
+-- an escape is no duplication and no end
+backslash_front : (p : ItemPlace) (c : ℕ) (w : Text) → is_sign c ≡ false → is_ending c ≡ false → IsFront p 92 (c ∷ w)
 backslash_front p c w n m = record {
   not_caret = λ e k. absurd (omega arith);
   not_star = λ e k. absurd (omega arith);
   not_tail = λ e. absurd (omega arith);
-  no_interval = λ e v f. n (heads f);
-  no_closing = λ e v f. m (heads f);
+  no_duplication = λ e d v f. tested_apart is_sign c d n (heads f);
+  no_end = λ e d v f. tested_apart is_ending c d m (heads f);
 }
 
 -- a byte that may be escaped is none that may not
-pub undefined_apart : (b c : ℕ) → ¬ IsTrue (is_undefined (codes "(){<>`'+?|") b) → is_undefined (codes "(){<>`'+?|") c ≡ true → b ≢ c
+pub undefined_apart : (b c : ℕ) → ¬ IsTrue (is_undefined (codes "(){+?|<>`'") b) → is_undefined (codes "(){+?|<>`'") c ≡ true → b ≢ c
 undefined_apart b c h k e = h (rw e k)
+
+-- a byte that may be escaped makes neither a duplication nor an end of the backslash
+escaped_sign : (b : ℕ) → ¬ IsTrue (is_undefined (codes "(){+?|<>`'") b) → is_sign b ≡ false
+escaped_sign b h =
+    let brace : b ≢ 123 = undefined_apart b 123 h refl in
+    let plus : b ≢ 43 = undefined_apart b 43 h refl in
+    let question : b ≢ 63 = undefined_apart b 63 h refl in
+    rw (ne_eqb 123 b (λ e. brace (sym e)), ne_eqb 43 b (λ e. plus (sym e)), ne_eqb 63 b (λ e. question (sym e))) refl
+
+escaped_ending : (b : ℕ) → ¬ IsTrue (is_undefined (codes "(){+?|<>`'") b) → is_ending b ≡ false
+escaped_ending b h =
+    let closing : b ≢ 41 = undefined_apart b 41 h refl in
+    let bar : b ≢ 124 = undefined_apart b 124 h refl in
+    rw (ne_eqb 41 b (λ e. closing (sym e)), ne_eqb 124 b (λ e. bar (sym e))) refl
 
 -- the number that tells the kind of atom
 abbrev pub atom_code : {p : ItemPlace} {n : ℕ} {t u : Text} {e : Expression} → Atom p n t u e → ℕ
@@ -128,10 +151,10 @@ atom_front {p} (escaped {u = u} b h) =
       rest = b ∷ u;
       whole = refl;
       is_kind = cond-false _ _ _ (ne_eqb b 40 (undefined_apart b 40 h refl));
-      clear = backslash_front p b u (undefined_apart b 123 h refl) (undefined_apart b 41 h refl);
+      clear = backslash_front p b u (escaped_sign b h) (escaped_ending b h);
     }
 atom_front {p} (group {t = t} h) =
-    record { front = 92; rest = 40 ∷ t; whole = refl; is_kind = refl; clear = backslash_front p 40 t (λ k. absurd (omega arith)) (λ k. absurd (omega arith)) }
+    record { front = 92; rest = 40 ∷ t; whole = refl; is_kind = refl; clear = backslash_front p 40 t refl refl }
 atom_front {p} (ordinary {u = u} b h k) =
     record {
       front = b;
@@ -142,7 +165,7 @@ atom_front {p} (ordinary {u = u} b h k) =
         not_caret = first_caret p b h;
         not_star = later_star p b h;
         not_tail = k;
-        no_interval = λ e. absurd (not_ordinary p b 92 h (never_backslash p) e);
-        no_closing = λ e. absurd (not_ordinary p b 92 h (never_backslash p) e);
+        no_duplication = λ e. absurd (not_ordinary p b 92 h (never_backslash p) e);
+        no_end = λ e. absurd (not_ordinary p b 92 h (never_backslash p) e);
       };
     }

@@ -1,5 +1,5 @@
 -- Single atoms of basic expressions, from what stands at their place.
-use Rattle.std.proofs.Common.{◌≡◌, ◌≢◌, ℕ, ◌+◌, ◌<◌, ◌⊎◌, inl, inr, true, ◌||◌, nat_eq, ◌∷◌, ◌++◌, length, take, drop, Some, IsTrue, slice_get, codes, refl, sym, ap, ◌∙◌, subst, arith, length-drop}
+use Rattle.std.proofs.Common.{◌≡◌, ◌≢◌, ℕ, ◌+◌, ◌<◌, ◌⊎◌, inl, inr, true, nat_eq, ◌∷◌, ◌++◌, length, take, drop, Some, IsTrue, slice_get, codes, refl, sym, ap, ◌∙◌, subst, arith, length-drop}
 use Rattle.std.proofs.lemmas.Bool.{or_cases, or_left, or_right, eqb-true, ne_eqb, cases_eq}
 use Rattle.re_syntax.specs.declared.pieces.Piece.{Piece}
 use Rattle.re_syntax.specs.declared.class.Class.TheVariants.{Alnum}
@@ -11,8 +11,8 @@ use Rattle.re_syntax.specs.Escapes.{is_in, is_undefined}
 use Rattle.re_syntax.specs.Expression.{Expression, one_of, byte, expression_of}
 use Rattle.re_syntax.specs.Brackets.{IsBracket}
 use Rattle.re_syntax.specs.Faults.{ShowsBracketFault, IsNoBracket}
-use Rattle.re_syntax.specs.Basic.{ItemPlace, First, AfterAnchor, Later, is_ordinary, Atom, bracket, period, escaped, ordinary, group}
-use Rattle.re_syntax.specs.BasicFaults.{ShowsBasicFault, IsShownIn}
+use Rattle.re_syntax.specs.Basic.{ItemPlace, First, AfterAnchor, Later, is_ordinary, IsAtEnd, of_group, of_branch, Atom, bracket, period, escaped, ordinary, group}
+use Rattle.re_syntax.specs.BasicFaults.{NeedsItem, needs_interval, needs_plus, needs_question, ShowsBasicFault, IsShownIn}
 use Rattle.re_syntax.specs.Profile.{basic_refused}
 use Rattle.re_syntax.specs.EscapeFaults.{IsRefusedEscape, undefined, reference, BeginsRefusedEscape}
 use Rattle.re_syntax.specs.Working.BasicSteps.{HasItem, MayBegin, AtomStands, HasNoAtom}
@@ -20,6 +20,7 @@ use Rattle.re_syntax.specs.Working.PieceSteps.{meant_bytes, IsBracketPiece}
 use Rattle.re_syntax.specs.Working.EscapeSteps.{EscapeStands, HasNoEscape, trailing, refused}
 use Rattle.re_syntax.proofs.lemmas.BracketsUnique.{heads, tails, apart, bracket_front}
 use Rattle.re_syntax.proofs.lemmas.BracketLists.{bracket-shortens}
+use Rattle.re_syntax.proofs.lemmas.Duplications.{is_sign}
 use Rattle.re_syntax.proofs.lemmas.AtomFronts.{atom_front, not_ordinary, never_backslash, never_bracket}
 use Rattle.re_syntax.proofs.lemmas.Places.{byte_at}
 use Rattle.re_syntax.proofs.lemmas.EscapeLaws.{no_escape}
@@ -37,48 +38,65 @@ pub shown_escape : (text : Text) (at : ℕ) (fault : PatternFault) → HasNoEsca
 shown_escape text at fault (trailing e front) = subst (IsShownIn text) (sym e) front
 shown_escape text at fault (refused e r) = subst (IsShownIn text) (sym e) (shown_refused (take at text) (drop at text) r.refused r)
 
--- the bytes that an escape may not have are more in the grammar, where `\(`, `\)` and `\{` are no escapes
-wider_cases : (b : ℕ) → IsTrue (is_undefined (codes "(){<>`'+?|") b) → (b ≡ 40) ⊎ ((b ≡ 41) ⊎ ((b ≡ 123) ⊎ IsTrue (is_undefined basic_refused b)))
-wider_cases b h = go (or_cases (in_class Alnum b) _ h)
+-- the first of some bytes is the byte, or one of the others is
+first_or : (c b : ℕ) (t : Text) → IsTrue (is_in (c ∷ t) b) → (b ≡ c) ⊎ IsTrue (is_in t b)
+first_or c b t h = elim (or_cases (nat_eq c b) (is_in t b) h) [ inl e ↦ inl (sym (eqb-true c b e)) | inr k ↦ inr k ]
+
+-- the bytes that an escape may not have are more in the grammar, where groups, ends and duplications begin with a backslash
+left_over : (b : ℕ) (u : Text) → ¬ Begins (codes "\\(") (92 ∷ b ∷ u) → ¬ IsAtEnd (92 ∷ b ∷ u) → ¬ NeedsItem (92 ∷ b ∷ u) → IsTrue (is_undefined (codes "(){+?|<>`'") b) →
+    IsTrue (is_undefined basic_refused b)
+left_over b u no_group no_end no_need h =
+    elim (or_cases (in_class Alnum b) (is_in (codes "(){+?|<>`'") b) h) [
+      | inl e ↦ or_left (in_class Alnum b) (is_in basic_refused b) e
+      | inr k ↦ or_right (in_class Alnum b) (is_in basic_refused b) (others k)
+    ]
   where
-    third : (nat_eq 123 b ≡ true) ⊎ (is_in basic_refused b ≡ true) → (b ≡ 40) ⊎ ((b ≡ 41) ⊎ ((b ≡ 123) ⊎ IsTrue (is_undefined basic_refused b)))
-    third (inl e) = inr (inr (inl (sym (eqb-true 123 b e))))
-    third (inr e) = inr (inr (inr (or_right (in_class Alnum b) _ e)))
+    at_end : (c : ℕ) → IsAtEnd (92 ∷ c ∷ u) → b ≡ c → ⊥
+    at_end c it e = no_end (subst (λ x. IsAtEnd (92 ∷ x ∷ u)) (sym e) it)
 
-    second : (nat_eq 41 b ≡ true) ⊎ ((nat_eq 123 b || is_in basic_refused b) ≡ true) → (b ≡ 40) ⊎ ((b ≡ 41) ⊎ ((b ≡ 123) ⊎ IsTrue (is_undefined basic_refused b)))
-    second (inl e) = inr (inl (sym (eqb-true 41 b e)))
-    second (inr e) = third (or_cases (nat_eq 123 b) _ e)
+    needs : (c : ℕ) → NeedsItem (92 ∷ c ∷ u) → b ≡ c → ⊥
+    needs c it e = no_need (subst (λ x. NeedsItem (92 ∷ x ∷ u)) (sym e) it)
 
-    first : (nat_eq 40 b ≡ true) ⊎ ((nat_eq 41 b || (nat_eq 123 b || is_in basic_refused b)) ≡ true) → (b ≡ 40) ⊎ ((b ≡ 41) ⊎ ((b ≡ 123) ⊎ IsTrue (is_undefined basic_refused b)))
-    first (inl e) = inl (sym (eqb-true 40 b e))
-    first (inr e) = second (or_cases (nat_eq 41 b) _ e)
+    bar : IsTrue (is_in (codes "|<>`'") b) → IsTrue (is_in basic_refused b)
+    bar k = elim (first_or 124 b (codes "<>`'") k) [ inl e ↦ absurd (at_end 124 of_branch e) | inr m ↦ m ]
 
-    go : (in_class Alnum b ≡ true) ⊎ (is_in (codes "(){<>`'+?|") b ≡ true) → (b ≡ 40) ⊎ ((b ≡ 41) ⊎ ((b ≡ 123) ⊎ IsTrue (is_undefined basic_refused b)))
-    go (inl e) = inr (inr (inr (or_left _ (is_in basic_refused b) e)))
-    go (inr e) = first (or_cases (nat_eq 40 b) _ e)
+    signs : IsTrue (is_in (codes "{+?|<>`'") b) → IsTrue (is_in basic_refused b)
+    signs k =
+        elim (first_or 123 b (codes "+?|<>`'") k) [
+          | inl e ↦ absurd (needs 123 needs_interval e)
+          | inr m ↦ elim (first_or 43 b (codes "?|<>`'") m) [
+            | inl e ↦ absurd (needs 43 needs_plus e)
+            | inr n ↦ elim (first_or 63 b (codes "|<>`'") n) [ inl e ↦ absurd (needs 63 needs_question e) | inr l ↦ bar l ]
+          ]
+        ]
+
+    others : IsTrue (is_in (codes "(){+?|<>`'") b) → IsTrue (is_in basic_refused b)
+    others k =
+        elim (first_or 40 b (codes "){+?|<>`'") k) [
+          | inl e ↦ absurd (no_group (u, ap (λ x. 92 ∷ x ∷ u) e))
+          | inr m ↦ elim (first_or 41 b (codes "{+?|<>`'") m) [ inl e ↦ absurd (at_end 41 of_group e) | inr n ↦ signs n ]
+        ]
 
 -- which are more, and none less
-wider : (b : ℕ) → IsTrue (is_undefined basic_refused b) → IsTrue (is_undefined (codes "(){<>`'+?|") b)
+wider : (b : ℕ) → IsTrue (is_undefined basic_refused b) → IsTrue (is_undefined (codes "(){+?|<>`'") b)
 wider b h = go (or_cases (in_class Alnum b) _ h)
   where
-    go : (in_class Alnum b ≡ true) ⊎ (is_in basic_refused b ≡ true) → IsTrue (is_undefined (codes "(){<>`'+?|") b)
+    more : IsTrue (is_in basic_refused b) → IsTrue (is_in (codes "(){+?|<>`'") b)
+    more e =
+        or_right (nat_eq 40 b) _ (or_right (nat_eq 41 b) _ (or_right (nat_eq 123 b) _ (or_right (nat_eq 43 b) _ (or_right (nat_eq 63 b) _ (or_right (nat_eq 124 b) _ e)))))
+
+    go : (in_class Alnum b ≡ true) ⊎ (is_in basic_refused b ≡ true) → IsTrue (is_undefined (codes "(){+?|<>`'") b)
     go (inl e) = or_left _ _ e
-    go (inr e) = or_right (in_class Alnum b) _ (or_right (nat_eq 40 b) _ (or_right (nat_eq 41 b) _ (or_right (nat_eq 123 b) _ e)))
+    go (inr e) = or_right (in_class Alnum b) _ (more e)
 
 -- an escape is an atom
-pub escaped_atom : {p : ItemPlace} {text : Text} {at b : ℕ} → EscapeStands basic_refused text at b → ¬ Begins (codes "\\(") (drop at text) → ¬ Begins (codes "\\)") (drop at text) →
-    ¬ Begins (codes "\\{") (drop at text) → Atom p 0 (drop at text) (drop (at + 2) text) (byte b)
-escaped_atom {p} {text} {at} {b} s no_group no_end no_interval =
-    subst (λ t. Atom p 0 t (drop (at + 2) text) (byte b)) (sym s.front) (escaped b (λ h. go (wider_cases b h)))
-  where
-    here : (c : ℕ) → b ≡ c → drop at text ≡ 92 ∷ c ∷ drop (at + 2) text
-    here c e = s.front ∙ ap (λ x. 92 ∷ x ∷ drop (at + 2) text) e
-
-    go : (b ≡ 40) ⊎ ((b ≡ 41) ⊎ ((b ≡ 123) ⊎ IsTrue (is_undefined basic_refused b))) → ⊥
-    go (inl e) = no_group (drop (at + 2) text, here 40 e)
-    go (inr (inl e)) = no_end (drop (at + 2) text, here 41 e)
-    go (inr (inr (inl e))) = no_interval (drop (at + 2) text, here 123 e)
-    go (inr (inr (inr h))) = s.allowed h
+pub escaped_atom : {p : ItemPlace} {text : Text} {at b : ℕ} → EscapeStands basic_refused text at b → ¬ Begins (codes "\\(") (drop at text) → ¬ IsAtEnd (drop at text) →
+    ¬ NeedsItem (drop at text) → Atom p 0 (drop at text) (drop (at + 2) text) (byte b)
+escaped_atom {p} {text} {at} {b} s no_group no_end no_need =
+    let rest = drop (at + 2) text in
+    subst (λ t. Atom p 0 t rest (byte b)) (sym s.front)
+    (escaped b (λ h. s.allowed (left_over b rest (subst (λ t. ¬ Begins (codes "\\(") t) s.front no_group) (subst (λ t. ¬ IsAtEnd t) s.front no_end)
+    (subst (λ t. ¬ NeedsItem t) s.front no_need) h)))
 
 -- at a backslash that opens no group and escapes nothing no atom stands
 no_escaped : {p : ItemPlace} {h : ℕ} {t u w : Text} {e : Expression} → Atom p h t u e → t ≡ 92 ∷ w → ¬ Begins (codes "\\(") t →
@@ -87,17 +105,26 @@ no_escaped (bracket h) e k none = let (w, f) = bracket_front h in apart 91 92 (h
 no_escaped period e k none = apart 46 92 (heads e) refl
 no_escaped (escaped {u = u} b h) e k none = h (wider b (none b u refl))
 no_escaped {p} (ordinary b h l) e k none = not_ordinary p b 92 h (never_backslash p) (heads e)
-no_escaped (group {t = t} is) e k none = k (t, refl)
+no_escaped (group {t = t} bs) e k none = k (t, refl)
 
 -- so where an escape is refused no atom stands
 pub no_escape_atom : {text : Text} {at : ℕ} {fault : PatternFault} → Begins (codes "\\") (drop at text) → ¬ Begins (codes "\\(") (drop at text) → HasNoEscape basic_refused text at fault →
     (p : ItemPlace) (levels : ℕ) → HasNoAtom p levels (drop at text)
 no_escape_atom (w, e) k h p levels = record { none = λ n u x a le. no_escaped a e k (no_escape h) }
 
--- nor where an interval would begin
-pub no_interval_atom : {t : Text} → Begins (codes "\\{") t → (p : ItemPlace) (levels : ℕ) → HasNoAtom p levels t
-no_interval_atom (w, e) p levels = record {
-  none = λ n u x a le. let f = atom_front a in f.clear.no_interval (heads (sym f.whole ∙ e)) w (tails (sym f.whole ∙ e));
+-- a duplication that needs an item begins with a backslash and its sign
+needs_front : {t : Text} → NeedsItem t → (c : ℕ) × (w : Text) × (t ≡ 92 ∷ c ∷ w) × IsTrue (is_sign c)
+needs_front (needs_interval {u = u}) = (123, u, refl, refl)
+needs_front (needs_plus {u = u}) = (43, u, refl, refl)
+needs_front (needs_question {u = u}) = (63, u, refl, refl)
+
+-- so no atom stands there
+pub no_atom_needed : {t : Text} → NeedsItem t → (p : ItemPlace) (levels : ℕ) → HasNoAtom p levels t
+no_atom_needed h p levels = record {
+  none = λ n u x a le.
+      let f = atom_front a in
+      let (c, w, e, sign) = needs_front h in
+      f.clear.no_duplication (heads (sym f.whole ∙ e)) c w (tails (sym f.whole ∙ e)) sign;
 }
 
 -- Bracket expressions.
@@ -171,7 +198,7 @@ single_stands levels text at b piece h e i k l f g n p m =
 
 -- an escape stands up to the next place but one
 pub escaped_stands : (levels : ℕ) (text : Text) (at b : ℕ) (piece : Piece) → EscapeStands basic_refused text at b → ¬ Begins (codes "\\(") (drop at text) →
-    ¬ Begins (codes "\\)") (drop at text) → ¬ Begins (codes "\\{") (drop at text) → expression_of piece.tree ≡ byte b → piece.height ≡ 0 → piece.behind ≡ at + 2 →
+    ¬ IsAtEnd (drop at text) → ¬ NeedsItem (drop at text) → expression_of piece.tree ≡ byte b → piece.height ≡ 0 → piece.behind ≡ at + 2 →
     (p : ItemPlace) → AtomStands p levels text at piece
 escaped_stands levels text at b piece s k l m f g n p =
     let within = s.within in

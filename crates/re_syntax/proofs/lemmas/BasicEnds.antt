@@ -1,4 +1,4 @@
--- Where a basic expression ends, and the anchors at its two ends.
+-- Where a branch of a basic expression ends, and the anchors at its two ends.
 use Rattle.std.proofs.Common.{◌≡◌, ℕ, ◌<◌, ◌≤◌, ◌⊎◌, inl, inr, [], ◌∷◌, ◌++◌, length, drop, map, codes, refl, sym, ap, ◌∙◌, subst, arith, length-drop, append-nil}
 use Rattle.std.proofs.Math.Seq.{drop-length}
 use Rattle.std.proofs.lemmas.Bool.{cases_lt}
@@ -7,14 +7,9 @@ use Rattle.re_syntax.specs.declared.pieces.Piece.{Piece}
 use Rattle.re_syntax.specs.Bytes.{Text, Begins}
 use Rattle.re_syntax.specs.Working.Ahead.{IsAfter}
 use Rattle.re_syntax.specs.Expression.{end, expression_of}
-use Rattle.re_syntax.specs.Basic.{IsAtEnd, of_text, of_group, Items, none, trailing}
+use Rattle.re_syntax.specs.Basic.{IsAtEnd, of_text, of_group, of_branch, Items, none, trailing}
 use Rattle.re_syntax.specs.Working.BasicSteps.{HasItem, HasNoItem, at_end, at_tail, HasNoTail, IsBehindTail, IsEnded}
 use Rattle.re_syntax.specs.Working.PieceSteps.{IsJoined}
-
--- the two ends
-pub ends : {t : Text} → IsAtEnd t → (t ≡ []) ⊎ Begins (codes "\\)") t
-ends of_text = inl refl
-ends (of_group {t = u}) = inr (u, refl)
 
 -- the end of the text
 pub at_text_end : (text : Text) (at : ℕ) → at ≡ length text → IsAtEnd (drop at text)
@@ -24,13 +19,19 @@ at_text_end text at e = subst IsAtEnd (sym (ap (λ n. drop n text) e ∙ drop-le
 pub at_group_end : (text : Text) (at behind : ℕ) → IsAfter (codes "\\)") text at behind → IsAtEnd (drop at text)
 at_group_end text at behind s = subst IsAtEnd (sym s.front) of_group
 
+-- the end of a branch that another follows
+pub at_branch_end : (text : Text) (at behind : ℕ) → IsAfter (codes "\\|") text at behind → IsAtEnd (drop at text)
+at_branch_end text at behind s = subst IsAtEnd (sym s.front) of_branch
+
 -- no end
-pub not_at_end : (text : Text) (at : ℕ) → at ≤ length text → (at ≡ length text → ⊥) → ¬ Begins (codes "\\)") (drop at text) → ¬ IsAtEnd (drop at text)
-not_at_end text at h n k e = go (ends e)
+pub not_at_end : (text : Text) (at : ℕ) → at ≤ length text → (at ≡ length text → ⊥) → ¬ Begins (codes "\\|") (drop at text) → ¬ Begins (codes "\\)") (drop at text) →
+    ¬ IsAtEnd (drop at text)
+not_at_end text at h n m k e = go e refl
   where
-    go : (drop at text ≡ []) ⊎ Begins (codes "\\)") (drop at text) → ⊥
-    go (inl f) = n (omega (arith, simp length-drop at (ap length f)))
-    go (inr b) = k b
+    go : {t : Text} → IsAtEnd t → drop at text ≡ t → ⊥
+    go of_text f = n (omega (arith, simp length-drop at (ap length f)))
+    go (of_group {t = u}) f = k (u, f)
+    go (of_branch {t = u}) f = m (u, f)
 
 -- neither an end nor an anchor before one
 pub item_here : {t : Text} → ¬ IsAtEnd t → HasNoTail t → HasItem t
@@ -76,7 +77,3 @@ item_within text at h i = go (cases_lt at (length text))
     go : (at < length text) ⊎ (length text ≤ at) → at < length text
     go (inl k) = k
     go (inr k) = absurd (i.not_end (at_text_end text at (omega arith)))
-
--- where an item stands no group ends
-pub not_closing : {t : Text} → HasItem t → ¬ Begins (codes "\\)") t
-not_closing {t} i (w, e) = i.not_end (subst IsAtEnd (sym e) of_group)

@@ -1,18 +1,18 @@
 -- Duplications at a place of the text: what a reader has found when it stops.
-use Rattle.std.proofs.Common.{◌≡◌, ℕ, inl, inr, ◌∷◌, ◌++◌, take, drop, Option, None, IsTrue, codes, refl, sym, ap, ◌∙◌, append_assoc}
+use Rattle.std.proofs.Common.{◌≡◌, ℕ, inl, inr, ◌∷◌, ◌++◌, take, drop, Option, Some, None, IsTrue, codes, refl, sym, ap, ◌∙◌, subst, append_assoc}
 use Rattle.re_syntax.specs.declared.class.Class.TheVariants.{Digit}
 use Rattle.re_syntax.specs.declared.fault.FaultKind.{FaultKind}
 use Rattle.re_syntax.specs.declared.fault.FaultKind.TheVariants.{BadInterval}
 use Rattle.re_syntax.specs.declared.interval.Counts.{Counts}
-use Rattle.re_syntax.specs.Bytes.{Text, in_class}
+use Rattle.re_syntax.specs.Bytes.{Text, Begins, in_class}
 use Rattle.re_syntax.specs.Working.Ahead.{IsAfter}
-use Rattle.re_syntax.specs.Basic.{Duplication, star, interval}
+use Rattle.re_syntax.specs.Basic.{Duplication, star, plus, question, interval}
 use Rattle.re_syntax.specs.Intervals.{IsAllowed, IsNoPart, HasNoInterval}
 use Rattle.re_syntax.specs.Working.IntervalSteps.{IntervalStands}
-use Rattle.re_syntax.specs.BasicFaults.{ShowsBasicFault}
+use Rattle.re_syntax.specs.BasicFaults.{NeedsItem, needs_interval, needs_plus, needs_question, ShowsBasicFault}
 use Rattle.re_syntax.specs.IntervalFaults.{IsDisallowed, least_too_large, most_too_large, descending, OpensDisallowed}
 use Rattle.re_syntax.proofs.lemmas.CountsLaws.{are_counts, disallowed_too, not_allowed}
-use Rattle.re_syntax.specs.Working.BasicSteps.{NoDuplication, OpensNoDuplication, DuplicationStands, HasBadInterval}
+use Rattle.re_syntax.specs.Working.BasicSteps.{NoDuplication, HasNoSign, OpensNoDuplication, DuplicationStands, HasBadInterval}
 use Rattle.re_syntax.proofs.lemmas.BracketsUnique.{heads, tails, apart}
 use Rattle.re_syntax.proofs.lemmas.IntervalLaws.{cut-unique, Interval-unique, interval_lacks}
 
@@ -28,6 +28,14 @@ closing_no_part = record {
 pub star_stands : {text : Text} {at behind : ℕ} → IsAfter (codes "*") text at behind → DuplicationStands text at (record { least = 0; most = None }) behind
 star_stands s = record { within = s.within; bytes = codes "*"; duplication = star; front = s.front }
 
+-- a `\+`
+pub plus_stands : {text : Text} {at behind : ℕ} → IsAfter (codes "\\+") text at behind → DuplicationStands text at (record { least = 1; most = None }) behind
+plus_stands s = record { within = s.within; bytes = codes "\\+"; duplication = plus; front = s.front }
+
+-- a `\?`
+pub question_stands : {text : Text} {at behind : ℕ} → IsAfter (codes "\\?") text at behind → DuplicationStands text at (record { least = 0; most = Some 1 }) behind
+question_stands s = record { within = s.within; bytes = codes "\\?"; duplication = question; front = s.front }
+
 -- an interval whose counts are allowed
 pub interval_stands : {text : Text} {at inside behind : ℕ} {counts : Counts} → IsAfter (codes "\\{") text at inside → IntervalStands (codes "\\}") text inside counts behind →
     IsAllowed counts.least counts.most → DuplicationStands text at counts behind
@@ -41,13 +49,37 @@ interval_stands {text} {at} {inside} {behind} {counts} s i h =
       front = s.front ∙ ap (λ t. 92 ∷ 123 ∷ t) (i.stands.whole ∙ sym (append_assoc i.stands.inside (codes "\\}") (drop behind text)));
     }
 
--- where neither `*` nor `\{` stands, no duplication does
+-- where none opens, no duplication stands
 pub opens_none : {t : Text} → OpensNoDuplication t → NoDuplication t
 opens_none {t} h = record { none = λ d least most u p e. go d least most u p e }
   where
     go : (d : Text) (least : ℕ) (most : Option ℕ) (u : Text) → Duplication d least most → t ≡ d ++ u → ⊥
     go d least most u star e = h.star (u, e)
-    go d least most u (interval {t = inside} form allowed) e = h.interval ((inside ++ codes "\\}") ++ u, e)
+    go d least most u plus e = h.escaped (subst NeedsItem (sym e) needs_plus)
+    go d least most u question e = h.escaped (subst NeedsItem (sym e) needs_question)
+    go d least most u (interval {t = inside} form allowed) e = h.escaped (subst NeedsItem (sym e) needs_interval)
+
+-- each of the three that need an item, and none of them
+pub interval_needs : {text : Text} {at behind : ℕ} → IsAfter (codes "\\{") text at behind → NeedsItem (drop at text)
+interval_needs s = subst NeedsItem (sym s.front) needs_interval
+
+pub plus_needs : {text : Text} {at behind : ℕ} → IsAfter (codes "\\+") text at behind → NeedsItem (drop at text)
+plus_needs s = subst NeedsItem (sym s.front) needs_plus
+
+pub question_needs : {text : Text} {at behind : ℕ} → IsAfter (codes "\\?") text at behind → NeedsItem (drop at text)
+question_needs s = subst NeedsItem (sym s.front) needs_question
+
+pub needs_no_item : {t : Text} → ¬ Begins (codes "\\{") t → ¬ Begins (codes "\\+") t → ¬ Begins (codes "\\?") t → ¬ NeedsItem t
+needs_no_item {t} k m n h = go h refl
+  where
+    go : {s : Text} → NeedsItem s → t ≡ s → ⊥
+    go (needs_interval {u = u}) e = k (u, e)
+    go (needs_plus {u = u}) e = m (u, e)
+    go (needs_question {u = u}) e = n (u, e)
+
+-- which is so where none of the four openings stands
+pub no_duplication_opens : {t : Text} → HasNoSign t → ¬ Begins (codes "\\{") t → OpensNoDuplication t
+no_duplication_opens n k = record { star = n.star; escaped = needs_no_item k n.plus n.question }
 
 -- an interval's opening where no interval stands
 pub no_interval : {text : Text} {at inside : ℕ} → IsAfter (codes "\\{") text at inside → HasNoInterval (codes "\\}") (drop inside text) →
@@ -60,6 +92,8 @@ no_interval {text} {at} {inside} s no_form = record {
   where
     go : (d : Text) (least : ℕ) (most : Option ℕ) (u : Text) → Duplication d least most → codes "\\{" ++ drop inside text ≡ d ++ u → ⊥
     go d least most u star e = apart 92 42 (heads e) refl
+    go d least most u plus e = apart 123 43 (heads (tails e)) refl
+    go d least most u question e = apart 123 63 (heads (tails e)) refl
     go d least most u (interval {t = inner} form allowed) e =
         no_form.none u least most (record { inside = inner; form = form; whole = tails (tails e) ∙ append_assoc inner (codes "\\}") u })
 
@@ -81,6 +115,8 @@ bad_interval {text} {at} {inside} {behind} {counts} {kind} s i bad =
   where
     go : (d : Text) (least : ℕ) (most : Option ℕ) (u : Text) → Duplication d least most → codes "\\{" ++ drop inside text ≡ d ++ u → ⊥
     go d least most u star e = apart 92 42 (heads e) refl
+    go d least most u plus e = apart 123 43 (heads (tails e)) refl
+    go d least most u question e = apart 123 63 (heads (tails e)) refl
     go d least most u (interval {t = inner} form allowed) e =
         let whole = sym i.stands.whole ∙ tails (tails e) ∙ append_assoc inner (codes "\\}") u in
         let cut = cut-unique 92 i.stands.inside inner (125 ∷ drop behind text) (125 ∷ u) (interval_lacks 92 refl refl i.stands.form) (interval_lacks 92 refl refl form) whole in

@@ -1,15 +1,15 @@
 -- Items of basic expressions, from their atoms and what follows them.
-use Rattle.std.proofs.Common.{◌≡◌, ◌≢◌, ℕ, suc, ◌<◌, ◌≤◌, inr, max, List, ◌∷◌, ◌++◌, length, drop, Option, refl, sym, ap, ◌∙◌, subst, arith, append_assoc, length-append, length-drop}
+use Rattle.std.proofs.Common.{◌≡◌, ◌≢◌, ℕ, suc, ◌<◌, ◌≤◌, inr, max, List, ◌∷◌, ◌++◌, length, drop, map, Option, IsTrue, true, false, refl, sym, ap, ◌∙◌, subst, arith, append_assoc, length-append, length-drop}
 use Rattle.re_syntax.specs.declared.pieces.Piece.{Piece}
 use Rattle.re_syntax.specs.declared.pieces.Pieces.{Pieces}
 use Rattle.re_syntax.specs.declared.interval.Counts.{Counts}
 use Rattle.re_syntax.specs.declared.fault.FaultKind.TheVariants.{TooDeep}
 use Rattle.re_syntax.specs.declared.fault.PatternFault.{PatternFault}
 use Rattle.re_syntax.specs.Bytes.{Text}
-use Rattle.re_syntax.specs.Expression.{Expression, expression_of, repeat}
-use Rattle.re_syntax.specs.Basic.{Duplication, star, interval, ItemPlace, AfterAnchor, Later, IsAtEnd, Items, none, leading, trailing, item, Item, atom, repeated, Atom}
+use Rattle.re_syntax.specs.Expression.{Expression, sequence, expression_of, repeat}
+use Rattle.re_syntax.specs.Basic.{Duplication, star, plus, question, interval, ItemPlace, AfterAnchor, Later, IsAtEnd, Items, none, leading, trailing, item, Item, atom, repeated, Atom}
 use Rattle.re_syntax.specs.BasicFaults.{IsShownIn}
-use Rattle.re_syntax.specs.Working.BasicSteps.{OpensNoDuplication, DuplicationStands, HasBadInterval, HasItem, MayBegin, AtomStands, HasNoAtom, ItemStands, HasNoItems, SoFar, IsEnded, ItemsStand}
+use Rattle.re_syntax.specs.Working.BasicSteps.{OpensNoDuplication, DuplicationStands, HasBadInterval, HasItem, MayBegin, AtomStands, HasNoAtom, ItemStands, HasNoItems, SoFar, IsEnded, BranchStands}
 use Rattle.re_syntax.specs.Working.PieceSteps.{IsRepeated, IsJoined}
 use Rattle.re_syntax.proofs.lemmas.BracketsUnique.{heads, tails, apart}
 use Rattle.re_syntax.proofs.lemmas.Chains.{stands_some}
@@ -17,6 +17,7 @@ use Rattle.re_syntax.proofs.lemmas.BasicUnique.{item_parts, item_front, end_fron
 use Rattle.re_syntax.proofs.lemmas.BasicIntervals.{opens_none}
 use Rattle.re_syntax.proofs.lemmas.Places.{regrouped}
 use Rattle.re_syntax.proofs.lemmas.BasicLeads.{at_height}
+use Rattle.re_syntax.proofs.lemmas.AtomFronts.{is_ending}
 
 -- behind the anchor anything else may begin
 pub behind_anchor : (t : Text) → MayBegin AfterAnchor t
@@ -60,6 +61,8 @@ duplication_takes {text} {at} {counts} {behind} d = go d.duplication d.front
   where
     go : {bytes : Text} {least : ℕ} {most : Option ℕ} → Duplication bytes least most → drop at text ≡ bytes ++ drop behind text → at < behind
     go star e = omega (arith, simp length-drop at (ap length e), d.within)
+    go plus e = omega (arith, simp length-drop at (ap length e), d.within)
+    go question e = omega (arith, simp length-drop at (ap length e), d.within)
     go (interval {t = t} form allowed) e = omega (arith, simp (length-append, length-drop) at (ap length e), d.within)
 
 -- with one duplication more
@@ -92,11 +95,15 @@ pub shown_deep : (text : Text) (at : ℕ) (counts : Counts) (behind : ℕ) → D
 shown_deep text at counts behind d =
     inr (record { bytes = d.bytes; rest = drop behind text; least = counts.least; most = counts.most; duplication = d.duplication; whole = d.front })
 
+-- a byte that makes no end
+not_ending : (b c : ℕ) → is_ending b ≡ false → b ≡ c → ¬ IsTrue (is_ending c)
+not_ending b c n e h = let f : is_ending b ≡ true = ap is_ending e ∙ h in let g : false ≡ true = sym n ∙ f in cc
+
 -- behind an item no items begin with an interval's opening
 later_not_interval : {h : ℕ} {t u : Text} {es : List Expression} → Items Later h t u es → (w : Text) → t ≡ 92 ∷ 123 ∷ w → IsAtEnd u → ⊥
-later_not_interval {t = t} none w e h = let (k, v, l) = end_front t 92 (123 ∷ w) h e in apart 123 41 (heads l) refl
+later_not_interval {t = t} none w e h = let (k, c, v, l, ending) = end_front t 92 (123 ∷ w) h e in not_ending 123 c refl (heads l) ending
 later_not_interval (trailing l) w e h = apart 36 92 (heads e) refl
-later_not_interval (item i is) w e h = let (b, v, f, clear) = item_front i in clear.no_interval (heads (sym f ∙ e)) w (tails (sym f ∙ e))
+later_not_interval (item i is) w e h = let (b, v, f, clear) = item_front i in clear.no_duplication (heads (sym f ∙ e)) 123 w (tails (sym f ∙ e)) refl
 
 -- so where an interval is refused behind an item no items stand
 pub no_items_bad : (levels : ℕ) (text : Text) (at : ℕ) (piece : Piece) (fault : PatternFault) → ItemSoFar levels text at piece → HasBadInterval text piece.behind fault →
@@ -119,7 +126,7 @@ one_more levels text from old new piece s h j =
       forward = omega (arith, j.place, i.forward, s.forward);
       within = omega (arith, j.place, i.within);
       height = omega (arith, j.height, s.height, i.height);
-      opens = λ b. absurd (i.no_more.interval (rw j.place at b));
+      opens = λ b. absurd (i.no_more.escaped (rw j.place at b));
       place = Later;
       begins = record { no_lead = λ e. cc; no_duplication = λ e. rw j.place i.no_more };
       ahead = λ k v es is.
@@ -134,13 +141,16 @@ one_more levels text from old new piece s h j =
     }
 
 -- and the end
-pub all_read : (levels : ℕ) (text : Text) (from : ℕ) (old new : Pieces) → SoFar levels text from old → IsEnded text old new → ItemsStand levels text from new
-all_read levels text from old new s e = record {
+pub all_read : (levels : ℕ) (text : Text) (from : ℕ) (old new : Pieces) (piece : Piece) → SoFar levels text from old → IsEnded text old new →
+    expression_of piece.tree ≡ sequence (map expression_of new.trees.items) → piece.height ≡ new.height → piece.behind ≡ new.behind → BranchStands levels text from piece
+all_read levels text from old new piece s e means h b = record {
   forward = omega (arith, s.forward, e.forward);
-  within = e.within;
-  at_end = e.at_end;
+  within = omega (arith, e.within);
+  at_end = rw b e.at_end;
   height = omega (arith, e.height, s.height);
+  members = map expression_of new.trees.items;
   stands =
       let all = s.ahead 0 (drop new.behind text) e.last (e.stands s.place) in
-      rw e.means (at_height (omega (arith, e.height)) all);
+      rw (e.means, h, b) (at_height (omega (arith, e.height)) all);
+  means = means;
 }

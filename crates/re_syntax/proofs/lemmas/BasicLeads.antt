@@ -1,4 +1,4 @@
--- The anchor that a basic expression begins with, and what is said of the items behind it.
+-- The anchor that a branch of a basic expression begins with, and what is said of the items behind it.
 use Rattle.std.proofs.Common.{◌≡◌, ℕ, ◌+◌, ◌≤◌, inl, inr, List, [], ◌∷◌, ◌++◌, length, take, drop, map, codes, refl, sym, ap, ◌∙◌, subst, arith}
 use Rattle.re_syntax.specs.declared.pieces.Pieces.{Pieces}
 use Rattle.re_syntax.specs.declared.pieces.Piece.{Piece}
@@ -6,8 +6,8 @@ use Rattle.re_syntax.specs.Bytes.{Text, Begins}
 use Rattle.re_syntax.specs.Working.Ahead.{IsAfter}
 use Rattle.re_syntax.specs.Expression.{Expression, begin, expression_of}
 use Rattle.re_syntax.specs.Basic.{ItemPlace, First, AfterAnchor, IsAtEnd, Items, none, leading, trailing, item}
-use Rattle.re_syntax.specs.BasicFaults.{HasNothingToRepeat}
-use Rattle.re_syntax.specs.Working.BasicSteps.{IsStart, SoFar}
+use Rattle.re_syntax.specs.BasicFaults.{IsStart}
+use Rattle.re_syntax.specs.Working.BasicSteps.{SoFar}
 use Rattle.re_syntax.specs.Working.PieceSteps.{IsJoined}
 use Rattle.re_syntax.proofs.lemmas.BracketsUnique.{heads, tails, apart}
 use Rattle.re_syntax.proofs.lemmas.BasicUnique.{item_front, end_byte}
@@ -17,33 +17,28 @@ use Rattle.re_syntax.proofs.lemmas.Places.{take-after}
 pub at_height : {p : ItemPlace} {h k : ℕ} {t u : Text} {es : List Expression} → h ≡ k → Items p h t u es → Items p k t u es
 at_height {p} {t = t} {u = u} {es = es} e is = subst (λ n. Items p n t u es) e is
 
--- an expression whose first byte is a caret begins with the anchor
+-- a branch whose first byte is a caret begins with the anchor
 behind_lead : {h : ℕ} {t u : Text} {es : List Expression} → Items First h t u es → (w : Text) → t ≡ 94 ∷ w → IsAtEnd u → (fs : List Expression) × Items AfterAnchor h w u fs
 behind_lead {t = t} none w e end' = absurd (end_byte t 94 w end' e refl)
 behind_lead {h} {u = u} (leading {es = fs} is) w e end' = (fs, subst (λ x. Items AfterAnchor h x u fs) (tails e) is)
 behind_lead (trailing l) w e end' = absurd (apart 36 94 (heads e) refl)
 behind_lead (item i is) w e end' = let (b, v, f, clear) = item_front i in absurd (clear.not_caret refl (heads (sym f ∙ e)))
 
--- at a start there is nothing to repeat
-start_opens : (before : Text) → IsStart before → HasNothingToRepeat before
-start_opens before (inl e) = inl e
-start_opens before (inr h) = inr (inl h)
-
--- an expression without the anchor
+-- a branch without the anchor
 pub without_lead : (levels : ℕ) (text : Text) (from : ℕ) (items : Pieces) → from ≤ length text → IsStart (take from text) → ¬ Begins (codes "^") (drop from text) →
     items.trees.items ≡ [] → items.height ≡ 0 → items.behind ≡ from → SoFar levels text from items
 without_lead levels text from items h s n e f g = record {
   forward = omega arith;
   within = omega arith;
   height = omega arith;
-  opens = rw g (λ b. start_opens (take from text) s);
+  opens = rw g (λ b. inl s);
   place = First;
   begins = rw g (record { no_lead = λ k. n; no_duplication = λ k. cc });
   ahead = rw (e, f, g) (λ k v es is. at_height (omega arith) is);
   back = rw g (λ k. k);
 }
 
--- an expression with it
+-- a branch with it
 pub with_lead : (levels : ℕ) (text : Text) (from : ℕ) (old new : Pieces) (piece : Piece) → from ≤ length text → IsAfter (codes "^") text from piece.behind →
     old.trees.items ≡ [] → old.height ≡ 0 → expression_of piece.tree ≡ begin → piece.height ≡ 0 → IsJoined old piece new → SoFar levels text from new
 with_lead levels text from old new piece h s e f g k j =
@@ -55,7 +50,7 @@ with_lead levels text from old new piece h s e f g k j =
       forward = omega arith;
       within = omega (arith, j.place, s.within);
       height = omega arith;
-      opens = λ b. inr (inr (take from text, ap (λ n. take n text) place ∙ take-after text from (codes "^") (drop new.behind text) there));
+      opens = λ b. inr (take from text, ap (λ n. take n text) place ∙ take-after text from (codes "^") (drop new.behind text) there);
       place = AfterAnchor;
       begins = record { no_lead = λ x. cc; no_duplication = λ x. cc };
       ahead = λ n v es is. rw (means, there) (at_height (omega arith) (leading is));

@@ -1,13 +1,13 @@
 -- A basic expression is read in one way.
-use Rattle.std.proofs.Common.{◌≡◌, ◌≢◌, ℕ, suc, ◌+◌, ◌<◌, ◌≤◌, max, ◌⊎◌, inl, inr, false, nat_eq, List, [], ◌∷◌, ◌++◌, refl, sym, ap, ◌∙◌, subst, arith}
+use Rattle.std.proofs.Common.{◌≡◌, ◌≢◌, ℕ, suc, ◌+◌, ◌<◌, ◌≤◌, max, ◌⊎◌, inl, inr, true, false, nat_eq, IsTrue, List, [], ◌∷◌, ◌++◌, refl, sym, ap, ◌∙◌, subst, arith}
 use Rattle.re_syntax.specs.Bytes.{Text}
-use Rattle.re_syntax.specs.Expression.{Expression, begin, byte, sequence}
-use Rattle.re_syntax.specs.Basic.{ItemPlace, First, Later, Duplication, IsAtEnd, of_text, of_group, Items, none, leading, trailing, item, Item, atom, repeated, Atom, bracket, period, escaped, ordinary, group}
-use Rattle.re_syntax.specs.Working.BasicSteps.{NoDuplication}
+use Rattle.re_syntax.specs.Expression.{Expression, begin, byte, sequence, choice}
+use Rattle.re_syntax.specs.Basic.{ItemPlace, Later, Duplication, IsAtEnd, of_text, of_group, of_branch, Branches, last, more, Items, none, leading, trailing, item, Item, atom, repeated, Atom, bracket, period, escaped, ordinary, group}
+use Rattle.re_syntax.specs.Working.BasicSteps.{NoDuplication, IsAtLast, text_ends, group_ends}
 use Rattle.re_syntax.proofs.lemmas.BracketsUnique.{heads, tails, apart, IsBracket-unique}
-use Rattle.re_syntax.proofs.lemmas.Chains.{SameItem, Chain, done, chain_snoc, chain_done, ItemChain, chain_same, chain_more, GoesOn, goes_on, longer, two_items, same_heights}
-use Rattle.re_syntax.proofs.lemmas.Duplications.{dup_front, unique}
-use Rattle.re_syntax.proofs.lemmas.AtomFronts.{kind_of, IsFront, atom_code, atom_front}
+use Rattle.re_syntax.proofs.lemmas.Chains.{SameItem, Chain, done, chain_snoc, chain_done, ItemChain, chain_same, chain_more, GoesOn, goes_on, longer, two_items, two_branches, same_heights}
+use Rattle.re_syntax.proofs.lemmas.Duplications.{is_sign, dup_front, unique}
+use Rattle.re_syntax.proofs.lemmas.AtomFronts.{kind_of, is_ending, IsFront, atom_code, atom_front}
 
 -- the same of the items of an expression
 pub record SameItems (h k : ℕ) (ds es : List Expression) (u v : Text) : Type 0 where
@@ -54,41 +54,72 @@ item_front i = let a = item_parts i in let f = atom_front a.atom_first in (f.fro
 -- No duplication stands where a later item, a last `$` or an end does.
 
 -- at a byte that opens no duplication there is none
-pub no_duplication_at : (t : Text) (b : ℕ) (w : Text) → t ≡ b ∷ w → b ≢ 42 → (b ≡ 92 → (v : Text) → w ≢ 123 ∷ v) → NoDuplication t
+pub no_duplication_at : (t : Text) (b : ℕ) (w : Text) → t ≡ b ∷ w → b ≢ 42 → (b ≡ 92 → (c : ℕ) (v : Text) → w ≡ c ∷ v → ¬ IsTrue (is_sign c)) → NoDuplication t
 no_duplication_at t b w e st other = record { none = λ d least most u p h. go d u h (dup_front p u) }
   where
-    go : (d u : Text) → t ≡ d ++ u → (c : ℕ) × (x : Text) × (d ++ u ≡ c ∷ x) × ((c ≡ 42) ⊎ ((c ≡ 92) × (v : Text) × (x ≡ 123 ∷ v))) → ⊥
-    go d u h (c, x, f, inl k) = st (heads (sym e ∙ h ∙ f) ∙ k)
-    go d u h (c, x, f, inr (k, v, l)) = other (heads (sym e ∙ h ∙ f) ∙ k) v (tails (sym e ∙ h ∙ f) ∙ l)
+    go : (d u : Text) → t ≡ d ++ u → (a : ℕ) × (x : Text) × (d ++ u ≡ a ∷ x) × ((a ≡ 42) ⊎ ((a ≡ 92) × (c : ℕ) × (v : Text) × (x ≡ c ∷ v) × IsTrue (is_sign c))) → ⊥
+    go d u h (a, x, f, inl k) = st (heads (sym e ∙ h ∙ f) ∙ k)
+    go d u h (a, x, f, inr (k, c, v, l, sign)) = other (heads (sym e ∙ h ∙ f) ∙ k) c v (tails (sym e ∙ h ∙ f) ∙ l) sign
 
--- an end that is not the text's is a group's
-pub end_front : (t : Text) (b : ℕ) (w : Text) → IsAtEnd t → t ≡ b ∷ w → (b ≡ 92) × (v : Text) × (w ≡ 41 ∷ v)
+-- an end that is not the text's is a group's or a branch's
+pub end_front : (t : Text) (b : ℕ) (w : Text) → IsAtEnd t → t ≡ b ∷ w → (b ≡ 92) × (c : ℕ) × (v : Text) × (w ≡ c ∷ v) × IsTrue (is_ending c)
 end_front t b w of_text e = cc
-end_front t b w (of_group {t = v}) e = (sym (heads e), v, sym (tails e))
+end_front t b w (of_group {t = v}) e = (sym (heads e), 41, v, sym (tails e), refl)
+end_front t b w (of_branch {t = v}) e = (sym (heads e), 124, v, sym (tails e), refl)
+
+-- what begins otherwise is no duplication
+not_sign : (b c : ℕ) → is_sign b ≡ false → b ≡ c → ¬ IsTrue (is_sign c)
+not_sign b c n e h = let f : is_sign b ≡ true = ap is_sign e ∙ h in let g : false ≡ true = sym n ∙ f in cc
 
 -- nor is there one at an end
 pub end_no_duplication : (t : Text) → IsAtEnd t → NoDuplication t
-end_no_duplication t h = record { none = λ d least most u p e. go d u e (dup_front p u) }
-  where
-    go : (d u : Text) → t ≡ d ++ u → (c : ℕ) × (x : Text) × (d ++ u ≡ c ∷ x) × ((c ≡ 42) ⊎ ((c ≡ 92) × (v : Text) × (x ≡ 123 ∷ v))) → ⊥
-    go d u e (c, x, f, inl k) = let (a, v, l) = end_front t c x h (e ∙ f) in apart 42 92 (sym k ∙ a) refl
-    go d u e (c, x, f, inr (k, v, l)) = let (a, v', l') = end_front t c x h (e ∙ f) in apart 123 41 (heads (sym l ∙ l')) refl
+end_no_duplication t of_text = record { none = λ d least most u p e. let front = dup_front p u in let same : [] ≡ front.0 ∷ front.1 = e ∙ front.2 in cc }
+end_no_duplication t (of_group {t = w}) =
+    no_duplication_at (92 ∷ 41 ∷ w) 92 (41 ∷ w) refl (λ k. absurd (omega arith)) (λ k c v e. not_sign 41 c refl (heads e))
+end_no_duplication t (of_branch {t = w}) =
+    no_duplication_at (92 ∷ 124 ∷ w) 92 (124 ∷ w) refl (λ k. absurd (omega arith)) (λ k c v e. not_sign 124 c refl (heads e))
 
 -- nor where the items behind another one begin
 pub later_no_duplication : {h : ℕ} {t u : Text} {es : List Expression} → Items Later h t u es → IsAtEnd u → NoDuplication t
 later_no_duplication {t = t} none s = end_no_duplication t s
 later_no_duplication (trailing {t = w} h) s = no_duplication_at (36 ∷ w) 36 w refl (λ k. absurd (omega arith)) (λ k. absurd (omega arith))
-later_no_duplication {t = t} (item i is) s = let (b, w, e, clear) = item_front i in no_duplication_at t b w e (clear.not_star refl) clear.no_interval
+later_no_duplication {t = t} (item i is) s = let (b, w, e, clear) = item_front i in no_duplication_at t b w e (clear.not_star refl) clear.no_duplication
 
 -- an end is no item's front, no anchor's and no last `$`'s
 pub end_item : (p : ItemPlace) (t : Text) (b : ℕ) (w : Text) → IsAtEnd t → t ≡ b ∷ w → IsFront p b w → ⊥
-end_item p t b w h e clear = let (k, v, l) = end_front t b w h e in clear.no_closing k v l
+end_item p t b w h e clear = let (k, c, v, l, ending) = end_front t b w h e in clear.no_end k c v l ending
 
 -- an end does not begin with another byte than a backslash
 pub end_byte : (t : Text) (b : ℕ) (w : Text) → IsAtEnd t → t ≡ b ∷ w → nat_eq b 92 ≡ false → ⊥
-end_byte t b w h e n = let (k, v, l) = end_front t b w h e in apart b 92 k n
+end_byte t b w h e n = let (k, c, v, l, ending) = end_front t b w h e in apart b 92 k n
+
+-- where the last branch ends, a branch does
+pub last_ends : {t : Text} → IsAtLast t → IsAtEnd t
+last_ends text_ends = of_text
+last_ends group_ends = of_group
+
+-- and no branch follows
+pub last_bar : (t w : Text) → IsAtLast t → t ≡ 92 ∷ 124 ∷ w → ⊥
+last_bar t w text_ends e = cc
+last_bar t w group_ends e = apart 41 124 (heads (tails e)) refl
 
 mutual
+  pub branches-unique : {h k : ℕ} {t s u v : Text} {ds es : List Expression} → Branches h t u ds → Branches k s v es → t ≡ s → IsAtLast u → IsAtLast v →
+      SameItems h k ds es u v
+  branches-unique (last is) (last js) e p q =
+      let same = items-unique is js e (last_ends p) (last_ends q) in
+      record { heights = same.heights; expressions = ap (λ xs. sequence xs ∷ []) same.expressions; rests = same.rests }
+  branches-unique {u = u} (last is) (more {u = w} js bs) e p q =
+      let same = items-unique is js e (last_ends p) of_branch in
+      absurd (last_bar u w p same.rests)
+  branches-unique (more {u = w} is bs) (last {u = v} js) e p q =
+      let same = items-unique is js e of_branch (last_ends q) in
+      absurd (last_bar v w q (sym same.rests))
+  branches-unique (more is bs) (more js cs) e p q =
+      let same = items-unique is js e of_branch of_branch in
+      let others = branches-unique bs cs (tails (tails same.rests)) p q in
+      record { heights = same_heights same.heights others.heights; expressions = two_branches same.expressions others.expressions; rests = others.rests }
+
   pub items-unique : {p : ItemPlace} {h k : ℕ} {t s u v : Text} {ds es : List Expression} → Items p h t u ds → Items p k s v es → t ≡ s →
       IsAtEnd u → IsAtEnd v → SameItems h k ds es u v
   items-unique none none e h k = record { heights = refl; expressions = refl; rests = e }
@@ -131,16 +162,16 @@ mutual
   atom-unique period period e = record { heights = refl; expressions = refl; rests = tails e }
   atom-unique (escaped b h) (escaped c k) e = record { heights = refl; expressions = ap byte (heads (tails e)); rests = tails (tails e) }
   atom-unique (ordinary b h k) (ordinary c l m) e = record { heights = refl; expressions = ap byte (heads e); rests = tails e }
-  atom-unique (group is) (group js) e =
-      let same = items-unique is js (tails (tails e)) of_group of_group in
-      record { heights = ap suc same.heights; expressions = ap sequence same.expressions; rests = tails (tails same.rests) }
+  atom-unique (group bs) (group cs) e =
+      let same = branches-unique bs cs (tails (tails e)) group_ends group_ends in
+      record { heights = ap suc same.heights; expressions = ap choice same.expressions; rests = tails (tails same.rests) }
   atom-unique a b e = absurd (apart (atom_code a) (atom_code b) (same_kind a b e) refl)
 
--- the items of an expression that goes up to the text's end
-pub whole-unique : {h k : ℕ} {t : Text} {ds es : List Expression} → Items First h t [] ds → Items First k t [] es → ds ≡ es
-whole-unique is js = (items-unique is js refl of_text of_text).expressions
+-- the branches of an expression that goes up to the text's end
+pub whole-branches : {h k : ℕ} {t : Text} {ds es : List Expression} → Branches h t [] ds → Branches k t [] es → SameItems h k ds es [] []
+whole-branches bs cs = branches-unique bs cs refl text_ends text_ends
 
--- Where an item stands at the front, the items of an expression begin with it, or with it and more duplications.
+-- Where an item stands at the front, the items of a branch begin with it, or with it and more duplications.
 pub record BeginsWith (h m : ℕ) (u v : Text) (e : Expression) (es : List Expression) : Type 0 where
   pub height_first : ℕ
   pub height_others : ℕ

@@ -3,7 +3,7 @@ use Rattle.std.proofs.Common.{◌≡◌, ℕ, suc, ◌+◌, ◌<◌, max, List, 
 use Rattle.re_syntax.specs.declared.interval.Counts.{Counts}
 use Rattle.re_syntax.specs.Bytes.{Text}
 use Rattle.re_syntax.specs.Working.DuplicationSteps.{HasNone, HasOne}
-use Rattle.re_syntax.specs.Expression.{Expression, repeat}
+use Rattle.re_syntax.specs.Expression.{Expression, repeat, sequence}
 
 -- the same numbers, and the same text behind
 pub record SameDuplication (a b : ℕ) (x y : Option ℕ) (u v : Text) : Type 0 where
@@ -94,6 +94,10 @@ longer (step r c) there q = omega arith
 -- lists whose first and rest are the same are the same
 pub two_items : {d e : Expression} {ds es : List Expression} → d ≡ e → ds ≡ es → ◌≡◌ {A = List Expression} (d ∷ ds) (e ∷ es)
 two_items p q = cc
+
+-- and so are lists of branches
+pub two_branches : {ds es fs gs : List Expression} → ds ≡ es → fs ≡ gs → ◌≡◌ {A = List Expression} (sequence ds ∷ fs) (sequence es ∷ gs)
+two_branches p q = cc
 
 -- the greater of the same heights is the same
 pub same_heights : {h k m n : ℕ} → h ≡ k → m ≡ n → max h m ≡ max k n

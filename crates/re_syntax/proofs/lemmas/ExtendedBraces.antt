@@ -1,18 +1,29 @@
 -- Braces that begin no interval of an extended expression.
-use Rattle.std.proofs.Common.{◌≡◌, Bool, true, false, [], ◌∷◌, codes}
+use Rattle.std.proofs.Common.{◌≡◌, Bool, true, false, nat_eq, [], ◌∷◌, codes, refl}
 use Rattle.re_syntax.specs.declared.class.Class.TheVariants.{Digit}
 use Rattle.re_syntax.specs.Bytes.{Text, in_class}
 use Rattle.re_syntax.specs.Intervals.{HasNoInterval}
 use Rattle.re_syntax.proofs.lemmas.IntervalLaws.{lacks, lacks-cut}
-use Rattle.re_syntax.proofs.lemmas.IntervalReading.{none_without_number}
+use Rattle.re_syntax.proofs.lemmas.IntervalReading.{none_without_number, none_after_first, no_greatest}
 
 abbrev pub begins_with_digit : Text → Bool
 begins_with_digit [] = false
 begins_with_digit (b ∷ t) = in_class Digit b
 
--- no digit follows the brace
-pub not_digit_first : (t : Text) → begins_with_digit t ≡ false → HasNoInterval (codes "}") t
-not_digit_first t h = none_without_number (codes "}") t (λ b u e d. let f : begins_with_digit (b ∷ u) ≡ false = rw e at h in cc)
+abbrev pub begins_with_comma : Text → Bool
+begins_with_comma [] = false
+begins_with_comma (b ∷ t) = nat_eq b 44
+
+-- neither a digit nor a comma follows the brace
+pub not_number_first : (t : Text) → begins_with_digit t ≡ false → begins_with_comma t ≡ false → HasNoInterval (codes "}") t
+not_number_first t h k =
+    none_without_number (codes "}") t (λ b u e d. let f : begins_with_digit (b ∷ u) ≡ false = rw e at h in cc)
+    (λ c. let f : begins_with_comma (44 ∷ c.0) ≡ false = rw c.1 at k in cc)
+
+-- a comma does, and no digit behind it
+pub no_number_behind : (t : Text) → begins_with_digit t ≡ false → HasNoInterval (codes "}") (44 ∷ t)
+no_number_behind t h =
+    none_after_first (codes "}") (44 ∷ t) t refl (no_greatest (codes "}") t (λ b u e d. let f : begins_with_digit (b ∷ u) ≡ false = rw e at h in cc))
 
 -- no brace closes what follows it
 pub no_closing : (t : Text) → lacks 125 t ≡ true → HasNoInterval (codes "}") t

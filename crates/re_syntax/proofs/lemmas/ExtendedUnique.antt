@@ -6,7 +6,7 @@ use Rattle.re_syntax.specs.Expression.{Expression, begin, byte, sequence, choice
 use Rattle.re_syntax.specs.Extended.{Duplication, Branches, last, more, Items, none, anchor, item, Item, atom, repeated, Atom, bracket, period, dollar, escaped, ordinary, group}
 use Rattle.re_syntax.proofs.lemmas.BracketsUnique.{heads, tails, apart, IsBracket-unique}
 use Rattle.re_syntax.proofs.lemmas.BasicUnique.{SameItems}
-use Rattle.re_syntax.proofs.lemmas.Chains.{SameItem, Chain, done, chain_snoc, chain_done, ItemChain, chain_same, chain_more, goes_on, two_items, same_heights}
+use Rattle.re_syntax.proofs.lemmas.Chains.{SameItem, Chain, done, chain_snoc, chain_done, ItemChain, chain_same, chain_more, goes_on, two_items, two_branches, same_heights}
 use Rattle.re_syntax.proofs.lemmas.ExtendedDuplications.{IsOpening, opens_none, unique}
 use Rattle.re_syntax.specs.Working.ExtendedSteps.{stops, ends, NoDuplication, is_stop}
 use Rattle.re_syntax.proofs.lemmas.ExtendedFronts.{never_stop, not_opening, opening_stop, kind_of, IsFront, atom_code, atom_front}
@@ -89,10 +89,6 @@ stop_caret g t w s e = stop_byte g t 94 w s e (never_stop g 94 refl refl)
 -- and where the last one does, no bar
 pub ends_bar : (g : Bool) (t w : Text) → ends g t ≡ true → t ≡ 124 ∷ w → ⊥
 ends_bar g t w h e = let k : ends g (124 ∷ w) ≡ true = rw e at h in let f : (g && false) ≡ false = and_right g false refl in cc
-
--- lists of branches whose first and rest are the same are the same
-two_branches : {ds es fs gs : List Expression} → ds ≡ es → fs ≡ gs → ◌≡◌ {A = List Expression} (sequence ds ∷ fs) (sequence es ∷ gs)
-two_branches p q = cc
 
 mutual
   pub branches-unique : {g : Bool} {h k : ℕ} {t s u v : Text} {ds es : List Expression} → Branches g h t u ds → Branches g k s v es → t ≡ s →

@@ -4,7 +4,7 @@ use Rattle.std.proofs.lemmas.Bool.{and_parts, ne_eqb, and_from, not_from_false, 
 use Rattle.std.specs.List.{list_all}
 use Rattle.re_syntax.specs.declared.class.Class.TheVariants.{Digit}
 use Rattle.re_syntax.specs.Bytes.{Text, in_class}
-use Rattle.re_syntax.specs.Intervals.{IsNumber, Interval, exactly, at_least, between, value}
+use Rattle.re_syntax.specs.Intervals.{IsNumber, Interval, exactly, at_least, between, up_to, value}
 
 -- no byte of the text is this one
 abbrev pub lacks : ℕ → Text → Bool
@@ -61,6 +61,7 @@ interval_lacks c n k (exactly m h) = digits_lack c m n h.digits
 interval_lacks c n k (at_least m h) = lacks-append c m (codes ",") (digits_lack c m n h.digits) k
 interval_lacks c n k (between m p h q) =
     lacks-append c (m ++ codes ",") p (lacks-append c m (codes ",") (digits_lack c m n h.digits) k) (digits_lack c p n q.digits)
+interval_lacks c n k (up_to m h) = lacks-append c (codes ",") m k (digits_lack c m n h.digits)
 
 -- a number has no comma
 no_comma : (m : Text) → IsNumber m → lacks 44 m ≡ true
@@ -85,3 +86,10 @@ Interval-unique t u a b x y (between m o h q) (at_least n k) e =
 Interval-unique t u a b x y (between m o h q) (between n p k r) e =
     let same = cut-unique 44 m n o p (no_comma m h) (no_comma n k) (sym (comma m o) ∙ e ∙ comma n p) in
     (ap value same.0, ap (λ v. Some (value v)) same.1)
+Interval-unique t u a b x y (exactly m h) (up_to n k) e = absurd (lacks-cut 44 m [] n (no_comma m h) e)
+Interval-unique t u a b x y (at_least m h) (up_to n k) e = absurd (h.not_empty (cut-unique 44 m [] [] n (no_comma m h) refl e).0)
+Interval-unique t u a b x y (between m o h q) (up_to n k) e = absurd (h.not_empty (cut-unique 44 m [] o n (no_comma m h) refl (sym (comma m o) ∙ e)).0)
+Interval-unique t u a b x y (up_to m h) (exactly n k) e = absurd (lacks-cut 44 n [] m (no_comma n k) (sym e))
+Interval-unique t u a b x y (up_to m h) (at_least n k) e = absurd (k.not_empty (sym (cut-unique 44 [] n m [] refl (no_comma n k) e).0))
+Interval-unique t u a b x y (up_to m h) (between n p k q) e = absurd (k.not_empty (sym (cut-unique 44 [] n m p refl (no_comma n k) (e ∙ comma n p)).0))
+Interval-unique t u a b x y (up_to m h) (up_to n k) e = let same = cut-unique 44 [] [] m n refl refl e in (refl, ap (λ v. Some (value v)) same.1)

@@ -1,13 +1,14 @@
 -- Reading an interval from the left: a number goes as far as there are digits, and what follows decides the form.
-use Rattle.std.proofs.Common.{◌≡◌, ℕ, ◌+◌, ◌-◌, ◌<◌, ◌≤◌, [], ◌∷◌, ◌++◌, length, take, drop, Option, Some, None, IsTrue, codes, refl, sym, ap, ◌∙◌, arith, append_assoc, length-drop}
+use Rattle.std.proofs.Common.{◌≡◌, ℕ, ◌+◌, ◌-◌, ◌<◌, ◌≤◌, [], ◌∷◌, ◌++◌, length, take, drop, Option, Some, None, MatchOption, IsTrue, codes, refl, sym, ap, ◌∙◌, arith, append_assoc, length-drop}
 use Rattle.std.proofs.lemmas.Bool.{and_parts}
 use Rattle.std.proofs.lemmas.List.{drop-drop, length-take, take-append-drop}
 use Rattle.std.specs.List.{list_all}
 use Rattle.re_syntax.specs.declared.class.Class.TheVariants.{Digit}
+use Rattle.re_syntax.specs.declared.interval.Counts.{Counts}
 use Rattle.re_syntax.specs.Bytes.{Text, Begins, in_class}
 use Rattle.re_syntax.specs.Working.Ahead.{IsAfter}
-use Rattle.re_syntax.specs.Intervals.{IsNumber, value, Interval, exactly, at_least, between, ClosedInterval, IsNoPart, capped, HasNoInterval}
-use Rattle.re_syntax.specs.Working.IntervalSteps.{AreDigits, HasNoDigit, IsDigitCount, NumberStands, IntervalStands}
+use Rattle.re_syntax.specs.Intervals.{IsNumber, value, Interval, exactly, at_least, between, up_to, ClosedInterval, IsNoPart, capped, HasNoInterval}
+use Rattle.re_syntax.specs.Working.IntervalSteps.{AreDigits, HasNoDigit, IsDigitCount, NumberStands, HasNoGreatest, GreatestStands, IntervalStands}
 use Rattle.re_syntax.proofs.lemmas.BracketsUnique.{heads, tails}
 
 -- the first of some digits is one
@@ -57,10 +58,12 @@ goes close u t m r least most no_part c e digits stop = go c.inside least most c
     go inside least most (between n o h k) w =
         goes_to o k (digits-cut m n r (codes "," ++ (o ++ (close ++ u))) digits h.digits stop (comma_no_digit (o ++ (close ++ u)))
         (sym e ∙ w ∙ simp append_assoc))
+    go inside least most (up_to n h) w =
+        goes_to n h (digits-cut m [] r (codes "," ++ (n ++ (close ++ u))) digits refl stop (comma_no_digit (n ++ (close ++ u))) (sym e ∙ w))
 
--- where no number stands, no interval does
-pub none_without_number : (close t : Text) → HasNoDigit t → HasNoInterval close t
-none_without_number close t stop = record { none = λ u least most c. go c.inside least most c.form u c.whole }
+-- where neither a number stands nor a comma, no interval does
+pub none_without_number : (close t : Text) → HasNoDigit t → ¬ Begins (codes ",") t → HasNoInterval close t
+none_without_number close t stop comma = record { none = λ u least most c. go c.inside least most c.form u c.whole }
   where
     starts : (n s : Text) → IsNumber n → t ≡ n ++ s → ⊥
     starts n s h e = number_first n s h (rw e at stop)
@@ -69,6 +72,63 @@ none_without_number close t stop = record { none = λ u least most c. go c.insid
     go inside least most (exactly n h) u w = starts n (close ++ u) h w
     go inside least most (at_least n h) u w = starts n (codes "," ++ (close ++ u)) h (w ∙ append_assoc n (codes ",") (close ++ u))
     go inside least most (between n o h k) u w = starts n (codes "," ++ (o ++ (close ++ u))) h (w ∙ simp append_assoc)
+    go inside least most (up_to n h) u w = comma (n ++ (close ++ u), w)
+
+-- nor where a comma comes first, and then not a number and what closes it
+pub none_after_first : (close t w : Text) → t ≡ codes "," ++ w → HasNoGreatest close w → HasNoInterval close t
+none_after_first close t w e n = record { none = λ u least most c. go c.inside least most c.form u c.whole }
+  where
+    starts : (m s : Text) → IsNumber m → t ≡ m ++ s → ⊥
+    starts m s h f = number_first m s h (rw (sym e ∙ f) at (comma_no_digit w))
+
+    go : (inside : Text) (least : ℕ) (most : Option ℕ) → Interval inside least most → (u : Text) → t ≡ inside ++ (close ++ u) → ⊥
+    go inside least most (exactly m h) u f = starts m (close ++ u) h f
+    go inside least most (at_least m h) u f = starts m (codes "," ++ (close ++ u)) h (f ∙ append_assoc m (codes ",") (close ++ u))
+    go inside least most (between m o h k) u f = starts m (codes "," ++ (o ++ (close ++ u))) h (f ∙ simp append_assoc)
+    go inside least most (up_to m h) u f = n.none m u h (tails (sym e ∙ f))
+
+-- no number behind that comma
+pub no_greatest : (close t : Text) → HasNoDigit t → HasNoGreatest close t
+no_greatest close t stop = record { none = λ n u h e. number_first n (close ++ u) h (rw e at stop) }
+
+-- one that is not closed
+pub no_greatest_end : {text : Text} {at count behind : ℕ} (close : Text) → IsNoPart close → NumberStands text at count behind → ¬ Begins close (drop behind text) →
+    HasNoGreatest close (drop at text)
+no_greatest_end {text} {at} {count} {behind} close no_part s no_close = record {
+  none = λ n u h e.
+      no_close (u, digits-cut s.digits n (drop behind text) (close ++ u) s.number.digits h.digits s.stops (closing_no_digit close u no_part) (sym s.front ∙ e));
+}
+
+-- one that is closed
+pub greatest_stands : {text : Text} {at count behind end' : ℕ} (close : Text) → NumberStands text at count behind → IsAfter close text behind end' →
+    GreatestStands close text at (record { least = 0; most = Some count }) end'
+greatest_stands {text} {at} {count} {behind} {end'} close s c = record {
+  within = c.within;
+  digits = s.digits;
+  number = s.number;
+  front = s.front ∙ ap (λ t. s.digits ++ t) c.front;
+  least_is = refl;
+  most_is = ap Some s.count_is;
+}
+
+-- which is an interval, behind its comma
+pub stands_up_to : {text : Text} {at comma behind : ℕ} {counts : Counts} (close : Text) → IsAfter (codes ",") text at comma → GreatestStands close text comma counts behind →
+    IntervalStands close text at counts behind
+stands_up_to {text} {at} {comma} {behind} {counts} close c s = record {
+  within = s.within;
+  least = 0;
+  most = Some (value s.digits);
+  stands = record { inside = codes "," ++ s.digits; form = up_to s.digits s.number; whole = c.front ∙ ap (λ t. 44 ∷ t) s.front };
+  least_is = s.least_is;
+  most_is = s.most_is;
+}
+
+-- so what is found behind a comma that comes first is the interval there
+pub up_to_found : {text : Text} {at comma : ℕ} (close : Text) → IsAfter (codes ",") text at comma → (found : Option (Counts × ℕ)) →
+    MatchOption found (HasNoGreatest close (drop comma text)) (λ it. GreatestStands close text comma it.0 it.1) →
+    MatchOption found (HasNoInterval close (drop at text)) (λ it. IntervalStands close text at it.0 it.1)
+up_to_found {text} {at} {comma} close c None h = none_after_first close (drop at text) (drop comma text) c.front h
+up_to_found close c (Some it) h = stands_up_to close c h
 
 -- a number and neither what closes nor a comma
 pub none_after_number : {text : Text} {at count behind : ℕ} (close : Text) → IsNoPart close → NumberStands text at count behind → ¬ Begins close (drop behind text) →

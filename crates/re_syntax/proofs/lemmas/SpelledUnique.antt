@@ -6,7 +6,7 @@ use Rattle.re_syntax.specs.declared.syntax.Syntax.{Syntax}
 use Rattle.re_syntax.specs.declared.syntax.Syntax.TheVariants.{Fixed}
 use Rattle.re_syntax.specs.Spelled.{IsSpelled, SpellsNoOther, as_basic, as_extended, as_fixed}
 use Rattle.re_syntax.specs.Laws.{SpellsOne, HasOneSplit, HasOnePartList}
-use Rattle.re_syntax.proofs.lemmas.BasicUnique.{whole-unique}
+use Rattle.re_syntax.proofs.lemmas.BasicUnique.{whole-branches as basic-branches}
 use Rattle.re_syntax.proofs.lemmas.ExtendedUnique.{whole-branches}
 use Rattle.re_syntax.proofs.lemmas.LinesLaws.{AreLines-lines_of, lines_of-unique, AreListed-list_of, list_of-unique}
 use Rattle.re_syntax.proofs.lemmas.PartsExist.{AreParts-exist}
@@ -19,7 +19,7 @@ fixed_spelled t e h = let P : Expression → Type 0 = λ x. IsSpelled Fixed t x 
 
 -- a text spells one expression
 pub IsSpelled-unique : {syntax : Syntax} {t : Text} {d e : Expression} → IsSpelled syntax t d → IsSpelled syntax t e → d ≡ e
-IsSpelled-unique (as_basic is h) (as_basic js k) = ap sequence (whole-unique is js)
+IsSpelled-unique (as_basic bs h) (as_basic cs k) = ap choice (basic-branches bs cs).expressions
 IsSpelled-unique (as_extended bs h) (as_extended cs k) = ap choice (whole-branches bs cs).expressions
 IsSpelled-unique as_fixed as_fixed = refl
 

@@ -1,5 +1,5 @@
 -- What each step of reading a basic expression says: which part of the grammar stands at a place of the text, or that none does and where that shows.
-use Rattle.std.specs.Prelude.{◌≡◌, ℕ, ◌<◌, ◌≤◌, max, ◌⊎◌, [], ◌++◌, List, length, take, drop, map, codes}
+use Rattle.std.specs.Prelude.{◌≡◌, ℕ, ◌<◌, ◌≤◌, max, [], ◌++◌, List, length, take, drop, map, codes}
 use Rattle.re_syntax.specs.declared.pieces.Piece.{Piece}
 use Rattle.re_syntax.specs.declared.pieces.Pieces.{Pieces}
 use Rattle.re_syntax.specs.declared.interval.Counts.{Counts}
@@ -7,10 +7,9 @@ use Rattle.re_syntax.specs.declared.fault.PatternFault.{PatternFault}
 use Rattle.re_syntax.specs.Bytes.{Text, Begins}
 use Rattle.re_syntax.specs.Working.Ahead.{IsAfter}
 use Rattle.re_syntax.specs.Working.DuplicationSteps.{HasNone, HasOne}
-use Rattle.re_syntax.specs.Expression.{Expression, expression_of}
-use Rattle.re_syntax.specs.Basic.{ItemPlace, First, Later, Duplication, IsAtEnd, Items, Item, Atom}
-use Rattle.re_syntax.specs.BasicFaults.{HasNothingToRepeat, IsShownIn}
-use Rattle.re_syntax.specs.Faults.{Ends}
+use Rattle.re_syntax.specs.Expression.{Expression, sequence, expression_of}
+use Rattle.re_syntax.specs.Basic.{ItemPlace, First, Later, Duplication, IsAtEnd, Branches, Items, Item, Atom}
+use Rattle.re_syntax.specs.BasicFaults.{NeedsItem, HasNothingToRepeat, IsShownIn}
 
 -- no duplication stands at the front
 abbrev pub NoDuplication : Text → Type 0
@@ -19,7 +18,13 @@ NoDuplication = HasNone Duplication
 -- nothing at the front opens a duplication
 pub record OpensNoDuplication (t : Text) : Type 0 where
   pub star : ¬ Begins (codes "*") t
-  pub interval : ¬ Begins (codes "\\{") t
+  pub escaped : ¬ NeedsItem t
+
+-- no duplication without numbers comes first
+pub record HasNoSign (t : Text) : Type 0 where
+  pub star : ¬ Begins (codes "*") t
+  pub plus : ¬ Begins (codes "\\+") t
+  pub question : ¬ Begins (codes "\\?") t
 
 -- a duplication stands from one place up to another
 abbrev pub DuplicationStands : Text → ℕ → Counts → ℕ → Type 0
@@ -31,9 +36,10 @@ pub record HasBadInterval (text : Text) (at : ℕ) (fault : PatternFault) : Type
   pub none : NoDuplication (drop at text)
   pub shown : IsShownIn text fault
 
--- nothing stands before the place, or a group's opening
-abbrev pub IsStart : Text → Type 0
-IsStart before = (before ≡ []) ⊎ Ends (codes "\\(") before
+-- the last branch ends here: the text does, or the group
+pub data IsAtLast : Text → Type 0 where
+  text_ends : IsAtLast []
+  group_ends : {t : Text} → IsAtLast (codes "\\)" ++ t)
 
 -- an item may stand there: no end, and no anchor before one
 pub record HasItem (t : Text) : Type 0 where
@@ -45,7 +51,8 @@ pub data HasNoItem : Text → Type 0 where
   at_end : {t : Text} → IsAtEnd t → HasNoItem t
   at_tail : {t u : Text} → t ≡ codes "$" ++ u → IsAtEnd u → HasNoItem t
 
--- at this place of its expression nothing else comes first than an item: no anchor that is first, and after another item no duplication
+-- at this place of its branch nothing else comes first than an item: no anchor that is first, and
+-- after another item no duplication
 pub record MayBegin (p : ItemPlace) (t : Text) : Type 0 where
   pub no_lead : p ≡ First → ¬ Begins (codes "^") t
   pub no_duplication : p ≡ Later → OpensNoDuplication t
@@ -69,7 +76,7 @@ pub record ItemStands (p : ItemPlace) (levels : ℕ) (text : Text) (at : ℕ) (p
   pub no_more : OpensNoDuplication (drop piece.behind text)
   pub stands : Item p piece.height (drop at text) (drop piece.behind text) (expression_of piece.tree)
 
--- no items of an expression stand there, or only higher ones
+-- no items of a branch stand there, or only higher ones
 pub record HasNoItems (p : ItemPlace) (levels : ℕ) (t : Text) : Type 0 where
   pub none : (h : ℕ) (u : Text) (es : List Expression) → Items p h t u es → IsAtEnd u → h ≤ levels → ⊥
 
@@ -82,19 +89,19 @@ pub record IsBehindTail (text : Text) (at behind : ℕ) : Type 0 where
 pub record HasNoTail (t : Text) : Type 0 where
   pub none : (u : Text) → t ≡ codes "$" ++ u → ¬ IsAtEnd u
 
--- the items that were read from one place on, and what they say of the items of the whole expression
+-- the items that were read from one place on, and what they say of the items of the whole branch
 pub record SoFar (levels : ℕ) (text : Text) (from : ℕ) (items : Pieces) : Type 0 where
   pub forward : from ≤ items.behind
   pub within : items.behind ≤ length text
   pub height : items.height ≤ levels
-  pub opens : Begins (codes "\\{") (drop items.behind text) → HasNothingToRepeat (take items.behind text)
+  pub opens : NeedsItem (drop items.behind text) → HasNothingToRepeat (take items.behind text)
   pub place : ItemPlace
   pub begins : MayBegin place (drop items.behind text)
   pub ahead : (k : ℕ) (v : Text) (es : List Expression) → Items place k (drop items.behind text) v es →
       Items First (max items.height k) (drop from text) v (map expression_of items.trees.items ++ es)
   pub back : HasNoItems place levels (drop items.behind text) → HasNoItems First levels (drop from text)
 
--- the items, and behind them the end of their expression
+-- the items, and behind them the end of their branch
 pub record IsEnded (text : Text) (old new : Pieces) : Type 0 where
   pub forward : old.behind ≤ new.behind
   pub within : new.behind ≤ length text
@@ -104,10 +111,25 @@ pub record IsEnded (text : Text) (old new : Pieces) : Type 0 where
   pub stands : (p : ItemPlace) → Items p 0 (drop old.behind text) (drop new.behind text) last
   pub means : map expression_of new.trees.items ≡ map expression_of old.trees.items ++ last
 
--- the items of an expression stand from one place up to its end, at most so high
-pub record ItemsStand (levels : ℕ) (text : Text) (from : ℕ) (items : Pieces) : Type 0 where
-  pub forward : from ≤ items.behind
-  pub within : items.behind ≤ length text
-  pub at_end : IsAtEnd (drop items.behind text)
-  pub height : items.height ≤ levels
-  pub stands : Items First items.height (drop from text) (drop items.behind text) (map expression_of items.trees.items)
+-- the items of a branch stand from one place up to its end, at most so high
+pub record BranchStands (levels : ℕ) (text : Text) (from : ℕ) (piece : Piece) : Type 0 where
+  pub forward : from ≤ piece.behind
+  pub within : piece.behind ≤ length text
+  pub height : piece.height ≤ levels
+  pub at_end : IsAtEnd (drop piece.behind text)
+  pub members : List Expression
+  pub stands : Items First piece.height (drop from text) (drop piece.behind text) members
+  pub means : expression_of piece.tree ≡ sequence members
+
+-- no branches of an expression stand there, or only higher ones
+pub record HasNoBranches (levels : ℕ) (t : Text) : Type 0 where
+  pub none : (h : ℕ) (u : Text) (es : List Expression) → Branches h t u es → IsAtLast u →
+      h ≤ levels → ⊥
+
+-- the branches of an expression stand from one place up to its end, at most so high
+pub record BranchesStand (levels : ℕ) (text : Text) (from : ℕ) (branches : Pieces) : Type 0 where
+  pub forward : from ≤ branches.behind
+  pub within : branches.behind ≤ length text
+  pub height : branches.height ≤ levels
+  pub at_end : IsAtLast (drop branches.behind text)
+  pub stands : Branches branches.height (drop from text) (drop branches.behind text) (map expression_of branches.trees.items)

@@ -1,5 +1,5 @@
 -- What each step of reading an interval says.
-use Rattle.std.specs.Prelude.{◌≡◌, ℕ, ◌≤◌, ◌∷◌, ◌++◌, length, take, drop, Option, IsTrue}
+use Rattle.std.specs.Prelude.{◌≡◌, ℕ, ◌≤◌, ◌∷◌, ◌++◌, length, take, drop, Option, Some, IsTrue}
 use Rattle.std.specs.List.{list_all}
 use Rattle.std.specs.Option.{option_map}
 use Rattle.re_syntax.specs.declared.class.Class.TheVariants.{Digit}
@@ -28,6 +28,20 @@ pub record NumberStands (text : Text) (at count behind : ℕ) : Type 0 where
   pub front : drop at text ≡ digits ++ drop behind text
   pub count_is : count ≡ capped (value digits)
   pub stops : HasNoDigit (drop behind text)
+
+-- no number and what closes it stand there
+pub record HasNoGreatest (close t : Text) : Type 0 where
+  pub none : (n u : Text) → IsNumber n → t ≡ n ++ (close ++ u) → ⊥
+
+-- a number stands from one place up to another, and what closes it is the last of it; it is the
+-- greatest count, and the least is none
+pub record GreatestStands (close text : Text) (at : ℕ) (counts : Counts) (behind : ℕ) : Type 0 where
+  pub within : behind ≤ length text
+  pub digits : Text
+  pub number : IsNumber digits
+  pub front : drop at text ≡ digits ++ (close ++ drop behind text)
+  pub least_is : counts.least ≡ 0
+  pub most_is : counts.most ≡ Some (capped (value digits))
 
 -- an interval stands from one place up to another, and what closes it is the last of it
 pub record IntervalStands (close text : Text) (at : ℕ) (counts : Counts) (behind : ℕ) : Type 0 where

@@ -1,3 +1,5 @@
+mod branches;
+
 use super::*;
 use crate::shapes::{Shape, copies, is_tree};
 use std::test::Fail;
@@ -127,7 +129,7 @@ fn anchors_and_stars_go_by_their_place(rt: HostRuntime) {
     }
 }
 
-static DUPLICATIONS: [(&[u8], &[Shape]); 13] = [
+static DUPLICATIONS: [(&[u8], &[Shape]); 15] = [
     (
         b"a\\{2\\}*",
         &[
@@ -150,6 +152,14 @@ static DUPLICATIONS: [(&[u8], &[Shape]); 13] = [
         &[Shape::Repeat(1, Some(2)), Shape::Byte(b'a')],
     ),
     (b"a\\{0\\}", &[Shape::Repeat(0, Some(0)), Shape::Byte(b'a')]),
+    (
+        b"a\\{,2\\}",
+        &[Shape::Repeat(0, Some(2)), Shape::Byte(b'a')],
+    ),
+    (
+        b"a\\{,255\\}",
+        &[Shape::Repeat(0, Some(255)), Shape::Byte(b'a')],
+    ),
     (
         b"a\\{007\\}",
         &[Shape::Repeat(7, Some(7)), Shape::Byte(b'a')],
@@ -268,10 +278,10 @@ fn escape_kind(byte: u8) -> Option<FaultKind> {
     match byte {
         b'(' => Some(FaultKind::UnclosedGroup),
         b')' => Some(FaultKind::UnopenedGroup),
-        b'{' => Some(FaultKind::NothingToRepeat),
+        b'{' | b'+' | b'?' => Some(FaultKind::NothingToRepeat),
         b'1'..=b'9' => Some(FaultKind::BackReference),
         b'0' | b'a'..=b'z' | b'A'..=b'Z' => Some(FaultKind::UndefinedEscape),
-        b'<' | b'>' | b'`' | b'\'' | b'+' | b'?' | b'|' => Some(FaultKind::UndefinedEscape),
+        b'<' | b'>' | b'`' | b'\'' => Some(FaultKind::UndefinedEscape),
         _ => None,
     }
 }
@@ -282,13 +292,18 @@ fn a_backslash_stands_before_each_byte(rt: HostRuntime) {
         let text = [b'\\', byte];
         let right = match escape_kind(byte) {
             Some(kind) => is_refused(&rt, &text, kind, 0),
+            None if byte == b'|' => is_read(
+                &rt,
+                &text,
+                &[Shape::Alt(2), Shape::Empty, Shape::Empty],
+            ),
             None => is_read(&rt, &text, &[Shape::Byte(byte)]),
         };
         assert!(rt; right, "{byte}");
     }
 }
 
-static FAULTS: [(&[u8], FaultKind, usize); 34] = [
+static FAULTS: [(&[u8], FaultKind, usize); 38] = [
     (b"[b-a]", FaultKind::BadRange, 2),
     (b"[a-m--o]", FaultKind::BadRange, 5),
     (b"[a--@]", FaultKind::BadRange, 2),
@@ -301,7 +316,7 @@ static FAULTS: [(&[u8], FaultKind, usize); 34] = [
     (b"a\\", FaultKind::TrailingBackslash, 1),
     (b"\\(\\", FaultKind::TrailingBackslash, 2),
     (b"\\w", FaultKind::UndefinedEscape, 0),
-    (b"\\+", FaultKind::UndefinedEscape, 0),
+    (b"\\<", FaultKind::UndefinedEscape, 0),
     (b"\\(a\\1\\)", FaultKind::BackReference, 3),
     (b"\\)", FaultKind::UnopenedGroup, 0),
     (b"a\\(b\\)c\\)", FaultKind::UnopenedGroup, 7),
@@ -315,7 +330,10 @@ static FAULTS: [(&[u8], FaultKind, usize); 34] = [
     (b"a\\{2x\\}", FaultKind::BadInterval, 1),
     (b"a\\{2}", FaultKind::BadInterval, 1),
     (b"\\(a\\{2\\)", FaultKind::BadInterval, 3),
-    (b"a\\{,2\\}", FaultKind::BadInterval, 1),
+    (b"a\\{,\\}", FaultKind::BadInterval, 1),
+    (b"a\\{,2", FaultKind::BadInterval, 1),
+    (b"a\\{,256\\}", FaultKind::IntervalTooLarge, 1),
+    (b"^\\{,2\\}", FaultKind::NothingToRepeat, 1),
     (b"a\\{2,1\\}", FaultKind::BadInterval, 1),
     (b"a\\{256\\}", FaultKind::IntervalTooLarge, 1),
     (b"a\\{300,2\\}", FaultKind::IntervalTooLarge, 1),
@@ -325,6 +343,7 @@ static FAULTS: [(&[u8], FaultKind, usize); 34] = [
         1,
     ),
     (b"\\{2\\}", FaultKind::NothingToRepeat, 0),
+    (b"\\+", FaultKind::NothingToRepeat, 0),
     (b"^\\{300\\}", FaultKind::NothingToRepeat, 1),
     (b"\\(^\\{1\\}\\)", FaultKind::NothingToRepeat, 3),
 ];

@@ -127,7 +127,7 @@ fn a_closing_outside_groups_stands_for_itself(rt: HostRuntime) {
     }
 }
 
-static BRACES: [(&[u8], &[Shape]); 21] = [
+static BRACES: [(&[u8], &[Shape]); 22] = [
     (b"{", &[BRACE]),
     (b"{a", &[Cat(2), BRACE, A]),
     (b"a{", &[Cat(2), A, BRACE]),
@@ -139,9 +139,13 @@ static BRACES: [(&[u8], &[Shape]); 21] = [
         b"a{2x}",
         &[Cat(5), A, BRACE, TWO, Byte(b'x'), CLOSING_BRACE],
     ),
-    (b"a{,2}", &[Cat(5), A, BRACE, COMMA, TWO, CLOSING_BRACE]),
+    (b"a{,2", &[Cat(4), A, BRACE, COMMA, TWO]),
+    (
+        b"a{, 2}",
+        &[Cat(6), A, BRACE, COMMA, Byte(b' '), TWO, CLOSING_BRACE],
+    ),
     (b"a{,}", &[Cat(4), A, BRACE, COMMA, CLOSING_BRACE]),
-    (b"{,2}", &[Cat(4), BRACE, COMMA, TWO, CLOSING_BRACE]),
+    (b"{,}", &[Cat(3), BRACE, COMMA, CLOSING_BRACE]),
     (b"a{{2}", &[Cat(2), A, Repeat(2, Some(2)), BRACE]),
     (b"(a{2)", &[Cat(3), A, BRACE, TWO]),
     (b"({)", &[BRACE]),
@@ -166,7 +170,7 @@ fn a_brace_without_an_interval_stands_for_itself(rt: HostRuntime) {
     }
 }
 
-static DUPLICATIONS: [(&[u8], &[Shape]); 25] = [
+static DUPLICATIONS: [(&[u8], &[Shape]); 29] = [
     (b"a*", &[STAR, A]),
     (b"a+", &[Repeat(1, None), A]),
     (b"a?", &[Repeat(0, Some(1)), A]),
@@ -176,6 +180,13 @@ static DUPLICATIONS: [(&[u8], &[Shape]); 25] = [
     (b"a{2}", &[Repeat(2, Some(2)), A]),
     (b"a{2,}", &[Repeat(2, None), A]),
     (b"a{1,2}", &[Repeat(1, Some(2)), A]),
+    (b"a{,2}", &[Repeat(0, Some(2)), A]),
+    (b"a{,0}", &[Repeat(0, Some(0)), A]),
+    (
+        b"a{,255}{,1}",
+        &[Repeat(0, Some(1)), Repeat(0, Some(255)), A],
+    ),
+    (b"{{,2}", &[Repeat(0, Some(2)), BRACE]),
     (b"a{0}", &[Repeat(0, Some(0)), A]),
     (b"a{0,0}", &[Repeat(0, Some(0)), A]),
     (b"a{0,}", &[STAR, A]),
@@ -254,11 +265,14 @@ fn each_byte_stands_alone(rt: HostRuntime) {
     }
 }
 
-static NOTHING_TO_REPEAT: [(&[u8], usize); 20] = [
+static NOTHING_TO_REPEAT: [(&[u8], usize); 23] = [
     (b"*a", 0),
     (b"+", 0),
     (b"?", 0),
     (b"{2}", 0),
+    (b"{,2}", 0),
+    (b"{,300}", 0),
+    (b"a|{,2}", 2),
     (b"{3,2}", 0),
     (b"{300}", 0),
     (b"^*", 1),
@@ -292,7 +306,7 @@ fn a_duplication_needs_something_to_repeat(rt: HostRuntime) {
     }
 }
 
-static FAULTS: [(&[u8], FaultKind, usize); 35] = [
+static FAULTS: [(&[u8], FaultKind, usize); 36] = [
     (b"[b-a]", FaultKind::BadRange, 2),
     (b"(a|[a-m--o])", FaultKind::BadRange, 8),
     (b"[[:foo:]]", FaultKind::BadClass, 1),
@@ -316,6 +330,7 @@ static FAULTS: [(&[u8], FaultKind, usize); 35] = [
     (b"a{256,}", FaultKind::IntervalTooLarge, 1),
     (b"a{0,256}", FaultKind::IntervalTooLarge, 1),
     (b"a{300,2}", FaultKind::IntervalTooLarge, 1),
+    (b"a{,256}", FaultKind::IntervalTooLarge, 1),
     (b"(a*{300})", FaultKind::IntervalTooLarge, 3),
     (
         b"a{0,9999999999999999999999999999999999999999}",

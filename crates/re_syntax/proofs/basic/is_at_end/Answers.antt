@@ -1,14 +1,20 @@
 use Rattle.std.proofs.Common.{drop}
 use Rattle.re_syntax.specs.Basic.{IsAtEnd}
-use Rattle.re_syntax.proofs.lemmas.BasicEnds.{at_text_end, at_group_end, not_at_end}
-use Rattle.re_syntax.proofs.lemmas.Places.{either_found}
+use Rattle.re_syntax.proofs.lemmas.BasicEnds.{at_text_end, at_group_end, at_branch_end, not_at_end}
+use Rattle.re_syntax.proofs.lemmas.Places.{either_found, some_found, nothing_found}
 use Rattle.re_syntax.proofs.basic.is_at_end.Goals as goal
 
 pub returns-then-at-text : goal.returns-then-at-text
 returns-then-at-text c = at_text_end c.args.text.now c.args.at c.if-at-text.true
 
+pub returns-then-is_some : goal.returns-then-is_some
+returns-then-is_some c =
+    let (b, s) = some_found _ _ c.after.result c.is_some.result c.is_some.ensures c.if-is_some.true c.after.ensures in
+    at_branch_end c.args.text.now c.args.at b s
+
 pub returns : goal.returns
 returns c =
     let t = drop c.args.at c.args.text.now in
-    either_found (IsAtEnd t) (¬ IsAtEnd t) _ _ c.after.result c.is_some.result c.is_some.ensures c.after.ensures
-    (not_at_end c.args.text.now c.args.at c.requires c.if-at-text.false) (λ b s. at_group_end c.args.text.now c.args.at b s)
+    let no_branch = nothing_found _ _ c.after.result c.is_some.result c.is_some.ensures c.if-is_some.false c.after.ensures in
+    either_found (IsAtEnd t) (¬ IsAtEnd t) _ _ c.after-2.result c.is_some-2.result c.is_some-2.ensures c.after-2.ensures
+    (not_at_end c.args.text.now c.args.at c.requires c.if-at-text.false no_branch) (λ b s. at_group_end c.args.text.now c.args.at b s)

@@ -1,16 +1,16 @@
-use Rattle.std.proofs.Common.{◌+◌, ◌-◌, ◌≢◌, get_or, drop, refl, ap, ◌∙◌, arith, rules, codes}
+use Rattle.std.proofs.Common.{◌+◌, ◌-◌, ◌≢◌, get_or, drop, refl, ap, ◌∙◌, arith, rules}
 use Rattle.std.proofs.lemmas.Result.{err_from_is_err_and}
 use Rattle.re_syntax.specs.Expression.{one_of}
-use Rattle.re_syntax.specs.Bytes.{Begins}
 use Rattle.re_syntax.specs.Working.BasicSteps.{DuplicationStands}
 use Rattle.re_syntax.specs.Working.PieceSteps.{told}
 use Rattle.re_syntax.proofs.lemmas.ExpressionLaws.{expression-Set}
-use Rattle.re_syntax.proofs.lemmas.BasicEnds.{item_within, not_closing}
-use Rattle.re_syntax.proofs.lemmas.Places.{ok_as, err_as, some_found, nothing_found, byte_here, front_here, refused_as}
-use Rattle.re_syntax.proofs.lemmas.BasicAtoms.{no_escape_atom, no_interval_atom, single_stands, escaped_stands, shown_escape, bracket_atom, no_bracket_atom, shown_no_bracket}
+use Rattle.re_syntax.proofs.lemmas.BasicEnds.{item_within}
+use Rattle.re_syntax.proofs.lemmas.Places.{ok_as, err_as, nothing_found, byte_here, front_here, refused_as}
+use Rattle.re_syntax.proofs.lemmas.BasicAtoms.{no_escape_atom, no_atom_needed, single_stands, escaped_stands, shown_escape, bracket_atom, no_bracket_atom, shown_no_bracket}
 use Rattle.re_syntax.proofs.lemmas.BasicGroups.{opening_within, opening_starts, group_stands, no_group_inside, no_group_end, opens_unclosed}
 use Rattle.re_syntax.proofs.lemmas.BasicItems.{no_items_without_atom, item_of_atom, item_repeated, too_deep, shown_deep, no_items_bad, one_more, all_read, duplication_takes}
-use Rattle.re_syntax.proofs.basic.+read_items.Goals as goal
+use Rattle.re_syntax.proofs.lemmas.BasicBranches.{first_branch, next_branch, no_branches, bar_starts, branches_read}
+use Rattle.re_syntax.proofs.basic.+read_branches.Goals as goal
 
 pub read_atom-bounds-text-at : goal.read_atom-bounds-text-at
 read_atom-bounds-text-at t c = item_within c.args.text.now c.args.at c.requires.within c.requires.item
@@ -22,7 +22,7 @@ read_atom-read_bracket_atom-requires t c =
 pub read_atom-read_escaped-requires : goal.read_atom-read_escaped-requires
 read_atom-read_escaped-requires t c =
     let front = front_here c.args.text.now c.args.at 92 (item_within c.args.text.now c.args.at c.requires.within c.requires.item) c.in-92.is in
-    (search rules, ((drop (c.args.at + 1) c.args.text.now, front), (not_closing c.requires.item, (c.requires.opens, c.requires.few))))
+    (search rules, ((drop (c.args.at + 1) c.args.text.now, front), (c.requires.item.not_end, (c.requires.opens, c.requires.few))))
 
 pub read_atom-returns-in-91-clause-read : goal.read_atom-returns-in-91-clause-read
 read_atom-returns-in-91-clause-read t c =
@@ -45,11 +45,10 @@ read_atom-returns-in_default-clause-read t c =
     (front_here c.args.text.now c.args.at (get_or c.args.text.now c.args.at 0) here refl) c.requires.item not_bracket not_backslash
     (expression-Set c.meant_by.result ∙ ap one_of c.meant_by.ensures) refl refl
 
-pub read_escaped-returns-then-is_some-2-clause-refused : goal.read_escaped-returns-then-is_some-2-clause-refused
-read_escaped-returns-then-is_some-2-clause-refused t c p =
-    let (b, s) = some_found _ _ c.after-2.result c.is_some-2.result c.is_some-2.ensures c.if-is_some-2.true c.after-2.ensures in
-    let begins : Begins (codes "\\{") (drop c.args.at c.args.text.now) = (drop b c.args.text.now, s.front) in
-    told (no_interval_atom begins p c.args.levels) (begins, c.requires.opens begins)
+pub read_escaped-returns-then-needs_item-clause-refused : goal.read_escaped-returns-then-needs_item-clause-refused
+read_escaped-returns-then-needs_item-clause-refused t c p =
+    let needs = c.if-needs_item.ensures in
+    told (no_atom_needed needs p c.args.levels) (needs, c.requires.opens needs)
 
 pub read_escaped-returns-in_err-byte-clause-refused : goal.read_escaped-returns-in_err-byte-clause-refused
 read_escaped-returns-in_err-byte-clause-refused t c =
@@ -60,28 +59,27 @@ read_escaped-returns-in_err-byte-clause-refused t c =
 pub read_escaped-returns-clause-read : goal.read_escaped-returns-clause-read
 read_escaped-returns-clause-read t c p =
     let no_group = nothing_found _ _ c.after.result c.is_some.result c.is_some.ensures c.if-is_some.false c.after.ensures in
-    let no_interval = nothing_found _ _ c.after-2.result c.is_some-2.result c.is_some-2.ensures c.if-is_some-2.false c.after-2.ensures in
-    escaped_stands c.args.levels c.args.text.now c.args.at c.in_ok-byte.byte _ c.in_ok-byte.ensures.read no_group c.requires.not_closing no_interval
+    escaped_stands c.args.levels c.args.text.now c.args.at c.in_ok-byte.byte _ c.in_ok-byte.ensures.read no_group c.requires.not_end c.if-needs_item.ensures
     (expression-Set c.only.result ∙ ap one_of c.only.ensures) refl refl p
 
-pub read_group-read_items-requires : goal.read_group-read_items-requires
-read_group-read_items-requires t c =
+pub read_group-read_branches-requires : goal.read_group-read_branches-requires
+read_group-read_branches-requires t c =
     (search rules, (opening_within c.args.text.now c.args.at c.requires.opens, (opening_starts c.args.text.now c.args.at c.requires.opens, omega arith)))
 
-pub read_group-returns-in_err-items-clause-refused : goal.read_group-returns-in_err-items-clause-refused
-read_group-returns-in_err-items-clause-refused t c =
+pub read_group-returns-in_err-branches-clause-refused : goal.read_group-returns-in_err-branches-clause-refused
+read_group-returns-in_err-branches-clause-refused t c =
     let q = err_from_is_err_and c.from_residual.result c.from_residual.ensures.1 in
-    rw (q.1, q.2) (λ p. refused_as c.in_err-items.ensures.refused (λ k. no_group_inside c.args.levels c.args.text.now c.args.at c.requires.opens k p))
+    rw (q.1, q.2) (λ p. refused_as c.in_err-branches.ensures.refused (λ k. no_group_inside c.args.levels c.args.text.now c.args.at c.requires.opens k p))
 
 pub read_group-returns-in-None-clause-refused : goal.read_group-returns-in-None-clause-refused
 read_group-returns-in-None-clause-refused t c p =
-    told (no_group_end c.args.levels c.args.text.now c.args.at c.in_ok-items.items c.requires.opens c.in_ok-items.ensures.read c.in-None.ensures p)
-    (opens_unclosed (c.args.levels - 1) c.args.text.now c.args.at c.in_ok-items.items c.requires.opens c.in_ok-items.ensures.read c.in-None.ensures)
+    told (no_group_end c.args.levels c.args.text.now c.args.at c.in_ok-branches.branches c.requires.opens c.in_ok-branches.ensures.read c.in-None.ensures p)
+    (opens_unclosed (c.args.levels - 1) c.args.text.now c.args.at c.in_ok-branches.branches c.requires.opens c.in_ok-branches.ensures.read c.in-None.ensures)
 
 pub read_group-returns-in-Some-clause-read : goal.read_group-returns-in-Some-clause-read
 read_group-returns-in-Some-clause-read t c p =
-    group_stands c.args.levels c.args.text.now c.args.at c.in_ok-items.items _ c.requires.opens c.if-levels-eq0.false c.in_ok-items.ensures.read c.in-Some.ensures refl
-    c.sequence_of.ensures p
+    group_stands c.args.levels c.args.text.now c.args.at c.in_ok-branches.branches _ c.requires.opens c.if-levels-eq0.false c.in_ok-branches.ensures.read c.in-Some.ensures refl
+    c.choice_of.ensures p
 
 pub read_item-returns-in_err-piece-clause-refused : goal.read_item-returns-in_err-piece-clause-refused
 read_item-returns-in_err-piece-clause-refused t c =
@@ -117,14 +115,42 @@ read_item-duplications-preserved t c =
     item_repeated c.args.levels c.args.text.now c.args.at c.duplications.piece c.in_ok-piece-2.piece c.in-Some.counts c.in-Some.behind c.duplications.invariant
     c.if-piece-levels.false d c.in_ok-piece-2.ensures.made
 
-pub read_items-items-init : goal.read_items-items-init
-read_items-items-init t c = c.in_ok-items.ensures.read c.args.levels
+pub read_branch-items-init : goal.read_branch-items-init
+read_branch-items-init t c = c.in_ok-items.ensures.read c.args.levels
 
-pub read_items-items-preserved : goal.read_items-items-preserved
-read_items-items-preserved t c =
+pub read_branch-items-preserved : goal.read_branch-items-preserved
+read_branch-items-preserved t c =
     one_more c.args.levels c.args.text.now c.args.from c.items.items c.in_ok-items-2.items c.in_ok-piece.piece c.items.invariant c.in_ok-piece.ensures.read
     c.in_ok-items-2.ensures.made
 
-pub read_items-returns-clause-read : goal.read_items-returns-clause-read
-read_items-returns-clause-read t c =
-    ok_as _ _ c.read_tail.result c.read_tail.ensures.read (λ all e. all_read c.args.levels c.args.text.now c.args.from c.items.items all c.items.invariant e)
+pub read_branch-returns-clause-read : goal.read_branch-returns-clause-read
+read_branch-returns-clause-read t c =
+    all_read c.args.levels c.args.text.now c.args.from c.items.items c.in_ok-all.all _ c.items.invariant c.in_ok-all.ensures.read c.sequence_of.ensures refl refl
+
+pub read_branches-returns-in_err-first-clause-refused : goal.read_branches-returns-in_err-first-clause-refused
+read_branches-returns-in_err-first-clause-refused t c =
+    let q = err_from_is_err_and c.from_residual.result c.from_residual.ensures.1 in
+    rw (q.1, q.2) (refused_as c.in_err-first.ensures.refused no_branches)
+
+pub read_branches-branches-init : goal.read_branches-branches-init
+read_branches-branches-init t c =
+    first_branch c.args.levels c.args.text.now c.args.from _ c.in_ok-branches.branches c.in_ok-first.first c.in_ok-first.ensures.read c.new.ensures.items refl
+    c.in_ok-branches.ensures.made
+
+pub read_branches-read_branch-requires-in-Some : goal.read_branches-read_branch-requires-in-Some
+read_branches-read_branch-requires-in-Some t c = (search rules, (c.in-Some.ensures.within, (bar_starts c.in-Some.ensures, c.requires.few)))
+
+pub read_branches-returns-in_err-branch-clause-refused : goal.read_branches-returns-in_err-branch-clause-refused
+read_branches-returns-in_err-branch-clause-refused t c =
+    let q = err_from_is_err_and c.from_residual-in_err-branch.result c.from_residual-in_err-branch.ensures.1 in
+    rw (q.1, q.2)
+    (refused_as c.in_err-branch.ensures.refused
+    (λ k. c.branches.invariant.back (drop c.in-Some.behind c.args.text.now) c.in-Some.ensures.front (no_branches k)))
+
+pub read_branches-branches-preserved : goal.read_branches-branches-preserved
+read_branches-branches-preserved t c =
+    next_branch c.args.levels c.args.text.now c.args.from c.branches.branches c.in_ok-branches-2.branches c.in-Some.behind c.in_ok-branch.branch c.branches.invariant
+    c.in-Some.ensures c.in_ok-branch.ensures.read c.in_ok-branches-2.ensures.made
+
+pub read_branches-returns-clause-read : goal.read_branches-returns-clause-read
+read_branches-returns-clause-read t c = branches_read c.branches.invariant c.in_default.ensures

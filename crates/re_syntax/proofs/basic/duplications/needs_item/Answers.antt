@@ -1,0 +1,21 @@
+use Rattle.std.proofs.Common.{drop}
+use Rattle.re_syntax.specs.BasicFaults.{NeedsItem}
+use Rattle.re_syntax.proofs.lemmas.BasicIntervals.{interval_needs, plus_needs, question_needs, needs_no_item}
+use Rattle.re_syntax.proofs.lemmas.Places.{either_found, some_found, nothing_found}
+use Rattle.re_syntax.proofs.basic.duplications.needs_item.Goals as goal
+
+pub returns-then-is_some : goal.returns-then-is_some
+returns-then-is_some c =
+    let (b, s) = some_found _ _ c.after.result c.is_some.result c.is_some.ensures c.if-is_some.true c.after.ensures in interval_needs s
+
+pub returns-then-is_some-2 : goal.returns-then-is_some-2
+returns-then-is_some-2 c =
+    let (b, s) = some_found _ _ c.after-2.result c.is_some-2.result c.is_some-2.ensures c.if-is_some-2.true c.after-2.ensures in plus_needs s
+
+pub returns : goal.returns
+returns c =
+    let t = drop c.args.at c.args.text.now in
+    let no_interval = nothing_found _ _ c.after.result c.is_some.result c.is_some.ensures c.if-is_some.false c.after.ensures in
+    let no_plus = nothing_found _ _ c.after-2.result c.is_some-2.result c.is_some-2.ensures c.if-is_some-2.false c.after-2.ensures in
+    either_found (NeedsItem t) (¬ NeedsItem t) _ _ c.after-3.result c.is_some-3.result c.is_some-3.ensures c.after-3.ensures
+    (needs_no_item no_interval no_plus) (λ b s. question_needs s)

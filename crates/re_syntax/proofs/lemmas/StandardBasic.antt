@@ -1,0 +1,76 @@
+-- Basic expressions of the standard alone are spelled as there.
+use Rattle.std.proofs.Common.{◌≡◌, ℕ, List, ◌∷◌, ◌++◌, Option, refl, sym, ◌∙◌}
+use Rattle.re_syntax.specs.declared.syntax.Syntax.TheVariants.{Basic}
+use Rattle.re_syntax.specs.Bytes.{Text}
+use Rattle.re_syntax.specs.Expression.{Expression}
+use Rattle.re_syntax.specs.Basic.{ItemPlace, Duplication, star, interval, IsAtEnd, of_text, of_group, of_branch, last, Items, none, leading, trailing, item, Item, atom, repeated, Atom, bracket, period, escaped, ordinary, group}
+use Rattle.re_syntax.specs.Spelled.{IsSpelled, as_basic}
+use Rattle.re_syntax.specs.Working.StandardBasic.{Duplication as StandardDuplication, star as standard_star, interval as standard_interval, IsAtEnd as StandardEnd, of_text as standard_of_text, of_group as standard_of_group, Items as StandardItems, none as standard_none, leading as standard_leading, trailing as standard_trailing, item as standard_item, Item as StandardItem, atom as standard_atom, repeated as standard_repeated, Atom as StandardAtom, bracket as standard_bracket, period as standard_period, escaped as standard_escaped, ordinary as standard_ordinary, group as standard_group, IsStandardBasic, as_basic as standard_as_basic}
+use Rattle.re_syntax.proofs.lemmas.BracketsUnique.{heads, tails, apart, bracket_front}
+use Rattle.re_syntax.proofs.lemmas.AtomFronts.{not_ordinary, never_backslash, undefined_apart}
+use Rattle.re_syntax.proofs.lemmas.StandardIntervals.{interval-kept}
+
+-- Where the standard has a part, no `\|` stands.
+
+end_no_bar : {t : Text} → StandardEnd t → (w : Text) → t ≡ 92 ∷ 124 ∷ w → ⊥
+end_no_bar standard_of_text w e = cc
+end_no_bar standard_of_group w e = apart 41 124 (heads (tails e)) refl
+
+duplication_no_bar : {d : Text} {least : ℕ} {most : Option ℕ} → StandardDuplication d least most → (u w : Text) → d ++ u ≡ 92 ∷ 124 ∷ w → ⊥
+duplication_no_bar standard_star u w e = apart 42 92 (heads e) refl
+duplication_no_bar (standard_interval form allowed) u w e = apart 123 124 (heads (tails e)) refl
+
+atom_no_bar : {p : ItemPlace} {h : ℕ} {t u : Text} {e : Expression} → StandardAtom p h t u e → (w : Text) → t ≡ 92 ∷ 124 ∷ w → ⊥
+atom_no_bar (standard_bracket b) w e = let (v, f) = bracket_front b in apart 91 92 (heads (sym f ∙ e)) refl
+atom_no_bar standard_period w e = apart 46 92 (heads e) refl
+atom_no_bar (standard_escaped b h) w e = undefined_apart b 124 h refl (heads (tails e))
+atom_no_bar {p} (standard_ordinary b h k) w e = not_ordinary p b 92 h (never_backslash p) (heads e)
+atom_no_bar (standard_group is) w e = apart 40 124 (heads (tails e)) refl
+
+item_no_bar : {p : ItemPlace} {h : ℕ} {t u : Text} {e : Expression} → StandardItem p h t u e → (w : Text) → t ≡ 92 ∷ 124 ∷ w → ⊥
+item_no_bar (standard_atom a) w e = atom_no_bar a w e
+item_no_bar (standard_repeated i d) w e = item_no_bar i w e
+
+items_no_bar : {p : ItemPlace} {h : ℕ} {t u : Text} {es : List Expression} → StandardItems p h t u es → StandardEnd u → (w : Text) → t ≡ 92 ∷ 124 ∷ w → ⊥
+items_no_bar standard_none s w e = end_no_bar s w e
+items_no_bar (standard_leading is) s w e = apart 94 92 (heads e) refl
+items_no_bar (standard_trailing l) s w e = apart 36 92 (heads e) refl
+items_no_bar (standard_item i is) s w e = item_no_bar i w e
+
+-- So each part is one here.
+
+end-kept : {t : Text} → StandardEnd t → IsAtEnd t
+end-kept standard_of_text = of_text
+end-kept standard_of_group = of_group
+
+-- an end where no other branch follows is one of the standard's
+end_back : {t : Text} → IsAtEnd t → ((w : Text) → t ≡ 92 ∷ 124 ∷ w → ⊥) → StandardEnd t
+end_back of_text n = standard_of_text
+end_back of_group n = standard_of_group
+end_back (of_branch {t = w}) n = absurd (n w refl)
+
+duplication-kept : {d : Text} {least : ℕ} {most : Option ℕ} → StandardDuplication d least most → Duplication d least most
+duplication-kept standard_star = star
+duplication-kept (standard_interval form allowed) = interval (interval-kept form) allowed
+
+mutual
+  items-kept : {p : ItemPlace} {h : ℕ} {t u : Text} {es : List Expression} → StandardItems p h t u es → StandardEnd u → Items p h t u es
+  items-kept standard_none s = none
+  items-kept (standard_leading is) s = leading (items-kept is s)
+  items-kept (standard_trailing l) s = trailing (end-kept l)
+  items-kept (standard_item i is) s = item (item-kept i (items_no_bar is s)) (items-kept is s)
+
+  item-kept : {p : ItemPlace} {h : ℕ} {t u : Text} {e : Expression} → StandardItem p h t u e → ((w : Text) → u ≡ 92 ∷ 124 ∷ w → ⊥) → Item p h t u e
+  item-kept (standard_atom a) n = atom (atom-kept a n)
+  item-kept (standard_repeated {u = u} i d) n = repeated (item-kept i (duplication_no_bar d u)) (duplication-kept d)
+
+  atom-kept : {p : ItemPlace} {h : ℕ} {t u : Text} {e : Expression} → StandardAtom p h t u e → ((w : Text) → u ≡ 92 ∷ 124 ∷ w → ⊥) → Atom p h t u e
+  atom-kept (standard_bracket b) n = bracket b
+  atom-kept standard_period n = period
+  atom-kept (standard_escaped b h) n = escaped b h
+  atom-kept (standard_ordinary b h k) n = ordinary b h (λ e at_end. k e (end_back at_end n))
+  atom-kept (standard_group is) n = group (last (items-kept is standard_of_group))
+
+-- a whole basic expression
+pub basic-kept : {t : Text} {e : Expression} → IsStandardBasic t e → IsSpelled Basic t e
+basic-kept (standard_as_basic is h) = as_basic (last (items-kept is standard_of_text)) h

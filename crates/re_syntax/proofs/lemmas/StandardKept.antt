@@ -1,0 +1,9 @@
+-- What the standard alone makes of a text is what it spells here.
+use Rattle.re_syntax.specs.Bytes.{Text}
+use Rattle.re_syntax.specs.Laws.{KeepsStandard}
+use Rattle.re_syntax.proofs.lemmas.StandardBasic.{basic-kept}
+use Rattle.re_syntax.proofs.lemmas.StandardExtended.{extended-kept}
+
+-- the law
+pub keeps_standard : (text : Text) → KeepsStandard text
+keeps_standard text = record { basic = λ e s. basic-kept s; extended = λ e s n. extended-kept s n }

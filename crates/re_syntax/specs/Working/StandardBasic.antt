@@ -1,0 +1,57 @@
+-- Basic regular expressions of the standard alone (XBD 9.3), as in Basic without branches, `\+`,
+-- `\?` and the interval that has no least number. The law that what the standard defines is read as
+-- before is said in them; no definition rests on this.
+use Rattle.std.specs.Prelude.{◌≡◌, ℕ, suc, max, ◌≤◌, List, [], ◌∷◌, ◌++◌, Option, None, IsTrue, codes}
+use Rattle.re_syntax.specs.Bytes.{Text, any_but_nul}
+use Rattle.re_syntax.specs.Expression.{Expression, one_of, begin, end, repeat, byte, sequence}
+use Rattle.re_syntax.specs.Basic.{ItemPlace, First, AfterAnchor, Later, is_ordinary}
+use Rattle.re_syntax.specs.Brackets.{IsBracket}
+use Rattle.re_syntax.specs.Intervals.{IsAllowed}
+use Rattle.re_syntax.specs.Profile.{most_levels, basic_escaped}
+use Rattle.re_syntax.specs.Escapes.{is_undefined}
+use Rattle.re_syntax.specs.Working.StandardIntervals.{Interval}
+
+-- `*`, or an interval in `\{` and `\}` (XBD 9.3.6)
+pub data Duplication : Text → ℕ → Option ℕ → Type 0 where
+  star : Duplication (codes "*") 0 None
+  interval : {t : Text} {least : ℕ} {most : Option ℕ} → Interval t least most →
+      IsAllowed least most → Duplication (codes "\\{" ++ t ++ codes "\\}") least most
+
+-- the expression ends here: the text does, or the group
+pub data IsAtEnd : Text → Type 0 where
+  of_text : IsAtEnd []
+  of_group : {t : Text} → IsAtEnd (codes "\\)" ++ t)
+
+mutual
+  -- the items of an expression, one after another, from a place on
+  pub data Items : ItemPlace → ℕ → Text → Text → List Expression → Type 0 where
+    none : {p : ItemPlace} {t : Text} → Items p 0 t t []
+    -- a `^` that is first; a `$` that is last
+    leading : {h : ℕ} {t u : Text} {es : List Expression} → Items AfterAnchor h t u es →
+        Items First h (codes "^" ++ t) u (begin ∷ es)
+    trailing : {p : ItemPlace} {t : Text} → IsAtEnd t → Items p 0 (codes "$" ++ t) t (end ∷ [])
+    item : {p : ItemPlace} {h k : ℕ} {t u v : Text} {e : Expression} {es : List Expression} →
+        Item p h t u e → Items Later k u v es → Items p (max h k) t v (e ∷ es)
+
+  -- an atom, or an item and a duplication
+  pub data Item : ItemPlace → ℕ → Text → Text → Expression → Type 0 where
+    atom : {p : ItemPlace} {h : ℕ} {t u : Text} {e : Expression} → Atom p h t u e → Item p h t u e
+    repeated : {p : ItemPlace} {h : ℕ} {t d u : Text} {e : Expression}
+        {least : ℕ} {most : Option ℕ} → Item p h t (d ++ u) e → Duplication d least most →
+        Item p (suc h) t u (repeat e least most)
+
+  pub data Atom : ItemPlace → ℕ → Text → Text → Expression → Type 0 where
+    bracket : {p : ItemPlace} {t u : Text} {e : Expression} → IsBracket t u e → Atom p 0 t u e
+    period : {p : ItemPlace} {u : Text} → Atom p 0 (codes "." ++ u) u (one_of any_but_nul)
+    escaped : {p : ItemPlace} {u : Text} (b : ℕ) → ¬ IsTrue (is_undefined basic_escaped b) →
+        Atom p 0 (codes "\\" ++ b ∷ u) u (byte b)
+    -- a `$` is not last
+    ordinary : {p : ItemPlace} {u : Text} (b : ℕ) → IsTrue (is_ordinary p b) →
+        (b ≡ 36 → ¬ IsAtEnd u) → Atom p 0 (b ∷ u) u (byte b)
+    group : {p : ItemPlace} {h : ℕ} {t u : Text} {es : List Expression} →
+        Items First h t (codes "\\)" ++ u) es → Atom p (suc h) (codes "\\(" ++ t) u (sequence es)
+
+-- the text is such an expression, and not too deep
+pub data IsStandardBasic : Text → Expression → Type 0 where
+  as_basic : {h : ℕ} {t : Text} {es : List Expression} → Items First h t [] es → h ≤ most_levels →
+      IsStandardBasic t (sequence es)

@@ -1,0 +1,62 @@
+-- Extended regular expressions of the standard alone (XBD 9.4), as in Extended without the interval
+-- that has no least number. The law that what the standard defines is read as before is said in
+-- them; no definition rests on this.
+use Rattle.std.specs.Prelude.{◌≡◌, ℕ, suc, max, ◌≤◌, Bool, true, false, List, [], ◌∷◌, ◌++◌, Option, Some, None, IsTrue, codes}
+use Rattle.re_syntax.specs.Bytes.{Text, any_but_nul}
+use Rattle.re_syntax.specs.Expression.{Expression, one_of, begin, end, repeat, byte, sequence, choice}
+use Rattle.re_syntax.specs.Extended.{is_ordinary}
+use Rattle.re_syntax.specs.Brackets.{IsBracket}
+use Rattle.re_syntax.specs.Intervals.{IsAllowed}
+use Rattle.re_syntax.specs.Profile.{most_levels, extended_refused}
+use Rattle.re_syntax.specs.Escapes.{is_undefined}
+use Rattle.re_syntax.specs.Working.StandardIntervals.{Interval, HasNoInterval}
+
+-- `*`, `+`, `?`, or an interval in braces (XBD 9.4.6)
+pub data Duplication : Text → ℕ → Option ℕ → Type 0 where
+  star : Duplication (codes "*") 0 None
+  plus : Duplication (codes "+") 1 None
+  question : Duplication (codes "?") 0 (Some 1)
+  interval : {t : Text} {least : ℕ} {most : Option ℕ} → Interval t least most →
+      IsAllowed least most → Duplication (codes "{" ++ t ++ codes "}") least most
+
+mutual
+  -- branches parted by bars, each a sequence (XBD 9.4.7)
+  pub data Branches : Bool → ℕ → Text → Text → List Expression → Type 0 where
+    last : {g : Bool} {h : ℕ} {t u : Text} {es : List Expression} → Items g h t u es →
+        Branches g h t u (sequence es ∷ [])
+    more : {g : Bool} {h k : ℕ} {t u v : Text} {es fs : List Expression} →
+        Items g h t (codes "|" ++ u) es → Branches g k u v fs →
+        Branches g (max h k) t v (sequence es ∷ fs)
+
+  -- the items of a branch, one after another
+  pub data Items : Bool → ℕ → Text → Text → List Expression → Type 0 where
+    none : {g : Bool} {t : Text} → Items g 0 t t []
+    -- a `^` takes no duplication (XBD 9.4.9)
+    anchor : {g : Bool} {h : ℕ} {t u : Text} {es : List Expression} → Items g h t u es →
+        Items g h (codes "^" ++ t) u (begin ∷ es)
+    item : {g : Bool} {h k : ℕ} {t u v : Text} {e : Expression} {es : List Expression} →
+        Item g h t u e → Items g k u v es → Items g (max h k) t v (e ∷ es)
+
+  -- an atom, or an item and a duplication
+  pub data Item : Bool → ℕ → Text → Text → Expression → Type 0 where
+    atom : {g : Bool} {h : ℕ} {t u : Text} {e : Expression} → Atom g h t u e → Item g h t u e
+    repeated : {g : Bool} {h : ℕ} {t d u : Text} {e : Expression} {least : ℕ} {most : Option ℕ} →
+        Item g h t (d ++ u) e → Duplication d least most →
+        Item g (suc h) t u (repeat e least most)
+
+  pub data Atom : Bool → ℕ → Text → Text → Expression → Type 0 where
+    bracket : {g : Bool} {t u : Text} {e : Expression} → IsBracket t u e → Atom g 0 t u e
+    period : {g : Bool} {u : Text} → Atom g 0 (codes "." ++ u) u (one_of any_but_nul)
+    dollar : {g : Bool} {u : Text} → Atom g 0 (codes "$" ++ u) u end
+    escaped : {g : Bool} {u : Text} (b : ℕ) → ¬ IsTrue (is_undefined extended_refused b) →
+        Atom g 0 (codes "\\" ++ b ∷ u) u (byte b)
+    -- a `{` begins no text of an interval's form
+    ordinary : {g : Bool} {u : Text} (b : ℕ) → IsTrue (is_ordinary g b) →
+        (b ≡ 123 → HasNoInterval (codes "}") u) → Atom g 0 (b ∷ u) u (byte b)
+    group : {g : Bool} {h : ℕ} {t u : Text} {es : List Expression} →
+        Branches true h t (codes ")" ++ u) es → Atom g (suc h) (codes "(" ++ t) u (choice es)
+
+-- the text is such an expression, which stands inside no group, and not too deep
+pub data IsStandardExtended : Text → Expression → Type 0 where
+  as_extended : {h : ℕ} {t : Text} {es : List Expression} → Branches false h t [] es →
+      h ≤ most_levels → IsStandardExtended t (choice es)

@@ -1,0 +1,66 @@
+//! Duplications of basic expressions (XBD 9.3.6), with GNU grep's `\+` and `\?`.
+ghost use Rattle.std.specs.Prelude.{◌≤◌, IfOk, IfErr, MatchOption, MatchBool, length, drop};
+ghost use Rattle.re_syntax.specs.BasicFaults.{NeedsItem};
+ghost use Rattle.re_syntax.specs.Working.BasicSteps.{HasNoSign, OpensNoDuplication, DuplicationStands, HasBadInterval};
+
+use crate::ahead::after;
+use crate::fault::{FaultKind, PatternFault};
+use crate::interval::{Counts, counts_fault, read_interval};
+
+/// The duplication without numbers that stands at a place, if one does, and the place behind it.
+fn read_sign(text: &[u8], at: usize) -> Option<(Counts, usize)>
+    requires { at ≤ length text.now }
+    ensures { MatchOption result (HasNoSign (drop at text.now))
+        (λ d. DuplicationStands text.now at d.0 d.1) }
+{
+    if let Some(behind) = after(text, at, b"*") {
+        let (least, most) = (0, None);
+        return Some((Counts { least, most }, behind));
+    }
+    if let Some(behind) = after(text, at, b"\\+") {
+        let (least, most) = (1, None);
+        return Some((Counts { least, most }, behind));
+    }
+    let behind = after(text, at, b"\\?")?;
+    let (least, most) = (0, Some(1));
+    Some((Counts { least, most }, behind))
+}
+
+/// The duplication that stands at a place of the text, if one does, and the place behind it.
+pub fn read_duplication(text: &[u8], at: usize) -> Result<Option<(Counts, usize)>, PatternFault>
+    requires { at ≤ length text.now }
+    ensures read { IfOk result (λ found. MatchOption found (OpensNoDuplication (drop at text.now))
+        (λ d. DuplicationStands text.now at d.0 d.1)) }
+    ensures refused { IfErr result (HasBadInterval text.now at) }
+{
+    if let Some(sign) = read_sign(text, at) {
+        return Ok(Some(sign));
+    }
+    match after(text, at, b"\\{") {
+        None => Ok(None),
+        Some(inside) => match read_interval(text, inside, b"\\}") {
+            None => Err(PatternFault {
+                kind: FaultKind::BadInterval,
+                at,
+            }),
+            Some((counts, behind)) => match counts_fault(counts) {
+                Some(kind) => Err(PatternFault { kind, at }),
+                None => Ok(Some((counts, behind))),
+            },
+        },
+    }
+}
+
+/// Whether a duplication stands at a place that is never a byte of its own: `\{`, `\+` or `\?`.
+pub fn needs_item(text: &[u8], at: usize) -> bool
+    requires { at ≤ length text.now }
+    ensures { MatchBool result (NeedsItem (drop at text.now)) (¬ NeedsItem (drop at text.now)) }
+{
+    if after(text, at, b"\\{").is_some() {
+        return true;
+    }
+    if after(text, at, b"\\+").is_some() {
+        return true;
+    }
+    after(text, at, b"\\?").is_some()
+}
