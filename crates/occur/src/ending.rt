@@ -65,7 +65,7 @@ pub fn refuse_memory<M: CountedWrite>(messages: &mut M) -> u8
 fn write_cannot_open<M: CountedWrite>(messages: &mut M, name: &[u8]) -> Result<(), WriteFault>
     ensures { Writes M.contents M.failures messages.old messages.new (output_line [] (cannot_open name.now)) result }
 {
-    write_row(messages, b"occur: ", Some(name), None, b" cannot open")
+    write_row(messages, b"occur: ", b':', Some(name), None, b" cannot open")
 }
 
 /// Tells that the script could not be opened, and answers the exit status. A write that fails is

@@ -2,7 +2,7 @@
 ghost use Rattle.std.specs.Prelude.{◌≡◌, ◌++◌};
 ghost use Rattle.std.specs.Option.{option_copied};
 ghost use Rattle.grep_core.specs.Output.{shown_number};
-ghost use Rattle.grep_core.specs.Row.{head, output_line};
+ghost use Rattle.grep_core.specs.Row.{colon, head, output_line};
 ghost use Rattle.grep_core.specs.Working.Wanted.{name_shown};
 ghost use Rattle.grep_core.specs.Written.{Writes};
 
@@ -52,11 +52,12 @@ impl Wanted<'_> {
         margin: &[u8],
     ) -> Result<(), WriteFault>
         ensures { Writes W.contents W.failures out.old out.new (output_line margin.now
-            (head (name_shown self.now.many self.now.name.now) (shown_number self.now.options number) ++ text.now)) result }
+            (head colon (name_shown self.now.many self.now.name.now) (shown_number self.now.options number) ++ text.now)) result }
     {
         write_row(
             out,
             margin,
+            b':',
             self.shown_name(),
             self.shown_number(number),
             text,
