@@ -30,6 +30,7 @@ pub use search::matching::next_part;
 pub use search::run::{search_all, search_filtered};
 pub use search::sending::send_before_read;
 pub use search::serving::serves_for_others;
+pub use search::setting::Asked;
 pub use status::{RunFault, Status};
 
 #[cfg(test)]
