@@ -27,7 +27,8 @@ pub fn search_files<F: Files, L: LineMatch, W: CountedWrite, N: CountedWrite>(
     meter: &mut Meter,
 ) -> Result<Status, RunFault>
     requires whole { AllAnswer asked.now.options.line_regexp (map L.whole matchers.old) }
-    requires needed { IfSome asked.now.filter (λ f. AreNeeded f.now (map L.expression matchers.old)) }
+    requires needed { IfSome asked.now.filter
+        (λ f. AreNeeded f.now (map L.expression matchers.old)) }
     ensures { RunGives (map L.expression matchers.old) asked.now.options
         (sources_named (F.folder files.old) (searched (texts_of words.now))) (GivesBack F.given_back files.old files.new)
         (devices (writer W.contents W.failures out.old) (writer N.contents N.failures messages.old)

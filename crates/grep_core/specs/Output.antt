@@ -54,7 +54,9 @@ module _ (es : List Expression) (options : Options) (many : Bool) where
   -- the count of a file's selected lines; nothing for a file that was not opened
   abbrev pub CountOf : Ending → File → List Text → Type 0
   CountOf missing file out = out ≡ []
-  CountOf _ file out = (selected : List (ℕ × Text)) × SelectedLines file selected × (out ≡ (prefix colon (shown_name many file) ++ decimal (length selected)) ∷ [])
+  CountOf _ file out =
+      (selected : List (ℕ × Text)) × SelectedLines file selected
+      × (out ≡ (prefix colon (shown_name many file) ++ decimal (length selected)) ∷ [])
 
   -- each selected line behind its head
   abbrev pub RowsOf : File → List Text → Type 0

@@ -48,7 +48,8 @@ is_missing Left = false
 
 -- the count of a file's selected lines; nothing for a file that was not opened
 abbrev pub count_line : Bool → Text → FileEnd → ℕ → List Text
-count_line many name end selected = if is_missing end then [] else (prefix colon (name_shown many name) ++ decimal selected) ∷ []
+count_line many name end selected =
+    if is_missing end then [] else (prefix colon (name_shown many name) ++ decimal selected) ∷ []
 
 -- what is written of a file behind the rows of its lines
 abbrev pub summary_as : Form → Bool → Text → FileEnd → ℕ → List Text

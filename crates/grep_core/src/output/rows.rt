@@ -17,7 +17,8 @@ pub fn write_prefix<W: CountedWrite>(
     separator: u8,
     name: Option<&[u8]>,
 ) -> Result<(), WriteFault>
-    ensures { Writes W.contents W.failures out.old out.new (prefix separator (option_copied name.entry)) result }
+    ensures { Writes W.contents W.failures out.old out.new
+        (prefix separator (option_copied name.entry)) result }
 {
     let Some(name) = name else {
         return Ok(());
@@ -55,7 +56,8 @@ fn write_head<W: CountedWrite>(
     name: Option<&[u8]>,
     number: Option<u64>,
 ) -> Result<(), WriteFault>
-    ensures { Writes W.contents W.failures out.old out.new (head separator (option_copied name.entry) number) result }
+    ensures { Writes W.contents W.failures out.old out.new
+        (head separator (option_copied name.entry) number) result }
 {
     write_prefix(out, separator, name)?;
     write_number_part(out, separator, number)
@@ -81,7 +83,8 @@ pub fn write_line_behind<W: CountedWrite>(
     margin: &[u8],
     line: &[u8],
 ) -> Result<(), WriteFault>
-    ensures { Writes W.contents W.failures out.old out.new (output_line margin.now line.now) result }
+    ensures { Writes W.contents W.failures out.old out.new
+        (output_line margin.now line.now) result }
 {
     push_all(out, margin)?;
     write_line(out, line)
@@ -102,8 +105,9 @@ fn write_headed<W: CountedWrite>(
     write_line(out, text)
 }
 
-/// Writes one output line (XCU grep, STDOUT): the margin; the name and the separator, where there is
-/// a name; the number in decimal and the separator, where there is a number; the text and a newline.
+/// Writes one output line (XCU grep, STDOUT): the margin; the name and the separator, where there
+/// is a name; the number in decimal and the separator, where there is a number; the text and a
+/// newline.
 ///
 /// `WriteFault` comes where a write fails. It is not tried again.
 #[tactic(auto, using(crate::proofs::lemmas::RowLemmas::writing))]
@@ -116,7 +120,8 @@ pub fn write_row<W: CountedWrite>(
     text: &[u8],
 ) -> Result<(), WriteFault>
     ensures { Writes W.contents W.failures out.old out.new
-        (output_line margin.now (head separator (option_copied name.entry) number ++ text.now)) result }
+        (output_line margin.now (head separator (option_copied name.entry) number ++ text.now))
+        result }
 {
     push_all(out, margin)?;
     write_headed(out, separator, name, number, text)

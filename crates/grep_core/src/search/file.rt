@@ -173,20 +173,30 @@ pub fn search_file<S: Sources, M: LineMatch, W: CountedWrite>(
     requires place { k < length (S.listed sources.old) }
     requires in_order { S.stands_at sources.old k }
     requires whole { AllAnswer setting.now.asked.options.line_regexp (map M.whole matchers.old) }
-    requires needed { IfSome setting.now.asked.filter (λ f. AreNeeded f.now (map M.expression matchers.old)) }
+    requires needed { IfSome setting.now.asked.filter
+        (λ f. AreNeeded f.now (map M.expression matchers.old)) }
     ensures listed { S.listed sources.new ≡ S.listed sources.old }
     ensures next { S.stands_at sources.new (k + 1) }
     ensures same_loan { S.loan sources.new ≡ S.loan sources.old }
-    ensures ok { IfOk result (λ found. SearchesSource (map M.expression matchers.old) setting.now.asked.options setting.now.many
-        (source_at (S.listed sources.old) k) (GivesBack S.given_back sources.old sources.new) (S.failures sources.old) (S.failures sources.new)
+    ensures ok { IfOk result (λ found. SearchesSource (map M.expression matchers.old)
+        setting.now.asked.options setting.now.many (source_at (S.listed sources.old) k)
+        (GivesBack S.given_back sources.old sources.new)
+        (S.failures sources.old) (S.failures sources.new)
         (writer W.contents W.failures out.old) (writer W.contents W.failures out.new)
         meter.old meter.new found.end found.selected) }
-    ensures write { result ≡ Err SearchFault.Write → BreaksSource (map M.expression matchers.old) setting.now.asked.options setting.now.many
-        (source_at (S.listed sources.old) k) (GivesBack S.given_back sources.old sources.new) (S.failures sources.old) (S.failures sources.new)
-        (writer W.contents W.failures out.old) (writer W.contents W.failures out.new) meter.old meter.new }
-    ensures memory { (count : ℕ) → result ≡ Err (SearchFault.Memory count) → StopsSource (map M.expression matchers.old)
-        setting.now.asked.options setting.now.many (source_at (S.listed sources.old) k) (GivesBack S.given_back sources.old sources.new) count (S.failures sources.old) (S.failures sources.new)
-        (writer W.contents W.failures out.old) (writer W.contents W.failures out.new) meter.old meter.new }
+    ensures write { result ≡ Err SearchFault.Write → BreaksSource (map M.expression matchers.old)
+        setting.now.asked.options setting.now.many (source_at (S.listed sources.old) k)
+        (GivesBack S.given_back sources.old sources.new)
+        (S.failures sources.old) (S.failures sources.new)
+        (writer W.contents W.failures out.old) (writer W.contents W.failures out.new)
+        meter.old meter.new }
+    ensures memory { (count : ℕ) → result ≡ Err (SearchFault.Memory count)
+        → StopsSource (map M.expression matchers.old)
+        setting.now.asked.options setting.now.many (source_at (S.listed sources.old) k)
+        (GivesBack S.given_back sources.old sources.new) count
+        (S.failures sources.old) (S.failures sources.new)
+        (writer W.contents W.failures out.old) (writer W.contents W.failures out.new)
+        meter.old meter.new }
     ensures same_expressions { map M.expression matchers.new ≡ map M.expression matchers.old }
     ensures same_wholes { map M.whole matchers.new ≡ map M.whole matchers.old }
 {

@@ -50,11 +50,14 @@ fn search_source<S: Sources, M: LineMatch, W: CountedWrite, N: CountedWrite>(
     requires place { k < length (S.listed sources.old) }
     requires in_order { S.stands_at sources.old k }
     requires whole { AllAnswer setting.now.asked.options.line_regexp (map M.whole matchers.old) }
-    requires needed { IfSome setting.now.asked.filter (λ f. AreNeeded f.now (map M.expression matchers.old)) }
+    requires needed { IfSome setting.now.asked.filter
+        (λ f. AreNeeded f.now (map M.expression matchers.old)) }
     ensures listed { S.listed sources.new ≡ S.listed sources.old }
     ensures next { S.stands_at sources.new (k + 1) }
     ensures same_loan { S.loan sources.new ≡ S.loan sources.old }
-    ensures given { SourceGives (map M.expression matchers.old) setting.now.asked.options setting.now.many (source_at (S.listed sources.old) k) (GivesBack S.given_back sources.old sources.new) k
+    ensures given { SourceGives (map M.expression matchers.old) setting.now.asked.options
+        setting.now.many (source_at (S.listed sources.old) k)
+        (GivesBack S.given_back sources.old sources.new) k
         (devices (writer W.contents W.failures out.old) (writer N.contents N.failures messages.old)
         (S.failures sources.old) meter.old)
         (devices (writer W.contents W.failures out.new) (writer N.contents N.failures messages.new)
@@ -155,9 +158,11 @@ pub fn search_filtered<S: Sources, M: LineMatch, W: CountedWrite, N: CountedWrit
 ) -> Result<Status, RunFault>
     requires in_order { S.stands_at sources.old 0 }
     requires whole { AllAnswer asked.now.options.line_regexp (map M.whole matchers.old) }
-    requires needed { IfSome asked.now.filter (λ f. AreNeeded f.now (map M.expression matchers.old)) }
+    requires needed { IfSome asked.now.filter
+        (λ f. AreNeeded f.now (map M.expression matchers.old)) }
     ensures same_loan { S.loan sources.new ≡ S.loan sources.old }
-    ensures run { RunGives (map M.expression matchers.old) asked.now.options (S.listed sources.old) (GivesBack S.given_back sources.old sources.new)
+    ensures run { RunGives (map M.expression matchers.old) asked.now.options (S.listed sources.old)
+        (GivesBack S.given_back sources.old sources.new)
         (devices (writer W.contents W.failures out.old) (writer N.contents N.failures messages.old)
         (S.failures sources.old) meter.old)
         (devices (writer W.contents W.failures out.new) (writer N.contents N.failures messages.new)
