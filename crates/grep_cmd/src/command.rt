@@ -18,7 +18,7 @@ use crate::searching::search_files;
 use crate::telling::{end_search, tell, tell_unread, tell_usage};
 use crate::texts::{FAILED, OUT_OF_MEMORY};
 use crate::words::{Request, read_words};
-use grep_core::CountedWrite;
+use grep_core::{Asked, CountedWrite};
 use re_search::Meter;
 use re_syntax::{FaultKind, MOST_PATTERNS};
 use std::alloc::Global;
@@ -43,19 +43,14 @@ fn search_request<F: Files, W: CountedWrite, N: CountedWrite>(
         (F.failures files.new) meter.new)
         result }
 {
-    let words = &request.files;
-    let options = &request.options;
-    let found = search_files(
+    let asked = Asked {
         alloc,
-        files,
-        words,
-        &mut searchers.matchers,
-        searchers.needed.as_ref(),
-        options,
-        out,
-        messages,
-        meter,
-    );
+        options: request.options,
+        filter: searchers.needed.as_ref(),
+    };
+    let words = &request.files;
+    let matchers = &mut searchers.matchers;
+    let found = search_files(&asked, files, words, matchers, out, messages, meter);
     end_search(messages, found)
 }
 

@@ -9,9 +9,8 @@ ghost use Rattle.grep_cmd.specs.Words.{texts_of};
 
 use crate::files::Files;
 use crate::operands::Operands;
-use grep_core::{CountedWrite, Options, RunFault, Status, search_filtered};
-use re_search::{FixedSet, LineMatch, Meter};
-use std::alloc::Global;
+use grep_core::{Asked, CountedWrite, RunFault, Status, search_filtered};
+use re_search::{LineMatch, Meter};
 
 /// One pass over the files that the words name, or over standard input where there is no word.
 ///
@@ -19,19 +18,18 @@ use std::alloc::Global;
 ///
 /// Those of [`grep_core::search_filtered`].
 pub fn search_files<F: Files, L: LineMatch, W: CountedWrite, N: CountedWrite>(
-    alloc: Global,
+    asked: &Asked,
     files: &mut F,
     words: &[String],
     matchers: &mut [L],
-    filter: Option<&FixedSet>,
-    options: &Options,
     out: &mut W,
     messages: &mut N,
     meter: &mut Meter,
 ) -> Result<Status, RunFault>
-    requires whole { AllAnswer options.now.line_regexp (map L.whole matchers.old) }
-    requires needed { IfSome filter (λ f. AreNeeded f.now (map L.expression matchers.old)) }
-    ensures { RunGives (map L.expression matchers.old) options.now
+    requires whole { AllAnswer asked.now.options.line_regexp (map L.whole matchers.old) }
+    requires needed { IfSome asked.now.filter
+        (λ f. AreNeeded f.now (map L.expression matchers.old)) }
+    ensures { RunGives (map L.expression matchers.old) asked.now.options
         (sources_named (F.folder files.old) (searched (texts_of words.now))) (GivesBack F.given_back files.old files.new)
         (devices (writer W.contents W.failures out.old) (writer N.contents N.failures messages.old)
         (F.failures files.old) meter.old)
@@ -40,16 +38,7 @@ pub fn search_files<F: Files, L: LineMatch, W: CountedWrite, N: CountedWrite>(
         result }
 {
     let mut operands = Operands::new(&mut *files, words);
-    let found = search_filtered(
-        alloc,
-        &mut operands,
-        matchers,
-        filter,
-        options,
-        out,
-        messages,
-        meter,
-    );
+    let found = search_filtered(asked, &mut operands, matchers, out, messages, meter);
     let _files = operands.into_files();
     found
 }

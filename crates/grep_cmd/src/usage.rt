@@ -10,7 +10,7 @@ mod tests;
 
 use crate::texts::{OUT_OF_MEMORY, USAGE};
 use crate::words::UsageFault;
-use grep_core::{CountedWrite, WriteFault, push_all, write_line, write_row};
+use grep_core::{CountedWrite, WriteFault, push_all, write_line, write_line_behind};
 
 /// Writes the line on an option without its argument.
 fn write_missing_argument<M: CountedWrite>(messages: &mut M, letter: char) -> Result<(), WriteFault>
@@ -20,7 +20,7 @@ fn write_missing_argument<M: CountedWrite>(messages: &mut M, letter: char) -> Re
     let mut bytes = [0; 4];
     let letter = letter.encode_utf8(&mut bytes).as_bytes();
     push_all(messages, b"grep: option -")?;
-    write_row(messages, letter, None, None, b" needs an argument")
+    write_line_behind(messages, letter, b" needs an argument")
 }
 
 /// Writes the line on a character that is no option.
@@ -30,7 +30,7 @@ fn write_unknown_option<M: CountedWrite>(messages: &mut M, letter: char) -> Resu
 {
     let mut bytes = [0; 4];
     let letter = letter.encode_utf8(&mut bytes).as_bytes();
-    write_row(messages, b"grep: unknown option -", None, None, letter)
+    write_line_behind(messages, b"grep: unknown option -", letter)
 }
 
 /// Writes the line that tells of the fault.

@@ -6,7 +6,7 @@ use Rattle.re_syntax.specs.Bytes.{Text}
 use Rattle.re_syntax.specs.Expression.{Expression}
 use Rattle.re_syntax.specs.Parts.{AreParts}
 use Rattle.grep_core.specs.declared.options.Options.{Options}
-use Rattle.grep_core.specs.Row.{prefix, head, output_line}
+use Rattle.grep_core.specs.Row.{colon, prefix, head, output_line}
 use Rattle.grep_core.specs.Choose.{EachGives, Chosen}
 use Rattle.grep_core.specs.Files.{File, Ending, missing, Selected, HasSelected}
 
@@ -49,12 +49,14 @@ module _ (es : List Expression) (options : Options) (many : Bool) where
 
   -- what stands before a line or a part of a line
   abbrev pub head_of : File → ℕ → Text
-  head_of file number = head (shown_name many file) (shown_number options number)
+  head_of file number = head colon (shown_name many file) (shown_number options number)
 
   -- the count of a file's selected lines; nothing for a file that was not opened
   abbrev pub CountOf : Ending → File → List Text → Type 0
   CountOf missing file out = out ≡ []
-  CountOf _ file out = (selected : List (ℕ × Text)) × SelectedLines file selected × (out ≡ (prefix (shown_name many file) ++ decimal (length selected)) ∷ [])
+  CountOf _ file out =
+      (selected : List (ℕ × Text)) × SelectedLines file selected
+      × (out ≡ (prefix colon (shown_name many file) ++ decimal (length selected)) ∷ [])
 
   -- each selected line behind its head
   abbrev pub RowsOf : File → List Text → Type 0

@@ -4,22 +4,23 @@ use Rattle.std.specs.Fmt.{decimal}
 use Rattle.re_syntax.specs.Bytes.{Text}
 use Rattle.re_syntax.specs.Lines.{newline}
 
+-- what separates name and number of a selected line, of a part and of a count from what follows
 abbrev pub colon : ℕ
 colon = 58
 
--- the name and a colon, where a name is shown
-abbrev pub prefix : Option Text → Text
-prefix None = []
-prefix (Some name) = name ++ colon ∷ []
+-- the name and the separator, where a name is shown
+abbrev pub prefix : ℕ → Option Text → Text
+prefix separator None = []
+prefix separator (Some name) = name ++ separator ∷ []
 
--- the number in decimal and a colon, where a number is shown
-abbrev pub number_part : Option ℕ → Text
-number_part None = []
-number_part (Some number) = decimal number ++ colon ∷ []
+-- the number in decimal and the separator, where a number is shown
+abbrev pub number_part : ℕ → Option ℕ → Text
+number_part separator None = []
+number_part separator (Some number) = decimal number ++ separator ∷ []
 
 -- what stands before the text of an output line
-abbrev pub head : Option Text → Option ℕ → Text
-head name number = prefix name ++ number_part number
+abbrev pub head : ℕ → Option Text → Option ℕ → Text
+head separator name number = prefix separator name ++ number_part separator number
 
 -- an output line: the margin, the text and a newline
 abbrev pub output_line : Text → Text → Text

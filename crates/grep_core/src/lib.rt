@@ -22,7 +22,7 @@ pub use options::{Flag, Form, Options};
 pub use output::counts::{write_count, write_name};
 pub use output::messages::{write_cannot_open, write_read_error};
 pub use output::push::push_all;
-pub use output::rows::{write_decimal, write_line, write_row};
+pub use output::rows::{write_decimal, write_line, write_line_behind, write_row};
 pub use output::summary::{status_of, tell_fault, write_summary};
 pub use output::wanted::Wanted;
 pub use search::file::{FileEnd, FileFound, count_found};
@@ -30,6 +30,7 @@ pub use search::matching::next_part;
 pub use search::run::{search_all, search_filtered};
 pub use search::sending::send_before_read;
 pub use search::serving::serves_for_others;
+pub use search::setting::Asked;
 pub use status::{RunFault, Status};
 
 #[cfg(test)]

@@ -7,3 +7,4 @@ pub mod passing;
 pub mod run;
 pub mod sending;
 pub mod serving;
+pub mod setting;

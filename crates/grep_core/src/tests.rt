@@ -31,12 +31,23 @@ fn a_refused_growth_loses_nothing(rt: HostRuntime) -> Result<(), Fail> {
 #[test]
 fn rows_go_through_the_buffer(rt: HostRuntime) -> Result<(), Fail> {
     let mut out = Buffered::new(rt.alloc(), Tally::new(Vec::new(rt.alloc())))?;
-    let row = write_row(&mut out, b"  ", Some(b"a.txt"), Some(u64::MAX), b"text");
+    let row = write_row(
+        &mut out,
+        b"  ",
+        b':',
+        Some(b"a.txt"),
+        Some(u64::MAX),
+        b"text",
+    );
     assert_eq!(rt; row, Ok(()));
+    assert_eq!(rt;
+        write_row(&mut out, b"", b'-', Some(b"b"), Some(7), b"beside"),
+        Ok(())
+    );
     assert_eq!(rt; write_line(&mut out, b"--"), Ok(()));
     assert_eq!(rt; out.send(), Ok(()));
     let bytes = out.into_inner().into_inner();
-    let want = b"  a.txt:18446744073709551615:text\n--\n";
+    let want = b"  a.txt:18446744073709551615:text\nb-7-beside\n--\n";
     assert_eq!(rt; bytes.as_slice(), want.as_slice());
     Ok(())
 }

@@ -20,8 +20,7 @@ fn write_parts<W: CountedWrite>(
         (part_rows wanted.now.options wanted.now.many wanted.now.name.now number line.now.text.items line.now.found.spans)) result }
 {
     for part in line.found.spans() {
-        let text = &line.text[part.start..part.end];
-        wanted.write_text(number, text, out, margin)?;
+        wanted.write_part(number, &line.text, *part, out, margin)?;
     }
     Ok(())
 }

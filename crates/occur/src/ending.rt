@@ -17,6 +17,9 @@ use grep_core::{CountedWrite, WriteFault, write_line, write_row};
 /// The exit status of a script of which a command was refused.
 const REFUSED: u8 = 1;
 
+/// Memory was refused.
+const OUT_OF_MEMORY: &[u8] = b"occur: out of memory";
+
 /// Writes the line. A write that fails is not tried again.
 fn tell<M: CountedWrite>(messages: &mut M, text: &[u8])
     ensures { TellsLines (writer M.contents M.failures messages.old) (writer M.contents M.failures messages.new) (text.now ∷ []) }
@@ -57,7 +60,7 @@ pub fn refuse_memory<M: CountedWrite>(messages: &mut M) -> u8
     ensures told { TellsLines (writer M.contents M.failures messages.old) (writer M.contents M.failures messages.new)
         (out_of_memory ∷ []) }
 {
-    tell(messages, b"occur: out of memory");
+    tell(messages, OUT_OF_MEMORY);
     FAILED
 }
 
@@ -65,7 +68,14 @@ pub fn refuse_memory<M: CountedWrite>(messages: &mut M) -> u8
 fn write_cannot_open<M: CountedWrite>(messages: &mut M, name: &[u8]) -> Result<(), WriteFault>
     ensures { Writes M.contents M.failures messages.old messages.new (output_line [] (cannot_open name.now)) result }
 {
-    write_row(messages, b"occur: ", Some(name), None, b" cannot open")
+    write_row(
+        messages,
+        b"occur: ",
+        b':',
+        Some(name),
+        None,
+        b" cannot open",
+    )
 }
 
 /// Tells that the script could not be opened, and answers the exit status. A write that fails is
@@ -86,7 +96,7 @@ fn fault_text(fault: ScriptFault) -> &'static [u8]
     match fault {
         ScriptFault::Read => b"occur: read error",
         ScriptFault::Write => b"occur: write error",
-        ScriptFault::Memory => b"occur: out of memory",
+        ScriptFault::Memory => OUT_OF_MEMORY,
     }
 }
 

@@ -6,7 +6,7 @@ use Rattle.re_syntax.specs.Expression.{Expression}
 use Rattle.re_syntax.proofs.lemmas.PartsLaws.{ArePartsFrom-unique}
 use Rattle.grep_core.specs.declared.options.Options.{Options}
 use Rattle.grep_core.specs.declared.status.Status.{Status}
-use Rattle.grep_core.specs.Row.{prefix}
+use Rattle.grep_core.specs.Row.{colon, prefix}
 use Rattle.grep_core.specs.Choose.{EachGives}
 use Rattle.grep_core.specs.Files.{File, Ending, whole, missing, broken}
 use Rattle.grep_core.specs.Output.{Form, nothing, names, counts, parts, lines, form, shown_name, head_of, CountOf, RowsOf, PartRowsOf, PartsOfLine, OutAs, Out, are_many}
@@ -17,8 +17,8 @@ module _ (es : List Expression) (options : Options) (many : Bool) where
   -- a file has at most one count
   pub CountOf-determined : (file : File) (ending : Ending) (out more : List Text) → CountOf es options many ending file out → CountOf es options many ending file more → out ≡ more
   CountOf-determined file missing out more a b = same_value a b
-  CountOf-determined file whole out more a b = a.2 ∙ ap (λ s. (prefix (shown_name many file) ++ decimal (length s)) ∷ []) (Chosen-determined _ _ a.0 b.0 a.1 b.1) ∙ sym b.2
-  CountOf-determined file broken out more a b = a.2 ∙ ap (λ s. (prefix (shown_name many file) ++ decimal (length s)) ∷ []) (Chosen-determined _ _ a.0 b.0 a.1 b.1) ∙ sym b.2
+  CountOf-determined file whole out more a b = a.2 ∙ ap (λ s. (prefix colon (shown_name many file) ++ decimal (length s)) ∷ []) (Chosen-determined _ _ a.0 b.0 a.1 b.1) ∙ sym b.2
+  CountOf-determined file broken out more a b = a.2 ∙ ap (λ s. (prefix colon (shown_name many file) ++ decimal (length s)) ∷ []) (Chosen-determined _ _ a.0 b.0 a.1 b.1) ∙ sym b.2
 
   -- a file has at most one list of rows
   pub RowsOf-determined : (file : File) (out more : List Text) → RowsOf es options many file out → RowsOf es options many file more → out ≡ more

@@ -8,7 +8,7 @@ use Rattle.re_syntax.proofs.lemmas.PartsExist.{AreParts-exist}
 use Rattle.grep_core.specs.declared.options.Options.{Options}
 use Rattle.grep_core.specs.declared.status.Status.{Status}
 use Rattle.grep_core.specs.declared.status.Status.TheVariants.{Selected as selected, NoneSelected, Error}
-use Rattle.grep_core.specs.Row.{prefix}
+use Rattle.grep_core.specs.Row.{colon, prefix}
 use Rattle.grep_core.specs.Choose.{EachGives}
 use Rattle.grep_core.specs.Files.{File, Ending, whole, missing, broken, Selected, HasSelected}
 use Rattle.grep_core.specs.Output.{Form, nothing, names, counts, parts, lines, form, shown_name, head_of, numbered, SelectedLines, CountOf, RowsOf, PartRowsOf, PartsOfLine, OutAs, Out, are_many}
@@ -24,8 +24,8 @@ module _ (es : List Expression) (options : Options) (many : Bool) where
   -- a file has its count
   pub CountOf-exist : (ending : Ending) (file : File) → (out : List Text) × CountOf es options many ending file out
   CountOf-exist missing file = ([], refl)
-  CountOf-exist whole file = let ls = SelectedLines-exist file in ((prefix (shown_name many file) ++ decimal (length ls.0)) ∷ [], (ls.0, ls.1, refl))
-  CountOf-exist broken file = let ls = SelectedLines-exist file in ((prefix (shown_name many file) ++ decimal (length ls.0)) ∷ [], (ls.0, ls.1, refl))
+  CountOf-exist whole file = let ls = SelectedLines-exist file in ((prefix colon (shown_name many file) ++ decimal (length ls.0)) ∷ [], (ls.0, ls.1, refl))
+  CountOf-exist broken file = let ls = SelectedLines-exist file in ((prefix colon (shown_name many file) ++ decimal (length ls.0)) ∷ [], (ls.0, ls.1, refl))
 
   -- a file has its rows
   pub RowsOf-exist : (file : File) → (out : List Text) × RowsOf es options many file out

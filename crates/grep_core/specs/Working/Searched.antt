@@ -14,7 +14,7 @@ use Rattle.grep_core.specs.declared.status.Status.{Status}
 use Rattle.grep_core.specs.declared.status.Status.TheVariants.{Selected, NoneSelected, Error}
 use Rattle.grep_core.specs.Counted.{one_more}
 use Rattle.grep_core.specs.Choose.{IfHolds}
-use Rattle.grep_core.specs.Row.{prefix}
+use Rattle.grep_core.specs.Row.{colon, prefix}
 use Rattle.grep_core.specs.Files.{Ending, whole, missing, broken, HasSelected}
 use Rattle.grep_core.specs.Output.{Form, names, counts, form, OutAs}
 use Rattle.grep_core.specs.Messages.{message, FaultMet, Told}
@@ -48,7 +48,8 @@ is_missing Left = false
 
 -- the count of a file's selected lines; nothing for a file that was not opened
 abbrev pub count_line : Bool → Text → FileEnd → ℕ → List Text
-count_line many name end selected = if is_missing end then [] else (prefix (name_shown many name) ++ decimal selected) ∷ []
+count_line many name end selected =
+    if is_missing end then [] else (prefix colon (name_shown many name) ++ decimal selected) ∷ []
 
 -- what is written of a file behind the rows of its lines
 abbrev pub summary_as : Form → Bool → Text → FileEnd → ℕ → List Text

@@ -2,13 +2,13 @@
 ghost use Rattle.std.specs.Prelude.{[], ◌∷◌, ◌++◌};
 ghost use Rattle.std.specs.Fmt.{decimal};
 ghost use Rattle.std.specs.Option.{option_copied};
-ghost use Rattle.grep_core.specs.Row.{prefix, output_line};
+ghost use Rattle.grep_core.specs.Row.{colon, prefix, output_line};
 ghost use Rattle.grep_core.specs.Written.{Writes};
 ghost use Rattle.re_syntax.specs.Lines.{newline};
 
 use crate::devices::counted::{CountedWrite, WriteFault};
 use crate::output::push::push_all;
-use crate::output::rows::{write_decimal, write_prefix, write_row};
+use crate::output::rows::{write_decimal, write_line_behind, write_prefix};
 
 #[tactic(auto, using(crate::proofs::lemmas::RowLemmas::writing))]
 fn write_decimal_line<W: CountedWrite>(out: &mut W, number: u64) -> Result<(), WriteFault>
@@ -25,9 +25,9 @@ fn write_prefixed_decimal<W: CountedWrite>(
     number: u64,
 ) -> Result<(), WriteFault>
     ensures { Writes W.contents W.failures out.old out.new
-        (prefix (option_copied name.entry) ++ (decimal number ++ newline ∷ [])) result }
+        (prefix colon (option_copied name.entry) ++ (decimal number ++ newline ∷ [])) result }
 {
-    write_prefix(out, name)?;
+    write_prefix(out, b':', name)?;
     write_decimal_line(out, number)
 }
 
@@ -43,7 +43,7 @@ pub fn write_count<W: CountedWrite>(
     count: u64,
 ) -> Result<(), WriteFault>
     ensures { Writes W.contents W.failures out.old out.new
-        (output_line margin.now (prefix (option_copied name.entry) ++ decimal count)) result }
+        (output_line margin.now (prefix colon (option_copied name.entry) ++ decimal count)) result }
 {
     push_all(out, margin)?;
     write_prefixed_decimal(out, name, count)
@@ -59,5 +59,5 @@ pub fn write_name<W: CountedWrite>(
 ) -> Result<(), WriteFault>
     ensures { Writes W.contents W.failures out.old out.new (output_line margin.now name.now) result }
 {
-    write_row(out, margin, None, None, name)
+    write_line_behind(out, margin, name)
 }

@@ -13,7 +13,7 @@ use crate::output::rows::write_row;
 pub fn write_cannot_open<M: CountedWrite>(messages: &mut M, name: &[u8]) -> Result<(), WriteFault>
     ensures { Writes M.contents M.failures messages.old messages.new (output_line [] (cannot_open name.now)) result }
 {
-    write_row(messages, b"grep: ", Some(name), None, b" cannot open")
+    write_row(messages, b"grep: ", b':', Some(name), None, b" cannot open")
 }
 
 /// Writes the message on a file whose read failed.
@@ -22,5 +22,5 @@ pub fn write_cannot_open<M: CountedWrite>(messages: &mut M, name: &[u8]) -> Resu
 pub fn write_read_error<M: CountedWrite>(messages: &mut M, name: &[u8]) -> Result<(), WriteFault>
     ensures { Writes M.contents M.failures messages.old messages.new (output_line [] (read_error name.now)) result }
 {
-    write_row(messages, b"grep: ", Some(name), None, b" read error")
+    write_row(messages, b"grep: ", b':', Some(name), None, b" read error")
 }

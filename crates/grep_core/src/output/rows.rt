@@ -10,16 +10,21 @@ use crate::devices::counted::{CountedWrite, WriteFault};
 use crate::output::push::push_all;
 use itoa::Buffer;
 
-/// Writes the name and a colon, where there is a name.
+/// Writes the name and the separator, where there is a name.
 #[tactic(auto, using(crate::proofs::lemmas::RowLemmas::writing))]
-pub fn write_prefix<W: CountedWrite>(out: &mut W, name: Option<&[u8]>) -> Result<(), WriteFault>
-    ensures { Writes W.contents W.failures out.old out.new (prefix (option_copied name.entry)) result }
+pub fn write_prefix<W: CountedWrite>(
+    out: &mut W,
+    separator: u8,
+    name: Option<&[u8]>,
+) -> Result<(), WriteFault>
+    ensures { Writes W.contents W.failures out.old out.new
+        (prefix separator (option_copied name.entry)) result }
 {
     let Some(name) = name else {
         return Ok(());
     };
     push_all(out, name)?;
-    push_all(out, b":")
+    push_all(out, &[separator])
 }
 
 /// Writes the number in decimal.
@@ -30,26 +35,32 @@ pub fn write_decimal<W: CountedWrite>(out: &mut W, number: u64) -> Result<(), Wr
 }
 
 #[tactic(auto, using(crate::proofs::lemmas::RowLemmas::writing))]
-fn write_number_part<W: CountedWrite>(out: &mut W, number: Option<u64>) -> Result<(), WriteFault>
-    ensures { Writes W.contents W.failures out.old out.new (number_part number) result }
+fn write_number_part<W: CountedWrite>(
+    out: &mut W,
+    separator: u8,
+    number: Option<u64>,
+) -> Result<(), WriteFault>
+    ensures { Writes W.contents W.failures out.old out.new (number_part separator number) result }
 {
     let Some(number) = number else {
         return Ok(());
     };
     write_decimal(out, number)?;
-    push_all(out, b":")
+    push_all(out, &[separator])
 }
 
 #[tactic(auto, using(crate::proofs::lemmas::RowLemmas::writing))]
 fn write_head<W: CountedWrite>(
     out: &mut W,
+    separator: u8,
     name: Option<&[u8]>,
     number: Option<u64>,
 ) -> Result<(), WriteFault>
-    ensures { Writes W.contents W.failures out.old out.new (head (option_copied name.entry) number) result }
+    ensures { Writes W.contents W.failures out.old out.new
+        (head separator (option_copied name.entry) number) result }
 {
-    write_prefix(out, name)?;
-    write_number_part(out, number)
+    write_prefix(out, separator, name)?;
+    write_number_part(out, separator, number)
 }
 
 /// Writes the text and a newline.
@@ -63,35 +74,55 @@ pub fn write_line<W: CountedWrite>(out: &mut W, text: &[u8]) -> Result<(), Write
     push_all(out, b"\n")
 }
 
+/// Writes the margin, the line and a newline.
+///
+/// `WriteFault` comes where a write fails. It is not tried again.
+#[tactic(auto, using(crate::proofs::lemmas::WrittenLemmas::as_written))]
+pub fn write_line_behind<W: CountedWrite>(
+    out: &mut W,
+    margin: &[u8],
+    line: &[u8],
+) -> Result<(), WriteFault>
+    ensures { Writes W.contents W.failures out.old out.new
+        (output_line margin.now line.now) result }
+{
+    push_all(out, margin)?;
+    write_line(out, line)
+}
+
 #[tactic(auto, using(crate::proofs::lemmas::RowLemmas::writing))]
 fn write_headed<W: CountedWrite>(
     out: &mut W,
+    separator: u8,
     name: Option<&[u8]>,
     number: Option<u64>,
     text: &[u8],
 ) -> Result<(), WriteFault>
     ensures { Writes W.contents W.failures out.old out.new
-        (head (option_copied name.entry) number ++ (text.now ++ newline ∷ [])) result }
+        (head separator (option_copied name.entry) number ++ (text.now ++ newline ∷ [])) result }
 {
-    write_head(out, name, number)?;
+    write_head(out, separator, name, number)?;
     write_line(out, text)
 }
 
-/// Writes one output line (XCU grep, STDOUT): the margin; the name and a colon, where there is a
-/// name; the number in decimal and a colon, where there is a number; the text and a newline.
+/// Writes one output line (XCU grep, STDOUT): the margin; the name and the separator, where there
+/// is a name; the number in decimal and the separator, where there is a number; the text and a
+/// newline.
 ///
 /// `WriteFault` comes where a write fails. It is not tried again.
 #[tactic(auto, using(crate::proofs::lemmas::RowLemmas::writing))]
 pub fn write_row<W: CountedWrite>(
     out: &mut W,
     margin: &[u8],
+    separator: u8,
     name: Option<&[u8]>,
     number: Option<u64>,
     text: &[u8],
 ) -> Result<(), WriteFault>
     ensures { Writes W.contents W.failures out.old out.new
-        (output_line margin.now (head (option_copied name.entry) number ++ text.now)) result }
+        (output_line margin.now (head separator (option_copied name.entry) number ++ text.now))
+        result }
 {
     push_all(out, margin)?;
-    write_headed(out, name, number, text)
+    write_headed(out, separator, name, number, text)
 }

@@ -1,14 +1,15 @@
 //! What is asked of one file.
-ghost use Rattle.std.specs.Prelude.{◌≡◌, ◌++◌};
+ghost use Rattle.std.specs.Prelude.{◌≡◌, ◌≤◌, ◌++◌, length, slice_range};
 ghost use Rattle.std.specs.Option.{option_copied};
 ghost use Rattle.grep_core.specs.Output.{shown_number};
-ghost use Rattle.grep_core.specs.Row.{head, output_line};
+ghost use Rattle.grep_core.specs.Row.{colon, head, output_line};
 ghost use Rattle.grep_core.specs.Working.Wanted.{name_shown};
 ghost use Rattle.grep_core.specs.Written.{Writes};
 
 use crate::devices::counted::{CountedWrite, WriteFault};
 use crate::options::Options;
 use crate::output::rows::write_row;
+use re_search::Span;
 
 /// What is asked of one file.
 #[derive(Clone, Copy)]
@@ -52,14 +53,38 @@ impl Wanted<'_> {
         margin: &[u8],
     ) -> Result<(), WriteFault>
         ensures { Writes W.contents W.failures out.old out.new (output_line margin.now
-            (head (name_shown self.now.many self.now.name.now) (shown_number self.now.options number) ++ text.now)) result }
+            (head colon (name_shown self.now.many self.now.name.now)
+            (shown_number self.now.options number) ++ text.now)) result }
     {
         write_row(
             out,
             margin,
+            b':',
             self.shown_name(),
             self.shown_number(number),
             text,
         )
+    }
+
+    /// Writes an output line for a part of a line of the file: what [`Wanted::write_text`] writes
+    /// for the part's text.
+    ///
+    /// `WriteFault` comes where a write fails. It is not tried again.
+    pub fn write_part<W: CountedWrite>(
+        &self,
+        number: u64,
+        line: &[u8],
+        part: Span,
+        out: &mut W,
+        margin: &[u8],
+    ) -> Result<(), WriteFault>
+        requires in_order { part.start ≤ part.end }
+        requires on_line { part.end ≤ length line.now }
+        ensures { Writes W.contents W.failures out.old out.new (output_line margin.now
+            (head colon (name_shown self.now.many self.now.name.now)
+            (shown_number self.now.options number) ++ slice_range line.now part.start part.end))
+            result }
+    {
+        self.write_text(number, &line[part.start..part.end], out, margin)
     }
 }

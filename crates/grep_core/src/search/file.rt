@@ -11,13 +11,12 @@ use crate::devices::counted::{CountedRead, CountedWrite, WriteFault};
 use crate::input::lines::{ReadFault, Stage};
 use crate::input::numbered::NumberedLines;
 use crate::input::sources::Sources;
-use crate::options::Options;
 use crate::output::wanted::Wanted;
 use crate::search::line::search_line;
 use crate::search::passing::pass_unselected;
 use crate::search::sending::send_before_read;
+use crate::search::setting::Setting;
 use re_search::{FixedSet, LineMatch, Meter};
-use std::alloc::Global;
 
 /// How the search of a file came to its end.
 #[derive(Clone, Copy, PartialEq, Eq, Debug, Drop)]
@@ -164,33 +163,40 @@ fn search_lines<R: CountedRead, M: LineMatch, W: CountedWrite>(
 
 /// Opens the next source, searches its lines and gives its reader back.
 pub fn search_file<S: Sources, M: LineMatch, W: CountedWrite>(
-    alloc: Global,
+    setting: &Setting,
     sources: &mut S,
     k: usize,
     matchers: &mut [M],
-    filter: Option<&FixedSet>,
-    options: Options,
-    many: bool,
     out: &mut W,
     meter: &mut Meter,
 ) -> Result<FileFound, SearchFault>
     requires place { k < length (S.listed sources.old) }
     requires in_order { S.stands_at sources.old k }
-    requires whole { AllAnswer options.line_regexp (map M.whole matchers.old) }
-    requires needed { IfSome filter (λ f. AreNeeded f.now (map M.expression matchers.old)) }
+    requires whole { AllAnswer setting.now.asked.options.line_regexp (map M.whole matchers.old) }
+    requires needed { IfSome setting.now.asked.filter
+        (λ f. AreNeeded f.now (map M.expression matchers.old)) }
     ensures listed { S.listed sources.new ≡ S.listed sources.old }
     ensures next { S.stands_at sources.new (k + 1) }
     ensures same_loan { S.loan sources.new ≡ S.loan sources.old }
-    ensures ok { IfOk result (λ found. SearchesSource (map M.expression matchers.old) options many
-        (source_at (S.listed sources.old) k) (GivesBack S.given_back sources.old sources.new) (S.failures sources.old) (S.failures sources.new)
+    ensures ok { IfOk result (λ found. SearchesSource (map M.expression matchers.old)
+        setting.now.asked.options setting.now.many (source_at (S.listed sources.old) k)
+        (GivesBack S.given_back sources.old sources.new)
+        (S.failures sources.old) (S.failures sources.new)
         (writer W.contents W.failures out.old) (writer W.contents W.failures out.new)
         meter.old meter.new found.end found.selected) }
-    ensures write { result ≡ Err SearchFault.Write → BreaksSource (map M.expression matchers.old) options many
-        (source_at (S.listed sources.old) k) (GivesBack S.given_back sources.old sources.new) (S.failures sources.old) (S.failures sources.new)
-        (writer W.contents W.failures out.old) (writer W.contents W.failures out.new) meter.old meter.new }
-    ensures memory { (count : ℕ) → result ≡ Err (SearchFault.Memory count) → StopsSource (map M.expression matchers.old)
-        options many (source_at (S.listed sources.old) k) (GivesBack S.given_back sources.old sources.new) count (S.failures sources.old) (S.failures sources.new)
-        (writer W.contents W.failures out.old) (writer W.contents W.failures out.new) meter.old meter.new }
+    ensures write { result ≡ Err SearchFault.Write → BreaksSource (map M.expression matchers.old)
+        setting.now.asked.options setting.now.many (source_at (S.listed sources.old) k)
+        (GivesBack S.given_back sources.old sources.new)
+        (S.failures sources.old) (S.failures sources.new)
+        (writer W.contents W.failures out.old) (writer W.contents W.failures out.new)
+        meter.old meter.new }
+    ensures memory { (count : ℕ) → result ≡ Err (SearchFault.Memory count)
+        → StopsSource (map M.expression matchers.old)
+        setting.now.asked.options setting.now.many (source_at (S.listed sources.old) k)
+        (GivesBack S.given_back sources.old sources.new) count
+        (S.failures sources.old) (S.failures sources.new)
+        (writer W.contents W.failures out.old) (writer W.contents W.failures out.new)
+        meter.old meter.new }
     ensures same_expressions { map M.expression matchers.new ≡ map M.expression matchers.old }
     ensures same_wholes { map M.whole matchers.new ≡ map M.whole matchers.old }
 {
@@ -198,7 +204,7 @@ pub fn search_file<S: Sources, M: LineMatch, W: CountedWrite>(
         let end = FileEnd::Missing;
         return Ok(FileFound { end, selected: 0 });
     };
-    let mut lines = match NumberedLines::new(alloc, reader) {
+    let mut lines = match NumberedLines::new(setting.asked.alloc, reader) {
         Ok(lines) => lines,
         Err(reader) => {
             sources.close(reader);
@@ -206,11 +212,18 @@ pub fn search_file<S: Sources, M: LineMatch, W: CountedWrite>(
         }
     };
     let wanted = Wanted {
-        options,
-        many,
+        options: setting.asked.options,
+        many: setting.many,
         name: sources.name(k),
     };
-    let found = search_lines(&mut lines, matchers, filter, &wanted, out, meter);
+    let found = search_lines(
+        &mut lines,
+        matchers,
+        setting.asked.filter,
+        &wanted,
+        out,
+        meter,
+    );
     sources.close(lines.into_reader());
     found
 }

@@ -35,8 +35,7 @@ fn write_parts<M: LineMatch, W: CountedWrite>(
 {
     let mut from = 0;
     while let Some(part) = next_part(matchers, wanted.options, line, from, meter) {
-        let text = &line[part.start..part.end];
-        wanted.write_text(number, text, out, b"")?;
+        wanted.write_part(number, line, part, out, b"")?;
         from = part.end;
     }
     Ok(())

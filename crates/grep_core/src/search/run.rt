@@ -14,8 +14,9 @@ use crate::options::Options;
 use crate::output::summary::{status_of, tell_fault, write_summary};
 use crate::output::wanted::Wanted;
 use crate::search::file::{FileFound, SearchFault, search_file};
+use crate::search::setting::{Asked, Setting};
 use crate::status::{RunFault, Status};
-use re_search::{FixedSet, LineMatch, Meter};
+use re_search::{LineMatch, Meter};
 use std::alloc::Global;
 
 /// Writes what comes behind the rows of a source's lines. Where a message will be told of it, what
@@ -38,25 +39,25 @@ fn end_output<W: CountedWrite>(
 
 /// Writes the output and the message for the next source.
 fn search_source<S: Sources, M: LineMatch, W: CountedWrite, N: CountedWrite>(
-    alloc: Global,
+    setting: &Setting,
     sources: &mut S,
     k: usize,
     matchers: &mut [M],
-    filter: Option<&FixedSet>,
-    options: Options,
-    many: bool,
     out: &mut W,
     messages: &mut N,
     meter: &mut Meter,
 ) -> Result<FileFound, RunFault>
     requires place { k < length (S.listed sources.old) }
     requires in_order { S.stands_at sources.old k }
-    requires whole { AllAnswer options.line_regexp (map M.whole matchers.old) }
-    requires needed { IfSome filter (λ f. AreNeeded f.now (map M.expression matchers.old)) }
+    requires whole { AllAnswer setting.now.asked.options.line_regexp (map M.whole matchers.old) }
+    requires needed { IfSome setting.now.asked.filter
+        (λ f. AreNeeded f.now (map M.expression matchers.old)) }
     ensures listed { S.listed sources.new ≡ S.listed sources.old }
     ensures next { S.stands_at sources.new (k + 1) }
     ensures same_loan { S.loan sources.new ≡ S.loan sources.old }
-    ensures given { SourceGives (map M.expression matchers.old) options many (source_at (S.listed sources.old) k) (GivesBack S.given_back sources.old sources.new) k
+    ensures given { SourceGives (map M.expression matchers.old) setting.now.asked.options
+        setting.now.many (source_at (S.listed sources.old) k)
+        (GivesBack S.given_back sources.old sources.new) k
         (devices (writer W.contents W.failures out.old) (writer N.contents N.failures messages.old)
         (S.failures sources.old) meter.old)
         (devices (writer W.contents W.failures out.new) (writer N.contents N.failures messages.new)
@@ -65,23 +66,27 @@ fn search_source<S: Sources, M: LineMatch, W: CountedWrite, N: CountedWrite>(
     ensures same_expressions { map M.expression matchers.new ≡ map M.expression matchers.old }
     ensures same_wholes { map M.whole matchers.new ≡ map M.whole matchers.old }
 {
-    let found = match search_file(
-        alloc, sources, k, matchers, filter, options, many, out, meter,
-    ) {
+    let found = match search_file(setting, sources, k, matchers, out, meter) {
         Ok(found) => found,
         Err(SearchFault::Write) => return Err(RunFault::Write),
         Err(SearchFault::Memory(lines)) => return Err(RunFault::Memory { source: k, lines }),
     };
     let wanted = Wanted {
-        options,
-        many,
+        options: setting.asked.options,
+        many: setting.many,
         name: sources.name(k),
     };
     match end_output(&wanted, found, out) {
         Ok(()) => {}
         Err(WriteFault) => return Err(RunFault::Write),
     }
-    match tell_fault(options.no_messages, wanted.name, found.end, messages, b"") {
+    match tell_fault(
+        wanted.options.no_messages,
+        wanted.name,
+        found.end,
+        messages,
+        b"",
+    ) {
         Ok(()) => Ok(found),
         Err(WriteFault) => Err(RunFault::MessageWrite),
     }
@@ -127,9 +132,12 @@ pub fn search_all<S: Sources, M: LineMatch, W: CountedWrite, N: CountedWrite>(
     ensures same_expressions { map M.expression matchers.new ≡ map M.expression matchers.old }
     ensures same_wholes { map M.whole matchers.new ≡ map M.whole matchers.old }
 {
-    search_filtered(
-        alloc, sources, matchers, None, options, out, messages, meter,
-    )
+    let asked = Asked {
+        alloc,
+        options: *options,
+        filter: None,
+    };
+    search_filtered(&asked, sources, matchers, out, messages, meter)
 }
 
 /// One pass over all sources, as [`search_all`] makes it, in which a filter, where there is one, is
@@ -141,20 +149,20 @@ pub fn search_all<S: Sources, M: LineMatch, W: CountedWrite, N: CountedWrite>(
 /// filter. A look through the filter counts no step, as the search for a string that a matcher
 /// needs counts none within that matcher.
 pub fn search_filtered<S: Sources, M: LineMatch, W: CountedWrite, N: CountedWrite>(
-    alloc: Global,
+    asked: &Asked,
     sources: &mut S,
     matchers: &mut [M],
-    filter: Option<&FixedSet>,
-    options: &Options,
     out: &mut W,
     messages: &mut N,
     meter: &mut Meter,
 ) -> Result<Status, RunFault>
     requires in_order { S.stands_at sources.old 0 }
-    requires whole { AllAnswer options.now.line_regexp (map M.whole matchers.old) }
-    requires needed { IfSome filter (λ f. AreNeeded f.now (map M.expression matchers.old)) }
+    requires whole { AllAnswer asked.now.options.line_regexp (map M.whole matchers.old) }
+    requires needed { IfSome asked.now.filter
+        (λ f. AreNeeded f.now (map M.expression matchers.old)) }
     ensures same_loan { S.loan sources.new ≡ S.loan sources.old }
-    ensures run { RunGives (map M.expression matchers.old) options.now (S.listed sources.old) (GivesBack S.given_back sources.old sources.new)
+    ensures run { RunGives (map M.expression matchers.old) asked.now.options (S.listed sources.old)
+        (GivesBack S.given_back sources.old sources.new)
         (devices (writer W.contents W.failures out.old) (writer N.contents N.failures messages.old)
         (S.failures sources.old) meter.old)
         (devices (writer W.contents W.failures out.new) (writer N.contents N.failures messages.new)
@@ -165,16 +173,18 @@ pub fn search_filtered<S: Sources, M: LineMatch, W: CountedWrite, N: CountedWrit
 {
     let count = sources.count();
     let many = count >= 2;
+    let setting = Setting {
+        asked: *asked,
+        many,
+    };
     let mut some = false;
     let mut faulty = false;
     for k in 0..count {
-        let found = match search_source(
-            alloc, sources, k, matchers, filter, *options, many, out, messages, meter,
-        ) {
+        let found = match search_source(&setting, sources, k, matchers, out, messages, meter) {
             Ok(found) => found,
             Err(fault) => return Err(fault),
         };
-        if options.quiet & found.has_selected() {
+        if asked.options.quiet & found.has_selected() {
             return Ok(Status::Selected);
         }
         some |= found.has_selected();

@@ -9,7 +9,7 @@ use Rattle.grep_core.specs.declared.search.file.FileEnd.{FileEnd}
 use Rattle.grep_core.specs.declared.search.file.FileEnd.TheVariants.{Missing, Whole}
 use Rattle.grep_core.specs.declared.status.Status.{Status}
 use Rattle.grep_core.specs.declared.status.Status.TheVariants.{Selected as selected}
-use Rattle.grep_core.specs.Row.{head}
+use Rattle.grep_core.specs.Row.{colon, head}
 use Rattle.grep_core.specs.Files.{File}
 use Rattle.grep_core.specs.Output.{Form, parts, lines, form, shown_number, Out, written}
 use Rattle.grep_core.specs.Messages.{Messages, StatusOf}
@@ -72,7 +72,7 @@ FileFits options file = LinesFit options (kept_lines file)
 module _ (options : Options) (many : Bool) (name : Text) where
   -- a row with this text for a line of this number
   abbrev pub row : ℕ → Text → Text
-  row number text = head (name_shown many name) (shown_number options number) ++ text
+  row number text = head colon (name_shown many name) (shown_number options number) ++ text
 
   -- the rows of the parts of a line
   abbrev pub part_rows : ℕ → Text → List Span → List Text

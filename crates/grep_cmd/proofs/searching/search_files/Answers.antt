@@ -7,5 +7,5 @@ pub returns : goal.returns
 returns g c =
     let start = c.new-operands.result.files.now in
     let end = c.search_filtered-found.new.sources.files.now in
-    let run = RunGives-given (map g.L.LineMatch.expression c.args.matchers.now) c.args.options.now _ _ (GivesBack g.F.Files.given_back start end) (λ left h. h) _ _ _ c.search_filtered-found.ensures.run in
+    let run = RunGives-given (map g.L.LineMatch.expression c.args.matchers.now) c.args.asked.now.options _ _ (GivesBack g.F.Files.given_back start end) (λ left h. h) _ _ _ c.search_filtered-found.ensures.run in
     search (rules, run)

@@ -17,6 +17,6 @@ pub returns : goal.returns
 unfolding fault_text
 returns g c =
     let letter : c.as_bytes-letter.result.now ≡ encode_utf8 c.args.letter = c.as_bytes-letter.ensures.value ∙ c.encode_utf8.ensures.value in
-    writes_last g.M.CountedWrite.contents g.M.CountedWrite.failures c.args.messages.now c.push_all.new.out c.write_row.new.out (codes "grep: option -")
-    (output_line (encode_utf8 c.args.letter) (codes " needs an argument")) c.write_row.result c.in_ok-push_all.ensures
-    (subst (λ t. Writes g.M.CountedWrite.contents g.M.CountedWrite.failures c.push_all.new.out c.write_row.new.out (output_line t (codes " needs an argument")) c.write_row.result) letter c.write_row.ensures)
+    writes_last g.M.CountedWrite.contents g.M.CountedWrite.failures c.args.messages.now c.push_all.new.out c.write_line_behind.new.out (codes "grep: option -")
+    (output_line (encode_utf8 c.args.letter) (codes " needs an argument")) c.write_line_behind.result c.in_ok-push_all.ensures
+    (subst (λ t. Writes g.M.CountedWrite.contents g.M.CountedWrite.failures c.push_all.new.out c.write_line_behind.new.out (output_line t (codes " needs an argument")) c.write_line_behind.result) letter c.write_line_behind.ensures)

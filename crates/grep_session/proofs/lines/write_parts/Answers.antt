@@ -4,19 +4,19 @@ use Rattle.grep_session.specs.Working.Report.{row}
 use Rattle.grep_session.proofs.lemmas.Writing.{row_on, row_stops, writes_err}
 use Rattle.grep_session.proofs.lines.write_parts.Goals as goal
 
-pub returns-in_err-write_text : goal.returns-in_err-write_text
-returns-in_err-write_text g c =
+pub returns-in_err-write_part : goal.returns-in_err-write_part
+returns-in_err-write_part g c =
     let w = c.args.wanted.now in
     let f = λ (span : Span). row w.options w.many w.name.now c.args.number (slice_range c.args.line.now.text.items span.start span.end) in
-    let stops = rw c.deref.ensures.value at c.in_err-write_text.ensures in
+    let stops = rw c.deref.ensures.value at c.in_err-write_part.ensures in
     writes_err g.W.CountedWrite.contents g.W.CountedWrite.failures c.args.margin.now _ _ _ c.from_residual.result c.from_residual.ensures.0
     (row_stops g.W.CountedWrite.contents g.W.CountedWrite.failures c.args.margin.now f c.args.line.now.found.spans c.spans-part-items.result.now c.loop-part.part-index (record { start = 0; end = 0 }) c.loop-part-test.true
-    c.args.out.now c.loop-part.out c.write_text.new.out c.loop-part.invariant stops)
+    c.args.out.now c.loop-part.out c.write_part.new.out c.loop-part.invariant stops)
 
 pub loop-part-preserved : goal.loop-part-preserved
 loop-part-preserved g c =
     let w = c.args.wanted.now in
     let f = λ (span : Span). row w.options w.many w.name.now c.args.number (slice_range c.args.line.now.text.items span.start span.end) in
-    let went = rw c.deref.ensures.value at c.in_ok-write_text.ensures in
+    let went = rw c.deref.ensures.value at c.in_ok-write_part.ensures in
     row_on g.W.CountedWrite.contents g.W.CountedWrite.failures c.args.margin.now f c.args.line.now.found.spans c.spans-part-items.result.now c.loop-part.part-index (record { start = 0; end = 0 }) c.loop-part-test.true
-    c.args.out.now c.loop-part.out c.write_text.new.out c.loop-part.invariant went
+    c.args.out.now c.loop-part.out c.write_part.new.out c.loop-part.invariant went

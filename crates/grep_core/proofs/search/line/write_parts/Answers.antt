@@ -10,15 +10,15 @@ use Rattle.grep_core.proofs.search.line.write_parts.Goals as goal
 pub loop-part-init : goal.loop-part-init
 loop-part-init g c = record { parts = parts_none _ _ _ _ _ _ _ _ _ (omega arith); same_expressions = refl; same_wholes = refl }
 
-pub returns-in_err-write_text-clause-err : goal.returns-in_err-write_text-clause-err
-returns-in_err-write_text-clause-err g c =
+pub returns-in_err-write_part-clause-err : goal.returns-in_err-write_part-clause-err
+returns-in_err-write_part-clause-err g c =
     let w = c.args.wanted.now in
     let es = map g.M.LineMatch.expression c.args.matchers.now in
     let part = c.in-Some.part in
     let told = rw c.loop-part.invariant.same_expressions at c.in-Some.ensures.told in
-    let out = c.in_err-write_text.ensures in
+    let out = c.in_err-write_part.ensures in
     err_with c.from_residual.result (parts_broken es w.options w.many w.name.now c.args.number c.args.line.now c.requires.asked c.loop-part.from part.start part.end _ _ _ c.loop-part.invariant.parts.0 told
-    (TakesFront-line g.W.CountedWrite.contents g.W.CountedWrite.failures c.loop-part.out c.write_text.new.out _ out)
+    (TakesFront-line g.W.CountedWrite.contents g.W.CountedWrite.failures c.loop-part.out c.write_part.new.out _ out)
     out.counted)
 
 pub loop-part-preserved : goal.loop-part-preserved
@@ -30,7 +30,7 @@ loop-part-preserved g c =
     record {
       parts =
           parts_next es w.options w.many w.name.now c.args.number c.args.line.now c.loop-part.from part.start part.end _ _ _ c.args.meter.now c.loop-part.meter c.next_part.new.meter _ c.loop-part.invariant.parts.0 c.loop-part.invariant.parts.1 told
-          (TakesAll-line g.W.CountedWrite.contents g.W.CountedWrite.failures c.loop-part.out c.write_text.new.out _ c.in_ok-write_text.ensures)
+          (TakesAll-line g.W.CountedWrite.contents g.W.CountedWrite.failures c.loop-part.out c.write_part.new.out _ c.in_ok-write_part.ensures)
           (subst (λ n. AddsAtMost (search_cost n c.args.line.now) c.loop-part.meter c.next_part.new.meter) (same_length g.M.LineMatch.whole c.loop-part.matchers c.args.matchers.now c.loop-part.invariant.same_wholes) c.in-Some.ensures.steps);
       same_expressions = c.in-Some.ensures.same_expressions ∙ c.loop-part.invariant.same_expressions;
       same_wholes = c.in-Some.ensures.same_wholes ∙ c.loop-part.invariant.same_wholes;
@@ -43,8 +43,8 @@ returns-clause-ok g c =
     let told = rw c.loop-part.invariant.same_expressions at c.in_default.ensures.told in
     parts_done es w.options w.many w.name.now c.args.number c.args.line.now c.requires.asked c.loop-part.from _ _ c.loop-part.invariant.parts.0 told
 
-pub returns-in_err-write_text-clause-steps : goal.returns-in_err-write_text-clause-steps
-returns-in_err-write_text-clause-steps g c =
+pub returns-in_err-write_part-clause-steps : goal.returns-in_err-write_part-clause-steps
+returns-in_err-write_part-clause-steps g c =
     let w = c.args.wanted.now in
     let es = map g.M.LineMatch.expression c.args.matchers.now in
     parts_asked es w.options w.many w.name.now c.args.number c.args.line.now c.requires.asked c.loop-part.from _ _ c.args.meter.now c.loop-part.meter c.next_part.new.meter _ c.loop-part.invariant.parts.0 c.loop-part.invariant.parts.1

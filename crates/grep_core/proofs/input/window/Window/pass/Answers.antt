@@ -1,4 +1,4 @@
-use Rattle.std.proofs.Common.{◌≡◌, ◌+◌, ◌-◌, ◌<◌, ◌≤◌, length, sym, ◌∙◌, ap, subst, rules, arith}
+use Rattle.std.proofs.Common.{◌≡◌, ◌+◌, ◌-◌, ◌≤◌, length, sym, ◌∙◌, ap, subst, rules, arith}
 use Rattle.std.specs.Prelude.{⊤}
 use Rattle.re_syntax.proofs.lemmas.LinesLaws.{none_in_empty}
 use Rattle.re_search.specs.Working.Blocks.{PassesAll}

@@ -1,0 +1,25 @@
+//! What a search goes by.
+
+use crate::options::Options;
+use re_search::FixedSet;
+use std::alloc::Global;
+
+/// What is asked of a search, besides its sources and its matchers.
+#[derive(Clone, Copy)]
+pub struct Asked<'a> {
+    /// Where memory comes from.
+    pub alloc: Global,
+    /// The options of the run. `-i` is for the matchers to heed.
+    pub options: Options,
+    /// Strings of which some stands on each line that some matcher matches, where they are known.
+    pub filter: Option<&'a FixedSet>,
+}
+
+/// What the search of each source goes by.
+#[derive(Clone, Copy)]
+pub struct Setting<'a> {
+    /// What is asked of the search.
+    pub asked: Asked<'a>,
+    /// Whether there are two sources or more: rows and counts then begin with the source's name.
+    pub many: bool,
+}
