@@ -1,6 +1,9 @@
 pub mod AnyLaws
 pub mod BestSpans
 pub mod NeededLaws
+pub mod RunLaws
+pub mod OutlineLaws
+pub mod NeedleLaws
 pub mod BlockLemmas
 pub mod Occurrences
 pub mod OneText

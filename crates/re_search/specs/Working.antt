@@ -1,4 +1,6 @@
 pub mod Literals
+pub mod Runs
+pub mod Outlines
 pub mod Needles
 pub mod Blocks
 pub mod Simulated

@@ -2,7 +2,10 @@
 ghost use Rattle.std.specs.Prelude.{◌≡◌, ◌+◌, ◌<◌, ◌++◌, ◌∷◌, IfSome, length, take, drop, ⊤};
 ghost use Rattle.re_syntax.specs.Lines.{newline};
 ghost use Rattle.re_search.specs.Working.Blocks.{IsBlock, Lacks, PassesAll};
+ghost use Rattle.re_search.specs.Working.Needles.{run_of};
+ghost use Rattle.re_search.specs.Working.Runs.{LacksRun};
 
+use crate::needle::RunFinder;
 use memchr::memmem::Finder;
 use memchr::memrchr;
 
@@ -14,6 +17,18 @@ pub fn first_line_with(finder: &Finder<'_>, block: &[u8]) -> usize
 {
     match finder.find(block) {
         Some(at) => line_start(&block[..at]),
+        None => block.len(),
+    }
+}
+
+/// Where in a block of whole lines the first line begins in which the run stands; behind the last
+/// line where it stands in none.
+pub fn first_line_with_run(finder: &RunFinder, block: &[u8]) -> usize
+    requires { IsBlock block.now }
+    ensures { PassesAll (LacksRun (run_of finder.now)) block.now result }
+{
+    match finder.find(block) {
+        Some(place) => line_start(&block[..place]),
         None => block.len(),
     }
 }

@@ -1,96 +1,163 @@
-//! Strings that every match of an expression has in it.
-ghost use Rattle.std.specs.Prelude.{◌≡◌, ◌≤◌, List, ◌++◌, IfOk, IfSome, length, map};
-ghost use Rattle.re_syntax.specs.Expression.{Expression, byte, cat, expression_of, one_of};
+//! What every match of an expression has in it.
+ghost use Rattle.std.specs.Prelude.{◌≡◌, ◌≤◌, ◌++◌, List, Option, Some, IfOk, IfSome, length, map};
+ghost use Rattle.re_syntax.specs.Bytes.{Bytes, only};
+ghost use Rattle.re_syntax.specs.Expression.{Expression, byte, expression_of};
 ghost use Rattle.re_syntax.specs.Sets.{members};
 ghost use Rattle.re_search.specs.Working.Needles.{IsNeedleFor};
+ghost use Rattle.re_search.specs.Working.Outlines.{IsOutline, shown};
 
+mod choice;
+mod few;
+mod outline;
+mod run_finder;
+mod set_finder;
+
+use choice::{sets_start, text_start};
+use few::Few;
 use memchr::memmem::Finder;
+use outline::{Mark, add_outline};
 use re_syntax::{ByteSet, Tree};
+pub use run_finder::RunFinder;
+use set_finder::SetFinder;
 use std::alloc::{AllocError, Global};
 
-/// A string that every match of an expression has in it, and the search for it.
+// How many sets are looked for at most: around each byte of the rarest so many may be compared.
+const MOST_SETS: usize = 32;
+
+/// A run of bytes, or of sets of bytes, that every match of an expression has in it.
 #[derive(Drop)]
 pub struct Needle {
-    /// Looks for the string.
-    pub finder: Finder<'static>,
-    /// Whether the matches are the string and nothing else.
+    /// Looks for the run.
+    pub finder: RunFinder,
+    /// Whether the matches are where the run stands, and nothing else.
     pub is_all: bool,
 }
 
 impl Needle {
-    /// The longest string whose bytes stand one after another at the top of the tree, the first of
-    /// several; `None` where no byte stands there. The one error is that memory was refused.
+    /// A run of single bytes that is needed, through groups and what is repeated once or more; a run
+    /// of small sets where no two such bytes stand in a row; the first such byte where no two sets do
+    /// either. `None` where there is none of these. The one error is that memory was refused.
     pub fn of(alloc: Global, tree: &Tree) -> Result<Option<Needle>, AllocError>
         ensures { IfOk result (IsNeedleFor (expression_of tree.now)) }
     {
-        match tree {
-            Tree::Set(set) => of_set(alloc, set),
-            Tree::Cat(parts) => among(alloc, parts),
-            _ => Ok(None),
+        let mut marks = Vec::new(alloc);
+        add_outline(tree, &mut marks)?;
+        let start = text_start(&marks);
+        if let Some(needle) = text_needle(alloc, &marks, start, 2)? {
+            return Ok(Some(needle));
         }
-    }
-
-    // The needle of these bytes.
-    fn new(alloc: Global, bytes: &[u8], is_all: bool) -> Result<Needle, AllocError>
-        ensures { IfOk result (λ needle. needle ≡ record { finder = bytes.now; is_all = is_all }) }
-    {
-        let finder = Finder::new(bytes).into_owned(alloc)?;
-        Ok(Needle { finder, is_all })
+        if let Some(needle) = set_needle(alloc, &marks, sets_start(&marks), 2)? {
+            return Ok(Some(needle));
+        }
+        text_needle(alloc, &marks, start, 1)
     }
 }
 
-// The needle of one byte of the set.
-fn of_set(alloc: Global, set: &ByteSet) -> Result<Option<Needle>, AllocError>
-    ensures { IfOk result (IsNeedleFor (one_of (members set.now))) }
+// The needle of the single bytes from a mark on, where they are so many.
+fn text_needle(
+    alloc: Global,
+    marks: &[Mark],
+    start: usize,
+    least: usize,
+) -> Result<Option<Needle>, AllocError>
+    requires start { start ≤ length marks.now }
+    requires some { 1 ≤ least }
+    ensures { IfOk result (λ found. (e : Expression) → IsOutline (map shown marks.now) e → IsNeedleFor e found) }
 {
-    let Some(byte) = set.one_byte() else {
+    let bytes = leading_bytes(alloc, &marks[start..])?;
+    if bytes.len() < least {
+        return Ok(None);
+    }
+    let is_all = bytes.len() == marks.len();
+    let finder = Finder::new(&bytes).into_owned(alloc)?;
+    Ok(Some(Needle {
+        finder: RunFinder::Text(finder),
+        is_all,
+    }))
+}
+
+// The needle of the small sets from a mark on, where they are so many.
+fn set_needle(
+    alloc: Global,
+    marks: &[Mark],
+    start: usize,
+    least: usize,
+) -> Result<Option<Needle>, AllocError>
+    requires start { start ≤ length marks.now }
+    requires some { 1 ≤ least }
+    ensures { IfOk result (λ found. (e : Expression) → IsOutline (map shown marks.now) e → IsNeedleFor e found) }
+{
+    let sets = leading_sets(alloc, &marks[start..])?;
+    if sets.len() < least {
+        return Ok(None);
+    }
+    let is_all = sets.len() == marks.len();
+    let Some(finder) = SetFinder::new(sets) else {
         return Ok(None);
     };
-    let needle = Needle::new(alloc, &[byte], true)?;
-    Ok(Some(needle))
+    Ok(Some(Needle {
+        finder: RunFinder::Sets(finder),
+        is_all,
+    }))
 }
 
-// The needle of parts that stand one after another.
-fn among(alloc: Global, parts: &[Tree]) -> Result<Option<Needle>, AllocError>
-    ensures { IfOk result (IsNeedleFor (cat (map expression_of parts.now))) }
-{
-    let bytes = leading_bytes(alloc, &parts[longest_run(parts)..])?;
-    if bytes.is_empty() {
-        return Ok(None);
-    }
-    let is_all = (bytes.len() > 1) & (bytes.len() == parts.len());
-    let needle = Needle::new(alloc, &bytes, is_all)?;
-    Ok(Some(needle))
-}
-
-// Where the longest run of parts begins that are one byte each, the first of several.
-fn longest_run(parts: &[Tree]) -> usize
-    ensures { result ≤ length parts.now }
-{
-    let mut start = 0;
-    let mut longest = 0..0;
-    'parts: for place in 0..parts.len() {
-        if one_byte(&parts[place]).is_none() {
-            start = place + 1;
-        } else if place + 1 - start > longest.len() {
-            longest = start..place + 1;
-        }
-    }
-    longest.start
-}
-
-// The bytes of the parts before the first that isn't one byte.
-fn leading_bytes(alloc: Global, parts: &[Tree]) -> Result<Vec<u8>, AllocError>
-    ensures { IfOk result (λ bytes. (rest : List Expression) × (map expression_of parts.now ≡ map byte bytes.items ++ rest)) }
+// The bytes of the marks before the first that isn't one byte.
+fn leading_bytes(alloc: Global, marks: &[Mark]) -> Result<Vec<u8>, AllocError>
+    ensures { IfOk result (λ bytes. (rest : List (Option Bytes)) × (map shown marks.now ≡ map Some (map only bytes.items) ++ rest)) }
 {
     let mut bytes = Vec::new(alloc);
-    'parts: for part in parts {
-        let Some(byte) = one_byte(part) else {
+    'marks: for mark in marks {
+        let Some(byte) = byte_of(mark) else {
             return Ok(bytes);
         };
         bytes.push(byte)?;
     }
     Ok(bytes)
+}
+
+// The sets of the marks before the first that isn't a small set, or so many as are looked for.
+fn leading_sets(alloc: Global, marks: &[Mark]) -> Result<Vec<ByteSet>, AllocError>
+    ensures { IfOk result (λ sets. (rest : List (Option Bytes)) × (map shown marks.now ≡ map Some (map members sets.items) ++ rest)) }
+{
+    let mut sets = Vec::new(alloc);
+    'marks: for mark in marks {
+        let Some(set) = small_set(mark, sets.len()) else {
+            return Ok(sets);
+        };
+        sets.push(set)?;
+    }
+    Ok(sets)
+}
+
+// The byte of the mark, where it is one byte.
+fn byte_of(mark: &Mark) -> Option<u8>
+    ensures { IfSome result (λ b. shown mark.now ≡ Some (only b)) }
+{
+    match mark {
+        Mark::Set(set) => set.one_byte(),
+        Mark::Stretch => None,
+    }
+}
+
+// The set of the mark, where it is small and there are not yet so many as are looked for.
+fn small_set(mark: &Mark, before: usize) -> Option<ByteSet>
+    ensures { IfSome result (λ set. shown mark.now ≡ Some (members set)) }
+{
+    if before >= MOST_SETS {
+        return None;
+    }
+    match mark {
+        Mark::Set(set) => is_small(set),
+        Mark::Stretch => None,
+    }
+}
+
+// The set, where it has one, two or three bytes.
+fn is_small(set: &ByteSet) -> Option<ByteSet>
+    ensures { IfSome result (λ same. same ≡ set.now) }
+{
+    Few::of(set)?;
+    Some(*set)
 }
 
 // The byte that the tree takes, where it takes one byte and no other.

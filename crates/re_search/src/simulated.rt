@@ -13,7 +13,7 @@ ghost use Rattle.re_search.specs.Working.Blocks.{IsBlock, PassesUnmatched};
 mod least;
 mod sets;
 
-use crate::block::first_line_with;
+use crate::block::first_line_with_run;
 use crate::line_match::LineMatch;
 use crate::needle::Needle;
 use crate::span::Span;
@@ -25,7 +25,7 @@ use std::alloc::Global;
 use std::marker::Model;
 
 /// A matcher for an expression. Contracts see it as the tree and whether the whole line has to be
-/// matched. Where every match has some string in it, lines without it take no step.
+/// matched. Where every match has some run of bytes in it, lines without it take no step.
 #[derive(Drop)]
 pub struct Simulated {
     automaton: Automaton,
@@ -83,7 +83,10 @@ impl Simulated {
         ensures { IfSome result (λ text. IsNeeded text.now (expression_of self.now.tree)) }
     {
         match &self.needle {
-            Some(needle) => Some(needle.finder.needle()),
+            Some(needle) => {
+                let text = needle.finder.text()?;
+                Some(text)
+            }
             None => None,
         }
     }
@@ -186,7 +189,7 @@ impl Simulated {
             if needle.is_all {
                 return Some(Span {
                     start,
-                    end: start + needle.finder.needle().len(),
+                    end: start + needle.finder.len(),
                 });
             }
         }
@@ -233,7 +236,7 @@ impl LineMatch for Simulated {
         ensures { PassesUnmatched (expression_of self.now.tree) self.now.whole block.now result }
     {
         match &self.needle {
-            Some(needle) => first_line_with(&needle.finder, block),
+            Some(needle) => first_line_with_run(&needle.finder, block),
             None => 0,
         }
     }

@@ -1,19 +1,21 @@
--- Lines of a block in which a text does not stand.
+-- Lines of a block in which a run of sets, or a text, does not stand.
 use Rattle.std.proofs.Common.{◌≡◌, ℕ, ◌+◌, ◌<◌, ◌≤◌, Bool, true, false, List, [], ◌∷◌, ◌++◌, All, Some, None, length, map, take, drop, get_or, refl, sym, ap, ◌∙◌, subst, arith, append_assoc, append-nil, length-append, length-take, take-append-drop}
 use Rattle.std.specs.Prelude.{⊤}
-use Rattle.std.proofs.lemmas.List.{length_push, get_or_append_left, get_or-append-add}
+use Rattle.std.proofs.lemmas.List.{length_push}
 use Rattle.std.proofs.lemmas.List.Elements.{All-push, All-nil, All-cons, All-head}
-use Rattle.re_syntax.specs.Bytes.{Text}
+use Rattle.re_syntax.specs.Bytes.{Bytes, Text, only}
 use Rattle.re_syntax.specs.Expression.{Expression}
 use Rattle.re_syntax.specs.Holds.{Matches}
 use Rattle.re_syntax.specs.Lines.{newline, terminated, HasNoNewline, ended_lines_of}
 use Rattle.re_syntax.proofs.lemmas.LinesLaws.{all_none, all_tail}
 use Rattle.re_syntax.proofs.lemmas.EndedLinesLaws.{AreEndedLines-ended_lines_of}
-use Rattle.memchr.specs.Find.{OccursAt, FindsNeedle}
+use Rattle.memchr.specs.Find.{FindsNeedle}
 use Rattle.re_search.specs.Working.Blocks.{IsBlock, Lacks, PassesAll, PassesUnmatched, PassesUnmatchedByAll}
-use Rattle.re_search.specs.Working.Needles.{IsNeeded}
+use Rattle.re_search.specs.Working.Needles.{IsNeeded, RunIsNeeded}
+use Rattle.re_search.specs.Working.Runs.{RunStandsAt, FindsRun, LacksRun}
 use Rattle.re_search.specs.Searching.{AllAnswer, SomeMatches}
 use Rattle.re_search.proofs.lemmas.AnyLaws.{Any-single}
+use Rattle.re_search.proofs.lemmas.RunLaws.{run_before, run_behind, text_run, finds_text}
 
 -- ---- where lines begin
 
@@ -33,45 +35,29 @@ ended_text t =
       ap (λ l. l ++ newline ∷ []) ended.1.2 ∙ append_assoc (terminated lines) rest (newline ∷ []) ∙ terminated-push lines rest,
     )
 
--- ---- occurrences in a line and in a block
+-- ---- lines of a block that lack a run
 
-occurs_before : (line after text : Text) (k : ℕ) → OccursAt line text k → OccursAt (line ++ after) text k
-occurs_before line after text k o =
-    let fits : k + length text ≤ length line = o.fits in record {
-      fits = omega (arith, length-append line after);
-      reads = λ j below. get_or_append_left line after 0 (k + j) (omega arith) ∙ o.reads j below;
-    }
-
-occurs_behind : (before line text : Text) (k : ℕ) → OccursAt line text k → OccursAt (before ++ line) text (length before + k)
-occurs_behind before line text k o =
-    let fits : k + length text ≤ length line = o.fits in record {
-      fits = omega (arith, length-append before line);
-      reads = λ j below.
-          let place : length before + k + j ≡ length before + (k + j) = omega arith in
-          ap (λ n. get_or (before ++ line) n 0) place ∙ get_or-append-add before line (k + j) 0 ∙ o.reads j below;
-    }
-
--- a text that does not begin in the first lines of a block stands in none of them
-pub lines_lack : (text : Text) (lines : List Text) (rest : Text) → ((k : ℕ) → k < length (terminated lines) → ¬ OccursAt (terminated lines ++ rest) text k) → All (Lacks text) lines
-lines_lack text [] rest none = All-nil (Lacks text)
-lines_lack text (t ∷ ts) rest none = All-cons (Lacks text) t ts first (lines_lack text ts rest later)
+-- a run that does not begin in the first lines of a block stands in none of them
+lines_lack : (run : List Bytes) (lines : List Text) (rest : Text) → ((k : ℕ) → k < length (terminated lines) → ¬ RunStandsAt (terminated lines ++ rest) run k) → All (LacksRun run) lines
+lines_lack run [] rest none = All-nil (LacksRun run)
+lines_lack run (t ∷ ts) rest none = All-cons (LacksRun run) t ts first (lines_lack run ts rest later)
   where
     long : length (terminated (t ∷ ts)) ≡ length t + 1 + length (terminated ts)
     long = omega (arith, length-append t (newline ∷ terminated ts))
 
-    first : Lacks text t
+    first : LacksRun run t
     first k o =
-        let fits : k + length text ≤ length t = o.fits in
+        let fits : k + length run ≤ length t = o.fits in
         none k (omega (arith, long))
-        (subst (λ l. OccursAt l text k) (sym (append_assoc t (newline ∷ terminated ts) rest)) (occurs_before t (newline ∷ terminated ts ++ rest) text k o))
+        (subst (λ l. RunStandsAt l run k) (sym (append_assoc t (newline ∷ terminated ts) rest)) (run_before run t (newline ∷ terminated ts ++ rest) k o))
 
     cut : (t ++ newline ∷ []) ++ (terminated ts ++ rest) ≡ terminated (t ∷ ts) ++ rest
     cut = append_assoc t (newline ∷ []) (terminated ts ++ rest) ∙ sym (append_assoc t (newline ∷ terminated ts) rest)
 
-    later : (k : ℕ) → k < length (terminated ts) → ¬ OccursAt (terminated ts ++ rest) text k
+    later : (k : ℕ) → k < length (terminated ts) → ¬ RunStandsAt (terminated ts ++ rest) run k
     later k below o =
         let place : length (t ++ newline ∷ []) + k < length (terminated (t ∷ ts)) = omega (arith, long, below, length-append t (newline ∷ [])) in
-        none (length (t ++ newline ∷ []) + k) place (subst (λ l. OccursAt l text (length (t ++ newline ∷ []) + k)) cut (occurs_behind (t ++ newline ∷ []) (terminated ts ++ rest) text k o))
+        none (length (t ++ newline ∷ []) + k) place (subst (λ l. RunStandsAt l run (length (t ++ newline ∷ []) + k)) cut (run_behind run (t ++ newline ∷ []) (terminated ts ++ rest) k o))
 
 -- ---- lines that are passed
 
@@ -92,23 +78,33 @@ passes_behind bytes at below cut =
       omega (arith, ap length front.2, length_push (take at bytes) newline, length-take at bytes),
     )
 
--- a block in which the text does not stand is passed as a whole
-pub passes_whole : (text block : Text) → IsBlock block → FindsNeedle block text 0 None → PassesAll (Lacks text) block (length block)
-passes_whole text block (lines, free, is) none =
+-- a block in which the run does not stand is passed as a whole
+pub passes_whole_run : (run : List Bytes) (block : Text) → IsBlock block → FindsRun block run None → PassesAll (LacksRun run) block (length block)
+passes_whole_run run block (lines, free, is) none =
     let all : terminated lines ++ [] ≡ block = append-nil (terminated lines) ∙ sym is in
-    let nowhere : (k : ℕ) → k < length (terminated lines) → ¬ OccursAt (terminated lines ++ []) text k =
-    λ k below o. none k (omega arith) (omega (arith, below, ap length is)) (subst (λ l. OccursAt l text k) all o) in
-    (lines, [], free, lines_lack text lines [] nowhere, sym all, ap length is)
+    let nowhere : (k : ℕ) → k < length (terminated lines) → ¬ RunStandsAt (terminated lines ++ []) run k =
+    λ k below o. none k (omega arith) (omega (arith, below, ap length is)) (subst (λ l. RunStandsAt l run k) all o) in
+    (lines, [], free, lines_lack run lines [] nowhere, sym all, ap length is)
 
--- the lines before the one in which the text stands first are passed
-pub passes_front : (text block : Text) (at count : ℕ) → FindsNeedle block text 0 (Some at) → PassesAll (λ _. ⊤) (take at block) count → PassesAll (Lacks text) block count
-passes_front text block at count (first, stands) (lines, rest, free, any, is, counted) =
+-- the lines before the one in which the run stands first are passed
+pub passes_front_run : (run : List Bytes) (block : Text) (at count : ℕ) → FindsRun block run (Some at) → PassesAll (λ _. ⊤) (take at block) count → PassesAll (LacksRun run) block count
+passes_front_run run block at count (first, stands) (lines, rest, free, any, is, counted) =
     let before : length (terminated lines) ≤ at = omega (arith, ap length is, length-append (terminated lines) rest, length-take at block, first.high) in
     let all : terminated lines ++ (rest ++ drop at block) ≡ block =
     sym (append_assoc (terminated lines) rest (drop at block)) ∙ ap (λ l. l ++ drop at block) (sym is) ∙ take-append-drop at block in
-    let nowhere : (k : ℕ) → k < length (terminated lines) → ¬ OccursAt (terminated lines ++ (rest ++ drop at block)) text k =
-    λ k below o. first.before k (omega arith) (omega (arith, below, before)) (subst (λ l. OccursAt l text k) all o) in
-    (lines, rest ++ drop at block, free, lines_lack text lines (rest ++ drop at block) nowhere, sym all, counted)
+    let nowhere : (k : ℕ) → k < length (terminated lines) → ¬ RunStandsAt (terminated lines ++ (rest ++ drop at block)) run k =
+    λ k below o. first.before k (omega arith) (omega (arith, below, before)) (subst (λ l. RunStandsAt l run k) all o) in
+    (lines, rest ++ drop at block, free, lines_lack run lines (rest ++ drop at block) nowhere, sym all, counted)
+
+-- a line that lacks the run of a text lacks the text
+passes_text : (text block : Text) (count : ℕ) → PassesAll (LacksRun (map only text)) block count → PassesAll (Lacks text) block count
+passes_text text block count (lines, rest, free, lack, is, counted) = (lines, rest, free, λ i d below k o. lack i d below k (text_run (get_or lines i d) text k o), is, counted)
+
+pub passes_whole : (text block : Text) → IsBlock block → FindsNeedle block text 0 None → PassesAll (Lacks text) block (length block)
+passes_whole text block is none = passes_text text block (length block) (passes_whole_run (map only text) block is (finds_text block text None none))
+
+pub passes_front : (text block : Text) (at count : ℕ) → FindsNeedle block text 0 (Some at) → PassesAll (λ _. ⊤) (take at block) count → PassesAll (Lacks text) block count
+passes_front text block at count finds front = passes_text text block count (passes_front_run (map only text) block at count (finds_text block text (Some at) finds) front)
 
 -- a line in which a text does not stand that the expression needs is not matched
 pub unmatched : (e : Expression) (text line : Text) (whole : Bool) → IsNeeded text e → Lacks text line → ¬ Matches e line whole
@@ -119,6 +115,16 @@ unmatched e text line true needed lacks holds = let there = needed line 0 (lengt
 pub passes_unmatched : (e : Expression) (text : Text) (whole : Bool) → IsNeeded text e → (block : Text) (count : ℕ) → PassesAll (Lacks text) block count → PassesUnmatched e whole block count
 passes_unmatched e text whole needed block count (lines, rest, free, lack, is, counted) =
     (lines, rest, free, λ i d below. unmatched e text _ whole needed (lack i d below), is, counted)
+
+-- nor is one that lacks a run that it needs
+unmatched_run : (e : Expression) (run : List Bytes) (line : Text) (whole : Bool) → RunIsNeeded run e → LacksRun run line → ¬ Matches e line whole
+unmatched_run e run line false needed lacks (i, j, within, holds) = let there = needed line i j within holds in lacks there.0 there.3
+unmatched_run e run line true needed lacks holds = let there = needed line 0 (length line) (omega arith) holds in lacks there.0 there.3
+
+-- lines without the run that an expression needs are passed unmatched
+pub passes_unmatched_run : (e : Expression) (run : List Bytes) (whole : Bool) → RunIsNeeded run e → (block : Text) (count : ℕ) → PassesAll (LacksRun run) block count → PassesUnmatched e whole block count
+passes_unmatched_run e run whole needed block count (lines, rest, free, lack, is, counted) =
+    (lines, rest, free, λ i d below. unmatched_run e run _ whole needed (lack i d below), is, counted)
 
 -- one expression that does not match the line is all of them
 none_of_one : (es : List Expression) (e : Expression) (whole asked : Bool) (line : Text) → es ≡ e ∷ [] → whole ≡ asked → ¬ Matches e line whole → ¬ SomeMatches es line asked

@@ -4,13 +4,8 @@ use Rattle.std.specs.Prelude.{◌↔◌, IsSome}
 use Rattle.std.specs.Map.{lookup}
 use Rattle.std.proofs.lemmas.Bool.{false≢true}
 use Rattle.std.proofs.lemmas.Option.{slice_get-get_or}
-use Rattle.memchr.specs.Find.{OccursAt, FindsNeedle}
-use Rattle.re_syntax.proofs.lemmas.FixedStrings.{stands-matches}
-use Rattle.re_search.specs.declared.needle.Needle.{Needle}
-use Rattle.re_search.specs.Working.Needles.{IsNeedleOf}
-use Rattle.re_search.proofs.lemmas.Occurrences.{occurs-stands}
 use Rattle.re_syntax.specs.Bytes.{Text}
-use Rattle.re_syntax.specs.Expression.{Expression, byte, sequence}
+use Rattle.re_syntax.specs.Expression.{Expression}
 use Rattle.re_syntax.specs.Holds.{Matches}
 use Rattle.re_auto.specs.declared.mode.Mode.{Mode}
 use Rattle.re_auto.specs.declared.mode.Mode.TheVariants.{Search, Whole}
@@ -246,10 +241,13 @@ module _ (e : Expression) (line : Text) where
       none : (whole : Bool) {answer : Bool} → Lacks e line answer → Matches e line whole → ⊥
       none false lacks (i, j, within, h) = let there = lacks.needed line i j within h in lacks.absent there.0 there.3
       none true lacks h = let there = lacks.needed line 0 (length line) (omega arith) h in lacks.absent there.0 there.3
-  settled_told whole answer (inr has) = (λ _. subst (Matches e line) (sym has.any) (subst (λ x. Matches x line false) (sym has.is) (matches has.text has.place has.stands)), λ _. has.yes)
+  settled_told whole answer (inr has) = (λ _. subst (Matches e line) (sym has.any) matches, λ _. has.yes)
     where
-      matches : (text : Text) (k : ℕ) → OccursAt line text k → Matches (sequence (map byte text)) line false
-      matches text k o = let fits = o.fits in stands-matches line text k (drop (length text) (drop k line)) (omega (arith, fits)) (occurs-stands line text k o)
+      matches : Matches e line false
+      matches =
+          let o = has.stands in
+          let holds = has.is in
+          (has.place, has.place + length has.run, o.fits, holds.holds line has.place o)
 
   -- a whole search
   pub searches_told : (whole : Bool) (old new : Cache) (before after : Steps) (answer : Bool) → Searches e (mode_for whole) line old new before after answer → IsTrue answer ↔ Matches e line whole
@@ -274,13 +272,3 @@ module _ (e : Expression) (line : Text) where
   pub tells_steps : (whole : Bool) (old new : Cache) (before after : Steps) (answer : Bool) → AnswersLine e whole line old new before after answer → AddsAtMost (length line + 1) before after
   tells_steps whole old new before after answer (inl at_once) = rw at_once.steps (no_step (length line + 1) before)
   tells_steps whole old new before after answer (inr s) = searches_steps (mode_for whole) old new before after answer s
-
--- a needle that a line lacks, or that is all and stands on it
-module _ (e : Expression) (needle : Needle) (of : IsNeedleOf e needle) (line : Text) (whole : Bool) where
-  pub settled_lacks : (found : Option ℕ) → FindsNeedle line needle.finder 0 found → is_some found ≡ false → IsSettled e whole line false
-  settled_lacks (Some k) finds lacks = absurd (false≢true (sym lacks))
-  settled_lacks None none lacks = inl (record { text = needle.finder; needed = of.needed; absent = λ k o. let fits = o.fits in none k (omega arith) (omega (arith, fits)) o; no = refl })
-
-  pub settled_has : IsTrue needle.is_all → whole ≡ false → (found : Option ℕ) → FindsNeedle line needle.finder 0 found → is_some found ≡ true → IsSettled e whole line true
-  settled_has all any None none has = absurd (false≢true has)
-  settled_has all any (Some k) finds has = inr (record { text = needle.finder; is = of.all all; any = any; place = k; stands = finds.1; yes = refl })

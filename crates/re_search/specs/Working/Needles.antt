@@ -1,10 +1,14 @@
--- Strings that every stretch has in it on which an expression holds.
-use Rattle.std.specs.Prelude.{◌≡◌, ℕ, ◌+◌, ◌≤◌, IsTrue, IfSome, Option, length, map}
-use Rattle.re_syntax.specs.Bytes.{Text}
-use Rattle.re_syntax.specs.Expression.{Expression, byte, sequence}
+-- Strings, and runs of sets of bytes, that every stretch has in it on which an expression holds.
+use Rattle.std.specs.Prelude.{◌≡◌, ℕ, ◌+◌, ◌≤◌, IsTrue, IfSome, List, Option, length, map}
+use Rattle.re_syntax.specs.Bytes.{Bytes, Text, only}
+use Rattle.re_syntax.specs.Expression.{Expression}
 use Rattle.re_syntax.specs.Holds.{Holds}
+use Rattle.re_syntax.specs.Sets.{members}
 use Rattle.memchr.specs.Find.{OccursAt}
 use Rattle.re_search.specs.declared.needle.Needle.{Needle}
+use Rattle.re_search.specs.declared.needle.run_finder.RunFinder.{RunFinder}
+use Rattle.re_search.specs.declared.needle.run_finder.RunFinder.TheVariants as r
+use Rattle.re_search.specs.Working.Runs.{RunStandsAt}
 
 -- the text stands in the line between the places i and j
 abbrev pub StandsBetween : Text → Text → ℕ → ℕ → Type 0
@@ -14,11 +18,28 @@ StandsBetween line text i j = (k : ℕ) × (i ≤ k) × (k + length text ≤ j) 
 abbrev pub IsNeeded : Text → Expression → Type 0
 IsNeeded text e = (line : Text) (i j : ℕ) → j ≤ length line → Holds line e i j → StandsBetween line text i j
 
--- The text is needed by the expression; where it is told to be all of it, the expression is the sequence of its bytes.
+-- the same of a run of sets
+abbrev pub RunStandsBetween : Text → List Bytes → ℕ → ℕ → Type 0
+RunStandsBetween line run i j = (k : ℕ) × (i ≤ k) × (k + length run ≤ j) × RunStandsAt line run k
+
+abbrev pub RunIsNeeded : List Bytes → Expression → Type 0
+RunIsNeeded run e = (line : Text) (i j : ℕ) → j ≤ length line → Holds line e i j → RunStandsBetween line run i j
+
+-- the expression holds just where the run stands
+pub record IsJustRun (run : List Bytes) (e : Expression) : Type 0 where
+  pub stands : (line : Text) (i j : ℕ) → j ≤ length line → Holds line e i j → RunStandsAt line run i × (j ≡ i + length run)
+  pub holds : (line : Text) (k : ℕ) → RunStandsAt line run k → Holds line e k (k + length run)
+
+-- the run that is looked for: of a string the sets of its bytes alone
+abbrev pub run_of : RunFinder → List Bytes
+run_of (r.Text text) = map only text
+run_of (r.Sets sets) = map members sets
+
+-- The run is needed by the expression; where it is told to be all of it, the expression holds just where it stands.
 pub record IsNeedleOf (e : Expression) (needle : Needle) : Type 0 where
-  pub needed : IsNeeded needle.finder e
-  pub some : 1 ≤ length needle.finder
-  pub all : IsTrue needle.is_all → e ≡ sequence (map byte needle.finder)
+  pub needed : RunIsNeeded (run_of needle.finder) e
+  pub some : 1 ≤ length (run_of needle.finder)
+  pub all : IsTrue needle.is_all → IsJustRun (run_of needle.finder) e
 
 -- so is the needle, where there is one
 abbrev pub IsNeedleFor : Expression → Option Needle → Type 0

@@ -1,9 +1,8 @@
 -- How a search goes over a line, byte by byte: what its cache holds on the way, and which steps it counts.
-use Rattle.std.specs.Prelude.{◌≡◌, ℕ, zero, suc, ◌+◌, ◌*◌, ◌<◌, ◌≤◌, ◌↔◌, ◌⊎◌, Bool, true, false, IsTrue, if◌then◌else◌, List, [], length, map, nat_eq, slice_get, slice_index, Some, IsSome}
+use Rattle.std.specs.Prelude.{◌≡◌, ℕ, zero, suc, ◌+◌, ◌*◌, ◌<◌, ◌≤◌, ◌↔◌, ◌⊎◌, Bool, true, false, IsTrue, if◌then◌else◌, List, [], length, nat_eq, slice_get, slice_index, Some, IsSome}
 use Rattle.std.specs.Map.{lookup}
-use Rattle.memchr.specs.Find.{OccursAt}
-use Rattle.re_syntax.specs.Bytes.{Text}
-use Rattle.re_syntax.specs.Expression.{Expression, byte, sequence}
+use Rattle.re_syntax.specs.Bytes.{Bytes, Text}
+use Rattle.re_syntax.specs.Expression.{Expression}
 use Rattle.re_auto.specs.declared.mode.Mode.{Mode}
 use Rattle.re_auto.specs.declared.mode.Mode.TheVariants.{Search, Whole}
 use Rattle.re_auto.specs.declared.step.state_set.StateSet.{StateSet}
@@ -11,7 +10,8 @@ use Rattle.re_auto.specs.Meters.{Steps, many_built, many_reused}
 use Rattle.re_auto.specs.Working.Positions.{part_of}
 use Rattle.re_auto.specs.Working.StateSets.{IsSame, IsNowhere, IsNextSet, IsAccepting, StandsAt, TakenAlike}
 use Rattle.re_auto.specs.Working.Tables.{CanBegin}
-use Rattle.re_search.specs.Working.Needles.{IsNeeded}
+use Rattle.re_search.specs.Working.Needles.{RunIsNeeded, IsJustRun}
+use Rattle.re_search.specs.Working.Runs.{RunStandsAt, LacksRun}
 
 -- What a cache holds: a class for each byte, sets of positions by number, and entries. The entry for a set and a byte stands at the set's number times `stride`, plus the byte's class.
 pub record Cache : Type 0 where
@@ -132,19 +132,19 @@ pub record Searches (e : Expression) (mode : Mode) (line : Text) (old new : Cach
   pub steps : first.steps ≡ before
   pub finishes : Finishes e mode line first new after answer
 
--- what a search tells without a step: the line lacks a string that every match has in it, or has the string that is all that matches
+-- what a search tells without a step: the line lacks a run of sets that every match has in it, or has the run that is all that matches
 pub record Lacks (e : Expression) (line : Text) (answer : Bool) : Type 0 where
-  pub text : Text
-  pub needed : IsNeeded text e
-  pub absent : (k : ℕ) → ¬ OccursAt line text k
+  pub run : List Bytes
+  pub needed : RunIsNeeded run e
+  pub absent : LacksRun run line
   pub no : answer ≡ false
 
 pub record HasAll (e : Expression) (whole : Bool) (line : Text) (answer : Bool) : Type 0 where
-  pub text : Text
-  pub is : e ≡ sequence (map byte text)
+  pub run : List Bytes
+  pub is : IsJustRun run e
   pub any : whole ≡ false
   pub place : ℕ
-  pub stands : OccursAt line text place
+  pub stands : RunStandsAt line run place
   pub yes : answer ≡ true
 
 abbrev pub IsSettled : Expression → Bool → Text → Bool → Type 0

@@ -342,7 +342,15 @@ const LEFT_OUT: Pattern = (Syntax::Extended, b"(ab)?c", false, false);
 
 const GROUPED: Pattern = (Syntax::Extended, b"x(ab|cd)y", false, false);
 
-static NEEDED: [Needed; 16] = [
+const IN_GROUPS: Pattern = (Syntax::Extended, b"x((ab)+)z", false, false);
+
+const RARE: Pattern = (Syntax::Basic, b"the.*qz", false, false);
+
+const SETS: Pattern = (Syntax::Basic, b"[abc][xyz]", false, false);
+
+const SOME_SETS: Pattern = (Syntax::Basic, b"[ab][cd][0-9]", false, false);
+
+static NEEDED: [Needed; 28] = [
     (REPEATED, b"xxxaxb", 0, None, true),
     (REPEATED, b"abxx", 1, None, true),
     (REPEATED, b"cxxab", 0, Some((1, 5)), false),
@@ -386,9 +394,38 @@ static NEEDED: [Needed; 16] = [
         b"xAb",
         0,
         Some((1, 3)),
-        false,
+        true,
     ),
     ((Syntax::Basic, b"a-b", true, false), b"xab", 0, None, true),
+    (IN_GROUPS, b"xbayabz", 0, None, true),
+    (IN_GROUPS, b"zxababz", 0, Some((1, 7)), false),
+    (RARE, b"the the", 0, None, true),
+    (RARE, b"the qz", 0, Some((0, 6)), false),
+    (SETS, b"ccaabcy", 0, Some((5, 7)), true),
+    (SETS, b"aybx", 1, Some((2, 4)), true),
+    (SETS, b"xyabc", 0, None, true),
+    (SOME_SETS, b"ad-bc", 0, None, false),
+    (SOME_SETS, b"a-bc1", 0, Some((2, 5)), false),
+    (SOME_SETS, b"a-b1c", 0, None, true),
+    (
+        (Syntax::Basic, b"ab*c", true, false),
+        b"aAa",
+        0,
+        None,
+        false,
+    ),
+    (
+        (
+            Syntax::Fixed,
+            b"abcdefghijklmnopqrstuvwxyzabcdefgh",
+            true,
+            false,
+        ),
+        b"-ABCDEFGHIJKLMNOPQRSTUVWXYZabcdefgh",
+        0,
+        Some((1, 35)),
+        false,
+    ),
 ];
 
 fn needed() -> &'static [Needed] {

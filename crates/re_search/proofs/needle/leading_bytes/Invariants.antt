@@ -1,6 +1,7 @@
-use Rattle.std.proofs.Common.{◌≡◌, ◌++◌, drop, map}
-use Rattle.re_syntax.specs.Expression.{byte, expression_of}
+use Rattle.std.proofs.Common.{◌≡◌, ◌++◌, drop, map, Some}
+use Rattle.re_syntax.specs.Bytes.{only}
+use Rattle.re_search.specs.Working.Outlines.{shown}
 use Rattle.re_search.proofs.needle.leading_bytes.Given as goal
 
-abbrev pub invariant-parts : goal.invariant-parts
-invariant-parts l = map expression_of l.parts ≡ map byte l.bytes.items ++ map expression_of (drop l.part-index l.parts)
+abbrev pub invariant-marks : goal.invariant-marks
+invariant-marks l = map shown l.marks ≡ map Some (map only l.bytes.items) ++ map shown (drop l.mark-index l.marks)

@@ -1,5 +1,5 @@
 use Rattle.re_syntax.specs.Expression.{expression_of}
-use Rattle.re_search.proofs.lemmas.StageLaws.{settled_lacks}
+use Rattle.re_search.proofs.lemmas.NeedleLaws.{settled_lacks}
 use Rattle.re_search.proofs.simulated.Simulated.settled.Goals as goal
 
 pub returns-then-is_none : goal.returns-then-is_none

@@ -1,0 +1,85 @@
+-- Needles, and what their places tell of a line.
+use Rattle.std.proofs.Common.{◌≡◌, ℕ, ◌+◌, ◌-◌, ◌<◌, ◌≤◌, inl, inr, Bool, true, false, IsTrue, List, [], ◌∷◌, ◌++◌, length, map, drop, Option, Some, None, refl, sym, ap, ◌∙◌, subst, arith, length-drop, length-append}
+use Rattle.std.specs.Option.{is_some}
+use Rattle.std.proofs.lemmas.Bool.{false≢true}
+use Rattle.std.proofs.lemmas.List.{length-map}
+use Rattle.std.proofs.Math.Decide.{dec_le}
+use Rattle.re_syntax.specs.Bytes.{Bytes, Text, only}
+use Rattle.re_syntax.specs.Expression.{Expression}
+use Rattle.re_syntax.specs.Holds.{Holds}
+use Rattle.re_syntax.specs.Parts.{IsFound, IsPart}
+use Rattle.re_syntax.proofs.lemmas.Decisions.{Any-first}
+use Rattle.re_search.specs.declared.needle.Needle.{Needle}
+use Rattle.re_search.specs.declared.needle.run_finder.RunFinder.{RunFinder}
+use Rattle.re_search.specs.Working.Runs.{RunStandsAt, FindsRun}
+use Rattle.re_search.specs.Working.Needles.{IsNeeded, RunIsNeeded, IsNeedleOf, run_of}
+use Rattle.re_search.specs.Working.Outlines.{IsOutline}
+use Rattle.re_search.specs.Working.Stages.{IsSettled}
+use Rattle.re_search.proofs.lemmas.AnyLaws.{Any-single}
+use Rattle.re_search.proofs.lemmas.OutlineLaws.{run_needed, just_run}
+use Rattle.re_search.proofs.lemmas.RunLaws.{run_rest, run_whole, run_text, nowhere}
+
+-- sets side by side in an outline are a needle
+pub run_is_needle : (marks : List (Option Bytes)) (finder : RunFinder) (is_all : Bool) (rest : List (Option Bytes)) (start : ℕ) → drop start marks ≡ map Some (run_of finder) ++ rest → 1 ≤ length (run_of finder)
+    → (IsTrue is_all → length (run_of finder) ≡ length marks) → (e : Expression) → IsOutline marks e → IsNeedleOf e (record { finder = finder; is_all = is_all })
+run_is_needle marks finder is_all rest start stands some all e outline = record {
+  needed = run_needed marks e outline (run_of finder) rest start stands;
+  some = some;
+  all = λ told. just_run marks e outline (run_of finder) rest start stands some (all told);
+}
+
+-- a string whose run is needed is needed
+pub text_needed : (finder : RunFinder) (text : Text) (e : Expression) → run_of finder ≡ map only text → RunIsNeeded (run_of finder) e → IsNeeded text e
+text_needed finder text e is needed = λ line i j within h.
+    let (k, low, high, o) = subst (λ run. RunIsNeeded run e) is needed line i j within h in
+    (k, low, omega (arith, high, length-map text only), run_text line text k o)
+
+module _ (e : Expression) (needle : Needle) (of : IsNeedleOf e needle) (line : Text) where
+  -- where a search from a place on does not find the needle, no stretch from there on is matched
+  lacks_stretch : (from i j : ℕ) → FindsRun (drop from line) (run_of needle.finder) None → from ≤ i → j ≤ length line → Holds line e i j → ⊥
+  lacks_stretch from i j none after within h =
+      let (k, low, high, o) = of.needed line i j within h in
+      nowhere (drop from line) (run_of needle.finder) none (k - from) (run_rest (run_of needle.finder) line from k (omega (arith, after, low)) o)
+
+  -- and has no part from the place on
+  pub lacks_part : (whole : Bool) (from : ℕ) → FindsRun (drop from line) (run_of needle.finder) None → (i j : ℕ) → IsFound (e ∷ []) line whole from i j → ⊥
+  lacks_part whole from none i j f = lacks_stretch from i j none f.begins f.on_line (Any-single (λ x. Holds line x i j) e f.holds)
+
+  -- and its first place from one on is the part
+  pub all_is_part : IsTrue needle.is_all → (from k : ℕ) → from ≤ length line → FindsRun (drop from line) (run_of needle.finder) (Some k) → IsPart (e ∷ []) line false from (from + k) (from + k + length (run_of needle.finder))
+  all_is_part all from k within (first, o) =
+      let there = run_whole (run_of needle.finder) line from k within o in
+      let fits : from + k + length (run_of needle.finder) ≤ length line = there.fits in
+      let some = of.some in
+      let just = of.all all in record {
+        found = record {
+          begins = omega arith;
+          not_empty = omega (arith, some);
+          on_line = fits;
+          is_whole = tt;
+          holds = Any-first (λ x. Holds line x (from + k) (from + k + length (run_of needle.finder))) e [] (just.holds line (from + k) there);
+        };
+        earliest = not_before;
+        longest = λ j f. omega (arith, (just.stands line (from + k) j f.on_line (Any-single (λ x. Holds line x (from + k) j) e f.holds)).1);
+      }
+    where
+      not_before : (i j : ℕ) → IsFound (e ∷ []) line false from i j → from + k ≤ i
+      not_before i j f =
+          let begins : from ≤ i = f.begins in
+          let just = of.all all in
+          let stands = just.stands line i j f.on_line (Any-single (λ x. Holds line x i j) e f.holds) in
+          let high = first.high in
+          elim (dec_le k (i - from)) [
+            | yes h ↦ omega (arith, h, begins)
+            | no h ↦ absurd (first.before (i - from) (omega arith) (omega (arith, h)) (run_rest (run_of needle.finder) line from i begins stands.0))
+          ]
+
+  -- a needle that the line lacks, or that is all and stands on it
+  module _ (whole : Bool) where
+    pub settled_lacks : (found : Option ℕ) → FindsRun line (run_of needle.finder) found → is_some found ≡ false → IsSettled e whole line false
+    settled_lacks (Some k) finds lacks = absurd (false≢true (sym lacks))
+    settled_lacks None none lacks = inl (record { run = run_of needle.finder; needed = of.needed; absent = nowhere line (run_of needle.finder) none; no = refl })
+
+    pub settled_has : IsTrue needle.is_all → whole ≡ false → (found : Option ℕ) → FindsRun line (run_of needle.finder) found → is_some found ≡ true → IsSettled e whole line true
+    settled_has all any None none has = absurd (false≢true has)
+    settled_has all any (Some k) finds has = inr (record { run = run_of needle.finder; is = of.all all; any = any; place = k; stands = finds.1; yes = refl })

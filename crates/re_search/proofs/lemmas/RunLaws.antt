@@ -1,0 +1,151 @@
+-- Where a run of sets stands in a line, and what a search for its rarest set tells.
+use Rattle.std.proofs.Common.{◌≡◌, ℕ, zero, suc, ◌+◌, ◌-◌, ◌<◌, ◌≤◌, ◌⊎◌, inl, inr, IsTrue, List, [], ◌∷◌, ◌++◌, length, map, drop, get_or, slice_index, Option, None, Some, refl, sym, ap, ◌∙◌, subst, arith, eq-eqb, length-append, length-drop}
+use Rattle.std.proofs.lemmas.Bool.{eqb-true}
+use Rattle.std.proofs.lemmas.List.{get_or-drop, get_or-map, get_or_append_left, get_or-append-add, length-map}
+use Rattle.re_syntax.specs.Bytes.{Bytes, Text, nothing, only}
+use Rattle.re_syntax.specs.Sets.{members}
+use Rattle.re_syntax.specs.declared.bytes.ByteSet.{ByteSet}
+use Rattle.re_auto.proofs.lemmas.BeginningLemmas.{tells_two, tells_three}
+use Rattle.memchr.specs.Find.{OccursAt, FindsNeedle, IsFirstByte}
+use Rattle.re_search.specs.declared.needle.few.Few.{Few}
+use Rattle.re_search.specs.declared.needle.few.Few.TheVariants.{One, Two, Three}
+use Rattle.re_search.specs.Working.Runs.{RunStandsAt, FindsRun, Covers, set_at, is_few}
+
+-- ---- in a longer line, and in the rest of one
+
+pub run_before : (run : List Bytes) (line after : Text) (k : ℕ) → RunStandsAt line run k → RunStandsAt (line ++ after) run k
+run_before run line after k o =
+    let fits : k + length run ≤ length line = o.fits in record {
+      fits = omega (arith, length-append line after);
+      takes = λ j below. subst (λ b. IsTrue (set_at run j b)) (sym (get_or_append_left line after 0 (k + j) (omega arith))) (o.takes j below);
+    }
+
+pub run_behind : (run : List Bytes) (before line : Text) (k : ℕ) → RunStandsAt line run k → RunStandsAt (before ++ line) run (length before + k)
+run_behind run before line k o =
+    let fits : k + length run ≤ length line = o.fits in record {
+      fits = omega (arith, length-append before line);
+      takes = λ j below.
+          let place : length before + k + j ≡ length before + (k + j) = omega arith in
+          subst (λ b. IsTrue (set_at run j b)) (sym (ap (λ n. get_or (before ++ line) n 0) place ∙ get_or-append-add before line (k + j) 0)) (o.takes j below);
+    }
+
+pub run_rest : (run : List Bytes) (line : Text) (from k : ℕ) → from ≤ k → RunStandsAt line run k → RunStandsAt (drop from line) run (k - from)
+run_rest run line from k h o =
+    let fits : k + length run ≤ length line = o.fits in record {
+      fits = omega (arith, length-drop from line);
+      takes = λ j below.
+          let place : from + (k - from + j) ≡ k + j = omega arith in
+          subst (λ b. IsTrue (set_at run j b)) (sym (get_or-drop from line (k - from + j) 0 ∙ ap (λ n. get_or line n 0) place)) (o.takes j below);
+    }
+
+pub run_whole : (run : List Bytes) (line : Text) (from k : ℕ) → from ≤ length line → RunStandsAt (drop from line) run k → RunStandsAt line run (from + k)
+run_whole run line from k within o =
+    let fits : k + length run ≤ length (drop from line) = o.fits in record {
+      fits = omega (arith, length-drop from line);
+      takes = λ j below.
+          let place : from + (k + j) ≡ from + k + j = omega arith in
+          subst (λ b. IsTrue (set_at run j b)) (get_or-drop from line (k + j) 0 ∙ ap (λ n. get_or line n 0) place) (o.takes j below);
+    }
+
+-- ---- a string is the run of its bytes alone
+
+its_set : (text : Text) (j : ℕ) → j < length text → set_at (map only text) j ≡ only (slice_index text j)
+its_set text j below = get_or-map only text j 0 nothing below
+
+pub text_run : (line text : Text) (k : ℕ) → OccursAt line text k → RunStandsAt line (map only text) k
+text_run line text k o =
+    let fits : k + length text ≤ length line = o.fits in record {
+      fits = omega (arith, length-map text only);
+      takes = λ j below.
+          let inside : j < length text = omega (arith, below, length-map text only) in
+          subst (λ s. IsTrue (s (slice_index line (k + j)))) (sym (its_set text j inside)) (eq-eqb (slice_index line (k + j)) (slice_index text j) (o.reads j inside));
+    }
+
+pub run_text : (line text : Text) (k : ℕ) → RunStandsAt line (map only text) k → OccursAt line text k
+run_text line text k o =
+    let fits : k + length (map only text) ≤ length line = o.fits in record {
+      fits = omega (arith, length-map text only);
+      reads = λ j inside.
+          let below : j < length (map only text) = omega (arith, length-map text only) in
+          eqb-true (slice_index line (k + j)) (slice_index text j) (subst (λ s. IsTrue (s (slice_index line (k + j)))) (its_set text j inside) (o.takes j below));
+    }
+
+pub finds_text : (line text : Text) (r : Option ℕ) → FindsNeedle line text 0 r → FindsRun line (map only text) r
+finds_text line text None none = λ k low high o. none k low high (run_text line text k o)
+finds_text line text (Some at) (first, stands) =
+    (record { low = first.low; high = first.high; before = λ k low high o. first.before k low high (run_text line text k o) }, text_run line text at stands)
+
+-- ---- where a search tells that the run stands nowhere
+
+pub nowhere : (line : Text) (run : List Bytes) → FindsRun line run None → (k : ℕ) → ¬ RunStandsAt line run k
+nowhere line run none k o = let fits : k + length run ≤ length line = o.fits in none k (omega arith) (omega (arith, fits)) o
+
+-- ---- the sets of a run, one by one
+
+pub its_members : (sets : List ByteSet) (j : ℕ) (set : ByteSet) → j < length sets → set ≡ get_or sets j set → set_at (map members sets) j ≡ members set
+its_members sets j set below is = get_or-map members sets j set nothing below ∙ ap members (sym is)
+
+-- one set more takes its byte
+pub takes_more : (run : List Bytes) (line : Text) (place j : ℕ) → IsTrue (set_at run j (slice_index line (place + j)))
+    → ((k : ℕ) → k < j → IsTrue (set_at run k (slice_index line (place + k))))
+    → (k : ℕ) → k < j + 1 → IsTrue (set_at run k (slice_index line (place + k)))
+takes_more run line place j has earlier k lt =
+    elim (either k j lt) [
+      | inl before ↦ earlier k before
+      | inr same ↦ subst (λ n. IsTrue (set_at run n (slice_index line (place + n)))) (sym same) has
+    ]
+  where
+    either : (k j : ℕ) → k < j + 1 → (k < j) ⊎ (k ≡ j)
+    either k j lt = search (arith, lt)
+
+-- ---- a search from place to place
+
+-- what is passed from one place to another
+pub passed_on : (run : List Bytes) (line : Text) (start at : ℕ) → ((k : ℕ) → k < start → ¬ RunStandsAt line run k) → ((k : ℕ) → start ≤ k → k < at → ¬ RunStandsAt line run k) → (k : ℕ) → k < at → ¬ RunStandsAt line run k
+passed_on run line start at before after k lt o = elim (early k start) [ inl e ↦ before k e o | inr l ↦ after k l lt o ]
+  where
+    early : (m n : ℕ) → (m < n) ⊎ (n ≤ m)
+    early m n = search arith
+
+-- and one place more
+pub passed_over : (run : List Bytes) (line : Text) (at : ℕ) → ((k : ℕ) → k < at → ¬ RunStandsAt line run k) → ¬ RunStandsAt line run at → (k : ℕ) → k < at + 1 → ¬ RunStandsAt line run k
+passed_over run line at before none k lt o = elim (either k at lt) [ inl e ↦ before k e o | inr same ↦ none (subst (λ n. RunStandsAt line run n) same o) ]
+  where
+    either : (k j : ℕ) → k < j + 1 → (k < j) ⊎ (k ≡ j)
+    either k j lt = search (arith, lt)
+
+-- a run that is not empty stands nowhere from the line's end on
+pub none_left : (run : List Bytes) (line : Text) (start : ℕ) → 1 ≤ length run → length line ≤ start → ((k : ℕ) → k < start → ¬ RunStandsAt line run k) → (k : ℕ) → ¬ RunStandsAt line run k
+none_left run line start some end before k o = let fits : k + length run ≤ length line = o.fits in before k (omega (arith, some, end, fits)) o
+
+-- the place at which a search ends
+pub found_at : (run : List Bytes) (line : Text) (at : ℕ) → at < length line → ((k : ℕ) → k < at → ¬ RunStandsAt line run k) → RunStandsAt line run at → FindsRun line run (Some at)
+found_at run line at within before stands = (record { low = omega arith; high = omega (arith, within); before = λ k low lt. before k lt }, stands)
+
+-- ---- by the bytes of the rarest set
+
+covered : (few : Few) (set : Bytes) (x : ℕ) → Covers few set → x < 256 → IsTrue (set x) → IsTrue (is_few few x)
+covered (One a) set x covers small has = eq-eqb x a (covers x small has)
+covered (Two a b) set x covers small has = (tells_two a b x).0 (covers x small has)
+covered (Three a b c) set x covers small has = (tells_three a b c x).0 (covers x small has)
+
+-- a run reaches behind its rarest set
+pub too_far : (run : List Bytes) (line : Text) (rare from : ℕ) → rare < length run → length line - from ≤ rare → (k : ℕ) → from ≤ k → ¬ RunStandsAt line run k
+too_far run line rare from within far k low o = let fits : k + length run ≤ length line = o.fits in absurd (omega (arith, within, far, low, fits))
+
+module _ (run : List Bytes) (line : Text) (few : Few) (rare from : ℕ) (within : rare < length run) (covers : Covers few (set_at run rare)) (small : (x : ℕ) → slice_index line x < 256) where
+  has_rare : (k : ℕ) → from ≤ k → RunStandsAt line run k → IsTrue (is_few few (slice_index (drop (from + rare) line) (k - from)))
+  has_rare k low o =
+      let place : from + rare + (k - from) ≡ k + rare = omega (arith, low) in
+      let same : slice_index line (k + rare) ≡ slice_index (drop (from + rare) line) (k - from) = sym (get_or-drop (from + rare) line (k - from) 0 ∙ ap (λ n. get_or line n 0) place) in
+      subst (λ b. IsTrue (is_few few b)) same (covered few (set_at run rare) (slice_index line (k + rare)) covers (small (k + rare)) (o.takes rare within))
+
+  -- where its bytes stand nowhere the run doesn't
+  pub none_passes : IsFirstByte (is_few few) (drop (from + rare) line) None → (k : ℕ) → from ≤ k → ¬ RunStandsAt line run k
+  none_passes none k low o =
+      let fits : k + length run ≤ length line = o.fits in
+      none (k - from) (omega arith) (omega (arith, low, fits, within, length-drop (from + rare) line)) (has_rare k low o)
+
+  -- nor before the first of them
+  pub some_passes : (n : ℕ) → IsFirstByte (is_few few) (drop (from + rare) line) (Some n) → (k : ℕ) → from ≤ k → k < from + n → ¬ RunStandsAt line run k
+  some_passes n (first, has) k low lt o = first.before (k - from) (omega arith) (omega (arith, low, lt)) (has_rare k low o)

@@ -1,0 +1,108 @@
+//! Which run of an outline is looked for. No contract rests on the choice.
+ghost use Rattle.std.specs.Prelude.{◌≡◌, ◌≤◌, length};
+
+use crate::needle::few::{Few, rank_of};
+use crate::needle::outline::Mark;
+
+// From how many bytes on a run is long: of long runs the longest is taken, of others one that is
+// much rarer before a longer one.
+const LONG: usize = 4;
+
+// By how many ranks a byte is much rarer than another.
+const MUCH: u8 = 32;
+
+// A run of marks: where it begins, how long it is, and how common its rarest mark is.
+#[derive(Clone, Copy)]
+struct Run {
+    start: usize,
+    length: usize,
+    rank: u8,
+}
+
+impl Run {
+    // The empty run at a place.
+    fn at(start: usize) -> Run
+        ensures { result.start ≡ start }
+    {
+        Run {
+            start,
+            length: 0,
+            rank: u8::MAX,
+        }
+    }
+
+    // The run with a mark more.
+    fn with(self, rank: u8) -> Run
+        ensures { result.start ≡ self.start }
+    {
+        Run {
+            start: self.start,
+            length: self.length.saturating_add(1),
+            rank: self.rank.min(rank),
+        }
+    }
+
+    // Whether it is looked for rather than the other, which begins before it or where it does. A
+    // single byte never is rather than a single byte.
+    fn beats(self, other: Run) -> bool {
+        if self.length >= LONG || other.length >= LONG || self.length < 2 || other.length < 2 {
+            return self.length > other.length;
+        }
+        if self.rank.saturating_add(MUCH) <= other.rank {
+            return true;
+        }
+        self.length > other.length && self.rank < other.rank.saturating_add(MUCH)
+    }
+}
+
+/// Where the run of single bytes begins that is looked for.
+pub fn text_start(marks: &[Mark]) -> usize
+    ensures { result ≤ length marks.now }
+{
+    let mut now = Run::at(0);
+    let mut best = Run::at(0);
+    'marks: for place in 0..marks.len() {
+        now = match byte_rank(&marks[place]) {
+            Some(rank) => now.with(rank),
+            None => Run::at(place + 1),
+        };
+        if now.beats(best) {
+            best = now;
+        }
+    }
+    best.start
+}
+
+/// Where the run of small sets begins that is looked for.
+pub fn sets_start(marks: &[Mark]) -> usize
+    ensures { result ≤ length marks.now }
+{
+    let mut now = Run::at(0);
+    let mut best = Run::at(0);
+    'marks: for place in 0..marks.len() {
+        now = match set_rank(&marks[place]) {
+            Some(rank) => now.with(rank),
+            None => Run::at(place + 1),
+        };
+        if now.beats(best) {
+            best = now;
+        }
+    }
+    best.start
+}
+
+// How common the mark's byte is, where it is one byte.
+fn byte_rank(mark: &Mark) -> Option<u8> {
+    match mark {
+        Mark::Set(set) => Some(rank_of(set.one_byte()?)),
+        Mark::Stretch => None,
+    }
+}
+
+// How common the bytes of the mark are, where they are few.
+fn set_rank(mark: &Mark) -> Option<u8> {
+    match mark {
+        Mark::Set(set) => Some(Few::of(set)?.rank()),
+        Mark::Stretch => None,
+    }
+}

@@ -1,0 +1,50 @@
+//! Search for what every match has in it.
+ghost use Rattle.std.specs.Prelude.{◌≡◌, IfSome, length, map};
+ghost use Rattle.re_syntax.specs.Bytes.{only};
+ghost use Rattle.re_search.specs.Working.Needles.{run_of};
+ghost use Rattle.re_search.specs.Working.Runs.{FindsRun};
+
+use crate::needle::set_finder::SetFinder;
+use memchr::memmem::Finder;
+
+/// Looks for a string or a run of sets of bytes.
+#[derive(Drop)]
+pub enum RunFinder {
+    /// Looks for this string.
+    Text(Finder<'static>),
+    /// Looks for one byte of each set in turn.
+    Sets(SetFinder),
+}
+
+impl RunFinder {
+    /// The first place of the line at which what is looked for stands.
+    #[inline]
+    pub fn find(&self, line: &[u8]) -> Option<usize>
+        ensures { FindsRun line.now (run_of self.now) result }
+    {
+        match self {
+            RunFinder::Text(finder) => finder.find(line),
+            RunFinder::Sets(finder) => finder.find(line),
+        }
+    }
+
+    /// How many bytes it has.
+    pub fn len(&self) -> usize
+        ensures { result ≡ length (run_of self.now) }
+    {
+        match self {
+            RunFinder::Text(finder) => finder.needle().len(),
+            RunFinder::Sets(finder) => finder.len(),
+        }
+    }
+
+    /// The string, where it looks for one.
+    pub fn text(&self) -> Option<&[u8]>
+        ensures { IfSome result (λ text. run_of self.now ≡ map only text.now) }
+    {
+        match self {
+            RunFinder::Text(finder) => Some(finder.needle()),
+            RunFinder::Sets(_) => None,
+        }
+    }
+}
