@@ -1,7 +1,7 @@
 //! The options of a run, and what they ask for.
 ghost use Rattle.std.specs.Prelude.{◌≡◌, ◌||◌};
 ghost use Rattle.grep_core.specs.Output.{form};
-ghost use Rattle.grep_core.specs.Working.Wanted.{form_of};
+ghost use Rattle.grep_core.specs.Working.Wanted.{form_of, selects};
 
 /// The options of grep that are set or not (XCU grep, OPTIONS; `only_matching` after the GNU
 /// manual).
@@ -87,6 +87,15 @@ impl Options {
             return Form::Parts;
         }
         Form::Lines
+    }
+
+    /// Whether a line is selected that is matched, or is not (XCU grep, DESCRIPTION and option
+    /// `-v`).
+    #[inline]
+    pub fn selects(self, matched: bool) -> bool
+        ensures { result ≡ selects self matched }
+    {
+        matched != self.invert_match
     }
 
     /// Whether a file is left at its first selected line.

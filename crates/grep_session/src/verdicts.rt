@@ -10,10 +10,7 @@ impl KeptLine {
     pub fn is_selected(&self, options: &Options) -> bool
         ensures { result ≡ is_selected options.now self.now }
     {
-        if options.invert_match {
-            return self.found.numbers().is_empty();
-        }
-        !self.found.numbers().is_empty()
+        options.selects(!self.found.numbers().is_empty())
     }
 }
 

@@ -1,6 +1,7 @@
 -- What is asked of one file.
-use Rattle.std.specs.Prelude.{Bool, Option, None, Some, if◌then◌else◌}
+use Rattle.std.specs.Prelude.{Bool, not, Option, None, Some, if◌then◌else◌}
 use Rattle.re_syntax.specs.Bytes.{Text}
+use Rattle.grep_core.specs.declared.options.Options.{Options}
 use Rattle.grep_core.specs.declared.options.Form.{Form as AskedForm}
 use Rattle.grep_core.specs.declared.options.Form.TheVariants.{Nothing, Names, Counts, Parts, Lines}
 use Rattle.grep_core.specs.Output.{Form, nothing, names, counts, parts, lines}
@@ -11,6 +12,10 @@ form_of Names = names
 form_of Counts = counts
 form_of Parts = parts
 form_of Lines = lines
+
+-- a line is selected that is matched, and under `-v` one that is not
+abbrev pub selects : Options → Bool → Bool
+selects options matched = if options.invert_match then not matched else matched
 
 -- a file's name is shown where there are many files
 abbrev pub name_shown : Bool → Text → Option Text

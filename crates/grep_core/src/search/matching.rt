@@ -25,7 +25,7 @@ pub fn is_selected<M: LineMatch>(
     ensures steps { AddsAtMost (search_cost (length matchers.old) line.now) meter.old meter.new }
 {
     let matched = is_matched(matchers, line, meter);
-    matched != options.invert_match
+    options.selects(matched)
 }
 
 /// Whether there is a filter, and none of its strings stands on the line.

@@ -83,7 +83,7 @@ module _ (es : List Expression) (options : Options) where
   selected_told : (line : KeptLine) → IsKept es options line → Decides (is_selected options line) (Selected es options (line_text line))
   selected_told line k = by_flag options.invert_match (matches_none line) (matching_tells (line_text line) options.line_regexp 0 es line.found.numbers k.matching)
     where
-      by_flag : {M : Type 0} (inverted none : Bool) → IsTrue (not none) ↔ M → Decides (if inverted then none else not none) (MatchBool inverted (M → ⊥) M)
+      by_flag : {M : Type 0} (inverted none : Bool) → IsTrue (not none) ↔ M → Decides (if inverted then not (not none) else not none) (MatchBool inverted (M → ⊥) M)
       by_flag false none m = m
       by_flag true true m = decided_yes (λ p. false≢true (m.1 p))
       by_flag true false m = decided_no (λ f. f (m.0 refl))

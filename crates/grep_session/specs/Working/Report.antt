@@ -14,7 +14,7 @@ use Rattle.grep_core.specs.Files.{File}
 use Rattle.grep_core.specs.Output.{Form, parts, lines, form, shown_number, Out, written}
 use Rattle.grep_core.specs.Messages.{Messages, StatusOf}
 use Rattle.grep_core.specs.Working.Searched.{is_fault, summary_as, told_of, status_by}
-use Rattle.grep_core.specs.Working.Wanted.{name_shown}
+use Rattle.grep_core.specs.Working.Wanted.{name_shown, selects}
 use Rattle.grep_core.specs.Written.{Writes}
 use Rattle.grep_session.specs.declared.kept.KeptLine.{KeptLine}
 use Rattle.grep_session.specs.declared.kept.KeptFile.{KeptFile}
@@ -28,7 +28,7 @@ matches_none line = length line.found.numbers == 0
 
 -- grep selects the lines that are matched, and under `-v` the others
 abbrev pub is_selected : Options → KeptLine → Bool
-is_selected options line = if options.invert_match then matches_none line else not (matches_none line)
+is_selected options line = selects options (not (matches_none line))
 
 abbrev pub some_selected : Options → List KeptLine → Bool
 some_selected options text = list_any (is_selected options) text
