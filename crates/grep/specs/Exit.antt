@@ -13,9 +13,11 @@ words_refused = codes "grep: words must be UTF-8"
 
 -- a write error is told, but not where a message could not be written before
 abbrev pub TellsWriteError : Writer → Writer → Type 0
-TellsWriteError old new = MatchBool (nat_lt 0 old.failures) (new ≡ old) (TellsLines old new (write_error ∷ []))
+TellsWriteError old new =
+    MatchBool (nat_lt 0 old.failures) (new ≡ old) (TellsLines old new (write_error ∷ []))
 
--- standard output, gathered; standard error; how often a file could not be opened or read; and the steps that were counted
+-- standard output, gathered; standard error; how often a file could not be opened or read; and the
+-- steps that were counted
 pub record Streams (W : Type 0) : Type 0 where
   pub out : BufferedWriter W
   pub messages : Writer
@@ -23,11 +25,13 @@ pub record Streams (W : Type 0) : Type 0 where
   pub steps : Steps
 
 abbrev pub streams : {W : Type 0} → BufferedWriter W → Writer → ℕ → Steps → Streams W
-streams out messages failures steps = record { out = out; messages = messages; source_failures = failures; steps = steps }
+streams out messages failures steps =
+    record { out = out; messages = messages; source_failures = failures; steps = steps }
 
 module _ {W : Type 0} (contents : W → Option Text) (failures : W → ℕ) where
-  -- where a write of the output failed before, nothing more is sent; otherwise all that waits goes out, and the status
-  -- is the one that was found; or a beginning of it goes out, and that is told and the status is 2
+  -- where a write of the output failed before, nothing more is sent; otherwise all that waits goes
+  -- out, and the status is the one that was found; or a beginning of it goes out, and that is told
+  -- and the status is 2
   abbrev pub EndsAs : BufferedWriter W → BufferedWriter W → Writer → Writer → ℕ → ℕ → Type 0
   EndsAs old new told_before told found status =
       MatchBool (nat_lt 0 (failures old.inner))
@@ -40,7 +44,8 @@ module _ {W : Type 0} (contents : W → Option Text) (failures : W → ℕ) wher
   gathered = writer (all_contents contents) (λ out. failures out.inner)
 
   -- what the program does for its words: what the command does, and then its end
-  pub record ProgramGives (folder : Folder) (given : List (Option Text) → Type 0) (words : List Text) (old new : Streams W) (status : ℕ) : Type 0 where
+  pub record ProgramGives (folder : Folder) (given : List (Option Text) → Type 0)
+      (words : List Text) (old new : Streams W) (status : ℕ) : Type 0 where
     pub found : ℕ
     pub out : BufferedWriter W
     pub messages : Writer

@@ -12,14 +12,16 @@ use grep_core::{Buffered, CountedWrite, WriteFault, write_line};
 
 /// Writes how the program is used.
 fn write_usage<M: CountedWrite>(messages: &mut M) -> Result<(), WriteFault>
-    ensures { Writes M.contents M.failures messages.old messages.new (written [] (usage ∷ [])) result }
+    ensures { Writes M.contents M.failures messages.old messages.new (written [] (usage ∷ []))
+        result }
 {
     write_line(messages, USAGE)
 }
 
 /// Writes the lines on words that are not UTF-8.
 fn write_words_refused<M: CountedWrite>(messages: &mut M) -> Result<(), WriteFault>
-    ensures { Writes M.contents M.failures messages.old messages.new (written [] (words_refused ∷ usage ∷ [])) result }
+    ensures { Writes M.contents M.failures messages.old messages.new
+        (written [] (words_refused ∷ usage ∷ [])) result }
 {
     write_line(messages, b"grep: words must be UTF-8")?;
     write_usage(messages)
@@ -29,7 +31,8 @@ fn write_words_refused<M: CountedWrite>(messages: &mut M) -> Result<(), WriteFau
 /// again.
 pub fn refuse_words<M: CountedWrite>(messages: &mut M) -> u8
     ensures status { result ≡ 2 }
-    ensures told { TellsLines (writer M.contents M.failures messages.old) (writer M.contents M.failures messages.new)
+    ensures told { TellsLines (writer M.contents M.failures messages.old)
+        (writer M.contents M.failures messages.new)
         (words_refused ∷ usage ∷ []) }
 {
     let _ = write_words_refused(messages);
@@ -40,7 +43,8 @@ pub fn refuse_words<M: CountedWrite>(messages: &mut M) -> u8
 /// again.
 pub fn refuse_memory<M: CountedWrite>(messages: &mut M) -> u8
     ensures status { result ≡ 2 }
-    ensures told { TellsLines (writer M.contents M.failures messages.old) (writer M.contents M.failures messages.new)
+    ensures told { TellsLines (writer M.contents M.failures messages.old)
+        (writer M.contents M.failures messages.new)
         (out_of_memory ∷ []) }
 {
     let _ = write_line(messages, OUT_OF_MEMORY);
@@ -51,7 +55,8 @@ pub fn refuse_memory<M: CountedWrite>(messages: &mut M) -> u8
 /// and answers the exit status.
 fn tell_write_error<M: CountedWrite>(messages: &mut M) -> u8
     ensures status { result ≡ 2 }
-    ensures told { TellsWriteError (writer M.contents M.failures messages.old) (writer M.contents M.failures messages.new) }
+    ensures told { TellsWriteError (writer M.contents M.failures messages.old)
+        (writer M.contents M.failures messages.new) }
 {
     if messages.failures() > 0 {
         return FAILED;
@@ -69,7 +74,8 @@ pub fn finish<W: CountedWrite, M: CountedWrite>(
     found: u8,
 ) -> u8
     ensures { EndsAs W.contents W.failures out.old out.new
-        (writer M.contents M.failures messages.old) (writer M.contents M.failures messages.new) found result }
+        (writer M.contents M.failures messages.old) (writer M.contents M.failures messages.new)
+        found result }
 {
     if out.failures() > 0 {
         return found;

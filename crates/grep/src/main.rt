@@ -30,9 +30,12 @@ fn run_gathered<F: Files, W: CountedWrite, M: CountedWrite>(
     messages: &mut M,
     meter: &mut Meter,
 ) -> u8
-    ensures { ProgramGives W.contents W.failures (F.folder files.old) (GivesBack F.given_back files.old files.new) (texts_of words.now)
-        (streams out.old (writer M.contents M.failures messages.old) (F.failures files.old) meter.old)
-        (streams out.new (writer M.contents M.failures messages.new) (F.failures files.new) meter.new)
+    ensures { ProgramGives W.contents W.failures (F.folder files.old)
+        (GivesBack F.given_back files.old files.new) (texts_of words.now)
+        (streams out.old (writer M.contents M.failures messages.old) (F.failures files.old)
+        meter.old)
+        (streams out.new (writer M.contents M.failures messages.new) (F.failures files.new)
+        meter.new)
         result }
 {
     let found = run_grep(alloc, words, files, out, messages, meter);

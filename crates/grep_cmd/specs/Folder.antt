@@ -1,9 +1,11 @@
 -- The files that a command may name, and its standard input (XCU grep, OPERANDS and STDIN).
-use Rattle.std.specs.Prelude.{Bool, true, List, [], ◌∷◌, codes, bytes_eq, Option, Some, if◌then◌else◌}
+use Rattle.std.specs.Prelude.{Bool, true, List, [], ◌∷◌, codes, bytes_eq, Option, Some}
+use Rattle.std.specs.Prelude.{if◌then◌else◌}
 use Rattle.re_syntax.specs.Bytes.{Text}
 use Rattle.grep_core.specs.Reading.{Source}
 
--- what is known of the files by their names, whether each can be opened and its bytes, and of the bytes that standard input has left
+-- what is known of the files by their names, whether each can be opened and its bytes, and of the
+-- bytes that standard input has left
 pub record Folder : Type 0 where
   pub opens : Text → Option Bool
   pub bytes : Text → Option Text
@@ -14,7 +16,8 @@ abbrev pub input_used : Folder → Folder
 input_used folder = record folder { input = Some [] }
 
 abbrev pub file_named : Folder → Text → Source
-file_named folder name = record { name = name; opens = folder.opens name; bytes = folder.bytes name }
+file_named folder name =
+    record { name = name; opens = folder.opens name; bytes = folder.bytes name }
 
 -- `-` names standard input (XBD 12.2, Guideline 13)
 abbrev pub is_standard : Text → Bool
@@ -42,9 +45,11 @@ after_use folder word = if is_standard word then input_used folder else folder
 -- the sources that words name, in order
 abbrev pub sources_named : Folder → List Text → List Source
 sources_named folder [] = []
-sources_named folder (name ∷ names) = source_named folder name ∷ sources_named (after_use folder name) names
+sources_named folder (name ∷ names) =
+    source_named folder name ∷ sources_named (after_use folder name) names
 
--- the words that name what is searched: standard input where there is no file operand (XCU grep, OPERANDS)
+-- the words that name what is searched: standard input where there is no file operand (XCU grep,
+-- OPERANDS)
 abbrev pub searched : List Text → List Text
 searched [] = codes "-" ∷ []
 searched (word ∷ words) = word ∷ words

@@ -24,7 +24,8 @@ patterns_by broken f failures = Err (record { message = read_error f.name; failu
 abbrev pub FileGives : reading.Source → Result (List Text) Unread → Type 0
 FileGives source given =
     (did : Reading) × IsReadingOf source did
-    × (given ≡ patterns_by (file_of source.name did).ending (file_of source.name did) (failures_of did))
+    × (given ≡
+    patterns_by (file_of source.name did).ending (file_of source.name did) (failures_of did))
 
 -- what a source of patterns gives: a list is parted by its newlines
 abbrev pub GivesPatterns : Folder → PatternsFrom → Result (List Text) Unread → Type 0
@@ -52,4 +53,5 @@ abbrev pub FirstUnread : Folder → List PatternsFrom → Unread → Type 0
 FirstUnread folder [] fault = ⊥
 FirstUnread folder (source ∷ sources) fault =
     GivesPatterns folder source (Err fault)
-    ⊎ ((first : List Text) × GivesPatterns folder source (Ok first) × FirstUnread (behind folder source) sources fault)
+    ⊎ ((first : List Text) × GivesPatterns folder source (Ok first) ×
+    FirstUnread (behind folder source) sources fault)

@@ -1,11 +1,13 @@
 -- The replies to a script (occur(1), REPLIES), and what a run of it writes and answers.
-use Rattle.std.specs.Prelude.{◌≡◌, ◌≢◌, ℕ, Bool, if◌then◌else◌, List, [], ◌∷◌, ◌++◌, take, codes, bytes_eq, Option, Result, Ok, Err, ◌⊎◌}
+use Rattle.std.specs.Prelude.{◌≡◌, ◌≢◌, ℕ, Bool, if◌then◌else◌, List, [], ◌∷◌, ◌++◌, take, codes}
+use Rattle.std.specs.Prelude.{bytes_eq, Option, Result, Ok, Err, ◌⊎◌}
 use Rattle.std.specs.List.{list_any}
 use Rattle.std.specs.Fmt.{decimal}
 use Rattle.re_syntax.specs.Bytes.{Text}
 use Rattle.grep_core.specs.Files.{Inputs, File, whole, broken}
 use Rattle.grep_core.specs.Output.{written}
-use Rattle.grep_core.specs.Reading.{Reading, IsReadingOf, AreLeft, open_source, file_of, failures_of}
+use Rattle.grep_core.specs.Reading.{Reading, IsReadingOf, AreLeft, open_source, file_of}
+use Rattle.grep_core.specs.Reading.{failures_of}
 use Rattle.grep_core.specs.Run.{count_more}
 use Rattle.grep_core.specs.Written.{GoesOut, StopsWithin}
 use Rattle.grep_session.specs.declared.fault.EditFault.{EditFault}
@@ -22,14 +24,17 @@ use Rattle.grep_cmd.specs.Texts.{kind_name}
 
 -- ---- replies
 
--- why an edit was refused: the name of its fault; of a pattern also its place, the kind of its fault and where that stands in it
+-- why an edit was refused: the name of its fault; of a pattern also its place, the kind of its
+-- fault and where that stands in it
 unfoldable pub cause : EditFault → Text
 cause fault.NoSuchFile = codes "NoSuchFile"
 cause fault.FileIsMissing = codes "FileIsMissing"
 cause fault.OutOfRange = codes "OutOfRange"
 cause fault.LineHasNewline = codes "LineHasNewline"
 cause fault.NoSuchPattern = codes "NoSuchPattern"
-cause (fault.Pattern place why) = codes "Pattern " ++ decimal place ++ codes " " ++ kind_name why.kind ++ codes " " ++ decimal why.at
+cause (fault.Pattern place why) =
+    codes "Pattern " ++ decimal place ++ codes " " ++ kind_name why.kind ++ codes " " ++
+    decimal why.at
 cause fault.TooManyPatterns = codes "TooManyPatterns"
 cause fault.Memory = codes "Memory"
 
@@ -51,13 +56,16 @@ abbrev pub is_refusal : Text → Bool
 is_refusal line = bytes_eq (take 8 line) (codes "refused ")
 
 -- an edit was answered so; where it needs no memory it was not refused for want of it
-pub record IsAnswered (edit : Edit) (before after : Inputs) (answer : Result (Unit {0}) EditFault) : Type 0 where
+pub record IsAnswered (edit : Edit) (before after : Inputs)
+    (answer : Result (Unit {0}) EditFault) : Type 0 where
   pub gives : EditGives edit before after answer
   pub named : NeedsNoMemory edit before → answer ≢ Err fault.Memory
 
 -- the reply to a step, and what it makes of the inputs
 abbrev pub RepliesTo : Step → Inputs → List Text → Inputs → Type 0
-RepliesTo (does edit) before reply after = (answer : Result (Unit {0}) EditFault) × IsAnswered edit before after answer × (reply ≡ reply_to answer ∷ [])
+RepliesTo (does edit) before reply after =
+    (answer : Result (Unit {0}) EditFault) × IsAnswered edit before after answer ×
+    (reply ≡ reply_to answer ∷ [])
 RepliesTo reports before reply after = AreShown before reply × (after ≡ before)
 RepliesTo is_bad before reply after = (reply ≡ bad_command ∷ []) × (after ≡ before)
 RepliesTo is_truncated before reply after = (reply ≡ truncated ∷ []) × (after ≡ before)
@@ -66,7 +74,9 @@ RepliesTo is_truncated before reply after = (reply ≡ truncated ∷ []) × (aft
 abbrev pub Replies : List Step → Inputs → List Text → Inputs → Type 0
 Replies [] before replies after = (replies ≡ []) × (after ≡ before)
 Replies (step ∷ steps) before replies after =
-    (reply : List Text) × (between : Inputs) × (rest : List Text) × RepliesTo step before reply between × Replies steps between rest after × (replies ≡ reply ++ rest)
+    (reply : List Text) × (between : Inputs) × (rest : List Text) ×
+    RepliesTo step before reply between × Replies steps between rest after ×
+    (replies ≡ reply ++ rest)
 
 -- ---- runs
 
@@ -74,15 +84,18 @@ Replies (step ∷ steps) before replies after =
 abbrev pub end_for : List Text → ScriptEnd
 end_for replies = if list_any is_refusal replies then Refused else Clean
 
--- the replies to the first steps of a script, whose lines are those of a file, with the lines behind them
+-- the replies to the first steps of a script, whose lines are those of a file, with the lines
+-- behind them
 pub record AnswersScript (file : File) (replies rest : List Text) : Type 0 where
   pub steps : List Step
   pub are_steps : Steps file.ending file.lines steps rest
   pub after : Inputs
   pub are_replies : Replies steps no_inputs replies after
 
--- a script that is read stands for a file: what its reader had and has left, and how often its reads had failed and have
-pub record ReadsScript (known left : Option Text) (failed_before failed : ℕ) (file : File) : Type 0 where
+-- a script that is read stands for a file: what its reader had and has left, and how often its
+-- reads had failed and have
+pub record ReadsScript (known left : Option Text) (failed_before failed : ℕ)
+    (file : File) : Type 0 where
   pub reading : Reading
   pub is_reading : IsReadingOf (open_source [] known) reading
   pub is_left : AreLeft (open_source [] known) reading (left ∷ [])
@@ -90,7 +103,8 @@ pub record ReadsScript (known left : Option Text) (failed_before failed : ℕ) (
   pub counted : failed ≡ count_more failed_before (failures_of reading)
 
 -- a script of which some lines were read may be such a file
-pub record BeginsScript (known : Option Text) (failed_before failed : ℕ) (file : File) : Type 0 where
+pub record BeginsScript (known : Option Text) (failed_before failed : ℕ)
+    (file : File) : Type 0 where
   pub reading : Reading
   pub is_reading : IsReadingOf (open_source [] known) reading
   pub is_file : file ≡ file_of [] reading
@@ -100,7 +114,8 @@ pub record BeginsScript (known : Option Text) (failed_before failed : ℕ) (file
 abbrev pub IsCutShort : List Text → Type 0
 IsCutShort rest = (rest ≡ []) ⊎ IsUnfinished rest
 
-module _ {W : Type 0} (contents : W → Option Text) (failures : W → ℕ) (known left : Option Text) (failed_before failed : ℕ) (old new : W) where
+module _ {W : Type 0} (contents : W → Option Text) (failures : W → ℕ) (known left : Option Text)
+    (failed_before failed : ℕ) (old new : W) where
   -- all commands were answered
   pub record Ends (ending : ScriptEnd) : Type 0 where
     pub file : File
@@ -111,7 +126,8 @@ module _ {W : Type 0} (contents : W → Option Text) (failures : W → ℕ) (kno
     pub goes : GoesOut contents failures old new (written [] replies)
     pub ended : ending ≡ end_for replies
 
-  -- a read failed, or there are more lines than can be numbered: the commands before that were answered
+  -- a read failed, or there are more lines than can be numbered: the commands before that were
+  -- answered
   pub record IsCut : Type 0 where
     pub file : File
     pub reads : ReadsScript known left failed_before failed file
@@ -134,7 +150,8 @@ module _ {W : Type 0} (contents : W → Option Text) (failures : W → ℕ) (kno
   -- a write failed: a beginning of the replies to the first commands went out
   pub record StopsWriting : Type 0 where
     pub file : File
-    pub reads : BeginsScript known failed_before failed file ⊎ ReadsScript known left failed_before failed file
+    pub reads : BeginsScript known failed_before failed file ⊎
+        ReadsScript known left failed_before failed file
     pub replies : List Text
     pub rest : List Text
     pub answers : AnswersScript file replies rest

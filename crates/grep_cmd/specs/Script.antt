@@ -1,5 +1,8 @@
--- Scripts of a session: a script's lines are commands, each with the lines that it counts (occur(1), COMMANDS).
-use Rattle.std.specs.Prelude.{◌≡◌, ℕ, ◌<◌, ◌^◌, nat_eq, nat_lt, Bool, true, false, ◌&&◌, if◌then◌else◌, List, [], ◌∷◌, ◌++◌, length, codes, bytes_eq, Option, Some, None, option_map, ◌⊎◌}
+-- Scripts of a session: a script's lines are commands, each with the lines that it counts
+-- (occur(1), COMMANDS).
+use Rattle.std.specs.Prelude.{◌≡◌, ℕ, ◌<◌, ◌^◌, nat_eq, nat_lt, Bool, true, false, ◌&&◌}
+use Rattle.std.specs.Prelude.{if◌then◌else◌, List, [], ◌∷◌, ◌++◌, length, codes, bytes_eq, Option}
+use Rattle.std.specs.Prelude.{Some, None, option_map, ◌⊎◌}
 use Rattle.std.specs.List.{list_all}
 use Rattle.re_syntax.specs.declared.class.Class.TheVariants.{Digit}
 use Rattle.re_syntax.specs.declared.syntax.Syntax.{Syntax}
@@ -9,7 +12,8 @@ use Rattle.re_syntax.specs.Intervals.{value}
 use Rattle.re_syntax.specs.Lines.{put_before, joined}
 use Rattle.grep_core.specs.declared.options.Flag.{Flag}
 use Rattle.grep_core.specs.Files.{Ending, whole}
-use Rattle.grep_session.specs.Edits.{Edit, AddFile, AddMissing, DropFile, Splice, AddPatterns, DropPattern, SetFlag, SetSyntax}
+use Rattle.grep_session.specs.Edits.{Edit, AddFile, AddMissing, DropFile, Splice, AddPatterns}
+use Rattle.grep_session.specs.Edits.{DropPattern, SetFlag, SetSyntax}
 use Rattle.grep_cmd.specs.declared.words.pieces.Meaning.{Meaning}
 use Rattle.grep_cmd.specs.declared.words.pieces.Meaning.TheVariants as meaning
 use Rattle.grep_cmd.specs.Words.{meaning_of}
@@ -27,7 +31,9 @@ words_of (b ∷ rest) = if nat_eq b space then [] ∷ words_of rest else put_bef
 -- a number is one decimal digit or more, of a value below 2 ^ 64
 abbrev pub number_of : Text → Option ℕ
 number_of [] = None
-number_of (b ∷ rest) = if list_all (in_class Digit) (b ∷ rest) && nat_lt (value (b ∷ rest)) (2 ^ 64) then Some (value (b ∷ rest)) else None
+number_of (b ∷ rest) =
+    if list_all (in_class Digit) (b ∷ rest) &&
+    nat_lt (value (b ∷ rest)) (2 ^ 64) then Some (value (b ∷ rest)) else None
 
 -- a name is one byte or more
 abbrev pub name_of : Text → Option Text
@@ -44,7 +50,9 @@ flag_of (b ∷ []) = flag_meant (meaning_of b)
 flag_of _ = None
 
 abbrev pub switch_of : Text → Option Bool
-switch_of word = if bytes_eq word (codes "on") then Some true else if bytes_eq word (codes "off") then Some false else None
+switch_of word =
+    if bytes_eq word (codes "on") then Some true else if bytes_eq word (codes "off") then Some false
+    else None
 
 abbrev pub syntax_of : Text → Option Syntax
 syntax_of word =
@@ -80,16 +88,19 @@ close_command (file ∷ []) = option_map (λ k. edits (DropFile k)) (number_of f
 close_command _ = None
 
 abbrev pub splice_from : Option ℕ → Option ℕ → Option ℕ → Option ℕ → Option Command
-splice_from (Some file) (Some start) (Some removed) (Some count) = Some (counts count (Splice file start removed))
+splice_from (Some file) (Some start) (Some removed) (Some count) =
+    Some (counts count (Splice file start removed))
 splice_from _ _ _ _ = None
 
 -- `splice K START REMOVE COUNT`
 abbrev pub splice_command : List Text → Option Command
-splice_command (file ∷ start ∷ removed ∷ count ∷ []) = splice_from (number_of file) (number_of start) (number_of removed) (number_of count)
+splice_command (file ∷ start ∷ removed ∷ count ∷ []) =
+    splice_from (number_of file) (number_of start) (number_of removed) (number_of count)
 splice_command _ = None
 
 abbrev pub patterns_from : Option ℕ → Option Command
-patterns_from (Some count) = if nat_eq count 0 then None else Some (counts count (λ lines. AddPatterns (joined lines)))
+patterns_from (Some count) =
+    if nat_eq count 0 then None else Some (counts count (λ lines. AddPatterns (joined lines)))
 patterns_from None = None
 
 -- `patterns COUNT`, where there is at least one
@@ -169,10 +180,12 @@ abbrev pub IsUnfinished : List Text → Type 0
 IsUnfinished [] = ⊥
 IsUnfinished (line ∷ taken) = WantsMore (line_command line) taken
 
--- the first lines of a script are these steps, each a command line and the lines that it takes, and the rest is left. Where the script was
--- read to its end, a command that counts more lines than follow takes them all
+-- the first lines of a script are these steps, each a command line and the lines that it takes, and
+-- the rest is left. Where the script was read to its end, a command that counts more lines than
+-- follow takes them all
 abbrev pub Steps : Ending → List Text → List Step → List Text → Type 0
 Steps ending lines [] rest = rest ≡ lines
 Steps ending lines (step ∷ steps) rest =
-    ((line : Text) × (taken : List Text) × (more : List Text) × (lines ≡ line ∷ taken ++ more) × IsStep (line_command line) taken step × Steps ending more steps rest)
+    ((line : Text) × (taken : List Text) × (more : List Text) × (lines ≡ line ∷ taken ++ more) ×
+    IsStep (line_command line) taken step × Steps ending more steps rest)
     ⊎ ((ending ≡ whole) × IsUnfinished lines × (step ≡ is_truncated) × (steps ≡ []) × (rest ≡ []))

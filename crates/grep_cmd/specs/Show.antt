@@ -26,5 +26,8 @@ pub record AreShown (inputs : Inputs) (shown : List Text) : Type 0 where
   pub is : shown ≡ behind (codes "o ") out ++ (behind (codes "e ") told ++ status_line status ∷ [])
 
 -- they were written, or a beginning of them
-abbrev pub Shows : {W T E : Type 0} → (W → Option Text) → (W → ℕ) → Inputs → W → W → Result T E → Type 0
-Shows contents failures inputs old new result = (shown : List Text) × AreShown inputs shown × Writes contents failures old new (written [] shown) result
+abbrev pub Shows : {W T E : Type 0} → (W → Option Text) → (W → ℕ) → Inputs → W → W → Result T E →
+    Type 0
+Shows contents failures inputs old new result =
+    (shown : List Text) × AreShown inputs shown ×
+    Writes contents failures old new (written [] shown) result

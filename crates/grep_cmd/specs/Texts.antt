@@ -6,7 +6,8 @@ use Rattle.re_syntax.specs.declared.fault.FaultKind.TheVariants as kind
 use Rattle.re_syntax.specs.declared.fault.PatternFault.{PatternFault}
 use Rattle.re_syntax.specs.Bytes.{Text}
 use Rattle.grep_cmd.specs.declared.words.UsageFault.{UsageFault}
-use Rattle.grep_cmd.specs.declared.words.UsageFault.TheVariants.{UnknownOption, MissingArgument, TwoSyntaxes, NoPattern, Memory}
+use Rattle.grep_cmd.specs.declared.words.UsageFault.TheVariants.{UnknownOption, MissingArgument}
+use Rattle.grep_cmd.specs.declared.words.UsageFault.TheVariants.{TwoSyntaxes, NoPattern, Memory}
 
 abbrev pub out_of_memory : Text
 out_of_memory = codes "grep: out of memory"
@@ -38,11 +39,13 @@ kind_name kind.Memory = codes "Memory"
 -- what is told of a pattern that is refused; patterns are counted from 1 over all of them
 abbrev pub pattern_refused : ℕ → PatternFault → Text
 pattern_refused place fault =
-    codes "grep: pattern " ++ decimal (place + 1) ++ codes ": " ++ kind_name fault.kind ++ codes " at " ++ decimal fault.at
+    codes "grep: pattern " ++ decimal (place + 1) ++ codes ": " ++ kind_name fault.kind ++
+    codes " at " ++ decimal fault.at
 
 unfoldable pub fault_text : UsageFault → Text
 fault_text (UnknownOption c) = codes "grep: unknown option -" ++ encode_utf8 c
-fault_text (MissingArgument c) = codes "grep: option -" ++ encode_utf8 c ++ codes " needs an argument"
+fault_text (MissingArgument c) =
+    codes "grep: option -" ++ encode_utf8 c ++ codes " needs an argument"
 fault_text TwoSyntaxes = codes "grep: -E and -F together"
 fault_text NoPattern = codes "grep: no pattern"
 fault_text Memory = out_of_memory

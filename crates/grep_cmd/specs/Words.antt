@@ -1,6 +1,8 @@
--- The words of a command (XBD 12.2, Guidelines 3 to 7, 10, 11 and 13; XCU grep, OPTIONS and OPERANDS). An option behind an operand is
--- still an option, as GNU grep has it; Guideline 9 has all options before the operands.
-use Rattle.std.specs.Prelude.{◌≡◌, ℕ, nat_eq, Bool, true, false, if◌then◌else◌, List, [], ◌∷◌, ◌++◌, map, codes, bytes_eq, Option, Some, None, Result, Ok, Err, String}
+-- The words of a command (XBD 12.2, Guidelines 3 to 7, 10, 11 and 13; XCU grep, OPTIONS and
+-- OPERANDS). An option behind an operand is still an option, as GNU grep has it; Guideline 9 has
+-- all options before the operands.
+use Rattle.std.specs.Prelude.{◌≡◌, ℕ, nat_eq, Bool, true, false, if◌then◌else◌, List, [], ◌∷◌, ◌++◌}
+use Rattle.std.specs.Prelude.{map, codes, bytes_eq, Option, Some, None, Result, Ok, Err, String}
 use Rattle.std.specs.Str.{byte, chars, encode_utf8_all}
 use Rattle.std.specs.String.{string_bytes}
 use Rattle.re_syntax.specs.Bytes.{Text}
@@ -8,9 +10,12 @@ use Rattle.re_syntax.specs.declared.syntax.Syntax.{Syntax}
 use Rattle.re_syntax.specs.declared.syntax.Syntax.TheVariants.{Basic, Extended, Fixed}
 use Rattle.grep_core.specs.declared.options.Options.{Options}
 use Rattle.grep_core.specs.declared.options.Flag.{Flag}
-use Rattle.grep_core.specs.declared.options.Flag.TheVariants.{Count, IgnoreCase, FilesWithMatches, LineNumber, OnlyMatching, Quiet, NoMessages, InvertMatch, LineRegexp}
+use Rattle.grep_core.specs.declared.options.Flag.TheVariants.{Count, IgnoreCase, FilesWithMatches}
+use Rattle.grep_core.specs.declared.options.Flag.TheVariants.{LineNumber, OnlyMatching, Quiet}
+use Rattle.grep_core.specs.declared.options.Flag.TheVariants.{NoMessages, InvertMatch, LineRegexp}
 use Rattle.grep_cmd.specs.declared.words.UsageFault.{UsageFault}
-use Rattle.grep_cmd.specs.declared.words.UsageFault.TheVariants.{UnknownOption, MissingArgument, TwoSyntaxes, NoPattern, Memory}
+use Rattle.grep_cmd.specs.declared.words.UsageFault.TheVariants.{UnknownOption, MissingArgument}
+use Rattle.grep_cmd.specs.declared.words.UsageFault.TheVariants.{TwoSyntaxes, NoPattern, Memory}
 use Rattle.grep_cmd.specs.declared.words.PatternSource.{PatternSource}
 use Rattle.grep_cmd.specs.declared.words.PatternSource.TheVariants as given
 use Rattle.grep_cmd.specs.declared.words.Request.{Request}
@@ -61,7 +66,8 @@ meaning_of c =
     if nat_eq c (byte "v") then Some (meaning.Flag InvertMatch) else
     if nat_eq c (byte "x") then Some (meaning.Flag LineRegexp) else None
 
--- what a word is: `--` ends the options (Guideline 10), a hyphen and more is a group of options (4 and 5), and `-` is an operand (13)
+-- what a word is: `--` ends the options (Guideline 10), a hyphen and more is a group of options (4
+-- and 5), and `-` is an operand (13)
 pub data Word : Type 0 where
   an_operand : Word
   ends_options : Word
@@ -80,8 +86,8 @@ pub record Wanting : Type 0 where
   pub letter : ℕ
   pub argument : Argument
 
--- the options of a group and the pieces behind it. The argument of an option is the rest of the group or, where there is none, the next word
--- (Guidelines 6 and 7)
+-- the options of a group and the pieces behind it. The argument of an option is the rest of the
+-- group or, where there is none, the next word (Guidelines 6 and 7)
 module _ (behind : Option Wanting → List Piece) where
   abbrev pub group : List ℕ → List Piece
   group [] = behind None
@@ -116,7 +122,8 @@ may_follow _ _ = true
 abbrev pub first_fault : Syntax → List Piece → Option UsageFault
 first_fault before [] = None
 first_fault before (fault f ∷ ps) = Some f
-first_fault before (reads_as s ∷ ps) = if may_follow before s then first_fault s ps else Some TwoSyntaxes
+first_fault before (reads_as s ∷ ps) =
+    if may_follow before s then first_fault s ps else Some TwoSyntaxes
 first_fault before (_ ∷ ps) = first_fault before ps
 
 -- the syntax that pieces leave, where this one was asked for before them
@@ -172,7 +179,9 @@ completed a = with_patterns a a.sources a.files
 
 -- the first fault of the pieces, or what the request and they ask for
 abbrev pub reads_on : Asked → List Piece → Result Asked UsageFault
-reads_on before ps = elim (first_fault before.syntax ps) [ Some f ↦ Err f | None ↦ completed (with_pieces before ps) ]
+reads_on before ps =
+    elim (first_fault before.syntax ps)
+    [ Some f ↦ Err f | None ↦ completed (with_pieces before ps) ]
 
 abbrev pub nothing_asked : Asked
 nothing_asked = record {

@@ -33,10 +33,13 @@ fn search_request<F: Files, W: CountedWrite, N: CountedWrite>(
     messages: &mut N,
     meter: &mut Meter,
 ) -> u8
-    requires whole { AllAnswer request.now.options.line_regexp (map wants_whole searchers.old.matchers.items) }
-    requires needed { IfSome searchers.old.needed (λ strings. AreNeeded strings (map matched_expression searchers.old.matchers.items)) }
+    requires whole { AllAnswer request.now.options.line_regexp
+        (map wants_whole searchers.old.matchers.items) }
+    requires needed { IfSome searchers.old.needed
+        (λ strings. AreNeeded strings (map matched_expression searchers.old.matchers.items)) }
     ensures { SearchEnds (map matched_expression searchers.old.matchers.items) request.now.options
-        (sources_named (F.folder files.old) (searched (texts_of request.now.files.items))) (GivesBack F.given_back files.old files.new)
+        (sources_named (F.folder files.old) (searched (texts_of request.now.files.items)))
+        (GivesBack F.given_back files.old files.new)
         (devices (writer W.contents W.failures out.old) (writer N.contents N.failures messages.old)
         (F.failures files.old) meter.old)
         (devices (writer W.contents W.failures out.new) (writer N.contents N.failures messages.new)
@@ -65,7 +68,8 @@ fn run_patterns<F: Files, W: CountedWrite, N: CountedWrite>(
     messages: &mut N,
     meter: &mut Meter,
 ) -> u8
-    ensures { PatternsGive (asked request.now) (F.folder files.old) (lines_of texts.now) (GivesBack F.given_back files.old files.new)
+    ensures { PatternsGive (asked request.now) (F.folder files.old) (lines_of texts.now)
+        (GivesBack F.given_back files.old files.new)
         (devices (writer W.contents W.failures out.old) (writer N.contents N.failures messages.old)
         (F.failures files.old) meter.old)
         (devices (writer W.contents W.failures out.new) (writer N.contents N.failures messages.new)
@@ -129,11 +133,12 @@ fn run_request<F: Files, W: CountedWrite, N: CountedWrite>(
 /// nothing written to standard output, for the first of these reasons, of which a message tells:
 ///
 /// 1. Words are refused, as [`read_words`] says: the fault and a line on how grep is used.
-/// 2. A pattern file can't be opened or read: `grep: NAME: cannot open` or `grep: NAME: read error`.
+/// 2. A pattern file can't be opened or read: `grep: NAME: cannot open` or `grep: NAME: read
+/// error`.
 ///    `-s` doesn't silence these. Pattern files are read in the order of their options.
 /// 3. There are more than 65,535 patterns: `grep: too many patterns`.
 /// 4. A pattern is refused: `grep: pattern N: KIND at AT`, with N the number of the first such
-///    pattern over all lists and pattern files, from 1, and AT a place in it, counted in bytes from 0.
+/// pattern over all lists and pattern files, from 1, and AT a place in it, counted in bytes from 0.
 ///
 /// Else the files are searched in order, standard input where there is none. A file that can't be
 /// opened or read is told, but not under `-s`, and the search goes on behind it; the status is then
@@ -141,9 +146,9 @@ fn run_request<F: Files, W: CountedWrite, N: CountedWrite>(
 /// standard input, which is empty from its second use on.
 ///
 /// Where a write to standard output fails, a beginning of the output went out, `grep: write error`
-/// is told and the status is 2. Where a message can't be written the status is 2 and nothing more is
-/// told. Where a growth is refused `grep: out of memory` is told and the status is 2. No write is
-/// tried again, and neither device is flushed.
+/// is told and the status is 2. Where a message can't be written the status is 2 and nothing more
+/// is told. Where a growth is refused `grep: out of memory` is told and the status is 2. No write
+/// is tried again, and neither device is flushed.
 ///
 /// The steps that the meter counts are at most those of one search of each line for each pattern,
 /// and where parts are written, of one more for each part of the line and one for its end; before

@@ -2,7 +2,8 @@
 ghost use Rattle.std.specs.Prelude.{◌≡◌, ℕ, ⊤, List, [], ◌∷◌, Option};
 ghost use Rattle.grep_core.specs.Run.{count_more};
 ghost use Rattle.grep_core.specs.Sources.{Opens, GivesBack};
-ghost use Rattle.grep_cmd.specs.Folder.{Folder, file_named, input_used, is_standard, display_name, source_named, after_use};
+ghost use Rattle.grep_cmd.specs.Folder.{Folder, file_named, input_used, is_standard, display_name};
+ghost use Rattle.grep_cmd.specs.Folder.{source_named, after_use};
 
 use grep_core::CountedRead;
 
@@ -40,7 +41,8 @@ pub trait Files {
     /// it could not be opened, which is counted as a failure.
     fn open(&mut self, name: &str) -> Option<Self::Reader>
         ensures kept { folder self.new ≡ folder self.old }
-        ensures opened { Opens Self.Reader.remaining Self.Reader.failures (file_named (folder self.old) name.now)
+        ensures opened { Opens Self.Reader.remaining Self.Reader.failures
+            (file_named (folder self.old) name.now)
             (failures self.old) (failures self.new) result }
         ensures none_back { GivesBack given_back self.old self.new [] }
         ensures same_loan { loan self.new ≡ loan self.old };
@@ -48,7 +50,8 @@ pub trait Files {
     /// Takes a reader back, and counts its failures.
     fn close(&mut self, reader: Self::Reader)
         ensures kept { folder self.new ≡ folder self.old }
-        ensures counted { failures self.new ≡ count_more (failures self.old) (Self.Reader.failures reader) }
+        ensures counted { failures self.new ≡
+            count_more (failures self.old) (Self.Reader.failures reader) }
         ensures back { GivesBack given_back self.old self.new (Self.Reader.remaining reader ∷ []) }
         ensures same_loan { loan self.new ≡ loan self.old };
 
@@ -106,7 +109,8 @@ pub fn display_name(name: &str) -> &[u8]
 /// Opens the source that the word names.
 pub fn open_named<F: Files>(files: &mut F, name: &str) -> Option<F::Reader>
     ensures used { F.folder files.new ≡ after_use (F.folder files.old) name.now }
-    ensures opened { Opens F.Reader.remaining F.Reader.failures (source_named (F.folder files.old) name.now)
+    ensures opened { Opens F.Reader.remaining F.Reader.failures
+        (source_named (F.folder files.old) name.now)
         (F.failures files.old) (F.failures files.new) result }
     ensures none_back { GivesBack F.given_back files.old files.new [] }
     ensures same_loan { F.loan files.new ≡ F.loan files.old }

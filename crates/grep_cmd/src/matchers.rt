@@ -33,7 +33,8 @@ pub fn matchers_of(
     syntax: Syntax,
     options: &Options,
 ) -> Result<Vec<Matcher>, (usize, PatternFault)>
-    ensures ok { IfOk result (λ matchers. AreMatchers syntax options.now (lines_of texts.now) matchers.items) }
+    ensures ok { IfOk result
+        (λ matchers. AreMatchers syntax options.now (lines_of texts.now) matchers.items) }
     ensures err { IfErr result (λ refused. IsOutOfMemory refused.1
         ⊎ IsFirstRefused syntax options.now.ignore_case (lines_of texts.now) refused.0 refused.1) }
 {

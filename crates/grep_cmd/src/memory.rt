@@ -76,7 +76,8 @@ impl<'f, 'a> MemoryFiles<'f, 'a> {
     fn open_content(&mut self, content: Option<Content<'a>>) -> Option<MemoryReader<'a>>
         ensures files { self.new.files ≡ self.old.files }
         ensures input { self.new.input ≡ self.old.input }
-        ensures counted { MatchOption content.entry (self.new.failed ≡ one_more self.old.failed) (λ _. self.new.failed ≡ self.old.failed) }
+        ensures counted { MatchOption content.entry (self.new.failed ≡ one_more self.old.failed)
+            (λ _. self.new.failed ≡ self.old.failed) }
         ensures opened { result ≡ option_map fresh_reader content.entry }
     {
         if content.is_none() {

@@ -71,13 +71,15 @@ impl<F: Files> Sources for Operands<'_, F> {
 
     type Reader = F::Reader;
 
-    ghost listed = { λ o. sources_named (F.folder o.start.value) (searched (texts_of o.words.now)) };
+    ghost listed = { λ o.
+        sources_named (F.folder o.start.value) (searched (texts_of o.words.now)) };
 
     ghost failures = { λ o. F.failures o.files };
 
     ghost given_back = { λ o left. F.given_back o.files left };
 
-    ghost stands_at = { λ o k. StandsAt (F.folder o.start.value) (F.folder o.files) (searched (texts_of o.words.now)) k };
+    ghost stands_at = { λ o k.
+        StandsAt (F.folder o.start.value) (F.folder o.files) (searched (texts_of o.words.now)) k };
 
     ghost loan = { λ o. F.loan o.files };
 

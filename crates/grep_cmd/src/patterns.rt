@@ -5,7 +5,8 @@ ghost use Rattle.re_syntax.specs.Lines.{newline, lines_of};
 ghost use Rattle.grep_core.specs.declared.input.lines.Stage.{Stage};
 ghost use Rattle.grep_core.specs.Sources.{GivesBack};
 ghost use Rattle.grep_cmd.specs.Folder.{source_named, after_use};
-ghost use Rattle.grep_cmd.specs.Patterns.{GivesPatterns, behind, behind_all, GivePatterns, FirstUnread};
+ghost use Rattle.grep_cmd.specs.Patterns.{GivesPatterns, behind, behind_all, GivePatterns};
+ghost use Rattle.grep_cmd.specs.Patterns.{FirstUnread};
 ghost use Rattle.grep_cmd.specs.Working.Gathered.{AddsLines, ReadsFile, AddsSource, StopsFor};
 ghost use Rattle.grep_cmd.specs.Words.{given_source};
 
@@ -115,9 +116,14 @@ fn add_source<'a, F: Files>(
     ensures used { F.folder files.new ≡ behind (F.folder files.old) (given_source source.now) }
     ensures same_loan { F.loan files.new ≡ F.loan files.old }
     ensures back { (left : List (Option Text)) × GivesBack F.given_back files.old files.new left }
-    ensures ok { IfOk result (λ _. AddsSource (F.folder files.old) (given_source source.now) texts.old.items texts.new.items) }
+    ensures ok { IfOk result
+        (λ _.
+        AddsSource (F.folder files.old) (given_source source.now) texts.old.items texts.new.items) }
     ensures none_failed { IfOk result (λ _. F.failures files.new ≡ F.failures files.old) }
-    ensures err { IfErr result (λ fault. StopsFor (λ unread. GivesPatterns (F.folder files.old) (given_source source.now) (Err unread))
+    ensures err { IfErr result
+        (λ fault.
+        StopsFor
+        (λ unread. GivesPatterns (F.folder files.old) (given_source source.now) (Err unread))
         (F.failures files.old) (F.failures files.new) fault) }
 {
     match source {
@@ -146,10 +152,14 @@ pub fn read_patterns<'a, F: Files>(
 ) -> Result<Vec<u8>, PatternsFault<'a>>
     ensures same_loan { F.loan files.new ≡ F.loan files.old }
     ensures back { (left : List (Option Text)) × GivesBack F.given_back files.old files.new left }
-    ensures used { IfOk result (λ _. F.folder files.new ≡ behind_all (F.folder files.old) (map given_source sources.now)) }
+    ensures used { IfOk result
+        (λ _. F.folder files.new ≡ behind_all (F.folder files.old) (map given_source sources.now)) }
     ensures none_failed { IfOk result (λ _. F.failures files.new ≡ F.failures files.old) }
-    ensures ok { IfOk result (λ texts. GivePatterns (F.folder files.old) (map given_source sources.now) (lines_of texts.items)) }
-    ensures err { IfErr result (λ fault. StopsFor (FirstUnread (F.folder files.old) (map given_source sources.now))
+    ensures ok { IfOk result
+        (λ texts.
+        GivePatterns (F.folder files.old) (map given_source sources.now) (lines_of texts.items)) }
+    ensures err { IfErr result
+        (λ fault. StopsFor (FirstUnread (F.folder files.old) (map given_source sources.now))
         (F.failures files.old) (F.failures files.new) fault) }
 {
     let mut texts = Vec::new(alloc);

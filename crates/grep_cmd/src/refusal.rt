@@ -37,7 +37,8 @@ pub fn kind_name(kind: FaultKind) -> &'static [u8]
 /// Writes which pattern is refused, counted from 1.
 fn write_place<M: CountedWrite>(messages: &mut M, place: usize) -> Result<(), WriteFault>
     requires { place < 2 ^ 64 - 1 }
-    ensures { Writes M.contents M.failures messages.old messages.new (codes "grep: pattern " ++ decimal (place + 1)) result }
+    ensures { Writes M.contents M.failures messages.old messages.new
+        (codes "grep: pattern " ++ decimal (place + 1)) result }
 {
     push_all(messages, b"grep: pattern ")?;
     write_decimal(messages, (place + 1) as u64)
@@ -45,7 +46,8 @@ fn write_place<M: CountedWrite>(messages: &mut M, place: usize) -> Result<(), Wr
 
 /// Writes the name of the kind of refusal.
 fn write_kind<M: CountedWrite>(messages: &mut M, kind: FaultKind) -> Result<(), WriteFault>
-    ensures { Writes M.contents M.failures messages.old messages.new (codes ": " ++ kind_name kind) result }
+    ensures { Writes M.contents M.failures messages.old messages.new (codes ": " ++ kind_name kind)
+        result }
 {
     push_all(messages, b": ")?;
     push_all(messages, kind_name(kind))
@@ -73,7 +75,9 @@ fn write_refused<M: CountedWrite>(
 ) -> Result<(), WriteFault>
     requires { place < 2 ^ 64 - 1 }
     ensures { Writes M.contents M.failures messages.old messages.new
-        (((codes "grep: pattern " ++ decimal (place + 1)) ++ (codes ": " ++ kind_name fault.kind)) ++ output_line (codes " at ") (decimal fault.at)) result }
+        (((codes "grep: pattern " ++ decimal (place + 1)) ++
+        (codes ": " ++ kind_name fault.kind)) ++ output_line (codes " at ") (decimal fault.at))
+        result }
 {
     write_place_and_kind(messages, place, fault.kind)?;
     write_count(messages, b" at ", None, fault.at as u64)
@@ -83,7 +87,8 @@ fn write_refused<M: CountedWrite>(
 /// tried again.
 pub fn tell_refused<M: CountedWrite>(messages: &mut M, place: usize, fault: PatternFault)
     requires { place < 2 ^ 64 - 1 }
-    ensures { TellsLines (writer M.contents M.failures messages.old) (writer M.contents M.failures messages.new) (pattern_refused place fault ∷ []) }
+    ensures { TellsLines (writer M.contents M.failures messages.old)
+        (writer M.contents M.failures messages.new) (pattern_refused place fault ∷ []) }
 {
     let _ = write_refused(messages, place, fault);
 }

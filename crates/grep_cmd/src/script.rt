@@ -56,8 +56,10 @@ fn answer_all<R: CountedRead, W: CountedWrite>(
     requires none_ahead { lines.old.lines.ahead ≡ [] }
     requires still_open { lines.old.lines.stage ≡ Stage.Open }
     requires none_numbered { lines.old.number ≡ 0 }
-    ensures gives { ScriptGives W.contents W.failures (R.remaining lines.old.lines.reader) (R.remaining lines.new.lines.reader)
-        (R.failures lines.old.lines.reader) (R.failures lines.new.lines.reader) out.old out.new result }
+    ensures gives { ScriptGives W.contents W.failures (R.remaining lines.old.lines.reader)
+        (R.remaining lines.new.lines.reader)
+        (R.failures lines.old.lines.reader) (R.failures lines.new.lines.reader) out.old out.new
+        result }
     ensures same_loan { R.loan lines.new.lines.reader ≡ R.loan lines.old.lines.reader }
 {
     let mut end = ScriptEnd::Clean;
@@ -116,7 +118,9 @@ pub fn run_script<R: CountedRead, W: CountedWrite>(
 ) -> Result<ScriptEnd, ScriptFault>
     requires some { 1 ≤ states }
     requires few { states ≤ most_states }
-    ensures gives { ScriptGives W.contents W.failures (R.remaining reader.old) (R.remaining reader.new) (R.failures reader.old) (R.failures reader.new) writer.old writer.new result }
+    ensures gives { ScriptGives W.contents W.failures (R.remaining reader.old)
+        (R.remaining reader.new) (R.failures reader.old) (R.failures reader.new) writer.old
+        writer.new result }
     ensures sent { result ≢ Err ScriptFault.Write → W.waiting writer.new ≡ 0 }
 {
     let mut lines = match NumberedLines::new(alloc, reader) {

@@ -1,5 +1,6 @@
 //! The matchers of a search: one for all strings together, or one for each pattern.
-ghost use Rattle.std.specs.Prelude.{◌≡◌, ◌⊎◌, [], ◌∷◌, nat_lt, All, IsTrue, IfOk, IfErr, IfSome, length, map};
+ghost use Rattle.std.specs.Prelude.{◌≡◌, ◌⊎◌, [], ◌∷◌, nat_lt, All, IsTrue, IfOk, IfErr, IfSome};
+ghost use Rattle.std.specs.Prelude.{length, map};
 ghost use Rattle.re_syntax.specs.Lines.{lines_of};
 ghost use Rattle.re_syntax.specs.Spelled.{has_limit};
 ghost use Rattle.re_search.specs.declared.matcher.Matcher.TheVariants as m;
@@ -40,8 +41,11 @@ pub fn searchers_of(
     syntax: Syntax,
     options: &Options,
 ) -> Result<Searchers, (usize, PatternFault)>
-    ensures ok { IfOk result (λ s. ServeFor syntax options.now (lines_of texts.now) s.matchers.items) }
-    ensures needed { IfOk result (λ s. IfSome s.needed (λ strings. AreNeeded strings (map matched_expression s.matchers.items))) }
+    ensures ok { IfOk result
+        (λ s. ServeFor syntax options.now (lines_of texts.now) s.matchers.items) }
+    ensures needed { IfOk result
+        (λ s.
+        IfSome s.needed (λ strings. AreNeeded strings (map matched_expression s.matchers.items))) }
     ensures err { IfErr result (λ refused. IsOutOfMemory refused.1
         ⊎ IsFirstRefused syntax options.now.ignore_case (lines_of texts.now) refused.0 refused.1) }
 {

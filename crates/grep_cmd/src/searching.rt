@@ -30,7 +30,8 @@ pub fn search_files<F: Files, L: LineMatch, W: CountedWrite, N: CountedWrite>(
     requires needed { IfSome asked.now.filter
         (λ f. AreNeeded f.now (map L.expression matchers.old)) }
     ensures { RunGives (map L.expression matchers.old) asked.now.options
-        (sources_named (F.folder files.old) (searched (texts_of words.now))) (GivesBack F.given_back files.old files.new)
+        (sources_named (F.folder files.old) (searched (texts_of words.now)))
+        (GivesBack F.given_back files.old files.new)
         (devices (writer W.contents W.failures out.old) (writer N.contents N.failures messages.old)
         (F.failures files.old) meter.old)
         (devices (writer W.contents W.failures out.new) (writer N.contents N.failures messages.new)

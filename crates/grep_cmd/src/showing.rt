@@ -9,7 +9,8 @@ use grep_session::Session;
 
 /// Writes the line of the status.
 fn write_status<W: CountedWrite>(status: Status, out: &mut W) -> Result<(), WriteFault>
-    ensures { Writes W.contents W.failures out.old out.new (output_line [] (status_line status)) result }
+    ensures { Writes W.contents W.failures out.old out.new (output_line [] (status_line status))
+        result }
 {
     match status {
         Status::Selected => write_line(out, b"status 0"),

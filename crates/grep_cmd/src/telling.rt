@@ -19,21 +19,24 @@ use grep_core::{
 
 /// Writes the line. A write that fails is not tried again.
 pub fn tell<M: CountedWrite>(messages: &mut M, text: &[u8])
-    ensures { TellsLines (writer M.contents M.failures messages.old) (writer M.contents M.failures messages.new) (text.now ∷ []) }
+    ensures { TellsLines (writer M.contents M.failures messages.old)
+        (writer M.contents M.failures messages.new) (text.now ∷ []) }
 {
     let _ = write_line(messages, text);
 }
 
 /// Tells of words that are refused. A write that fails is not tried again.
 pub fn tell_usage<M: CountedWrite>(messages: &mut M, fault: UsageFault)
-    ensures { TellsLines (writer M.contents M.failures messages.old) (writer M.contents M.failures messages.new) (usage_texts fault) }
+    ensures { TellsLines (writer M.contents M.failures messages.old)
+        (writer M.contents M.failures messages.new) (usage_texts fault) }
 {
     let _ = write_usage_fault(messages, fault);
 }
 
 /// Writes the line on patterns that were not read.
 fn write_unread<M: CountedWrite>(messages: &mut M, fault: PatternsFault) -> Result<(), WriteFault>
-    ensures { Writes M.contents M.failures messages.old messages.new (output_line [] (told_of_patterns fault.entry)) result }
+    ensures { Writes M.contents M.failures messages.old messages.new
+        (output_line [] (told_of_patterns fault.entry)) result }
 {
     match fault {
         PatternsFault::Missing(word) => write_cannot_open(messages, display_name(word)),
@@ -44,7 +47,8 @@ fn write_unread<M: CountedWrite>(messages: &mut M, fault: PatternsFault) -> Resu
 
 /// Tells of patterns that were not read. A write that fails is not tried again.
 pub fn tell_unread<M: CountedWrite>(messages: &mut M, fault: PatternsFault)
-    ensures { TellsLines (writer M.contents M.failures messages.old) (writer M.contents M.failures messages.new) (told_of_patterns fault.entry ∷ []) }
+    ensures { TellsLines (writer M.contents M.failures messages.old)
+        (writer M.contents M.failures messages.new) (told_of_patterns fault.entry ∷ []) }
 {
     let _ = write_unread(messages, fault);
 }

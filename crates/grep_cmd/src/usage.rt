@@ -53,7 +53,8 @@ fn write_usage_behind<M: CountedWrite>(
     messages: &mut M,
     fault: UsageFault,
 ) -> Result<(), WriteFault>
-    ensures { Writes M.contents M.failures messages.old messages.new (written [] (usage_behind fault)) result }
+    ensures { Writes M.contents M.failures messages.old messages.new
+        (written [] (usage_behind fault)) result }
 {
     match fault {
         UsageFault::Memory => Ok(()),
@@ -69,7 +70,8 @@ pub fn write_usage_fault<M: CountedWrite>(
     messages: &mut M,
     fault: UsageFault,
 ) -> Result<(), WriteFault>
-    ensures { Writes M.contents M.failures messages.old messages.new (written [] (usage_texts fault)) result }
+    ensures { Writes M.contents M.failures messages.old messages.new
+        (written [] (usage_texts fault)) result }
 {
     write_fault(messages, fault)?;
     write_usage_behind(messages, fault)

@@ -1,6 +1,8 @@
 //! The words of grep, and what they ask for (XBD 12.2; XCU grep, SYNOPSIS, OPTIONS, OPERANDS).
 ghost use Rattle.std.specs.Prelude.{◌≡◌, ◌∷◌, [], IfOk, MatchResult};
-ghost use Rattle.grep_cmd.specs.Words.{AreRead, OrMemory, asked, completed, first_fault, may_follow, operand, source, source_of, texts_of, with_flag, with_pieces};
+ghost use Rattle.grep_cmd.specs.Words.{AreRead, OrMemory, asked, completed, first_fault};
+ghost use Rattle.grep_cmd.specs.Words.{may_follow, operand, source, source_of, texts_of, with_flag};
+ghost use Rattle.grep_cmd.specs.Words.{with_pieces};
 ghost use Rattle.grep_cmd.specs.Working.Pieces.{piece_of};
 
 pub mod pieces;
@@ -41,7 +43,8 @@ impl From<AllocError> for UsageFault {
 /// Where patterns come from.
 #[derive(PartialEq, Eq, Debug, Drop)]
 pub enum PatternSource {
-    /// A pattern list: the argument of `-e`, or the first operand where there is no `-e` and no `-f`.
+    /// A pattern list: the argument of `-e`, or the first operand where there is no `-e` and no
+    /// `-f`.
     List(String),
     /// The pattern file of this name: the argument of `-f`.
     File(String),
@@ -160,10 +163,10 @@ impl Request {
 
 /// Reads the words that follow the name of the command.
 ///
-/// The first fault from the left is told: `UnknownOption` where a character of a group of options is
-/// none, `MissingArgument` where nothing follows `-e` or `-f`, `TwoSyntaxes` where one of `-E` and
-/// `-F` follows the other; else `NoPattern` where there is no `-e`, no `-f` and no operand. `Memory`
-/// comes where a growth is refused.
+/// The first fault from the left is told: `UnknownOption` where a character of a group of options
+/// is none, `MissingArgument` where nothing follows `-e` or `-f`, `TwoSyntaxes` where one of `-E`
+/// and `-F` follows the other; else `NoPattern` where there is no `-e`, no `-f` and no operand.
+/// `Memory` comes where a growth is refused.
 pub fn read_words(alloc: Global, words: &[String]) -> Result<Request, UsageFault>
     ensures { AreRead (texts_of words.now) result }
 {

@@ -20,7 +20,8 @@ module _ {W : Type 0} (contents : W → Option Text) (failures : W → ℕ) wher
     pub none_waits : new.waiting ≡ []
     pub none_failed : failures new.inner ≡ failures old.inner
 
-  -- a beginning of the bytes that waited went to the inner writer, and a write failed; the rest waits
+  -- a beginning of the bytes that waited went to the inner writer, and a write failed; the rest
+  -- waits
   pub record SendsSome (old new : BufferedWriter W) : Type 0 where
     pub front : Text
     pub cut : old.waiting ≡ front ++ new.waiting

@@ -1,5 +1,7 @@
--- How many steps a search of lines takes at most. A step is a byte that a matcher looks at, and one more comes for each search of a line.
--- A look for strings that the matches need, at most one pass over the line however many they are, counts none.
+-- How many steps a search of lines takes at most. A step is a byte that a matcher looks at, and one
+-- more comes for each search of a line.
+-- A look for strings that the matches need, at most one pass over the line however many they are,
+-- counts none.
 use Rattle.std.specs.Prelude.{◌≡◌, ℕ, ◌+◌, ◌*◌, List, [], ◌∷◌, length}
 use Rattle.re_syntax.specs.Bytes.{Text}
 use Rattle.re_syntax.specs.Expression.{Expression}
@@ -15,9 +17,11 @@ abbrev pub search_cost : ℕ → Text → ℕ
 search_cost matchers line = matchers * (length line + 1)
 
 module _ (es : List Expression) (options : Options) where
-  -- how often the parts of a line are asked for: for each part and once more, where parts are written
+  -- how often the parts of a line are asked for: for each part and once more, where parts are
+  -- written
   abbrev pub PartsAsked : Form → Text → ℕ → Type 0
-  PartsAsked parts line times = (ps : List (ℕ × ℕ)) × AreParts es line options.line_regexp ps × (times ≡ length ps + 1)
+  PartsAsked parts line times =
+      (ps : List (ℕ × ℕ)) × AreParts es line options.line_regexp ps × (times ≡ length ps + 1)
   PartsAsked _ line times = times ≡ 0
 
   module _ (matchers : ℕ) (line : Text) (old new : Steps) where
@@ -44,7 +48,8 @@ module _ (es : List Expression) (options : Options) where
   abbrev pub FilesCost : ℕ → List File → ℕ → Type 0
   FilesCost matchers [] cost = cost ≡ 0
   FilesCost matchers (file ∷ files) cost =
-      (own : ℕ) × (rest : ℕ) × LinesCost matchers file.lines own × FilesCost matchers files rest × (cost ≡ own + rest)
+      (own : ℕ) × (rest : ℕ) × LinesCost matchers file.lines own × FilesCost matchers files rest ×
+      (cost ≡ own + rest)
 
   module _ (matchers : ℕ) where
     -- no more steps were taken than the search of these lines costs

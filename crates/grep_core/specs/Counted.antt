@@ -16,7 +16,8 @@ PullConsumes old new given into =
 -- what a write of `from` did to the bytes that the writer holds: it appended the n bytes that it
 -- took, and a failure appended none
 abbrev pub PushAppends : Option Text → Option Text → Option ℕ → Text → Type 0
-PushAppends old new taken from = MatchOption taken (Keeps old new) (λ n. Appends old new (take n from))
+PushAppends old new taken from =
+    MatchOption taken (Keeps old new) (λ n. Appends old new (take n from))
 
 -- a None is a failure and is counted, and nothing else is
 abbrev pub Counts : ℕ → ℕ → Option ℕ → Type 0

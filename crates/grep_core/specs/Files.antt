@@ -1,4 +1,5 @@
--- Files as grep sees them, and which of their lines it selects (XCU grep, DESCRIPTION and INPUT FILES).
+-- Files as grep sees them, and which of their lines it selects (XCU grep, DESCRIPTION and INPUT
+-- FILES).
 use Rattle.std.specs.Prelude.{List, MatchBool, Any}
 use Rattle.std.specs.List.{AllZip}
 use Rattle.re_syntax.specs.declared.syntax.Syntax.{Syntax}
@@ -28,7 +29,8 @@ pub record Inputs : Type 0 where
 
 -- the expressions that the patterns mean, one for each
 abbrev pub AreMeant : Syntax → Options → List Text → List Expression → Type 0
-AreMeant syntax options patterns es = AllZip (λ text e. IsMeant syntax options.ignore_case text e) patterns es
+AreMeant syntax options patterns es =
+    AllZip (λ text e. IsMeant syntax options.ignore_case text e) patterns es
 
 module _ (es : List Expression) (options : Options) where
   -- some expression matches some part of the line; under `-x` the whole line

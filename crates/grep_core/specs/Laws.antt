@@ -13,13 +13,18 @@ use Rattle.grep_core.specs.Cost.{FilesCost}
 abbrev pub IsOne : {A : Type 0} → (A → Type 0) → Type 0
 IsOne {A} P = (x : A) × P x × ((y : A) → P y → y ≡ x)
 
--- all expressions and files have one output, one list of messages and one status, and the search of them has one cost
+-- all expressions and files have one output, one list of messages and one status, and the search of
+-- them has one cost
 pub record HasOneAnswer (options : Options) : Type 0 where
   pub one_output : (es : List Expression) (files : List File) → IsOne (Out es options files)
-  pub one_list_of_messages : (es : List Expression) (files : List File) → IsOne (Messages es options files)
+  pub one_list_of_messages : (es : List Expression) (files : List File) →
+      IsOne (Messages es options files)
   pub one_status : (es : List Expression) (files : List File) → IsOne (StatusOf es options files)
-  pub one_cost : (es : List Expression) (matchers : ℕ) (files : List File) → IsOne (FilesCost es options matchers files)
+  pub one_cost : (es : List Expression) (matchers : ℕ) (files : List File) →
+      IsOne (FilesCost es options matchers files)
 
 -- patterns mean at most one list of expressions
 abbrev pub MeansOne : Syntax → Options → Type 0
-MeansOne syntax options = (patterns : List Text) (ds es : List Expression) → AreMeant syntax options patterns ds → AreMeant syntax options patterns es → ds ≡ es
+MeansOne syntax options =
+    (patterns : List Text) (ds es : List Expression) → AreMeant syntax options patterns ds →
+    AreMeant syntax options patterns es → ds ≡ es

@@ -6,7 +6,8 @@ use Rattle.re_syntax.specs.Bytes.{Text}
 use Rattle.re_search.specs.Reading.{IsReadable, IsRefusedFor}
 
 -- the first pattern that is not readable, and what shows it
-pub record IsFirstRefused (syntax : Syntax) (fold : Bool) (texts : List Text) (place : ℕ) (fault : PatternFault) : Type 0 where
+pub record IsFirstRefused (syntax : Syntax) (fold : Bool) (texts : List Text) (place : ℕ)
+    (fault : PatternFault) : Type 0 where
   pub in_texts : place < length texts
   pub readable_before : All (IsReadable syntax fold) (take place texts)
   pub unreadable : IsReadable syntax fold (get_or texts place []) → ⊥

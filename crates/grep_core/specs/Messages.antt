@@ -1,10 +1,12 @@
--- What grep writes to standard error about files, and its exit status (XCU grep, STDERR and EXIT STATUS).
+-- What grep writes to standard error about files, and its exit status (XCU grep, STDERR and EXIT
+-- STATUS).
 use Rattle.std.specs.Prelude.{◌≡◌, ◌||◌, IsTrue, List, [], ◌∷◌, ◌++◌, codes, MatchBool, Any, ⊤}
 use Rattle.re_syntax.specs.Bytes.{Text}
 use Rattle.re_syntax.specs.Expression.{Expression}
 use Rattle.grep_core.specs.declared.options.Options.{Options}
 use Rattle.grep_core.specs.declared.status.Status.{Status}
-use Rattle.grep_core.specs.declared.status.Status.TheVariants.{Selected as selected, NoneSelected, Error}
+use Rattle.grep_core.specs.declared.status.Status.TheVariants.{Selected as selected, NoneSelected}
+use Rattle.grep_core.specs.declared.status.Status.TheVariants.{Error}
 use Rattle.grep_core.specs.Choose.{IfHolds, EachGives}
 use Rattle.grep_core.specs.Files.{File, Ending, whole, missing, broken, HasSelected}
 
@@ -25,7 +27,8 @@ module _ (es : List Expression) (options : Options) where
   abbrev pub FaultMetBy : Ending → File → Type 0
   FaultMetBy whole file = ⊥
   FaultMetBy missing file = ⊤
-  FaultMetBy broken file = IsTrue (options.quiet || options.files_with_matches) → HasSelected es options file → ⊥
+  FaultMetBy broken file =
+      IsTrue (options.quiet || options.files_with_matches) → HasSelected es options file → ⊥
 
   abbrev pub FaultMet : File → Type 0
   FaultMet file = FaultMetBy file.ending file

@@ -1,5 +1,7 @@
--- The lines that grep writes to standard output (XCU grep, STDOUT), and under `-o` the parts (GNU grep, -o).
-use Rattle.std.specs.Prelude.{◌≡◌, ℕ, nat_le, Bool, ◌&&◌, if◌then◌else◌, List, [], ◌∷◌, ◌++◌, length, map, Option, None, Some, slice_range}
+-- The lines that grep writes to standard output (XCU grep, STDOUT), and under `-o` the parts (GNU
+-- grep, -o).
+use Rattle.std.specs.Prelude.{◌≡◌, ℕ, nat_le, Bool, ◌&&◌, if◌then◌else◌, List, [], ◌∷◌, ◌++◌}
+use Rattle.std.specs.Prelude.{length, map, Option, None, Some, slice_range}
 use Rattle.std.specs.List.{enumerate_from, flat_map}
 use Rattle.std.specs.Fmt.{decimal}
 use Rattle.re_syntax.specs.Bytes.{Text}
@@ -45,7 +47,8 @@ form options =
 module _ (es : List Expression) (options : Options) (many : Bool) where
   -- the selected lines of a file, with their numbers
   abbrev pub SelectedLines : File → List (ℕ × Text) → Type 0
-  SelectedLines file selected = Chosen (λ line. Selected es options line.1) (numbered file.lines) selected
+  SelectedLines file selected =
+      Chosen (λ line. Selected es options line.1) (numbered file.lines) selected
 
   -- what stands before a line or a part of a line
   abbrev pub head_of : File → ℕ → Text
@@ -60,19 +63,27 @@ module _ (es : List Expression) (options : Options) (many : Bool) where
 
   -- each selected line behind its head
   abbrev pub RowsOf : File → List Text → Type 0
-  RowsOf file out = (selected : List (ℕ × Text)) × SelectedLines file selected × (out ≡ map (λ line. head_of file line.0 ++ line.1) selected)
+  RowsOf file out =
+      (selected : List (ℕ × Text)) × SelectedLines file selected ×
+      (out ≡ map (λ line. head_of file line.0 ++ line.1) selected)
 
   -- the parts of a line, each behind the line's head
   abbrev pub PartsOfLine : File → ℕ × Text → List Text → Type 0
-  PartsOfLine file line out = (ps : List (ℕ × ℕ)) × AreParts es line.1 options.line_regexp ps × (out ≡ map (λ p. head_of file line.0 ++ slice_range line.1 p.0 p.1) ps)
+  PartsOfLine file line out =
+      (ps : List (ℕ × ℕ)) × AreParts es line.1 options.line_regexp ps ×
+      (out ≡ map (λ p. head_of file line.0 ++ slice_range line.1 p.0 p.1) ps)
 
   -- the parts of each selected line
   abbrev pub PartRowsOf : File → List Text → Type 0
-  PartRowsOf file out = (selected : List (ℕ × Text)) × SelectedLines file selected × EachGives (PartsOfLine file) selected out
+  PartRowsOf file out =
+      (selected : List (ℕ × Text)) × SelectedLines file selected ×
+      EachGives (PartsOfLine file) selected out
 
   abbrev pub OutAs : Form → List File → List Text → Type 0
   OutAs nothing files out = out ≡ []
-  OutAs names files out = (named : List File) × Chosen (HasSelected es options) files named × (out ≡ map (λ file. file.name) named)
+  OutAs names files out =
+      (named : List File) × Chosen (HasSelected es options) files named ×
+      (out ≡ map (λ file. file.name) named)
   OutAs counts files out = EachGives (λ file rows. CountOf file.ending file rows) files out
   OutAs parts files out = EachGives PartRowsOf files out
   OutAs lines files out = EachGives RowsOf files out

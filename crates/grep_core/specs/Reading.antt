@@ -1,5 +1,6 @@
 -- How a source that is read once, from front to back, stands for a file.
-use Rattle.std.specs.Prelude.{◌≡◌, ℕ, ◌-◌, ◌^◌, nat_le, Bool, true, false, if◌then◌else◌, List, [], ◌∷◌, ◌++◌, length, take, Option, Some, IfSome}
+use Rattle.std.specs.Prelude.{◌≡◌, ℕ, ◌-◌, ◌^◌, nat_le, Bool, true, false, if◌then◌else◌, List, []}
+use Rattle.std.specs.Prelude.{◌∷◌, ◌++◌, length, take, Option, Some, IfSome}
 use Rattle.std.specs.Io.KnownBytes.{Consumes}
 use Rattle.re_syntax.specs.Bytes.{Text}
 use Rattle.re_syntax.specs.Lines.{lines_of, ended_lines_of}
@@ -15,7 +16,8 @@ pub record Source : Type 0 where
 abbrev pub open_source : Text → Option Text → Source
 open_source name bytes = record { name = name; opens = Some true; bytes = bytes }
 
--- what a source does: it cannot be opened, its reads fail after some bytes, or it ends after some bytes
+-- what a source does: it cannot be opened, its reads fail after some bytes, or it ends after some
+-- bytes
 pub data Reading : Type 0 where
   not_opened : Reading
   fails_after : Text → Reading
@@ -25,7 +27,8 @@ pub data Reading : Type 0 where
 abbrev pub IsReadingOf : Source → Reading → Type 0
 IsReadingOf source not_opened = IfSome source.opens (λ b. b ≡ false)
 IsReadingOf source (fails_after bytes) =
-    IfSome source.opens (λ b. b ≡ true) × IfSome source.bytes (λ all. (rest : Text) × (all ≡ bytes ++ rest))
+    IfSome source.opens (λ b. b ≡ true) ×
+    IfSome source.bytes (λ all. (rest : Text) × (all ≡ bytes ++ rest))
 IsReadingOf source (ends_after bytes) =
     IfSome source.opens (λ b. b ≡ true) × IfSome source.bytes (λ all. all ≡ bytes)
 
@@ -50,11 +53,13 @@ failures_of not_opened = 1
 failures_of (fails_after bytes) = 1
 failures_of (ends_after bytes) = 0
 
--- what the readers of the source had left when they were given back, after it did so: one reader, where it was opened;
+-- what the readers of the source had left when they were given back, after it did so: one reader,
+-- where it was opened;
 -- and where a read failed, the bytes that it gave and those that it has left are the source's
 abbrev pub AreLeft : Source → Reading → List (Option Text) → Type 0
 AreLeft source not_opened left = left ≡ []
-AreLeft source (fails_after bytes) left = (rest : Option Text) × (left ≡ rest ∷ []) × Consumes source.bytes rest bytes
+AreLeft source (fails_after bytes) left =
+    (rest : Option Text) × (left ≡ rest ∷ []) × Consumes source.bytes rest bytes
 AreLeft source (ends_after bytes) left = (rest : Option Text) × (left ≡ rest ∷ [])
 
 -- one reader was given back, which had this left

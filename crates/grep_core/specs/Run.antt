@@ -1,5 +1,6 @@
 -- What a run over sources writes, each source read once from front to back.
-use Rattle.std.specs.Prelude.{◌≡◌, ℕ, zero, suc, ◌+◌, ◌<◌, ◌≤◌, Bool, IsTrue, List, [], ◌∷◌, ◌++◌, length, take, get_or, Option, Result, Ok, Err}
+use Rattle.std.specs.Prelude.{◌≡◌, ℕ, zero, suc, ◌+◌, ◌<◌, ◌≤◌, Bool, IsTrue, List, [], ◌∷◌, ◌++◌}
+use Rattle.std.specs.Prelude.{length, take, get_or, Option, Result, Ok, Err}
 use Rattle.std.specs.List.{AllZip}
 use Rattle.std.specs.Io.KnownBytes.{Appends}
 use Rattle.re_syntax.specs.declared.syntax.Syntax.{Syntax}
@@ -28,7 +29,8 @@ pub record Writer : Type 0 where
 abbrev pub writer : {W : Type 0} → (W → Option Text) → (W → ℕ) → W → Writer
 writer contents failures w = record { contents = contents w; failures = failures w }
 
--- standard output, standard error, how often a source could not be opened or read, and the steps that were counted
+-- standard output, standard error, how often a source could not be opened or read, and the steps
+-- that were counted
 pub record Devices : Type 0 where
   pub out : Writer
   pub messages : Writer
@@ -36,7 +38,8 @@ pub record Devices : Type 0 where
   pub steps : Steps
 
 abbrev pub devices : Writer → Writer → ℕ → Steps → Devices
-devices out messages failures steps = record { out = out; messages = messages; source_failures = failures; steps = steps }
+devices out messages failures steps =
+    record { out = out; messages = messages; source_failures = failures; steps = steps }
 
 -- so many more failures, by a count that stays at the greatest u64
 abbrev pub count_more : ℕ → ℕ → ℕ
@@ -75,16 +78,19 @@ module _ (es : List Expression) (options : Options) where
   FailuresMet (source ∷ sources) (r ∷ readings) n =
       let file = file_of source.name r in
       (own : ℕ) × (rest : ℕ) × IfHolds (FaultMet es options file) (own ≡ failures_of r) (own ≡ 0)
-      × IfHolds (IsTrue options.quiet × HasSelected es options file) (rest ≡ 0) (FailuresMet sources readings rest)
+      × IfHolds (IsTrue options.quiet × HasSelected es options file) (rest ≡ 0)
+      (FailuresMet sources readings rest)
       × (n ≡ own + rest)
 
-  -- what the readers of the sources had left when they were given back, up to where a run stops, under `-q`
+  -- what the readers of the sources had left when they were given back, up to where a run stops,
+  -- under `-q`
   abbrev pub LeftMet : List Source → List Reading → List (Option Text) → Type 0
   LeftMet [] readings left = left ≡ []
   LeftMet (source ∷ sources) [] left = left ≡ []
   LeftMet (source ∷ sources) (r ∷ readings) left =
       (own : List (Option Text)) × (rest : List (Option Text)) × AreLeft source r own
-      × IfHolds (IsTrue options.quiet × HasSelected es options (file_of source.name r)) (rest ≡ []) (LeftMet sources readings rest)
+      × IfHolds (IsTrue options.quiet × HasSelected es options (file_of source.name r)) (rest ≡ [])
+      (LeftMet sources readings rest)
       × (left ≡ own ++ rest)
 
   -- the rows of a file's first lines; there are none yet under `-c`, `-l` and `-q`
@@ -101,10 +107,11 @@ first_lines n file = record { name = file.name; lines = take n file.lines; endin
 abbrev pub file_at : List File → ℕ → File
 file_at files k = get_or files k (record { name = []; lines = []; ending = missing })
 
--- ---- runs; the steps of each are no more than the search of the files costs, and `given` says of what readers may have
--- left that readers that had this left were given back in the run
+-- ---- runs; the steps of each are no more than the search of the files costs, and `given` says of
+-- what readers may have left that readers that had this left were given back in the run
 
-module _ (es : List Expression) (options : Options) (sources : List Source) (given : List (Option Text) → Type 0) (old new : Devices) where
+module _ (es : List Expression) (options : Options) (sources : List Source)
+    (given : List (Option Text) → Type 0) (old new : Devices) where
   -- a whole run: output, messages and status are those of the files for which the sources stand
   pub record Finishes (status : Status) : Type 0 where
     pub readings : List Reading
@@ -144,17 +151,19 @@ module _ (es : List Expression) (options : Options) (sources : List Source) (giv
     pub gave_back : given left
     pub steps : SearchesFiles es options (length es) (files_of sources readings) old.steps new.steps
 
-  -- a run that want of memory ended behind the first n lines of source k: output and messages are those of the
-  -- sources before it, and the rows of these lines follow
+  -- a run that want of memory ended behind the first n lines of source k: output and messages are
+  -- those of the sources before it, and the rows of these lines follow
   pub record StopsBehind (k n : ℕ) : Type 0 where
     pub readings : List Reading
     pub are_readings : AreReadings sources readings
     pub in_sources : k < length sources
     pub in_file : n ≤ length (file_at (files_of sources readings) k).lines
     pub before : List Text
-    pub is_before : OutAs es options (are_many (files_of sources readings)) (form options) (take k (files_of sources readings)) before
+    pub is_before : OutAs es options (are_many (files_of sources readings)) (form options)
+        (take k (files_of sources readings)) before
     pub rows : List Text
-    pub are_rows : RowsAs es options (form options) (are_many (files_of sources readings)) (first_lines n (file_at (files_of sources readings) k)) rows
+    pub are_rows : RowsAs es options (form options) (are_many (files_of sources readings))
+        (first_lines n (file_at (files_of sources readings) k)) rows
     pub messages : List Text
     pub are_messages : Messages es options (take k (files_of sources readings)) messages
     pub wrote : TakesAll old.out new.out (before ++ rows)
@@ -172,12 +181,16 @@ module _ (es : List Expression) (options : Options) (sources : List Source) (giv
   abbrev pub RunGives : Result Status RunFault → Type 0
   RunGives (Ok status) = Finishes status
   RunGives (Err Write) =
-      BreaksOff × (new.out.failures ≡ one_more old.out.failures) × (new.messages.failures ≡ old.messages.failures)
+      BreaksOff × (new.out.failures ≡ one_more old.out.failures) ×
+      (new.messages.failures ≡ old.messages.failures)
   RunGives (Err MessageWrite) =
-      BreaksOff × (new.out.failures ≡ old.out.failures) × (new.messages.failures ≡ one_more old.messages.failures)
+      BreaksOff × (new.out.failures ≡ old.out.failures) ×
+      (new.messages.failures ≡ one_more old.messages.failures)
   RunGives (Err (Memory k n)) = StopsBehind k n
 
 -- a run for patterns: it is one for the expressions that they mean
-abbrev pub Runs : Syntax → Options → List Text → List Source → (List (Option Text) → Type 0) → Devices → Devices → Result Status RunFault → Type 0
+abbrev pub Runs : Syntax → Options → List Text → List Source → (List (Option Text) → Type 0) →
+    Devices → Devices → Result Status RunFault → Type 0
 Runs syntax options patterns sources given old new result =
-    (es : List Expression) × AreMeant syntax options patterns es × RunGives es options sources given old new result
+    (es : List Expression) × AreMeant syntax options patterns es ×
+    RunGives es options sources given old new result

@@ -20,4 +20,5 @@ module _ {W : Type 0} (contents : W → Option Text) (failures : W → ℕ) wher
 
   -- at an Ok all bytes went out, at an Err a beginning of them, and then a write failed
   abbrev pub Writes : {T E : Type 0} → W → W → Text → Result T E → Type 0
-  Writes old new bytes r = MatchResult r (λ _. GoesOut old new bytes) (λ _. StopsWithin old new bytes)
+  Writes old new bytes r =
+      MatchResult r (λ _. GoesOut old new bytes) (λ _. StopsWithin old new bytes)

@@ -1,5 +1,6 @@
 -- The edits of a session, and what each makes of its inputs.
-use Rattle.std.specs.Prelude.{◌≡◌, ◌≢◌, ℕ, ◌+◌, ◌<◌, ◌≤◌, Bool, false, List, [], ◌∷◌, ◌++◌, length, Result, Ok, Err, All, slice_set}
+use Rattle.std.specs.Prelude.{◌≡◌, ◌≢◌, ℕ, ◌+◌, ◌<◌, ◌≤◌, Bool, false, List, [], ◌∷◌, ◌++◌, length}
+use Rattle.std.specs.Prelude.{Result, Ok, Err, All, slice_set}
 use Rattle.std.specs.List.{splice, remove}
 use Rattle.re_syntax.specs.declared.fault.PatternFault.{PatternFault}
 use Rattle.re_syntax.specs.declared.syntax.Syntax.{Syntax}
@@ -8,7 +9,9 @@ use Rattle.re_syntax.specs.Bytes.{Text}
 use Rattle.re_syntax.specs.Lines.{HasNoNewline, list_of}
 use Rattle.re_search.specs.Reading.{IsReadable}
 use Rattle.grep_core.specs.declared.options.Flag.{Flag}
-use Rattle.grep_core.specs.declared.options.Flag.TheVariants.{Count, IgnoreCase, FilesWithMatches, LineNumber, OnlyMatching, Quiet, NoMessages, InvertMatch, LineRegexp}
+use Rattle.grep_core.specs.declared.options.Flag.TheVariants.{Count, IgnoreCase, FilesWithMatches}
+use Rattle.grep_core.specs.declared.options.Flag.TheVariants.{LineNumber, OnlyMatching, Quiet}
+use Rattle.grep_core.specs.declared.options.Flag.TheVariants.{NoMessages, InvertMatch, LineRegexp}
 use Rattle.grep_core.specs.declared.options.Options.{Options}
 use Rattle.grep_core.specs.Choose.{IfHolds}
 use Rattle.grep_core.specs.Files.{File, Inputs, whole, missing}
@@ -16,7 +19,10 @@ use Rattle.re_syntax.specs.Profile.{most_patterns}
 use Rattle.grep_core.specs.Matchers.{IsFirstRefused}
 use Rattle.grep_core.specs.Run.{file_at}
 use Rattle.grep_session.specs.declared.fault.EditFault.{EditFault}
-use Rattle.grep_session.specs.declared.fault.EditFault.TheVariants.{NoSuchFile, FileIsMissing, OutOfRange, LineHasNewline, NoSuchPattern, Pattern, TooManyPatterns, Memory}
+use Rattle.grep_session.specs.declared.fault.EditFault.TheVariants.{NoSuchFile, FileIsMissing}
+use Rattle.grep_session.specs.declared.fault.EditFault.TheVariants.{OutOfRange, LineHasNewline}
+use Rattle.grep_session.specs.declared.fault.EditFault.TheVariants.{NoSuchPattern, Pattern}
+use Rattle.grep_session.specs.declared.fault.EditFault.TheVariants.{TooManyPatterns, Memory}
 
 -- the calls that change a session; files, lines and patterns are numbered from 0
 pub data Edit : Type 0 where
@@ -58,7 +64,19 @@ with_option InvertMatch on options = record options { invert_match = on }
 with_option LineRegexp on options = record options { line_regexp = on }
 
 abbrev pub no_options : Options
-no_options = record { count = false; ignore_case = false; files_with_matches = false; line_number = false; only_matching = false; quiet = false; no_messages = false; invert_match = false; line_regexp = false }
+no_options =
+    record {
+      count = false;
+      ignore_case = false;
+      files_with_matches = false;
+      line_number = false;
+      only_matching = false;
+      quiet = false;
+      no_messages = false;
+      invert_match = false;
+      line_regexp =
+          false;
+    }
 
 -- the inputs of a new session: no file, no pattern, basic syntax, and no option
 abbrev pub no_inputs : Inputs
@@ -85,34 +103,53 @@ pub record HasPlace (files : List File) (k start count : ℕ) : Type 0 where
 
 -- the files, in one of which so many lines from a first on gave way to others
 abbrev pub spliced : List File → ℕ → ℕ → ℕ → List Text → List File
-spliced files k start count lines = slice_set files k (record (file_at files k) { lines = splice (file_at files k).lines start (start + count) lines })
+spliced files k start count lines =
+    slice_set files k
+    (record (file_at files k)
+    { lines = splice (file_at files k).lines start (start + count) lines })
 
 -- the new inputs where all texts are readable; else the first that is not is told
 abbrev pub Reads : Syntax → Bool → List Text → Inputs → Result Inputs EditFault → Type 0
 Reads syntax fold texts new outcome =
     IfHolds (All (IsReadable syntax fold) texts) (outcome ≡ Ok new)
-    ((place : ℕ) × (fault : PatternFault) × IsFirstRefused syntax fold texts place fault × (outcome ≡ Err (Pattern place fault)))
+    ((place : ℕ) × (fault : PatternFault) × IsFirstRefused syntax fold texts place fault ×
+    (outcome ≡ Err (Pattern place fault)))
 
--- what an edit makes of the inputs; where it is refused for several reasons, the first of them in this order is told
+-- what an edit makes of the inputs; where it is refused for several reasons, the first of them in
+-- this order is told
 abbrev pub Applies : Edit → Inputs → Result Inputs EditFault → Type 0
 Applies (AddFile name lines) old outcome =
-    IfHolds (All HasNoNewline lines) (outcome ≡ Ok (with_files (old.files ++ whole_file name lines ∷ []) old)) (outcome ≡ Err LineHasNewline)
-Applies (AddMissing name) old outcome = outcome ≡ Ok (with_files (old.files ++ missing_file name ∷ []) old)
-Applies (DropFile k) old outcome = IfHolds (k < length old.files) (outcome ≡ Ok (with_files (remove old.files k) old)) (outcome ≡ Err NoSuchFile)
+    IfHolds (All HasNoNewline lines)
+    (outcome ≡ Ok (with_files (old.files ++ whole_file name lines ∷ []) old))
+    (outcome ≡ Err LineHasNewline)
+Applies (AddMissing name) old outcome =
+    outcome ≡ Ok (with_files (old.files ++ missing_file name ∷ []) old)
+Applies (DropFile k) old outcome =
+    IfHolds (k < length old.files) (outcome ≡ Ok (with_files (remove old.files k) old))
+    (outcome ≡ Err NoSuchFile)
 Applies (Splice k start count lines) old outcome =
     IfHolds (length old.files ≤ k) (outcome ≡ Err NoSuchFile)
     (IfHolds ((file_at old.files k).ending ≡ missing) (outcome ≡ Err FileIsMissing)
     (IfHolds (length (file_at old.files k).lines < start + count) (outcome ≡ Err OutOfRange)
-    (IfHolds (All HasNoNewline lines) (outcome ≡ Ok (with_files (spliced old.files k start count lines) old)) (outcome ≡ Err LineHasNewline))))
+    (IfHolds (All HasNoNewline lines)
+    (outcome ≡ Ok (with_files (spliced old.files k start count lines) old))
+    (outcome ≡ Err LineHasNewline))))
 Applies (AddPatterns list) old outcome =
-    IfHolds (most_patterns < length old.patterns + length (list_of list)) (outcome ≡ Err TooManyPatterns)
-    (Reads old.syntax old.options.ignore_case (list_of list) (with_patterns (old.patterns ++ list_of list) old) outcome)
-Applies (DropPattern p) old outcome = IfHolds (p < length old.patterns) (outcome ≡ Ok (with_patterns (remove old.patterns p) old)) (outcome ≡ Err NoSuchPattern)
+    IfHolds (most_patterns < length old.patterns + length (list_of list))
+    (outcome ≡ Err TooManyPatterns)
+    (Reads old.syntax old.options.ignore_case (list_of list)
+    (with_patterns (old.patterns ++ list_of list) old) outcome)
+Applies (DropPattern p) old outcome =
+    IfHolds (p < length old.patterns) (outcome ≡ Ok (with_patterns (remove old.patterns p) old))
+    (outcome ≡ Err NoSuchPattern)
 Applies (SetFlag flag on) old outcome =
-    Reads old.syntax (with_option flag on old.options).ignore_case old.patterns (record old { options = with_option flag on old.options }) outcome
-Applies (SetSyntax syntax) old outcome = Reads syntax old.options.ignore_case old.patterns (record old { syntax = syntax }) outcome
+    Reads old.syntax (with_option flag on old.options).ignore_case old.patterns
+    (record old { options = with_option flag on old.options }) outcome
+Applies (SetSyntax syntax) old outcome =
+    Reads syntax old.options.ignore_case old.patterns (record old { syntax = syntax }) outcome
 
--- what an edit answers and leaves: the new inputs, or the old ones and why it was refused; want of memory may stand for any other answer
+-- what an edit answers and leaves: the new inputs, or the old ones and why it was refused; want of
+-- memory may stand for any other answer
 abbrev pub EditGives : {T : Type 0} → Edit → Inputs → Inputs → Result T EditFault → Type 0
 EditGives edit old new (Ok done) = Applies edit old (Ok new)
 EditGives edit old new (Err Memory) = new ≡ old

@@ -1,4 +1,6 @@
--- The headline: after every list of edits, what is written of a session and the status that it gives are those that grep's definition gives from scratch for the files, patterns and options that the accepted edits leave;
+-- The headline: after every list of edits, what is written of a session and the status that it
+-- gives are those that grep's definition gives from scratch for the files, patterns and options
+-- that the accepted edits leave;
 -- an edit is refused only for its named cause, and a refused edit changes nothing.
 use Rattle.std.specs.Prelude.{◌≡◌, ℕ, List, [], ◌∷◌, ◌++◌, Option, Result, Ok, Err, IfOk}
 use Rattle.re_syntax.specs.Bytes.{Text}
@@ -13,7 +15,8 @@ use Rattle.grep_session.specs.Edits.{Edit, Applies, EditGives, no_inputs}
 
 -- ---- from scratch
 
--- what grep writes to standard output and to standard error for these inputs, and its status (XCU grep, STDOUT, STDERR and EXIT STATUS)
+-- what grep writes to standard output and to standard error for these inputs, and its status (XCU
+-- grep, STDOUT, STDERR and EXIT STATUS)
 pub record GrepGives (inputs : Inputs) (out told : List Text) (status : Status) : Type 0 where
   pub es : List Expression
   pub are_meant : AreMeant inputs.syntax inputs.options inputs.patterns es
@@ -23,8 +26,10 @@ pub record GrepGives (inputs : Inputs) (out told : List Text) (status : Status) 
 
 -- ---- what is written of inputs
 
-module _ {W : Type 0} (contents : W → Option Text) (failures : W → ℕ) (inputs : Inputs) (margin : Text) (old new : W) where
-  -- the output was written, each line behind the margin, and the answer is the status; or a write failed, and a beginning of that went out
+module _ {W : Type 0} (contents : W → Option Text) (failures : W → ℕ) (inputs : Inputs)
+    (margin : Text) (old new : W) where
+  -- the output was written, each line behind the margin, and the answer is the status; or a write
+  -- failed, and a beginning of that went out
   pub record ReportsInputs {E : Type 0} (result : Result Status E) : Type 0 where
     pub out : List Text
     pub told : List Text
@@ -33,7 +38,8 @@ module _ {W : Type 0} (contents : W → Option Text) (failures : W → ℕ) (inp
     pub wrote : Writes contents failures old new (written margin out) result
     pub answered : IfOk result (λ answer. answer ≡ status)
 
-  -- the messages were written, each behind the margin; or a write failed, and a beginning of them went out
+  -- the messages were written, each behind the margin; or a write failed, and a beginning of them
+  -- went out
   pub record TellsInputs {T E : Type 0} (result : Result T E) : Type 0 where
     pub out : List Text
     pub told : List Text
@@ -57,7 +63,9 @@ pub record Attempt : Type 0 where
 -- the attempts, one after the other, made this of the inputs, each as its edit promises
 abbrev pub ComesTo : List Attempt → Inputs → Inputs → Type 0
 ComesTo [] old new = new ≡ old
-ComesTo (attempt ∷ more) old new = (between : Inputs) × EditGives attempt.edit old between attempt.answer × ComesTo more between new
+ComesTo (attempt ∷ more) old new =
+    (between : Inputs) × EditGives attempt.edit old between attempt.answer ×
+    ComesTo more between new
 
 -- the edits that were accepted
 abbrev pub with_accepted : Edit → Result (Unit {0}) EditFault → List Edit → List Edit
@@ -71,14 +79,22 @@ accepted (attempt ∷ more) = with_accepted attempt.edit attempt.answer (accepte
 -- the edits, one after the other, make this of the inputs
 abbrev pub Makes : List Edit → Inputs → Inputs → Type 0
 Makes [] old new = new ≡ old
-Makes (edit ∷ more) old new = (between : Inputs) × Applies edit old (Ok between) × Makes more between new
+Makes (edit ∷ more) old new =
+    (between : Inputs) × Applies edit old (Ok between) × Makes more between new
 
--- whatever is tried on a new session, what it then holds are the inputs that the accepted edits alone leave, and no others;
--- a further edit is answered for these inputs, by what it makes of them, by its cause, or for want of memory; and for inputs grep gives one thing
+-- whatever is tried on a new session, what it then holds are the inputs that the accepted edits
+-- alone leave, and no others;
+-- a further edit is answered for these inputs, by what it makes of them, by its cause, or for want
+-- of memory; and for inputs grep gives one thing
 pub record AcceptedEditsDecide : Type 0 where
-  pub leave : (tried : List Attempt) (left : Inputs) → ComesTo tried no_inputs left → Makes (accepted tried) no_inputs left
-  pub one_end : (edits : List Edit) (a b : Inputs) → Makes edits no_inputs a → Makes edits no_inputs b → a ≡ b
-  pub answers : (tried : List Attempt) (last : Attempt) (new : Inputs) → ComesTo (tried ++ last ∷ []) no_inputs new
-      → (left : Inputs) × Makes (accepted tried) no_inputs left × EditGives last.edit left new last.answer
-  pub one_report : (inputs : Inputs) (out more told tells : List Text) (status other : Status) → GrepGives inputs out told status → GrepGives inputs more tells other
+  pub leave : (tried : List Attempt) (left : Inputs) → ComesTo tried no_inputs left →
+      Makes (accepted tried) no_inputs left
+  pub one_end : (edits : List Edit) (a b : Inputs) → Makes edits no_inputs a →
+      Makes edits no_inputs b → a ≡ b
+  pub answers : (tried : List Attempt) (last : Attempt) (new : Inputs) →
+      ComesTo (tried ++ last ∷ []) no_inputs new
+      → (left : Inputs) × Makes (accepted tried) no_inputs left ×
+      EditGives last.edit left new last.answer
+  pub one_report : (inputs : Inputs) (out more told tells : List Text) (status other : Status) →
+      GrepGives inputs out told status → GrepGives inputs more tells other
       → (more ≡ out) × (tells ≡ told) × (other ≡ status)

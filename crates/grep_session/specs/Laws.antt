@@ -20,7 +20,8 @@ AreAlike (Err f) (Err g) = AreAlikeFaults f g
 
 -- an edit makes one thing of its inputs, and has one cost
 pub record HasOneOutcome (edit : Edit) (old : Inputs) : Type 0 where
-  pub one_outcome : (a b : Result Inputs EditFault) → Applies edit old a → Applies edit old b → AreAlike a b
+  pub one_outcome : (a b : Result Inputs EditFault) → Applies edit old a → Applies edit old b →
+      AreAlike a b
   pub one_cost : (a b : ℕ) → Costs edit old a → Costs edit old b → a ≡ b
 
 abbrev pub EditsAreDetermined : Type 0

@@ -1,5 +1,6 @@
 -- How many steps an edit takes at most: only what it touches is searched.
-use Rattle.std.specs.Prelude.{◌≡◌, ℕ, ◌+◌, ◌*◌, ◌<◌, ◌≤◌, false, List, [], All, ◌∷◌, ◌⊎◌, length, Result, Ok, Err, get_or, MatchBool, ⊤}
+use Rattle.std.specs.Prelude.{◌≡◌, ℕ, ◌+◌, ◌*◌, ◌<◌, ◌≤◌, false, List, [], All, ◌∷◌, ◌⊎◌, length}
+use Rattle.std.specs.Prelude.{Result, Ok, Err, get_or, MatchBool, ⊤}
 use Rattle.std.specs.List.{flat_map}
 use Rattle.re_syntax.specs.Bytes.{Text}
 use Rattle.re_syntax.specs.Expression.{Expression}
@@ -17,7 +18,8 @@ use Rattle.grep_core.specs.Cost.{search_cost}
 use Rattle.grep_core.specs.Files.{Inputs, AreMeant, Matched}
 use Rattle.re_syntax.specs.Profile.{most_patterns}
 use Rattle.grep_session.specs.declared.fault.EditFault.{EditFault}
-use Rattle.grep_session.specs.Edits.{Edit, AddFile, AddMissing, DropFile, Splice, AddPatterns, DropPattern, SetFlag, SetSyntax, option_of, HasPlace, Applies}
+use Rattle.grep_session.specs.Edits.{Edit, AddFile, AddMissing, DropFile, Splice, AddPatterns}
+use Rattle.grep_session.specs.Edits.{DropPattern, SetFlag, SetSyntax, option_of, HasPlace, Applies}
 
 -- what an edit has searched: each of some lines by so many patterns, and the parts of some lines
 pub record Touched : Type 0 where
@@ -56,10 +58,15 @@ Touches (AddPatterns list) old touched =
     × (touched ≡ record { patterns = length (list_of list); paired = all_lines old; lines = lines })
 Touches (DropPattern p) old touched =
     (e : Expression) × IsMeant old.syntax old.options.ignore_case (get_or old.patterns p []) e
-    × (lines : List Text) × Chosen (λ line. Matches e line old.options.line_regexp) (all_lines old) lines
+    × (lines : List Text) ×
+    Chosen (λ line. Matches e line old.options.line_regexp) (all_lines old) lines
     × (touched ≡ parts_alone lines)
-Touches (SetFlag flag on) old touched = IfHolds (option_of flag old.options ≡ on) (touched ≡ nothing_touched) (touched ≡ touched_by_flag flag old)
-Touches (SetSyntax syntax) old touched = IfHolds (syntax ≡ old.syntax) (touched ≡ nothing_touched) (touched ≡ searched_by (length old.patterns) (all_lines old))
+Touches (SetFlag flag on) old touched =
+    IfHolds (option_of flag old.options ≡ on) (touched ≡ nothing_touched)
+    (touched ≡ touched_by_flag flag old)
+Touches (SetSyntax syntax) old touched =
+    IfHolds (syntax ≡ old.syntax) (touched ≡ nothing_touched)
+    (touched ≡ searched_by (length old.patterns) (all_lines old))
 Touches (AddMissing name) old touched = touched ≡ nothing_touched
 Touches (DropFile k) old touched = touched ≡ nothing_touched
 
@@ -73,12 +80,14 @@ module _ (es : List Expression) (options : Options) where
   abbrev pub PartsCostOf : Text → ℕ → Type 0
   PartsCostOf line cost =
       MatchBool options.only_matching
-      ((parts : List (ℕ × ℕ)) × AreParts es line options.line_regexp parts × (cost ≡ (length parts + 1) * search_cost (length es) line))
+      ((parts : List (ℕ × ℕ)) × AreParts es line options.line_regexp parts ×
+      (cost ≡ (length parts + 1) * search_cost (length es) line))
       (cost ≡ 0)
 
   abbrev pub PartsCost : List Text → ℕ → Type 0
   PartsCost [] cost = cost ≡ 0
-  PartsCost (line ∷ lines) cost = (own : ℕ) × (rest : ℕ) × PartsCostOf line own × PartsCost lines rest × (cost ≡ own + rest)
+  PartsCost (line ∷ lines) cost =
+      (own : ℕ) × (rest : ℕ) × PartsCostOf line own × PartsCost lines rest × (cost ≡ own + rest)
 
 -- the cost of an accepted edit, with the patterns and the options that it leaves
 pub record CostsAccepted (edit : Edit) (old new : Inputs) (cost : ℕ) : Type 0 where
@@ -97,7 +106,8 @@ CostsAs edit old (Err fault) cost = cost ≡ 0
 
 -- the cost of an edit of these inputs
 abbrev pub Costs : Edit → Inputs → ℕ → Type 0
-Costs edit old cost = (outcome : Result Inputs EditFault) × Applies edit old outcome × CostsAs edit old outcome cost
+Costs edit old cost =
+    (outcome : Result Inputs EditFault) × Applies edit old outcome × CostsAs edit old outcome cost
 
 -- the steps of an edit: none, or no more than its cost
 pub record TakesSteps (edit : Edit) (old : Inputs) (begun ended : Steps) : Type 0 where
@@ -112,13 +122,16 @@ is_of_output LineRegexp = ⊥
 is_of_output OnlyMatching = ⊥
 is_of_output _ = ⊤
 
--- the edits that ask for no memory: what only leaves something out, changes what is written alone, or sets what is set already; and what is refused for a file, a line or the number of patterns
+-- the edits that ask for no memory: what only leaves something out, changes what is written alone,
+-- or sets what is set already; and what is refused for a file, a line or the number of patterns
 abbrev pub NeedsNoMemory : Edit → Inputs → Type 0
 NeedsNoMemory (AddFile name lines) old = All HasNoNewline lines → ⊥
 NeedsNoMemory (AddMissing name) old = ⊥
 NeedsNoMemory (DropFile k) old = ⊤
-NeedsNoMemory (Splice k start count lines) old = (lines ≡ []) ⊎ ((HasPlace old.files k start count → ⊥) ⊎ (All HasNoNewline lines → ⊥))
+NeedsNoMemory (Splice k start count lines) old =
+    (lines ≡ []) ⊎ ((HasPlace old.files k start count → ⊥) ⊎ (All HasNoNewline lines → ⊥))
 NeedsNoMemory (AddPatterns list) old = most_patterns < length old.patterns + length (list_of list)
 NeedsNoMemory (DropPattern p) old = (old.options.only_matching ≡ false) ⊎ (length old.patterns ≤ p)
-NeedsNoMemory (SetFlag flag on) old = is_of_output flag ⊎ ((option_of flag old.options ≡ on) ⊎ ((flag ≡ OnlyMatching) × (on ≡ false)))
+NeedsNoMemory (SetFlag flag on) old =
+    is_of_output flag ⊎ ((option_of flag old.options ≡ on) ⊎ ((flag ≡ OnlyMatching) × (on ≡ false)))
 NeedsNoMemory (SetSyntax syntax) old = syntax ≡ old.syntax

@@ -22,10 +22,14 @@ pub fn add_later<M: LineMatch>(
     requires whole { AllAnswer options.now.line_regexp (map M.whole matchers.old) }
     requires few { length matchers.old ≤ most_patterns }
     requires within { first ≤ length matchers.old }
-    ensures ok { IfOk result (λ _. AddsMatching line.now options.now.line_regexp first (drop first (map M.expression matchers.old)) numbers.old.items numbers.new.items) }
+    ensures ok { IfOk result
+        (λ _.
+        AddsMatching line.now options.now.line_regexp first
+        (drop first (map M.expression matchers.old)) numbers.old.items numbers.new.items) }
     ensures same_expressions { map M.expression matchers.new ≡ map M.expression matchers.old }
     ensures same_wholes { map M.whole matchers.new ≡ map M.whole matchers.old }
-    ensures steps { AddsAtMost (search_cost (length matchers.old - first) line.now) meter.old meter.new }
+    ensures steps { AddsAtMost (search_cost (length matchers.old - first) line.now) meter.old
+        meter.new }
 {
     add_matching(&mut matchers[first..], first, options, line, numbers, meter)
 }

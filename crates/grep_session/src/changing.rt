@@ -1,15 +1,19 @@
 //! What is found in all lines where patterns come or go: the patterns that came are searched for,
 //! and the parts of a line are searched where one of those that came or went matches it.
-ghost use Rattle.std.specs.Prelude.{◌≡◌, ℕ, ◌≤◌, ◌++◌, List, [], length, map, MatchBool, ◌∷◌, IfOk, All, IfSome, nat_eq, nat_lt, vec_capacity};
+ghost use Rattle.std.specs.Prelude.{◌≡◌, ℕ, ◌≤◌, ◌++◌, List, [], length, map, MatchBool, ◌∷◌, IfOk};
+ghost use Rattle.std.specs.Prelude.{All, IfSome, nat_eq, nat_lt, vec_capacity};
 ghost use Rattle.std.specs.List.{AllZip, list_any};
 ghost use Rattle.re_syntax.specs.Expression.{Expression};
 ghost use Rattle.re_search.specs.Working.Matchers.{matched_expression, wants_whole};
 ghost use Rattle.re_search.specs.Searching.{AllAnswer, AddsAtMost};
 ghost use Rattle.grep_session.specs.declared.change.Change.TheVariants.{Added, Dropped};
-ghost use Rattle.grep_session.specs.Working.Changed.{HasChanged, IsWithin, ChangeCost, SearchesEach, SearchesOne};
+ghost use Rattle.grep_session.specs.Working.Changed.{HasChanged, IsWithin, ChangeCost};
+ghost use Rattle.grep_session.specs.Working.Changed.{SearchesEach, SearchesOne};
 ghost use Rattle.re_syntax.specs.Profile.{most_patterns};
-ghost use Rattle.grep_session.specs.Working.Found.{IsRight, IsFoundAgain, AddsRight, lines_of_files};
-ghost use Rattle.grep_session.specs.Working.Kept.{IsKept, IsFileKept, kept_file, kept_lines, line_text};
+ghost use Rattle.grep_session.specs.Working.Found.{IsRight, IsFoundAgain, AddsRight};
+ghost use Rattle.grep_session.specs.Working.Found.{lines_of_files};
+ghost use Rattle.grep_session.specs.Working.Kept.{IsKept, IsFileKept, kept_file, kept_lines};
+ghost use Rattle.grep_session.specs.Working.Kept.{line_text};
 ghost use Rattle.grep_session.specs.Touched.{PartsCostOf};
 
 use crate::adding::add_later;
@@ -49,10 +53,14 @@ fn find_again<M: LineMatch>(
     meter: &mut Meter,
 ) -> Result<Findings, AllocError>
     requires whole { AllAnswer options.now.line_regexp (map M.whole matchers.old) }
-    ensures ok { IfOk result (IsFoundAgain anew (map M.expression matchers.old) options.now line.now numbers.items) }
+    ensures ok { IfOk result
+        (IsFoundAgain anew (map M.expression matchers.old) options.now line.now numbers.items) }
     ensures same_expressions { map M.expression matchers.new ≡ map M.expression matchers.old }
     ensures same_wholes { map M.whole matchers.new ≡ map M.whole matchers.old }
-    ensures steps { (own : ℕ) × MatchBool anew (PartsCostOf (map M.expression matchers.old) options.now line.now.text.items own) (own ≡ 0) × AddsAtMost own meter.old meter.new }
+    ensures steps { (own : ℕ) ×
+        MatchBool anew
+        (PartsCostOf (map M.expression matchers.old) options.now line.now.text.items own)
+        (own ≡ 0) × AddsAtMost own meter.old meter.new }
 {
     if anew {
         return find_with_parts(alloc, matchers, options, &line.text, numbers, meter);
@@ -73,10 +81,16 @@ fn find_without<M: LineMatch>(
     requires whole { AllAnswer options.now.line_regexp (map M.whole matchers.old) }
     ensures same_expressions { map M.expression matchers.new ≡ map M.expression matchers.old }
     ensures same_wholes { map M.whole matchers.new ≡ map M.whole matchers.old }
-    ensures ok { IfOk result (λ found. (before changed : List Expression) → HasChanged (Dropped p) (map M.expression matchers.old) before changed → IsKept before options.now line.now
+    ensures ok { IfOk result
+        (λ found. (before changed : List Expression) →
+        HasChanged (Dropped p) (map M.expression matchers.old) before changed →
+        IsKept before options.now line.now
         → IsRight (map M.expression matchers.old) options.now line.now.text.items found) }
-    ensures steps { (before changed : List Expression) → HasChanged (Dropped p) (map M.expression matchers.old) before changed → IsKept before options.now line.now
-        → SearchesOne (ChangeCost (Dropped p) changed (map M.expression matchers.old) options.now) line.now.text.items meter.old meter.new }
+    ensures steps { (before changed : List Expression) →
+        HasChanged (Dropped p) (map M.expression matchers.old) before changed →
+        IsKept before options.now line.now
+        → SearchesOne (ChangeCost (Dropped p) changed (map M.expression matchers.old) options.now)
+        line.now.text.items meter.old meter.new }
 {
     let mut numbers = Vec::from_slice(alloc, line.found.numbers())?;
     drop_number(&mut numbers, p);
@@ -98,10 +112,16 @@ fn find_with<M: LineMatch>(
     requires within { first ≤ length matchers.old }
     ensures same_expressions { map M.expression matchers.new ≡ map M.expression matchers.old }
     ensures same_wholes { map M.whole matchers.new ≡ map M.whole matchers.old }
-    ensures ok { IfOk result (λ found. (before changed : List Expression) → HasChanged (Added first) (map M.expression matchers.old) before changed → IsKept before options.now line.now
+    ensures ok { IfOk result
+        (λ found. (before changed : List Expression) →
+        HasChanged (Added first) (map M.expression matchers.old) before changed →
+        IsKept before options.now line.now
         → IsRight (map M.expression matchers.old) options.now line.now.text.items found) }
-    ensures steps { (before changed : List Expression) → HasChanged (Added first) (map M.expression matchers.old) before changed → IsKept before options.now line.now
-        → SearchesOne (ChangeCost (Added first) changed (map M.expression matchers.old) options.now) line.now.text.items meter.old meter.new }
+    ensures steps { (before changed : List Expression) →
+        HasChanged (Added first) (map M.expression matchers.old) before changed →
+        IsKept before options.now line.now
+        → SearchesOne (ChangeCost (Added first) changed (map M.expression matchers.old) options.now)
+        line.now.text.items meter.old meter.new }
 {
     let mut numbers = Vec::from_slice(alloc, line.found.numbers())?;
     add_later(matchers, first, options, &line.text, &mut numbers, meter)?;
@@ -123,10 +143,16 @@ fn find_changed<M: LineMatch>(
     requires within { IsWithin change (length matchers.old) }
     ensures same_expressions { map M.expression matchers.new ≡ map M.expression matchers.old }
     ensures same_wholes { map M.whole matchers.new ≡ map M.whole matchers.old }
-    ensures ok { IfOk result (λ found. (before changed : List Expression) → HasChanged change (map M.expression matchers.old) before changed → IsKept before options.now line.now
+    ensures ok { IfOk result
+        (λ found. (before changed : List Expression) →
+        HasChanged change (map M.expression matchers.old) before changed →
+        IsKept before options.now line.now
         → IsRight (map M.expression matchers.old) options.now line.now.text.items found) }
-    ensures steps { (before changed : List Expression) → HasChanged change (map M.expression matchers.old) before changed → IsKept before options.now line.now
-        → SearchesOne (ChangeCost change changed (map M.expression matchers.old) options.now) line.now.text.items meter.old meter.new }
+    ensures steps { (before changed : List Expression) →
+        HasChanged change (map M.expression matchers.old) before changed →
+        IsKept before options.now line.now
+        → SearchesOne (ChangeCost change changed (map M.expression matchers.old) options.now)
+        line.now.text.items meter.old meter.new }
 {
     match change {
         Change::Added(first) => find_with(alloc, matchers, options, first, line, meter),
@@ -149,10 +175,17 @@ fn change_lines<M: LineMatch>(
     requires within { IsWithin change (length matchers.old) }
     ensures same_expressions { map M.expression matchers.new ≡ map M.expression matchers.old }
     ensures same_wholes { map M.whole matchers.new ≡ map M.whole matchers.old }
-    ensures ok { IfOk result (λ _. (before changed : List Expression) → HasChanged change (map M.expression matchers.old) before changed → All (IsKept before options.now) lines.now
-        → AddsRight (map M.expression matchers.old) options.now (map line_text lines.now) found.old.items found.new.items) }
-    ensures steps { (before changed : List Expression) → HasChanged change (map M.expression matchers.old) before changed → All (IsKept before options.now) lines.now
-        → SearchesEach (ChangeCost change changed (map M.expression matchers.old) options.now) (map line_text lines.now) meter.old meter.new }
+    ensures ok { IfOk result
+        (λ _. (before changed : List Expression) →
+        HasChanged change (map M.expression matchers.old) before changed →
+        All (IsKept before options.now) lines.now
+        → AddsRight (map M.expression matchers.old) options.now (map line_text lines.now)
+        found.old.items found.new.items) }
+    ensures steps { (before changed : List Expression) →
+        HasChanged change (map M.expression matchers.old) before changed →
+        All (IsKept before options.now) lines.now
+        → SearchesEach (ChangeCost change changed (map M.expression matchers.old) options.now)
+        (map line_text lines.now) meter.old meter.new }
 {
     for line in lines {
         let one = find_changed(alloc, matchers, options, change, line, meter)?;
@@ -176,10 +209,17 @@ fn change_file<M: LineMatch>(
     requires within { IsWithin change (length matchers.old) }
     ensures same_expressions { map M.expression matchers.new ≡ map M.expression matchers.old }
     ensures same_wholes { map M.whole matchers.new ≡ map M.whole matchers.old }
-    ensures ok { IfOk result (λ _. (before changed : List Expression) → HasChanged change (map M.expression matchers.old) before changed → IsFileKept before options.now file.now
-        → AddsRight (map M.expression matchers.old) options.now (kept_file file.now).lines found.old.items found.new.items) }
-    ensures steps { (before changed : List Expression) → HasChanged change (map M.expression matchers.old) before changed → IsFileKept before options.now file.now
-        → SearchesEach (ChangeCost change changed (map M.expression matchers.old) options.now) (kept_file file.now).lines meter.old meter.new }
+    ensures ok { IfOk result
+        (λ _. (before changed : List Expression) →
+        HasChanged change (map M.expression matchers.old) before changed →
+        IsFileKept before options.now file.now
+        → AddsRight (map M.expression matchers.old) options.now (kept_file file.now).lines
+        found.old.items found.new.items) }
+    ensures steps { (before changed : List Expression) →
+        HasChanged change (map M.expression matchers.old) before changed →
+        IsFileKept before options.now file.now
+        → SearchesEach (ChangeCost change changed (map M.expression matchers.old) options.now)
+        (kept_file file.now).lines meter.old meter.new }
 {
     match &file.lines {
         None => Ok(()),
@@ -201,10 +241,17 @@ fn change_files<M: LineMatch>(
     requires within { IsWithin change (length matchers.old) }
     ensures same_expressions { map M.expression matchers.new ≡ map M.expression matchers.old }
     ensures same_wholes { map M.whole matchers.new ≡ map M.whole matchers.old }
-    ensures ok { IfOk result (λ found. (before changed : List Expression) → HasChanged change (map M.expression matchers.old) before changed → All (IsFileKept before options.now) files.now
-        → AllZip (IsRight (map M.expression matchers.old) options.now) (lines_of_files (map kept_file files.now)) found.items) }
-    ensures steps { (before changed : List Expression) → HasChanged change (map M.expression matchers.old) before changed → All (IsFileKept before options.now) files.now
-        → SearchesEach (ChangeCost change changed (map M.expression matchers.old) options.now) (lines_of_files (map kept_file files.now)) meter.old meter.new }
+    ensures ok { IfOk result
+        (λ found. (before changed : List Expression) →
+        HasChanged change (map M.expression matchers.old) before changed →
+        All (IsFileKept before options.now) files.now
+        → AllZip (IsRight (map M.expression matchers.old) options.now)
+        (lines_of_files (map kept_file files.now)) found.items) }
+    ensures steps { (before changed : List Expression) →
+        HasChanged change (map M.expression matchers.old) before changed →
+        All (IsFileKept before options.now) files.now
+        → SearchesEach (ChangeCost change changed (map M.expression matchers.old) options.now)
+        (lines_of_files (map kept_file files.now)) meter.old meter.new }
 {
     let mut found = Vec::new(alloc);
     for file in files {
@@ -225,13 +272,22 @@ pub fn change_columns(
     requires whole { AllAnswer options.now.line_regexp (map wants_whole matchers.old.items) }
     requires few { length matchers.old.items ≤ most_patterns }
     requires within { IsWithin change (length matchers.old.items) }
-    ensures same_expressions { map matched_expression matchers.new.items ≡ map matched_expression matchers.old.items }
+    ensures same_expressions { map matched_expression matchers.new.items ≡
+        map matched_expression matchers.old.items }
     ensures same_wholes { map wants_whole matchers.new.items ≡ map wants_whole matchers.old.items }
     ensures room { vec_capacity matchers.new ≡ vec_capacity matchers.old }
-    ensures ok { IfOk result (λ found. (before changed : List Expression) → HasChanged change (map matched_expression matchers.old.items) before changed → All (IsFileKept before options.now) files.now
-        → AllZip (IsRight (map matched_expression matchers.old.items) options.now) (lines_of_files (map kept_file files.now)) found.items) }
-    ensures steps { (before changed : List Expression) → HasChanged change (map matched_expression matchers.old.items) before changed → All (IsFileKept before options.now) files.now
-        → SearchesEach (ChangeCost change changed (map matched_expression matchers.old.items) options.now) (lines_of_files (map kept_file files.now)) meter.old meter.new }
+    ensures ok { IfOk result
+        (λ found. (before changed : List Expression) →
+        HasChanged change (map matched_expression matchers.old.items) before changed →
+        All (IsFileKept before options.now) files.now
+        → AllZip (IsRight (map matched_expression matchers.old.items) options.now)
+        (lines_of_files (map kept_file files.now)) found.items) }
+    ensures steps { (before changed : List Expression) →
+        HasChanged change (map matched_expression matchers.old.items) before changed →
+        All (IsFileKept before options.now) files.now
+        → SearchesEach
+        (ChangeCost change changed (map matched_expression matchers.old.items) options.now)
+        (lines_of_files (map kept_file files.now)) meter.old meter.new }
 {
     change_files(alloc, matchers, options, change, files, meter)
 }

@@ -1,11 +1,13 @@
 //! What is found in all lines of all files anew.
-ghost use Rattle.std.specs.Prelude.{◌≡◌, ◌≤◌, ◌++◌, List, [], length, map, false, ◌∷◌, IfOk, All, IfSome, if◌then◌else◌};
+ghost use Rattle.std.specs.Prelude.{◌≡◌, ◌≤◌, ◌++◌, List, [], length, map, false, ◌∷◌, IfOk, All};
+ghost use Rattle.std.specs.Prelude.{IfSome, if◌then◌else◌};
 ghost use Rattle.std.specs.List.{AllZip};
 ghost use Rattle.re_search.specs.Working.Matchers.{matched_expression, wants_whole};
 ghost use Rattle.re_search.specs.Searching.{AllAnswer};
 ghost use Rattle.re_syntax.specs.Profile.{most_patterns};
 ghost use Rattle.grep_session.specs.Working.Found.{IsRight, IsReady, AddsRight, lines_of_files};
-ghost use Rattle.grep_session.specs.Working.Kept.{SearchesKept, SearchesAllKept, kept_file, kept_lines, line_text};
+ghost use Rattle.grep_session.specs.Working.Kept.{SearchesKept, SearchesAllKept, kept_file};
+ghost use Rattle.grep_session.specs.Working.Kept.{kept_lines, line_text};
 
 use crate::finding::{find_anew, find_with_parts};
 use crate::findings::Findings;
@@ -24,10 +26,12 @@ fn find_parts<M: LineMatch>(
 ) -> Result<Findings, AllocError>
     requires whole { AllAnswer options.now.line_regexp (map M.whole matchers.old) }
     requires ready { IsReady false (map M.expression matchers.old) options.now line.now }
-    ensures ok { IfOk result (IsRight (map M.expression matchers.old) options.now line.now.text.items) }
+    ensures ok { IfOk result
+        (IsRight (map M.expression matchers.old) options.now line.now.text.items) }
     ensures same_expressions { map M.expression matchers.new ≡ map M.expression matchers.old }
     ensures same_wholes { map M.whole matchers.new ≡ map M.whole matchers.old }
-    ensures steps { SearchesKept (map M.expression matchers.old) options.now 0 line.now.text.items meter.old meter.new }
+    ensures steps { SearchesKept (map M.expression matchers.old) options.now 0 line.now.text.items
+        meter.old meter.new }
 {
     let numbers = Vec::from_slice(alloc, line.found.numbers())?;
     find_with_parts(alloc, matchers, options, &line.text, numbers, meter)
@@ -45,10 +49,12 @@ fn find_line<M: LineMatch>(
     requires whole { AllAnswer options.now.line_regexp (map M.whole matchers.old) }
     requires few { length matchers.old ≤ most_patterns }
     requires ready { IsReady anew (map M.expression matchers.old) options.now line.now }
-    ensures ok { IfOk result (IsRight (map M.expression matchers.old) options.now line.now.text.items) }
+    ensures ok { IfOk result
+        (IsRight (map M.expression matchers.old) options.now line.now.text.items) }
     ensures same_expressions { map M.expression matchers.new ≡ map M.expression matchers.old }
     ensures same_wholes { map M.whole matchers.new ≡ map M.whole matchers.old }
-    ensures steps { SearchesKept (map M.expression matchers.old) options.now (if anew then length matchers.old else 0) line.now.text.items meter.old meter.new }
+    ensures steps { SearchesKept (map M.expression matchers.old) options.now
+        (if anew then length matchers.old else 0) line.now.text.items meter.old meter.new }
 {
     if anew {
         return find_anew(alloc, matchers, options, &line.text, meter);
@@ -77,10 +83,14 @@ fn find_lines<M: LineMatch>(
     requires whole { AllAnswer options.now.line_regexp (map M.whole matchers.old) }
     requires few { length matchers.old ≤ most_patterns }
     requires ready { All (IsReady anew (map M.expression matchers.old) options.now) lines.now }
-    ensures ok { IfOk result (λ _. AddsRight (map M.expression matchers.old) options.now (map line_text lines.now) found.old.items found.new.items) }
+    ensures ok { IfOk result
+        (λ _.
+        AddsRight (map M.expression matchers.old) options.now (map line_text lines.now)
+        found.old.items found.new.items) }
     ensures same_expressions { map M.expression matchers.new ≡ map M.expression matchers.old }
     ensures same_wholes { map M.whole matchers.new ≡ map M.whole matchers.old }
-    ensures steps { SearchesAllKept (map M.expression matchers.old) options.now (if anew then length matchers.old else 0) (map line_text lines.now) meter.old meter.new }
+    ensures steps { SearchesAllKept (map M.expression matchers.old) options.now
+        (if anew then length matchers.old else 0) (map line_text lines.now) meter.old meter.new }
 {
     for line in lines {
         let one = find_line(alloc, matchers, options, anew, line, meter)?;
@@ -101,11 +111,16 @@ fn find_in_file<M: LineMatch>(
 ) -> Result<(), AllocError>
     requires whole { AllAnswer options.now.line_regexp (map M.whole matchers.old) }
     requires few { length matchers.old ≤ most_patterns }
-    requires ready { IfSome (kept_lines file.now) (All (IsReady anew (map M.expression matchers.old) options.now)) }
-    ensures ok { IfOk result (λ _. AddsRight (map M.expression matchers.old) options.now (kept_file file.now).lines found.old.items found.new.items) }
+    requires ready { IfSome (kept_lines file.now)
+        (All (IsReady anew (map M.expression matchers.old) options.now)) }
+    ensures ok { IfOk result
+        (λ _.
+        AddsRight (map M.expression matchers.old) options.now (kept_file file.now).lines
+        found.old.items found.new.items) }
     ensures same_expressions { map M.expression matchers.new ≡ map M.expression matchers.old }
     ensures same_wholes { map M.whole matchers.new ≡ map M.whole matchers.old }
-    ensures steps { SearchesAllKept (map M.expression matchers.old) options.now (if anew then length matchers.old else 0) (kept_file file.now).lines meter.old meter.new }
+    ensures steps { SearchesAllKept (map M.expression matchers.old) options.now
+        (if anew then length matchers.old else 0) (kept_file file.now).lines meter.old meter.new }
 {
     match &file.lines {
         None => Ok(()),
@@ -124,11 +139,19 @@ pub fn find_all<M: LineMatch>(
 ) -> Result<Vec<Findings>, AllocError>
     requires whole { AllAnswer options.now.line_regexp (map M.whole matchers.old) }
     requires few { length matchers.old ≤ most_patterns }
-    requires ready { All (λ file. IfSome (kept_lines file) (All (IsReady anew (map M.expression matchers.old) options.now))) files.now }
-    ensures ok { IfOk result (λ found. AllZip (IsRight (map M.expression matchers.old) options.now) (lines_of_files (map kept_file files.now)) found.items) }
+    requires ready { All
+        (λ file.
+        IfSome (kept_lines file) (All (IsReady anew (map M.expression matchers.old) options.now)))
+        files.now }
+    ensures ok { IfOk result
+        (λ found.
+        AllZip (IsRight (map M.expression matchers.old) options.now)
+        (lines_of_files (map kept_file files.now)) found.items) }
     ensures same_expressions { map M.expression matchers.new ≡ map M.expression matchers.old }
     ensures same_wholes { map M.whole matchers.new ≡ map M.whole matchers.old }
-    ensures steps { SearchesAllKept (map M.expression matchers.old) options.now (if anew then length matchers.old else 0) (lines_of_files (map kept_file files.now)) meter.old meter.new }
+    ensures steps { SearchesAllKept (map M.expression matchers.old) options.now
+        (if anew then length matchers.old else 0) (lines_of_files (map kept_file files.now))
+        meter.old meter.new }
 {
     let mut found = Vec::new(alloc);
     for file in files {
@@ -148,11 +171,20 @@ pub fn find_columns(
 ) -> Result<Vec<Findings>, AllocError>
     requires whole { AllAnswer options.now.line_regexp (map wants_whole matchers.old.items) }
     requires few { length matchers.old.items ≤ most_patterns }
-    requires ready { All (λ file. IfSome (kept_lines file) (All (IsReady anew (map matched_expression matchers.old.items) options.now))) files.now }
-    ensures ok { IfOk result (λ found. AllZip (IsRight (map matched_expression matchers.old.items) options.now) (lines_of_files (map kept_file files.now)) found.items) }
-    ensures same_expressions { map matched_expression matchers.new.items ≡ map matched_expression matchers.old.items }
+    requires ready { All
+        (λ file.
+        IfSome (kept_lines file)
+        (All (IsReady anew (map matched_expression matchers.old.items) options.now))) files.now }
+    ensures ok { IfOk result
+        (λ found.
+        AllZip (IsRight (map matched_expression matchers.old.items) options.now)
+        (lines_of_files (map kept_file files.now)) found.items) }
+    ensures same_expressions { map matched_expression matchers.new.items ≡
+        map matched_expression matchers.old.items }
     ensures same_wholes { map wants_whole matchers.new.items ≡ map wants_whole matchers.old.items }
-    ensures steps { SearchesAllKept (map matched_expression matchers.old.items) options.now (if anew then length matchers.old.items else 0) (lines_of_files (map kept_file files.now)) meter.old meter.new }
+    ensures steps { SearchesAllKept (map matched_expression matchers.old.items) options.now
+        (if anew then length matchers.old.items else 0) (lines_of_files (map kept_file files.now))
+        meter.old meter.new }
 {
     find_all(alloc, matchers, options, anew, files, meter)
 }

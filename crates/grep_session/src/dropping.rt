@@ -1,5 +1,6 @@
 //! A pattern goes, and the later ones move up.
-ghost use Rattle.std.specs.Prelude.{◌≡◌, ◌<◌, List, length, map, false, All, ◌≤◌, vec_len, vec_capacity};
+ghost use Rattle.std.specs.Prelude.{◌≡◌, ◌<◌, List, length, map, false, All, ◌≤◌, vec_len};
+ghost use Rattle.std.specs.Prelude.{vec_capacity};
 ghost use Rattle.re_syntax.specs.Expression.{Expression};
 ghost use Rattle.grep_core.specs.declared.options.Options.{Options};
 ghost use Rattle.grep_session.specs.Working.Kept.{IsKept, IsFileKept, kept_file, line_text};
@@ -20,7 +21,9 @@ fn drop_in_line(line: &mut KeptLine, p: usize)
 /// Takes pattern `p` out of what is kept of lines.
 fn drop_in_lines(lines: &mut [KeptLine], p: usize)
     ensures texts { map line_text lines.new ≡ map line_text lines.old }
-    ensures kept { (es : List Expression) (options : Options) → p < length es → options.only_matching ≡ false → All (IsKept es options) lines.old → All (IsKept (remove es p) options) lines.new }
+    ensures kept { (es : List Expression) (options : Options) → p < length es →
+        options.only_matching ≡ false → All (IsKept es options) lines.old →
+        All (IsKept (remove es p) options) lines.new }
 {
     for line in lines.iter_mut() {
         drop_in_line(line, p);
@@ -30,7 +33,9 @@ fn drop_in_lines(lines: &mut [KeptLine], p: usize)
 /// Takes pattern `p` out of what is kept of a file.
 fn drop_in_file(file: &mut KeptFile, p: usize)
     ensures same { kept_file file.new ≡ kept_file file.old }
-    ensures kept { (es : List Expression) (options : Options) → p < length es → options.only_matching ≡ false → IsFileKept es options file.old → IsFileKept (remove es p) options file.new }
+    ensures kept { (es : List Expression) (options : Options) → p < length es →
+        options.only_matching ≡ false → IsFileKept es options file.old →
+        IsFileKept (remove es p) options file.new }
 {
     match &mut file.lines {
         None => {}
@@ -41,7 +46,9 @@ fn drop_in_file(file: &mut KeptFile, p: usize)
 /// Takes pattern `p` out of what is kept of files.
 fn drop_in_files(files: &mut [KeptFile], p: usize)
     ensures same { map kept_file files.new ≡ map kept_file files.old }
-    ensures kept { (es : List Expression) (options : Options) → p < length es → options.only_matching ≡ false → All (IsFileKept es options) files.old → All (IsFileKept (remove es p) options) files.new }
+    ensures kept { (es : List Expression) (options : Options) → p < length es →
+        options.only_matching ≡ false → All (IsFileKept es options) files.old →
+        All (IsFileKept (remove es p) options) files.new }
 {
     for file in files.iter_mut() {
         drop_in_file(file, p);
@@ -51,7 +58,9 @@ fn drop_in_files(files: &mut [KeptFile], p: usize)
 /// The same in the files of a session.
 pub fn drop_column(files: &mut Vec<KeptFile>, p: usize)
     ensures same { map kept_file files.new.items ≡ map kept_file files.old.items }
-    ensures kept { (es : List Expression) (options : Options) → p < length es → options.only_matching ≡ false → All (IsFileKept es options) files.old.items → All (IsFileKept (remove es p) options) files.new.items }
+    ensures kept { (es : List Expression) (options : Options) → p < length es →
+        options.only_matching ≡ false → All (IsFileKept es options) files.old.items →
+        All (IsFileKept (remove es p) options) files.new.items }
 {
     drop_in_files(files, p);
 }

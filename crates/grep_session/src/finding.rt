@@ -1,12 +1,15 @@
 //! What is found in lines, and kept.
-ghost use Rattle.std.specs.Prelude.{◌≡◌, ℕ, List, ◌+◌, ◌*◌, ◌≤◌, ◌<◌, ◌++◌, length, map, IfOk, IfErr, IfSome, true, [], ◌∷◌, All};
+ghost use Rattle.std.specs.Prelude.{◌≡◌, ℕ, List, ◌+◌, ◌*◌, ◌≤◌, ◌<◌, ◌++◌, length, map, IfOk};
+ghost use Rattle.std.specs.Prelude.{IfErr, IfSome, true, [], ◌∷◌, All};
 ghost use Rattle.re_search.specs.Working.Matchers.{matched_expression, wants_whole};
 ghost use Rattle.re_search.specs.Searching.{AllAnswer, AddsAtMost, FindsPart};
 ghost use Rattle.re_syntax.specs.Parts.{AreParts};
 ghost use Rattle.grep_core.specs.Cost.{search_cost};
 ghost use Rattle.re_syntax.specs.Profile.{most_patterns};
 ghost use Rattle.grep_session.specs.Working.Found.{IsRight};
-ghost use Rattle.grep_session.specs.Working.Kept.{AreMatching, AddsMatching, IsKept, SearchesKept, SearchesAllKept, span_places, line_text, ArePartsKept};
+ghost use Rattle.grep_session.specs.Working.Kept.{AreMatching, AddsMatching, IsKept, SearchesKept};
+ghost use Rattle.grep_session.specs.Working.Kept.{SearchesAllKept, span_places, line_text};
+ghost use Rattle.grep_session.specs.Working.Kept.{ArePartsKept};
 ghost use Rattle.grep_session.specs.Touched.{PartsCostOf};
 
 use crate::findings::Findings;
@@ -25,7 +28,10 @@ fn note_matching<M: LineMatch>(
     meter: &mut Meter,
 ) -> Result<(), AllocError>
     requires { M.whole matcher.old ≡ options.now.line_regexp }
-    ensures ok { IfOk result (λ _. AddsMatching line.now options.now.line_regexp number (M.expression matcher.old ∷ []) numbers.old.items numbers.new.items) }
+    ensures ok { IfOk result
+        (λ _.
+        AddsMatching line.now options.now.line_regexp number (M.expression matcher.old ∷ [])
+        numbers.old.items numbers.new.items) }
     ensures same_expression { M.expression matcher.new ≡ M.expression matcher.old }
     ensures same_whole { M.whole matcher.new ≡ M.whole matcher.old }
     ensures steps { AddsAtMost (length line.now + 1) meter.old meter.new }
@@ -49,7 +55,10 @@ pub fn add_matching<M: LineMatch>(
 ) -> Result<(), AllocError>
     requires whole { AllAnswer options.now.line_regexp (map M.whole matchers.old) }
     requires few { first + length matchers.old ≤ most_patterns }
-    ensures ok { IfOk result (λ _. AddsMatching line.now options.now.line_regexp first (map M.expression matchers.old) numbers.old.items numbers.new.items) }
+    ensures ok { IfOk result
+        (λ _.
+        AddsMatching line.now options.now.line_regexp first (map M.expression matchers.old)
+        numbers.old.items numbers.new.items) }
     ensures same_expressions { map M.expression matchers.new ≡ map M.expression matchers.old }
     ensures same_wholes { map M.whole matchers.new ≡ map M.whole matchers.old }
     ensures steps { AddsAtMost (search_cost (length matchers.old) line.now) meter.old meter.new }
@@ -73,10 +82,15 @@ fn add_parts<M: LineMatch>(
     requires whole { AllAnswer options.now.line_regexp (map M.whole matchers.old) }
     requires asked { options.now.only_matching ≡ true }
     requires none { spans.old.items ≡ [] }
-    ensures ok { IfOk result (λ _. AreParts (map M.expression matchers.old) line.now options.now.line_regexp (map span_places spans.new.items)) }
+    ensures ok { IfOk result
+        (λ _.
+        AreParts (map M.expression matchers.old) line.now options.now.line_regexp
+        (map span_places spans.new.items)) }
     ensures same_expressions { map M.expression matchers.new ≡ map M.expression matchers.old }
     ensures same_wholes { map M.whole matchers.new ≡ map M.whole matchers.old }
-    ensures steps { (own : ℕ) × PartsCostOf (map M.expression matchers.old) options.now line.now own × AddsAtMost own meter.old meter.new }
+    ensures steps { (own : ℕ) ×
+        PartsCostOf (map M.expression matchers.old) options.now line.now own ×
+        AddsAtMost own meter.old meter.new }
 {
     let mut from = 0;
     while let Some(part) = next_part(matchers, *options, line, from, meter) {
@@ -95,10 +109,13 @@ fn parts_of<M: LineMatch>(
     meter: &mut Meter,
 ) -> Result<Vec<Span>, AllocError>
     requires whole { AllAnswer options.now.line_regexp (map M.whole matchers.old) }
-    ensures ok { IfOk result (λ spans. ArePartsKept (map M.expression matchers.old) options.now line.now spans.items) }
+    ensures ok { IfOk result
+        (λ spans. ArePartsKept (map M.expression matchers.old) options.now line.now spans.items) }
     ensures same_expressions { map M.expression matchers.new ≡ map M.expression matchers.old }
     ensures same_wholes { map M.whole matchers.new ≡ map M.whole matchers.old }
-    ensures steps { (own : ℕ) × PartsCostOf (map M.expression matchers.old) options.now line.now own × AddsAtMost own meter.old meter.new }
+    ensures steps { (own : ℕ) ×
+        PartsCostOf (map M.expression matchers.old) options.now line.now own ×
+        AddsAtMost own meter.old meter.new }
 {
     let mut spans = Vec::new(alloc);
     if options.only_matching {
@@ -118,11 +135,15 @@ pub fn find_with_parts<M: LineMatch>(
     meter: &mut Meter,
 ) -> Result<Findings, AllocError>
     requires whole { AllAnswer options.now.line_regexp (map M.whole matchers.old) }
-    ensures ok { IfOk result (λ found. AreMatching line.now options.now.line_regexp 0 (map M.expression matchers.old) numbers.items
+    ensures ok { IfOk result
+        (λ found.
+        AreMatching line.now options.now.line_regexp 0 (map M.expression matchers.old) numbers.items
         → IsRight (map M.expression matchers.old) options.now line.now found) }
     ensures same_expressions { map M.expression matchers.new ≡ map M.expression matchers.old }
     ensures same_wholes { map M.whole matchers.new ≡ map M.whole matchers.old }
-    ensures steps { (own : ℕ) × PartsCostOf (map M.expression matchers.old) options.now line.now own × AddsAtMost own meter.old meter.new }
+    ensures steps { (own : ℕ) ×
+        PartsCostOf (map M.expression matchers.old) options.now line.now own ×
+        AddsAtMost own meter.old meter.new }
 {
     if numbers.is_empty() {
         return Ok(Findings::none());
@@ -144,7 +165,8 @@ pub fn find_anew<M: LineMatch>(
     ensures ok { IfOk result (IsRight (map M.expression matchers.old) options.now line.now) }
     ensures same_expressions { map M.expression matchers.new ≡ map M.expression matchers.old }
     ensures same_wholes { map M.whole matchers.new ≡ map M.whole matchers.old }
-    ensures steps { SearchesKept (map M.expression matchers.old) options.now (length matchers.old) line.now meter.old meter.new }
+    ensures steps { SearchesKept (map M.expression matchers.old) options.now (length matchers.old)
+        line.now meter.old meter.new }
 {
     let mut numbers = Vec::new(alloc);
     add_matching(matchers, 0, options, line, &mut numbers, meter)?;
@@ -165,7 +187,8 @@ pub fn search_line<M: LineMatch>(
     ensures text { IfOk result (λ line. line.text.items ≡ text.items) }
     ensures same_expressions { map M.expression matchers.new ≡ map M.expression matchers.old }
     ensures same_wholes { map M.whole matchers.new ≡ map M.whole matchers.old }
-    ensures steps { SearchesKept (map M.expression matchers.old) options.now (length matchers.old) text.items meter.old meter.new }
+    ensures steps { SearchesKept (map M.expression matchers.old) options.now (length matchers.old)
+        text.items meter.old meter.new }
 {
     let found = find_anew(alloc, matchers, options, &text, meter)?;
     Ok(KeptLine { text, found })
@@ -189,12 +212,15 @@ pub fn search_lines<M: LineMatch>(
 ) -> Result<Vec<KeptLine>, AllocError>
     requires whole { AllAnswer options.now.line_regexp (map M.whole matchers.old) }
     requires few { length matchers.old ≤ most_patterns }
-    ensures ok { IfOk result (λ lines. All (IsKept (map M.expression matchers.old) options.now) lines.items) }
-    ensures texts { IfOk result (λ lines. map line_text lines.items ≡ map (λ text. text.items) texts.items) }
+    ensures ok { IfOk result
+        (λ lines. All (IsKept (map M.expression matchers.old) options.now) lines.items) }
+    ensures texts { IfOk result
+        (λ lines. map line_text lines.items ≡ map (λ text. text.items) texts.items) }
     ensures same_expressions { map M.expression matchers.new ≡ map M.expression matchers.old }
     ensures same_wholes { map M.whole matchers.new ≡ map M.whole matchers.old }
     ensures memory { texts.items ≡ [] → IfErr result (λ _. ⊥) }
-    ensures steps { SearchesAllKept (map M.expression matchers.old) options.now (length matchers.old) (map (λ text. text.items) texts.items) meter.old meter.new }
+    ensures steps { SearchesAllKept (map M.expression matchers.old) options.now
+        (length matchers.old) (map (λ text. text.items) texts.items) meter.old meter.new }
 {
     let mut lines = Vec::with_capacity(alloc, texts.len())?;
     for text in texts {
@@ -214,12 +240,17 @@ pub fn search_new(
 ) -> Result<Vec<KeptLine>, AllocError>
     requires whole { AllAnswer options.now.line_regexp (map wants_whole matchers.old.items) }
     requires few { length matchers.old.items ≤ most_patterns }
-    ensures ok { IfOk result (λ lines. All (IsKept (map matched_expression matchers.old.items) options.now) lines.items) }
-    ensures texts { IfOk result (λ lines. map line_text lines.items ≡ map (λ text. text.items) texts.items) }
-    ensures same_expressions { map matched_expression matchers.new.items ≡ map matched_expression matchers.old.items }
+    ensures ok { IfOk result
+        (λ lines.
+        All (IsKept (map matched_expression matchers.old.items) options.now) lines.items) }
+    ensures texts { IfOk result
+        (λ lines. map line_text lines.items ≡ map (λ text. text.items) texts.items) }
+    ensures same_expressions { map matched_expression matchers.new.items ≡
+        map matched_expression matchers.old.items }
     ensures same_wholes { map wants_whole matchers.new.items ≡ map wants_whole matchers.old.items }
     ensures memory { texts.items ≡ [] → IfErr result (λ _. ⊥) }
-    ensures steps { SearchesAllKept (map matched_expression matchers.old.items) options.now (length matchers.old.items) (map (λ text. text.items) texts.items) meter.old meter.new }
+    ensures steps { SearchesAllKept (map matched_expression matchers.old.items) options.now
+        (length matchers.old.items) (map (λ text. text.items) texts.items) meter.old meter.new }
 {
     search_lines(alloc, matchers, options, texts, meter)
 }

@@ -36,8 +36,10 @@ fn put_found(lines: &mut [KeptLine], found: &mut IntoIter<Findings>)
 /// Puts the first of what was found in the place of what is kept of the lines of a file.
 fn put_found_in(file: &mut KeptFile, found: &mut IntoIter<Findings>)
     ensures name { file.new.name ≡ file.old.name }
-    ensures lines { kept_lines file.new ≡ option_map (λ lines. with_found lines (into_iter_items found.old)) (kept_lines file.old) }
-    ensures rest { into_iter_items found.new ≡ drop (length (unwrap_or (kept_lines file.old) [])) (into_iter_items found.old) }
+    ensures lines { kept_lines file.new ≡
+        option_map (λ lines. with_found lines (into_iter_items found.old)) (kept_lines file.old) }
+    ensures rest { into_iter_items found.new ≡
+        drop (length (unwrap_or (kept_lines file.old) [])) (into_iter_items found.old) }
 {
     match &mut file.lines {
         None => {}
@@ -48,7 +50,9 @@ fn put_found_in(file: &mut KeptFile, found: &mut IntoIter<Findings>)
 /// Puts what was found in all lines of the files, in order, in the place of what is kept of them.
 pub fn put_all(files: &mut [KeptFile], found: Vec<Findings>)
     ensures same { map kept_file files.new ≡ map kept_file files.old }
-    ensures right { (es : List Expression) (options : Options) → AllZip (IsRight es options) (lines_of_files (map kept_file files.old)) found.items → All (IsFileKept es options) files.new }
+    ensures right { (es : List Expression) (options : Options) →
+        AllZip (IsRight es options) (lines_of_files (map kept_file files.old)) found.items →
+        All (IsFileKept es options) files.new }
 {
     let mut rest = found.into_iter();
     for file in files.iter_mut() {
@@ -59,7 +63,9 @@ pub fn put_all(files: &mut [KeptFile], found: Vec<Findings>)
 /// The same in the files of a session.
 pub fn put_columns(files: &mut Vec<KeptFile>, found: Vec<Findings>)
     ensures same { map kept_file files.new.items ≡ map kept_file files.old.items }
-    ensures right { (es : List Expression) (options : Options) → AllZip (IsRight es options) (lines_of_files (map kept_file files.old.items)) found.items → All (IsFileKept es options) files.new.items }
+    ensures right { (es : List Expression) (options : Options) →
+        AllZip (IsRight es options) (lines_of_files (map kept_file files.old.items)) found.items →
+        All (IsFileKept es options) files.new.items }
 {
     put_all(files, found);
 }

@@ -2,7 +2,8 @@
 ghost use Rattle.grep_session.specs.Headline.{AcceptedEditsDecide};
 ghost use Rattle.grep_session.specs.Laws.{EditsAreDetermined};
 
-/// An edit makes one thing of its inputs, up to what is told of a refused pattern, and has one cost.
+/// An edit makes one thing of its inputs, up to what is told of a refused pattern, and has one
+/// cost.
 #[tactic(auto, using(crate::proofs::lemmas::EditLaws::edits_are_determined))]
 pub fn edits_are_determined()
     ensures { EditsAreDetermined }

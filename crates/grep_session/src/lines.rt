@@ -2,7 +2,9 @@
 ghost use Rattle.std.specs.Prelude.{◌≡◌, IfOk, All, length, if◌then◌else◌};
 ghost use Rattle.grep_core.specs.Output.{form, parts, written};
 ghost use Rattle.grep_core.specs.Written.{Writes};
-ghost use Rattle.grep_session.specs.Working.Report.{line_rows, part_rows, rows_from, selected_count, is_selected, OnLine, PartsFit, selected_rows};
+ghost use Rattle.grep_session.specs.Working.Report.{line_rows, part_rows, rows_from};
+ghost use Rattle.grep_session.specs.Working.Report.{selected_count, is_selected, OnLine, PartsFit};
+ghost use Rattle.grep_session.specs.Working.Report.{selected_rows};
 
 use crate::kept::KeptLine;
 use grep_core::{CountedWrite, Form, Wanted, WriteFault, count_found};
@@ -17,7 +19,8 @@ fn write_parts<W: CountedWrite>(
 ) -> Result<(), WriteFault>
     requires { All (OnLine line.now.text.items) line.now.found.spans }
     ensures { Writes W.contents W.failures out.old out.new (written margin.now
-        (part_rows wanted.now.options wanted.now.many wanted.now.name.now number line.now.text.items line.now.found.spans)) result }
+        (part_rows wanted.now.options wanted.now.many wanted.now.name.now number line.now.text.items
+        line.now.found.spans)) result }
 {
     for part in line.found.spans() {
         wanted.write_part(number, &line.text, *part, out, margin)?;
@@ -35,7 +38,8 @@ fn write_selected<W: CountedWrite>(
 ) -> Result<(), WriteFault>
     requires { PartsFit wanted.now.options line.now }
     ensures { Writes W.contents W.failures out.old out.new (written margin.now
-        (selected_rows wanted.now.options wanted.now.many wanted.now.name.now (form wanted.now.options) number line.now)) result }
+        (selected_rows wanted.now.options wanted.now.many wanted.now.name.now
+        (form wanted.now.options) number line.now)) result }
 {
     match wanted.options.form() {
         Form::Lines => wanted.write_text(number, &line.text, out, margin),
@@ -76,7 +80,8 @@ pub fn write_lines<W: CountedWrite>(
     requires { All (PartsFit wanted.now.options) lines.now }
     ensures rows { Writes W.contents W.failures out.old out.new (written margin.now
         (rows_from wanted.now.options wanted.now.many wanted.now.name.now 1 lines.now)) result }
-    ensures told { IfOk result (λ selected. selected ≡ selected_count wanted.now.options lines.now) }
+    ensures told { IfOk result
+        (λ selected. selected ≡ selected_count wanted.now.options lines.now) }
 {
     let mut number: u64 = 0;
     let mut selected: u64 = 0;

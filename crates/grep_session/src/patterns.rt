@@ -1,5 +1,6 @@
 //! The texts of a pattern list, and their place in a session.
-ghost use Rattle.std.specs.Prelude.{◌≡◌, ◌≤◌, ◌<◌, ◌+◌, ◌++◌, ◌∷◌, [], length, map, vec_len, vec_capacity, MatchBool, IfOk, OnErr};
+ghost use Rattle.std.specs.Prelude.{◌≡◌, ◌≤◌, ◌<◌, ◌+◌, ◌++◌, ◌∷◌, [], length, map, vec_len};
+ghost use Rattle.std.specs.Prelude.{vec_capacity, MatchBool, IfOk, OnErr};
 ghost use Rattle.re_syntax.specs.Lines.{list_of};
 ghost use Rattle.re_syntax.specs.Profile.{most_patterns};
 
@@ -31,7 +32,8 @@ pub fn texts_of(alloc: Global, list: &[u8]) -> Result<Vec<Vec<u8>>, AllocError>
 /// copied.
 pub fn too_many(old: usize, list: &[u8]) -> bool
     requires { old ≤ most_patterns }
-    ensures { MatchBool result (most_patterns < old + length (list_of list.now)) (old + length (list_of list.now) ≤ most_patterns) }
+    ensures { MatchBool result (most_patterns < old + length (list_of list.now))
+        (old + length (list_of list.now) ≤ most_patterns) }
 {
     split_list(list).nth(MOST_PATTERNS - old).is_some()
 }

@@ -43,8 +43,11 @@ pub fn read_matchers(
 ) -> Result<Vec<Matcher>, EditFault>
     requires some { 1 ≤ states }
     requires few { states ≤ most_states }
-    ensures ok { IfOk result (λ matchers. AreMatchers syntax options.now (map (λ text. text.items) texts.now) matchers.items) }
-    ensures err { IfErr result (RefusesFirst syntax options.now.ignore_case (map (λ text. text.items) texts.now)) }
+    ensures ok { IfOk result
+        (λ matchers.
+        AreMatchers syntax options.now (map (λ text. text.items) texts.now) matchers.items) }
+    ensures err { IfErr result
+        (RefusesFirst syntax options.now.ignore_case (map (λ text. text.items) texts.now)) }
 {
     let mut matchers = Vec::new(alloc);
     for text in texts {

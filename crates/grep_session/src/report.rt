@@ -6,7 +6,9 @@ ghost use Rattle.grep_core.specs.Messages.{StatusOf};
 ghost use Rattle.grep_core.specs.Output.{written};
 ghost use Rattle.grep_core.specs.Written.{Writes};
 ghost use Rattle.grep_session.specs.Working.Kept.{kept_lines, kept_file, IsFileKept};
-ghost use Rattle.grep_session.specs.Working.Report.{FileFits, rows_with, report_rows, told_from, any_selected, any_missing, status_by_files, Reports, TellsMessages};
+ghost use Rattle.grep_session.specs.Working.Report.{FileFits, rows_with, report_rows, told_from};
+ghost use Rattle.grep_session.specs.Working.Report.{any_selected, any_missing, status_by_files};
+ghost use Rattle.grep_session.specs.Working.Report.{Reports, TellsMessages};
 
 use crate::kept::KeptFile;
 use crate::lines::write_lines;
@@ -24,7 +26,8 @@ fn write_file<W: CountedWrite>(
 ) -> Result<(), WriteFault>
     requires { FileFits wanted.now.options file.now }
     ensures { Writes W.contents W.failures out.old out.new (written margin.now
-        (rows_with wanted.now.options wanted.now.many wanted.now.name.now (kept_lines file.now))) result }
+        (rows_with wanted.now.options wanted.now.many wanted.now.name.now (kept_lines file.now)))
+        result }
 {
     let Some(lines) = &file.lines else {
         let end = FileEnd::Missing;
@@ -65,7 +68,8 @@ fn tell_files<W: CountedWrite>(
     margin: &[u8],
     out: &mut W,
 ) -> Result<(), WriteFault>
-    ensures { Writes W.contents W.failures out.old out.new (written margin.now (told_from options.now files.now)) result }
+    ensures { Writes W.contents W.failures out.old out.new
+        (written margin.now (told_from options.now files.now)) result }
 {
     for file in files {
         tell_fault(options.no_messages, &file.name, file.end(), out, margin)?;
@@ -104,7 +108,8 @@ fn status_by_files(files: &[KeptFile], options: &Options) -> Status
 
 /// The status of grep for the files (XCU grep, EXIT STATUS), where what is kept of them is right.
 pub fn status(files: &[KeptFile], options: &Options) -> Status
-    ensures { (es : List Expression) → All (IsFileKept es options.now) files.now → StatusOf es options.now (map kept_file files.now) result }
+    ensures { (es : List Expression) → All (IsFileKept es options.now) files.now →
+        StatusOf es options.now (map kept_file files.now) result }
 {
     status_by_files(files, options)
 }
@@ -121,7 +126,8 @@ pub fn write_report<W: CountedWrite>(
 ) -> Result<Status, WriteFault>
     requires { All (FileFits options.now) files.now }
     ensures { (es : List Expression) → All (IsFileKept es options.now) files.now
-        → Reports W.contents W.failures es options.now (map kept_file files.now) margin.now out.old out.new result }
+        → Reports W.contents W.failures es options.now (map kept_file files.now) margin.now out.old
+        out.new result }
 {
     write_files(files, options, margin, out)?;
     Ok(status(files, options))
@@ -138,7 +144,8 @@ pub fn write_messages<W: CountedWrite>(
     out: &mut W,
 ) -> Result<(), WriteFault>
     ensures { (es : List Expression) → All (IsFileKept es options.now) files.now
-        → TellsMessages W.contents W.failures es options.now (map kept_file files.now) margin.now out.old out.new result }
+        → TellsMessages W.contents W.failures es options.now (map kept_file files.now) margin.now
+        out.old out.new result }
 {
     tell_files(files, options, margin, out)
 }

@@ -1,10 +1,14 @@
 //! A session.
-ghost use Rattle.std.specs.Prelude.{◌≡◌, ◌≢◌, ◌≤◌, ◌<◌, Ok, false, length, ◌++◌, ◌∷◌, [], map, IsTrue, IfOk, IfErr, OnErr};
+ghost use Rattle.std.specs.Prelude.{◌≡◌, ◌≢◌, ◌≤◌, ◌<◌, Ok, false, length, ◌++◌, ◌∷◌, [], map};
+ghost use Rattle.std.specs.Prelude.{IsTrue, IfOk, IfErr, OnErr};
 ghost use Rattle.grep_session.specs.declared.fault.EditFault.TheVariants.{Memory};
-ghost use Rattle.grep_session.specs.Edits.{Edit, AddFile, AddMissing, DropFile, Splice, AddPatterns, DropPattern, SetFlag, SetSyntax, EditGives, Applies, no_inputs, with_patterns};
+ghost use Rattle.grep_session.specs.Edits.{Edit, AddFile, AddMissing, DropFile, Splice};
+ghost use Rattle.grep_session.specs.Edits.{AddPatterns, DropPattern, SetFlag, SetSyntax, EditGives};
+ghost use Rattle.grep_session.specs.Edits.{Applies, no_inputs, with_patterns};
 ghost use Rattle.std.specs.List.{remove};
 ghost use Rattle.re_syntax.specs.Profile.{most_states};
-ghost use Rattle.grep_session.specs.Touched.{TakesSteps, NeedsNoMemory, Touches, searched_by, parts_alone, all_lines};
+ghost use Rattle.grep_session.specs.Touched.{TakesSteps, NeedsNoMemory, Touches, searched_by};
+ghost use Rattle.grep_session.specs.Touched.{parts_alone, all_lines};
 ghost use Rattle.grep_session.specs.Working.Again.{ReadsAgain, AreReadable, read_as};
 
 mod reporting;
@@ -77,7 +81,8 @@ impl Session {
     /// `EditFault::NoSuchFile`.
     pub fn drop_file(&mut self, k: usize) -> Result<(), EditFault>
         ensures gives { EditGives (DropFile k) self.old self.new result }
-        ensures memory { NeedsNoMemory (DropFile k) self.old → IfErr result (λ fault. fault ≢ Memory) }
+        ensures memory { NeedsNoMemory (DropFile k) self.old →
+            IfErr result (λ fault. fault ≢ Memory) }
     {
         if k >= self.files.len() {
             return Err(EditFault::NoSuchFile);
@@ -93,7 +98,8 @@ impl Session {
     /// `EditFault::Memory`.
     pub fn add_missing(&mut self, name: Vec<u8>) -> Result<(), EditFault>
         ensures gives { EditGives (AddMissing name.items) self.old self.new result }
-        ensures memory { NeedsNoMemory (AddMissing name.items) self.old → IfErr result (λ fault. fault ≢ Memory) }
+        ensures memory { NeedsNoMemory (AddMissing name.items) self.old →
+            IfErr result (λ fault. fault ≢ Memory) }
     {
         let file = KeptFile { name, lines: None };
         match push_file(&mut self.files, file) {
@@ -114,9 +120,12 @@ impl Session {
         lines: Vec<Vec<u8>>,
         meter: &mut Meter,
     ) -> Result<(), EditFault>
-        ensures gives { EditGives (AddFile name.items (map (λ line. line.items) lines.items)) self.old self.new result }
-        ensures steps { TakesSteps (AddFile name.items (map (λ line. line.items) lines.items)) self.old meter.old meter.new }
-        ensures memory { NeedsNoMemory (AddFile name.items (map (λ line. line.items) lines.items)) self.old → IfErr result (λ fault. fault ≢ Memory) }
+        ensures gives { EditGives (AddFile name.items (map (λ line. line.items) lines.items))
+            self.old self.new result }
+        ensures steps { TakesSteps (AddFile name.items (map (λ line. line.items) lines.items))
+            self.old meter.old meter.new }
+        ensures memory { NeedsNoMemory (AddFile name.items (map (λ line. line.items) lines.items))
+            self.old → IfErr result (λ fault. fault ≢ Memory) }
     {
         if any_newline(&lines) {
             return Err(EditFault::LineHasNewline);
@@ -151,9 +160,12 @@ impl Session {
         lines: Vec<Vec<u8>>,
         meter: &mut Meter,
     ) -> Result<(), EditFault>
-        ensures gives { EditGives (Splice k start count (map (λ line. line.items) lines.items)) self.old self.new result }
-        ensures steps { TakesSteps (Splice k start count (map (λ line. line.items) lines.items)) self.old meter.old meter.new }
-        ensures memory { NeedsNoMemory (Splice k start count (map (λ line. line.items) lines.items)) self.old → IfErr result (λ fault. fault ≢ Memory) }
+        ensures gives { EditGives (Splice k start count (map (λ line. line.items) lines.items))
+            self.old self.new result }
+        ensures steps { TakesSteps (Splice k start count (map (λ line. line.items) lines.items))
+            self.old meter.old meter.new }
+        ensures memory { NeedsNoMemory (Splice k start count (map (λ line. line.items) lines.items))
+            self.old → IfErr result (λ fault. fault ≢ Memory) }
     {
         match find_place(&self.files, k, start, count) {
             Ok(()) => {}
@@ -181,8 +193,11 @@ impl Session {
         meter: &mut Meter,
     ) -> Result<(), EditFault>
         ensures gives { ReadsAgain syntax options self.old self.new result }
-        ensures steps { (edit : Edit) → (AreReadable syntax options self.old → Applies edit self.old (Ok (read_as syntax options self.old)))
-            → Touches edit self.old (searched_by (length self.old.patterns) (all_lines self.old)) → TakesSteps edit self.old meter.old meter.new }
+        ensures steps { (edit : Edit) →
+            (AreReadable syntax options self.old →
+            Applies edit self.old (Ok (read_as syntax options self.old)))
+            → Touches edit self.old (searched_by (length self.old.patterns) (all_lines self.old)) →
+            TakesSteps edit self.old meter.old meter.new }
     {
         let mut matchers = match read_matchers(
             self.alloc,
@@ -221,7 +236,8 @@ impl Session {
     pub fn set_syntax(&mut self, syntax: Syntax, meter: &mut Meter) -> Result<(), EditFault>
         ensures gives { EditGives (SetSyntax syntax) self.old self.new result }
         ensures steps { TakesSteps (SetSyntax syntax) self.old meter.old meter.new }
-        ensures memory { NeedsNoMemory (SetSyntax syntax) self.old → IfErr result (λ fault. fault ≢ Memory) }
+        ensures memory { NeedsNoMemory (SetSyntax syntax) self.old →
+            IfErr result (λ fault. fault ≢ Memory) }
     {
         if is_same(syntax, self.syntax) {
             return Ok(());
@@ -234,8 +250,10 @@ impl Session {
         requires same_whole { options.line_regexp ≡ self.old.options.line_regexp }
         requires same_case { options.ignore_case ≡ self.old.options.ignore_case }
         ensures gives { ReadsAgain self.old.syntax options self.old self.new result }
-        ensures steps { (edit : Edit) → Applies edit self.old (Ok (read_as self.old.syntax options self.old))
-            → Touches edit self.old (parts_alone (all_lines self.old)) → TakesSteps edit self.old meter.old meter.new }
+        ensures steps { (edit : Edit) →
+            Applies edit self.old (Ok (read_as self.old.syntax options self.old))
+            → Touches edit self.old (parts_alone (all_lines self.old)) →
+            TakesSteps edit self.old meter.old meter.new }
     {
         let found = match find_columns(
             self.alloc,
@@ -272,7 +290,8 @@ impl Session {
     pub fn set_flag(&mut self, flag: Flag, on: bool, meter: &mut Meter) -> Result<(), EditFault>
         ensures gives { EditGives (SetFlag flag on) self.old self.new result }
         ensures steps { TakesSteps (SetFlag flag on) self.old meter.old meter.new }
-        ensures memory { NeedsNoMemory (SetFlag flag on) self.old → IfErr result (λ fault. fault ≢ Memory) }
+        ensures memory { NeedsNoMemory (SetFlag flag on) self.old →
+            IfErr result (λ fault. fault ≢ Memory) }
     {
         if option_of(&self.options, flag) == on {
             return Ok(());
@@ -301,7 +320,8 @@ impl Session {
     pub fn add_patterns(&mut self, list: &[u8], meter: &mut Meter) -> Result<(), EditFault>
         ensures gives { EditGives (AddPatterns list.now) self.old self.new result }
         ensures steps { TakesSteps (AddPatterns list.now) self.old meter.old meter.new }
-        ensures memory { NeedsNoMemory (AddPatterns list.now) self.old → IfErr result (λ fault. fault ≢ Memory) }
+        ensures memory { NeedsNoMemory (AddPatterns list.now) self.old →
+            IfErr result (λ fault. fault ≢ Memory) }
     {
         if too_many(self.matchers.len(), list) {
             return Err(EditFault::TooManyPatterns);
@@ -358,7 +378,8 @@ impl Session {
     pub fn drop_pattern(&mut self, p: usize, meter: &mut Meter) -> Result<(), EditFault>
         ensures gives { EditGives (DropPattern p) self.old self.new result }
         ensures steps { TakesSteps (DropPattern p) self.old meter.old meter.new }
-        ensures memory { NeedsNoMemory (DropPattern p) self.old → IfErr result (λ fault. fault ≢ Memory) }
+        ensures memory { NeedsNoMemory (DropPattern p) self.old →
+            IfErr result (λ fault. fault ≢ Memory) }
     {
         if p >= self.texts.len() {
             return Err(EditFault::NoSuchPattern);
@@ -397,7 +418,8 @@ impl Session {
         Ok(())
     }
 
-    /// Takes pattern `p` out where no parts are kept; later patterns move up. No memory is asked for.
+    /// Takes pattern `p` out where no parts are kept; later patterns move up. No memory is asked
+    /// for.
     fn drop_plain(&mut self, p: usize)
         requires within { p < length self.old.patterns }
         requires no_parts { self.old.options.only_matching ≡ false }

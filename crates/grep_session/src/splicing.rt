@@ -1,5 +1,6 @@
 //! Lines that give way to others.
-ghost use Rattle.std.specs.Prelude.{◌≡◌, ◌≢◌, ◌+◌, ◌≤◌, List, ℕ, length, map, IfOk, IfErr, IfSome, OnErr, All, MatchBool, []};
+ghost use Rattle.std.specs.Prelude.{◌≡◌, ◌≢◌, ◌+◌, ◌≤◌, List, ℕ, length, map, IfOk, IfErr, IfSome};
+ghost use Rattle.std.specs.Prelude.{OnErr, All, MatchBool, []};
 ghost use Rattle.std.specs.List.{splice};
 ghost use Rattle.std.specs.Option.{option_map};
 ghost use Rattle.re_syntax.specs.Lines.{HasNoNewline};
@@ -20,7 +21,8 @@ fn has_newline(line: &[u8]) -> bool
 
 /// Whether some line has a newline in it.
 pub fn any_newline(lines: &[Vec<u8>]) -> bool
-    ensures { MatchBool result (All HasNoNewline (map (λ line. line.items) lines.now) → ⊥) (All HasNoNewline (map (λ line. line.items) lines.now)) }
+    ensures { MatchBool result (All HasNoNewline (map (λ line. line.items) lines.now) → ⊥)
+        (All HasNoNewline (map (λ line. line.items) lines.now)) }
 {
     for line in lines {
         if has_newline(line) {
@@ -58,7 +60,8 @@ fn put_lines(
     new: Vec<KeptLine>,
 ) -> Result<(), AllocError>
     requires { start + count ≤ length lines.old.items }
-    ensures ok { IfOk result (λ _. lines.new.items ≡ splice lines.old.items start (start + count) new.items) }
+    ensures ok { IfOk result
+        (λ _. lines.new.items ≡ splice lines.old.items start (start + count) new.items) }
     ensures err { OnErr result (lines.new.items ≡ lines.old.items) }
     ensures memory { new.items ≡ [] → IfErr result (λ _. ⊥) }
 {
@@ -79,7 +82,9 @@ pub fn put_in(
 ) -> Result<(), AllocError>
     requires { IfSome (kept_lines file.old) (λ lines. start + count ≤ length lines) }
     ensures name { file.new.name ≡ file.old.name }
-    ensures ok { IfOk result (λ _. kept_lines file.new ≡ option_map (λ lines. splice lines start (start + count) new.items) (kept_lines file.old)) }
+    ensures ok { IfOk result
+        (λ _. kept_lines file.new ≡
+        option_map (λ lines. splice lines start (start + count) new.items) (kept_lines file.old)) }
     ensures err { OnErr result (kept_lines file.new ≡ kept_lines file.old) }
     ensures memory { new.items ≡ [] → IfErr result (λ _. ⊥) }
 {

@@ -1,6 +1,7 @@
 //! What is known of files and lines without a search, by what is kept of them.
 ghost use Rattle.std.specs.Prelude.{◌≡◌};
-ghost use Rattle.grep_session.specs.Working.Report.{end_of, is_selected, some_selected, has_selected};
+ghost use Rattle.grep_session.specs.Working.Report.{end_of, is_selected, some_selected};
+ghost use Rattle.grep_session.specs.Working.Report.{has_selected};
 
 use crate::kept::{KeptFile, KeptLine};
 use grep_core::{FileEnd, Options};

@@ -28,8 +28,8 @@ fault_text Read = codes "occur: read error"
 fault_text Write = codes "occur: write error"
 fault_text Memory = out_of_memory
 
--- a script that came to its end has status 0 or, where a command was refused, 1, and nothing is told; otherwise what kept it
--- from its end is told, and the status is 2
+-- a script that came to its end has status 0 or, where a command was refused, 1, and nothing is
+-- told; otherwise what kept it from its end is told, and the status is 2
 abbrev pub EndsScript : Result ScriptEnd ScriptFault → Writer → Writer → ℕ → Type 0
 EndsScript (Ok Clean) old new status = (status ≡ 0) × (new ≡ old)
 EndsScript (Ok Refused) old new status = (status ≡ 1) × (new ≡ old)

@@ -1,8 +1,11 @@
 -- What the words of the command line choose: occur [--states N] [SCRIPT].
-use Rattle.std.specs.Prelude.{◌≡◌, ◌≢◌, ◌==◌, Bool, true, not, ⊤, List, [], ◌∷◌, Option, None, Some, Ok, Err, Result, map, option_map, IsSomeAnd, codes, String, string_bytes, if◌then◌else◌}
+use Rattle.std.specs.Prelude.{◌≡◌, ◌≢◌, ◌==◌, Bool, true, not, ⊤, List, [], ◌∷◌, Option, None, Some}
+use Rattle.std.specs.Prelude.{Ok, Err, Result, map, option_map, IsSomeAnd, codes, String}
+use Rattle.std.specs.Prelude.{string_bytes, if◌then◌else◌}
 use Rattle.std.specs.Option.{option_map_or}
 use Rattle.std.specs.Str.Parse.{digits_value, without_leading_plus}
-use Rattle.clap.specs.Words.{App, IsUnsignedIn, Row, Rule, Text, first_of, kind_of, new_app, new_rule, one_of, one_text, with_rule}
+use Rattle.clap.specs.Words.{App, IsUnsignedIn, Row, Rule, Text, first_of, kind_of, new_app}
+use Rattle.clap.specs.Words.{new_rule, one_of, one_text, with_rule}
 use Rattle.clap.specs.Kinds.{Kinds, IsAmong}
 use Rattle.clap.specs.declared.builder.action.ArgAction.TheVariants.{Set}
 use Rattle.clap.specs.declared.builder.value_parser.ValueParser.TheVariants.{Unsigned}
@@ -37,7 +40,8 @@ occur_app = with_rule (with_rule (new_app (codes "occur")) states_rule) script_r
 
 -- a number of states was found, as text
 abbrev pub HasStates : Found → Type 0
-HasStates found = (text : Text) × (one_text found (codes "states") ≡ Some text) × IsUnsignedIn 1 65536 text
+HasStates found =
+    (text : Text) × (one_text found (codes "states") ≡ Some text) × IsUnsignedIn 1 65536 text
 
 -- the choices are what was found: the number that is written for the option, and the operand
 pub record IsChosenBy (rows : List Row) (choices : Choices) : Type 0 where
@@ -46,7 +50,8 @@ pub record IsChosenBy (rows : List Row) (choices : Choices) : Type 0 where
   pub states : choices.states ≡ digits_value 10 (without_leading_plus number)
   pub script : option_map string_bytes choices.script ≡ first_of (codes "script") rows
 
--- the file that has the script: none where standard input has it, for which no operand stands, or `-`
+-- the file that has the script: none where standard input has it, for which no operand stands, or
+-- `-`
 abbrev pub script_file : Option Text → Option Text
 script_file None = None
 script_file (Some name) = if is_standard name then None else Some name
@@ -56,12 +61,13 @@ abbrev pub Tells : Error → OccurFault → Type 0
 Tells error fault.Memory = kind_of error ≡ OutOfMemory
 Tells error (fault.Words told) = (told ≡ error) × (kind_of error ≢ OutOfMemory)
 
--- words are taken only where no kind of error may come; a fault of the words has such a kind, and any other fault is want of
--- memory
+-- words are taken only where no kind of error may come; a fault of the words has such a kind, and
+-- any other fault is want of memory
 abbrev pub TellsAmong : Kinds → Result Choices OccurFault → Type 0
 TellsAmong kinds (Ok choices) = kinds ≡ []
 TellsAmong kinds (Err fault.Memory) = ⊤
-TellsAmong kinds (Err (fault.Words error)) = (kind_of error ≢ OutOfMemory) × IsAmong (kind_of error) kinds
+TellsAmong kinds (Err (fault.Words error)) =
+    (kind_of error ≢ OutOfMemory) × IsAmong (kind_of error) kinds
 
 -- a word that is no option: it does not begin with a hyphen (45)
 abbrev pub is_operand : Text → Bool
@@ -79,12 +85,16 @@ form_words name None (Some script) = name ∷ script ∷ []
 form_words name (Some number) None = name ∷ codes "--states" ∷ number ∷ []
 form_words name (Some number) (Some script) = name ∷ codes "--states" ∷ number ∷ script ∷ []
 
--- such words choose the number, or 256, and the script; they are not taken only where the number is not from 1 to 65,536
+-- such words choose the number, or 256, and the script; they are not taken only where the number is
+-- not from 1 to 65,536
 abbrev pub Reads : Option Text → Option Text → Result Choices OccurFault → Type 0
 Reads number script (Ok choices) =
-    (choices.states ≡ option_map_or (λ text. digits_value 10 (without_leading_plus text)) number 256) × (option_map string_bytes choices.script ≡ script)
+    (choices.states ≡
+    option_map_or (λ text. digits_value 10 (without_leading_plus text)) number 256) ×
+    (option_map string_bytes choices.script ≡ script)
 Reads number script (Err fault.Memory) = ⊤
-Reads number script (Err (fault.Words error)) = IsSomeAnd number (λ text. IsUnsignedIn 1 65536 text → ⊥)
+Reads number script (Err (fault.Words error)) =
+    IsSomeAnd number (λ text. IsUnsignedIn 1 65536 text → ⊥)
 
 -- the words ask for help, unless memory is refused
 abbrev pub AsksForHelp : Result Choices OccurFault → Type 0

@@ -22,14 +22,16 @@ const OUT_OF_MEMORY: &[u8] = b"occur: out of memory";
 
 /// Writes the line. A write that fails is not tried again.
 fn tell<M: CountedWrite>(messages: &mut M, text: &[u8])
-    ensures { TellsLines (writer M.contents M.failures messages.old) (writer M.contents M.failures messages.new) (text.now ∷ []) }
+    ensures { TellsLines (writer M.contents M.failures messages.old)
+        (writer M.contents M.failures messages.new) (text.now ∷ []) }
 {
     let _ = write_line(messages, text);
 }
 
 /// Writes the lines on words that are not UTF-8.
 fn write_words_refused<M: CountedWrite>(messages: &mut M) -> Result<(), WriteFault>
-    ensures { Writes M.contents M.failures messages.old messages.new (written [] (words_refused ∷ usage ∷ [])) result }
+    ensures { Writes M.contents M.failures messages.old messages.new
+        (written [] (words_refused ∷ usage ∷ [])) result }
 {
     write_line(messages, b"occur: words must be UTF-8")?;
     write_usage(messages)
@@ -37,7 +39,8 @@ fn write_words_refused<M: CountedWrite>(messages: &mut M) -> Result<(), WriteFau
 
 /// Writes how the program is used.
 fn write_usage<M: CountedWrite>(messages: &mut M) -> Result<(), WriteFault>
-    ensures { Writes M.contents M.failures messages.old messages.new (written [] (usage ∷ [])) result }
+    ensures { Writes M.contents M.failures messages.old messages.new (written [] (usage ∷ []))
+        result }
 {
     write_line(messages, b"usage: occur [--states N] [SCRIPT]")
 }
@@ -46,7 +49,8 @@ fn write_usage<M: CountedWrite>(messages: &mut M) -> Result<(), WriteFault>
 /// again.
 pub fn refuse_words<M: CountedWrite>(messages: &mut M) -> u8
     ensures status { result ≡ 2 }
-    ensures told { TellsLines (writer M.contents M.failures messages.old) (writer M.contents M.failures messages.new)
+    ensures told { TellsLines (writer M.contents M.failures messages.old)
+        (writer M.contents M.failures messages.new)
         (words_refused ∷ usage ∷ []) }
 {
     let _ = write_words_refused(messages);
@@ -57,7 +61,8 @@ pub fn refuse_words<M: CountedWrite>(messages: &mut M) -> u8
 /// again.
 pub fn refuse_memory<M: CountedWrite>(messages: &mut M) -> u8
     ensures status { result ≡ 2 }
-    ensures told { TellsLines (writer M.contents M.failures messages.old) (writer M.contents M.failures messages.new)
+    ensures told { TellsLines (writer M.contents M.failures messages.old)
+        (writer M.contents M.failures messages.new)
         (out_of_memory ∷ []) }
 {
     tell(messages, OUT_OF_MEMORY);
@@ -66,7 +71,8 @@ pub fn refuse_memory<M: CountedWrite>(messages: &mut M) -> u8
 
 /// Writes the message on a script that could not be opened.
 fn write_cannot_open<M: CountedWrite>(messages: &mut M, name: &[u8]) -> Result<(), WriteFault>
-    ensures { Writes M.contents M.failures messages.old messages.new (output_line [] (cannot_open name.now)) result }
+    ensures { Writes M.contents M.failures messages.old messages.new
+        (output_line [] (cannot_open name.now)) result }
 {
     write_row(
         messages,
@@ -82,7 +88,8 @@ fn write_cannot_open<M: CountedWrite>(messages: &mut M, name: &[u8]) -> Result<(
 /// not tried again.
 pub fn refuse_script<M: CountedWrite>(messages: &mut M, name: &str) -> u8
     ensures status { result ≡ 2 }
-    ensures told { TellsLines (writer M.contents M.failures messages.old) (writer M.contents M.failures messages.new)
+    ensures told { TellsLines (writer M.contents M.failures messages.old)
+        (writer M.contents M.failures messages.new)
         (cannot_open name.now ∷ []) }
 {
     let _ = write_cannot_open(messages, name.as_bytes());
@@ -103,7 +110,8 @@ fn fault_text(fault: ScriptFault) -> &'static [u8]
 /// Tells what kept a script from its end, and answers the exit status. A write that fails is not
 /// tried again.
 pub fn end_script<M: CountedWrite>(messages: &mut M, ended: Result<ScriptEnd, ScriptFault>) -> u8
-    ensures { EndsScript ended (writer M.contents M.failures messages.old) (writer M.contents M.failures messages.new) result }
+    ensures { EndsScript ended (writer M.contents M.failures messages.old)
+        (writer M.contents M.failures messages.new) result }
 {
     match ended {
         Ok(ScriptEnd::Clean) => 0,

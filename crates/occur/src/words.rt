@@ -1,9 +1,12 @@
 //! The words of the command line.
-ghost use Rattle.std.specs.Prelude.{[], ◌∷◌, ◌≡◌, ◌≤◌, IfOk, Option, codes, false, option_map, string_bytes, true};
+ghost use Rattle.std.specs.Prelude.{[], ◌∷◌, ◌≡◌, ◌≤◌, IfOk, Option, codes, false, option_map};
+ghost use Rattle.std.specs.Prelude.{string_bytes, true};
 ghost use Rattle.clap.specs.Words.{Text, app_of, fault_of, found_of, matches_of, rows_of};
 ghost use Rattle.clap.specs.Words.{rule_of};
-ghost use Rattle.occur.specs.Words.{AsksForHelp, HasStates, IsChosenBy, Tells, TellsAmong, occur_app};
-ghost use Rattle.occur.specs.Words.{Reads, form_words, is_no_option, script_file, script_rule, states_rule, texts_of};
+ghost use Rattle.occur.specs.Words.{AsksForHelp, HasStates, IsChosenBy, Tells, TellsAmong};
+ghost use Rattle.occur.specs.Words.{occur_app};
+ghost use Rattle.occur.specs.Words.{Reads, form_words, is_no_option, script_file, script_rule};
+ghost use Rattle.occur.specs.Words.{states_rule, texts_of};
 ghost use Rattle.occur.specs.declared.words.OccurFault.TheVariants.{Memory};
 
 use crate::help::{ABOUT, commands_help};
@@ -104,7 +107,8 @@ fn occur_command<'a>(alloc: Global) -> Result<Command<'a>, AllocError>
 
 /// The same text in memory of its own, where there is one.
 fn owned(alloc: Global, text: Option<&str>) -> Result<Option<String>, AllocError>
-    ensures { IfOk result (λ copy. option_map string_bytes copy ≡ option_map (λ s. s.now) text.entry) }
+    ensures { IfOk result
+        (λ copy. option_map string_bytes copy ≡ option_map (λ s. s.now) text.entry) }
 {
     match text {
         Some(text) => Ok(Some(String::from_str(alloc, text)?)),

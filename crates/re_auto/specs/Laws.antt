@@ -1,59 +1,80 @@
 -- What the positions of an expression tell, and what stepping over a line keeps.
-use Rattle.std.specs.Prelude.{◌≡◌, ℕ, suc, ◌<◌, ◌≤◌, ◌↔◌, ◌++◌, Bool, IsTrue, length, slice_index, Option, None}
+use Rattle.std.specs.Prelude.{◌≡◌, ℕ, suc, ◌<◌, ◌≤◌, ◌↔◌, ◌++◌, Bool, IsTrue, length, slice_index}
+use Rattle.std.specs.Prelude.{Option, None}
 use Rattle.re_syntax.specs.Bytes.{Text}
 use Rattle.re_syntax.specs.Expression.{Expression}
 use Rattle.re_syntax.specs.Holds.{Holds}
 use Rattle.re_auto.specs.declared.mode.Mode.{Mode}
 use Rattle.re_auto.specs.Working.Positions.{is_end, PartHolds, part_of}
 use Rattle.re_auto.specs.Working.Stepping.{IsAfter}
-use Rattle.re_auto.specs.Working.Starts.{Least, StartsAfter, IsNextStarts, Told, IsMatched, IsBest, better, IsSpent}
+use Rattle.re_auto.specs.Working.Starts.{Least, StartsAfter, IsNextStarts, Told, IsMatched, IsBest}
+use Rattle.re_auto.specs.Working.Starts.{better, IsSpent}
 
--- An expression holds on a stretch exactly where a chain of its positions reads the stretch's bytes, or the stretch is empty and the expression may be.
+-- An expression holds on a stretch exactly where a chain of its positions reads the stretch's
+-- bytes, or the stretch is empty and the expression may be.
 abbrev pub PositionsTell : Type 0
-PositionsTell = (e : Expression) (n : ℕ) (line : Text) (i j : ℕ) → Holds line e i j ↔ PartHolds (part_of e n) line i j
+PositionsTell =
+    (e : Expression) (n : ℕ) (line : Text) (i j : ℕ) →
+    Holds line e i j ↔ PartHolds (part_of e n) line i j
 
 -- Where the first stretch may begin nothing is carried yet, and there is no best one.
 abbrev pub PassBegins : Type 0
 PassBegins =
-    (e : Expression) (n : ℕ) (mode : Mode) (from : ℕ) (line : Text) (least : ℕ → Option ℕ) → ((q : ℕ) → least q ≡ None)
-    → StartsAfter (part_of e n) mode from line from least × IsBest (IsMatched e mode from line) from None
+    (e : Expression) (n : ℕ) (mode : Mode) (from : ℕ) (line : Text) (least : ℕ → Option ℕ) →
+    ((q : ℕ) → least q ≡ None)
+    → StartsAfter (part_of e n) mode from line from least ×
+    IsBest (IsMatched e mode from line) from None
 
--- A step of least starts keeps them right: of the chains that come to a position, those with the least start decide.
+-- A step of least starts keeps them right: of the chains that come to a position, those with the
+-- least start decide.
 abbrev pub StartsStay : Type 0
 StartsStay =
-    (e : Expression) (n : ℕ) (mode : Mode) (from : ℕ) (line : Text) (j : ℕ) (least next : ℕ → Option ℕ)
+    (e : Expression) (n : ℕ) (mode : Mode) (from : ℕ) (line : Text) (j : ℕ)
+    (least next : ℕ → Option ℕ)
     → StartsAfter (part_of e n) mode from line j least → from ≤ j → j < length line
-    → IsNextStarts (part_of e n) mode j least (slice_index line j) next → StartsAfter (part_of e n) mode from line (suc j) next
+    → IsNextStarts (part_of e n) mode j least (slice_index line j) next →
+    StartsAfter (part_of e n) mode from line (suc j) next
 
--- The least start that the last positions tell is that of the matched stretches which end here and are not empty.
+-- The least start that the last positions tell is that of the matched stretches which end here and
+-- are not empty.
 abbrev pub StartsTell : Type 0
 StartsTell =
-    (e : Expression) (n : ℕ) (mode : Mode) (from : ℕ) (line : Text) (j : ℕ) (least : ℕ → Option ℕ) (told : Option ℕ)
-    → StartsAfter (part_of e n) mode from line j least → Least (Told (part_of e n) (is_end line j) least) told
+    (e : Expression) (n : ℕ) (mode : Mode) (from : ℕ) (line : Text) (j : ℕ) (least : ℕ → Option ℕ)
+    (told : Option ℕ)
+    → StartsAfter (part_of e n) mode from line j least →
+    Least (Told (part_of e n) (is_end line j) least) told
     → Least (λ i. IsMatched e mode from line i j) told
 
--- One pass finds the stretch that begins earliest and then is longest: the least start at each end is enough.
+-- One pass finds the stretch that begins earliest and then is longest: the least start at each end
+-- is enough.
 abbrev pub OnePassIsEnough : Type 0
 OnePassIsEnough =
-    (e : Expression) (mode : Mode) (from : ℕ) (line : Text) (to : ℕ) (best : Option (ℕ × ℕ)) (told : Option ℕ)
-    → IsBest (IsMatched e mode from line) to best → Least (λ i. IsMatched e mode from line i (suc to)) told
+    (e : Expression) (mode : Mode) (from : ℕ) (line : Text) (to : ℕ) (best : Option (ℕ × ℕ))
+    (told : Option ℕ)
+    → IsBest (IsMatched e mode from line) to best →
+    Least (λ i. IsMatched e mode from line i (suc to)) told
     → IsBest (IsMatched e mode from line) (suc to) (better best (suc to) told)
 
--- Once each carried start is behind s, no stretch that begins at s or before ends here or later, and the pass may stop.
+-- Once each carried start is behind s, no stretch that begins at s or before ends here or later,
+-- and the pass may stop.
 abbrev pub SpentIsOver : Type 0
 SpentIsOver =
-    (e : Expression) (n : ℕ) (mode : Mode) (from : ℕ) (line : Text) (j : ℕ) (least : ℕ → Option ℕ) (s : ℕ)
+    (e : Expression) (n : ℕ) (mode : Mode) (from : ℕ) (line : Text) (j : ℕ) (least : ℕ → Option ℕ)
+    (s : ℕ)
     → StartsAfter (part_of e n) mode from line j least → IsSpent least s → s < j
     → (i k : ℕ) → i ≤ s → j ≤ k → ¬ IsMatched e mode from line i k
 
--- A set of positions is right behind a front of a line exactly if it is right behind that front alone: only the bytes read so far tell it.
+-- A set of positions is right behind a front of a line exactly if it is right behind that front
+-- alone: only the bytes read so far tell it.
 abbrev pub FrontsTell : Type 0
 FrontsTell =
     (e : Expression) (n : ℕ) (mode : Mode) (front rest : Text) (S : ℕ → Bool)
-    → IsAfter (part_of e n) mode front (length front) (λ q. IsTrue (S q)) ↔ IsAfter (part_of e n) mode (front ++ rest) (length front) (λ q. IsTrue (S q))
+    → IsAfter (part_of e n) mode front (length front) (λ q. IsTrue (S q)) ↔
+    IsAfter (part_of e n) mode (front ++ rest) (length front) (λ q. IsTrue (S q))
 
 -- So it is with least starts.
 abbrev pub FrontsTellStarts : Type 0
 FrontsTellStarts =
     (e : Expression) (n : ℕ) (mode : Mode) (from : ℕ) (front rest : Text) (least : ℕ → Option ℕ)
-    → StartsAfter (part_of e n) mode from front (length front) least ↔ StartsAfter (part_of e n) mode from (front ++ rest) (length front) least
+    → StartsAfter (part_of e n) mode from front (length front) least ↔
+    StartsAfter (part_of e n) mode from (front ++ rest) (length front) least

@@ -1,5 +1,6 @@
 //! The bytes that a stretch inside a line can begin with.
-ghost use Rattle.std.specs.Prelude.{◌≡◌, ℕ, ◌+◌, false, ◌<◌, ◌≤◌, IfSome, MatchOption, length, slice_index, slice_index_or};
+ghost use Rattle.std.specs.Prelude.{◌≡◌, ℕ, ◌+◌, false, ◌<◌, ◌≤◌, IfSome, MatchOption, length};
+ghost use Rattle.std.specs.Prelude.{slice_index, slice_index_or};
 ghost use Rattle.re_auto.specs.Working.Beginnings.{IsMarked, IsFirstMarked, IsNextMark, Names};
 
 use memchr::{memchr, memchr2, memchr3};
@@ -8,7 +9,8 @@ use std::marker::Model;
 // How many bytes are looked at before a search is begun, which pays for longer passes alone.
 const NEAR: usize = 16;
 
-/// A set of bytes, in which a text's next byte is found quickly. Contracts see a mark for each byte.
+/// A set of bytes, in which a text's next byte is found quickly. Contracts see a mark for each
+/// byte.
 #[derive(Drop)]
 pub struct Beginnings {
     marks: [bool; 256],
@@ -110,7 +112,8 @@ impl Beginnings {
     fn pass_fours(&self, line: &[u8], place: usize, end: usize) -> usize
         requires within { (place ≤ end) × (end ≤ length line.now) }
         ensures on { (place ≤ result) × (result ≤ end) }
-        ensures passed { (k : ℕ) → place ≤ k → k < result → ¬ IsMarked self.now (slice_index line.now k) }
+        ensures passed { (k : ℕ) → place ≤ k → k < result →
+            ¬ IsMarked self.now (slice_index line.now k) }
     {
         let mut next = place;
         'fours: while end - next >= 4 && !self.has_one_of(line, next) {
@@ -123,7 +126,8 @@ impl Beginnings {
     #[inline(always)]
     fn has_one_of(&self, line: &[u8], from: usize) -> bool
         requires { from + 4 ≤ length line.now }
-        ensures { result ≡ false → (k : ℕ) → from ≤ k → k < from + 4 → ¬ IsMarked self.now (slice_index line.now k) }
+        ensures { result ≡ false → (k : ℕ) → from ≤ k → k < from + 4 →
+            ¬ IsMarked self.now (slice_index line.now k) }
     {
         let front = self.has(line[from]) | self.has(line[from + 1]);
         let back = self.has(line[from + 2]) | self.has(line[from + 3]);

@@ -96,9 +96,14 @@ pub fn row(table: &[u64], width: usize, r: usize) -> &[u64]
 #[inline(always)]
 fn add_rows_of_word(into: &mut [u64], table: &[u64], k: usize, word: u64)
     requires few { k < most_words }
-    requires rows { (b : ℕ) → b < 64 → bit_at word b ≡ 1 → (k * 64 + b) * length into.old + length into.old ≤ length table.now }
+    requires rows { (b : ℕ) → b < 64 → bit_at word b ≡ 1 →
+        (k * 64 + b) * length into.old + length into.old ≤ length table.now }
     ensures len { length into.new ≡ length into.old }
-    ensures added { (q : ℕ) → Has into.new q ↔ (Has into.old q ⊎ ((b : ℕ) × (b < 64) × (bit_at word b ≡ 1) × Has (row_of table.now (length into.old) (k * 64 + b)) q)) }
+    ensures added { (q : ℕ) →
+        Has into.new q ↔
+        (Has into.old q ⊎
+        ((b : ℕ) × (b < 64) × (bit_at word b ≡ 1) ×
+        Has (row_of table.now (length into.old) (k * 64 + b)) q)) }
 {
     let width = into.len();
     let mut left = word;
@@ -112,9 +117,13 @@ fn add_rows_of_word(into: &mut [u64], table: &[u64], k: usize, word: u64)
 #[inline(always)]
 pub fn add_rows(into: &mut [u64], table: &[u64], from: &[u64])
     requires few { length from.now ≤ most_words }
-    requires rows { (p : ℕ) → Has from.now p → p * length into.old + length into.old ≤ length table.now }
+    requires rows { (p : ℕ) → Has from.now p →
+        p * length into.old + length into.old ≤ length table.now }
     ensures len { length into.new ≡ length into.old }
-    ensures added { (q : ℕ) → Has into.new q ↔ (Has into.old q ⊎ ((p : ℕ) × Has from.now p × Has (row_of table.now (length into.old) p) q)) }
+    ensures added { (q : ℕ) →
+        Has into.new q ↔
+        (Has into.old q ⊎
+        ((p : ℕ) × Has from.now p × Has (row_of table.now (length into.old) p) q)) }
 {
     'words: for k in 0..from.len() {
         add_rows_of_word(into, table, k, from[k]);
@@ -163,7 +172,9 @@ pub fn add_to_row(table: &mut [u64], width: usize, r: usize, row: &[u64])
     requires room { r * width + width ≤ length table.old }
     requires same { length row.now ≡ width }
     ensures len { length table.new ≡ length table.old }
-    ensures added { (p q : ℕ) → p * width + width ≤ length table.old → Has (row_of table.new width p) q ↔ (Has (row_of table.old width p) q ⊎ ((p ≡ r) × Has row.now q)) }
+    ensures added { (p q : ℕ) → p * width + width ≤ length table.old →
+        Has (row_of table.new width p) q ↔
+        (Has (row_of table.old width p) q ⊎ ((p ≡ r) × Has row.now q)) }
 {
     add(&mut table[r * width..r * width + width], row);
 }

@@ -1,5 +1,6 @@
 //! Laws of the definitions, each the contract of a function that does nothing.
-ghost use Rattle.re_auto.specs.Laws.{PositionsTell, PassBegins, StartsStay, StartsTell, OnePassIsEnough, SpentIsOver, FrontsTell, FrontsTellStarts};
+ghost use Rattle.re_auto.specs.Laws.{PositionsTell, PassBegins, StartsStay, StartsTell};
+ghost use Rattle.re_auto.specs.Laws.{OnePassIsEnough, SpentIsOver, FrontsTell, FrontsTellStarts};
 
 /// The positions of an expression tell where it holds.
 pub fn positions_tell()

@@ -96,7 +96,9 @@ impl Empty {
 
     /// Where both hold.
     pub fn and(self, other: Empty) -> Empty
-        ensures { (b z : Bool) → IsTrue (empty_at result b z) ↔ (IsTrue (empty_at self b z) × IsTrue (empty_at other b z)) }
+        ensures { (b z : Bool) →
+            IsTrue (empty_at result b z) ↔
+            (IsTrue (empty_at self b z) × IsTrue (empty_at other b z)) }
     {
         Empty {
             on_empty_line: self.on_empty_line & other.on_empty_line,
@@ -108,7 +110,9 @@ impl Empty {
 
     /// Where one of them holds.
     pub fn or(self, other: Empty) -> Empty
-        ensures { (b z : Bool) → IsTrue (empty_at result b z) ↔ (IsTrue (empty_at self b z) ⊎ IsTrue (empty_at other b z)) }
+        ensures { (b z : Bool) →
+            IsTrue (empty_at result b z) ↔
+            (IsTrue (empty_at self b z) ⊎ IsTrue (empty_at other b z)) }
     {
         Empty {
             on_empty_line: self.on_empty_line | other.on_empty_line,

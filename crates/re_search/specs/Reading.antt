@@ -18,7 +18,8 @@ IsSmallFor syntax fold e = IsTrue (has_limit syntax fold) → positions e ≤ mo
 
 -- the text means an expression that is small enough
 abbrev pub IsReadable : Syntax → Bool → Text → Type 0
-IsReadable syntax fold text = (e : Expression) × IsMeant syntax fold text e × IsSmallFor syntax fold e
+IsReadable syntax fold text =
+    (e : Expression) × IsMeant syntax fold text e × IsSmallFor syntax fold e
 
 -- memory ran out, and nothing is said of the text
 abbrev pub IsOutOfMemory : PatternFault → Type 0
@@ -31,7 +32,8 @@ IsNotSpelled Extended text fault = IsNoExtended text fault
 IsNotSpelled Fixed text fault = ⊥
 
 -- the text means an expression that is too large
-pub record IsTooLarge (syntax : Syntax) (fold : Bool) (text : Text) (fault : PatternFault) : Type 0 where
+pub record IsTooLarge (syntax : Syntax) (fold : Bool) (text : Text)
+    (fault : PatternFault) : Type 0 where
   pub told : fault ≡ record { kind = TooLarge; at = 0 }
   pub limited : IsTrue (has_limit syntax fold)
   pub meaning : Expression
@@ -40,4 +42,5 @@ pub record IsTooLarge (syntax : Syntax) (fold : Bool) (text : Text) (fault : Pat
 
 -- why a text is refused where there was memory
 abbrev pub IsRefusedFor : Syntax → Bool → Text → PatternFault → Type 0
-IsRefusedFor syntax fold text fault = IsNotSpelled syntax text fault ⊎ IsTooLarge syntax fold text fault
+IsRefusedFor syntax fold text fault =
+    IsNotSpelled syntax text fault ⊎ IsTooLarge syntax fold text fault

@@ -1,5 +1,6 @@
 -- What a search of a line finds, and how many steps it takes.
-use Rattle.std.specs.Prelude.{◌≡◌, ℕ, ◌+◌, ◌-◌, ◌^◌, ◌≤◌, ◌↔◌, Bool, List, min, Option, MatchOption, All, Any, IsTrue}
+use Rattle.std.specs.Prelude.{◌≡◌, ℕ, ◌+◌, ◌-◌, ◌^◌, ◌≤◌, ◌↔◌, Bool, List, min, Option, MatchOption}
+use Rattle.std.specs.Prelude.{All, Any, IsTrue}
 use Rattle.re_syntax.specs.Bytes.{Text}
 use Rattle.re_syntax.specs.Expression.{Expression}
 use Rattle.re_syntax.specs.Holds.{Matches}
@@ -7,9 +8,12 @@ use Rattle.re_syntax.specs.Parts.{IsFound, IsPart}
 use Rattle.re_auto.specs.Meters.{Steps}
 use Rattle.re_search.specs.declared.span.Span.{Span}
 
--- the span is the next part of the line for these expressions (XBD 9.1); None says that there is none
+-- the span is the next part of the line for these expressions (XBD 9.1); None says that there is
+-- none
 abbrev pub FindsPart : List Expression → Text → Bool → ℕ → Option Span → Type 0
-FindsPart es line whole from found = MatchOption found ((i j : ℕ) → ¬ IsFound es line whole from i j) (λ span. IsPart es line whole from span.start span.end)
+FindsPart es line whole from found =
+    MatchOption found ((i j : ℕ) → ¬ IsFound es line whole from i j)
+    (λ span. IsPart es line whole from span.start span.end)
 
 -- some expression matches the line, which is then selected (XCU grep)
 abbrev pub SomeMatches : List Expression → Text → Bool → Type 0
@@ -21,11 +25,13 @@ AllAnswer whole wholes = All (λ w. w ≡ whole) wholes
 
 -- the span is the next part for these expressions, by the answer that all matchers give
 abbrev pub FindsPartOfAll : List Expression → List Bool → Text → ℕ → Option Span → Type 0
-FindsPartOfAll es wholes line from found = (whole : Bool) → AllAnswer whole wholes → FindsPart es line whole from found
+FindsPartOfAll es wholes line from found =
+    (whole : Bool) → AllAnswer whole wholes → FindsPart es line whole from found
 
 -- the verdict tells whether some expression matches the line, by the answer that all matchers give
 abbrev pub TellsMatchOfAll : List Expression → List Bool → Text → Bool → Type 0
-TellsMatchOfAll es wholes line verdict = (whole : Bool) → AllAnswer whole wholes → IsTrue verdict ↔ SomeMatches es line whole
+TellsMatchOfAll es wholes line verdict =
+    (whole : Bool) → AllAnswer whole wholes → IsTrue verdict ↔ SomeMatches es line whole
 
 -- at most so many steps were counted, and no count fell, each of which stays at the greatest u64
 pub record AddsAtMost (most : ℕ) (old new : Steps) : Type 0 where

@@ -1,5 +1,6 @@
 //! Search by stepping an automaton over the line, where what sets of positions become is kept.
-ghost use Rattle.std.specs.Prelude.{◌≡◌, ℕ, ◌+◌, ◌-◌, ◌≤◌, ◌↔◌, [], ◌∷◌, false, IsTrue, IfOk, IfErr, IfSome, length};
+ghost use Rattle.std.specs.Prelude.{◌≡◌, ℕ, ◌+◌, ◌-◌, ◌≤◌, ◌↔◌, [], ◌∷◌, false, IsTrue, IfOk};
+ghost use Rattle.std.specs.Prelude.{IfErr, IfSome, length};
 ghost use Rattle.std.specs.NonZero.{non_zero_usize_get};
 ghost use Rattle.re_syntax.specs.Expression.{expression_of};
 ghost use Rattle.re_syntax.specs.Holds.{Matches};
@@ -54,14 +55,21 @@ impl Model for Cached {
 
     ghost coded = { Prim.hlevel (codes, e.the_row.coded, s.the_row.coded) };
 
-    ghost view = { λ c. record { tree = c.simulated.tree; whole = c.simulated.whole; cache = cache_of c.table; most = c.table.pairs.most } };
+    ghost view = { λ c.
+        record {
+          tree = c.simulated.tree;
+          whole = c.simulated.whole;
+          cache = cache_of c.table;
+          most = c.table.pairs.most;
+        } };
 
-    ghost invariant = { λ c. IsMadeFor (expression_of c.simulated.tree) c.scratch × IsKnownFor (expression_of c.simulated.tree) (mode_for c.simulated.whole) c.table };
+    ghost invariant = { λ c. IsMadeFor (expression_of c.simulated.tree) c.scratch ×
+        IsKnownFor (expression_of c.simulated.tree) (mode_for c.simulated.whole) c.table };
 }
 
 impl Cached {
-    /// The matcher with a cache of at most `most` entries, which holds nothing yet. Where memory for
-    /// the cache is refused it comes back as it was.
+    /// The matcher with a cache of at most `most` entries, which holds nothing yet. Where memory
+    /// for the cache is refused it comes back as it was.
     pub fn over(
         alloc: Global,
         simulated: Simulated,
@@ -105,7 +113,8 @@ impl Cached {
     // Whether the line is matched, which is not known without a step.
     #[inline(always)]
     fn searched(&mut self, line: &[u8], meter: &mut Meter) -> bool
-        ensures searches { Searches (expression_of self.old.tree) (mode_for self.old.whole) line.now self.old.cache self.new.cache meter.old meter.new result }
+        ensures searches { Searches (expression_of self.old.tree) (mode_for self.old.whole) line.now
+            self.old.cache self.new.cache meter.old meter.new result }
         ensures same_tree { self.new.tree ≡ self.old.tree }
         ensures same_whole { self.new.whole ≡ self.old.whole }
         ensures same_most { self.new.most ≡ self.old.most }
@@ -172,11 +181,13 @@ impl LineMatch for Cached {
     ghost whole = { λ c. c.whole };
 
     fn is_match(&mut self, line: &[u8], meter: &mut Meter) -> bool
-        ensures told { IsTrue result ↔ Matches (expression_of self.old.tree) line.now self.old.whole }
+        ensures told { IsTrue result ↔
+            Matches (expression_of self.old.tree) line.now self.old.whole }
         ensures same_expression { expression_of self.new.tree ≡ expression_of self.old.tree }
         ensures same_whole { self.new.whole ≡ self.old.whole }
         ensures steps { AddsAtMost (length line.now + 1) meter.old meter.new }
-        ensures counted { AnswersLine (expression_of self.old.tree) self.old.whole line.now self.old.cache self.new.cache meter.old meter.new result }
+        ensures counted { AnswersLine (expression_of self.old.tree) self.old.whole line.now
+            self.old.cache self.new.cache meter.old meter.new result }
         ensures same_most { self.new.most ≡ self.old.most }
     {
         if let Some(told) = self.simulated.settled(line) {
@@ -187,7 +198,8 @@ impl LineMatch for Cached {
 
     fn find(&mut self, line: &[u8], from: usize, meter: &mut Meter) -> Option<Span>
         requires { from ≤ length line.now }
-        ensures told { FindsPart (expression_of self.old.tree ∷ []) line.now self.old.whole from result }
+        ensures told { FindsPart (expression_of self.old.tree ∷ []) line.now self.old.whole from
+            result }
         ensures same_expression { expression_of self.new.tree ≡ expression_of self.old.tree }
         ensures same_whole { self.new.whole ≡ self.old.whole }
         ensures steps { AddsAtMost (length line.now - from + 1) meter.old meter.new }

@@ -14,7 +14,9 @@ use std::alloc::{AllocError, Global};
 /// Strings of which some stands on each line that some of the matchers matches; `None` where a
 /// matcher is not known to need one. The one error is that memory was refused.
 pub fn needed_strings(alloc: Global, matchers: &[Matcher]) -> Result<Option<FixedSet>, AllocError>
-    ensures { IfOk result (λ found. IfSome found (λ strings. AreNeeded strings (map matched_expression matchers.now))) }
+    ensures { IfOk result
+        (λ found.
+        IfSome found (λ strings. AreNeeded strings (map matched_expression matchers.now))) }
 {
     let Some(texts) = needed_lines(alloc, matchers)? else {
         return Ok(None);
@@ -26,7 +28,10 @@ pub fn needed_strings(alloc: Global, matchers: &[Matcher]) -> Result<Option<Fixe
 // A string that each of the matchers needs, each followed by a newline; `None` where one is not
 // known to need a string, or one with a newline in it.
 fn needed_lines(alloc: Global, matchers: &[Matcher]) -> Result<Option<Vec<u8>>, AllocError>
-    ensures { IfOk result (λ found. IfSome found (λ texts. All (NeedsOneOf (lines_of texts.items)) (map matched_expression matchers.now))) }
+    ensures { IfOk result
+        (λ found.
+        IfSome found
+        (λ texts. All (NeedsOneOf (lines_of texts.items)) (map matched_expression matchers.now))) }
 {
     let mut texts = Vec::new(alloc);
     'matchers: for place in 0..matchers.len() {
@@ -40,7 +45,8 @@ fn needed_lines(alloc: Global, matchers: &[Matcher]) -> Result<Option<Vec<u8>>, 
 
 // The string that the matcher needs, where it is known to need one without a newline in it.
 fn needed_line(matcher: &Matcher) -> Option<&[u8]>
-    ensures { IfSome result (λ text. IsNeeded text.now (matched_expression matcher.now) × HasNoNewline text.now) }
+    ensures { IfSome result
+        (λ text. IsNeeded text.now (matched_expression matcher.now) × HasNoNewline text.now) }
 {
     let text = matcher.needed()?;
     if memchr(b'\n', text).is_some() {

@@ -1,5 +1,6 @@
 //! Search for one fixed string (XCU grep, option `-F`).
-ghost use Rattle.std.specs.Prelude.{◌≡◌, ◌+◌, ◌-◌, ◌≤◌, ◌↔◌, [], ◌∷◌, true, false, IsTrue, IfOk, length};
+ghost use Rattle.std.specs.Prelude.{◌≡◌, ◌+◌, ◌-◌, ◌≤◌, ◌↔◌, [], ◌∷◌, true, false, IsTrue, IfOk};
+ghost use Rattle.std.specs.Prelude.{length};
 ghost use Rattle.re_syntax.specs.Holds.{Matches};
 ghost use Rattle.re_auto.specs.Meters.{many_built};
 ghost use Rattle.re_search.specs.Working.Literals.{literal_expression};
@@ -92,7 +93,8 @@ impl LineMatch for Fixed {
     ghost whole = { λ f. f.whole };
 
     fn is_match(&mut self, line: &[u8], meter: &mut Meter) -> bool
-        ensures told { IsTrue result ↔ Matches (literal_expression self.old) line.now self.old.whole }
+        ensures told { IsTrue result ↔
+            Matches (literal_expression self.old) line.now self.old.whole }
         ensures same_expression { literal_expression self.new ≡ literal_expression self.old }
         ensures same_whole { self.new.whole ≡ self.old.whole }
         ensures steps { AddsAtMost (length line.now + 1) meter.old meter.new }
@@ -108,7 +110,8 @@ impl LineMatch for Fixed {
 
     fn find(&mut self, line: &[u8], from: usize, meter: &mut Meter) -> Option<Span>
         requires { from ≤ length line.now }
-        ensures told { FindsPart (literal_expression self.old ∷ []) line.now self.old.whole from result }
+        ensures told { FindsPart (literal_expression self.old ∷ []) line.now self.old.whole from
+            result }
         ensures same_expression { literal_expression self.new ≡ literal_expression self.old }
         ensures same_whole { self.new.whole ≡ self.old.whole }
         ensures steps { AddsAtMost (length line.now - from + 1) meter.old meter.new }

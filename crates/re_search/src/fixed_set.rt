@@ -1,5 +1,6 @@
 //! Search for many fixed strings at once (XCU grep, option `-F`).
-ghost use Rattle.std.specs.Prelude.{◌≡◌, ℕ, ◌+◌, ◌-◌, ◌≤◌, ◌↔◌, [], ◌∷◌, true, false, IsTrue, IfOk, length, map};
+ghost use Rattle.std.specs.Prelude.{◌≡◌, ℕ, ◌+◌, ◌-◌, ◌≤◌, ◌↔◌, [], ◌∷◌, true, false, IsTrue, IfOk};
+ghost use Rattle.std.specs.Prelude.{length, map};
 ghost use Rattle.re_search.specs.Working.Branches.{AreAscending, HaveSame};
 ghost use Rattle.re_search.specs.Working.FixedSets.{IsString};
 ghost use Rattle.re_syntax.specs.Holds.{Matches};
@@ -44,9 +45,14 @@ impl Model for FixedSet {
 
     ghost Value = { Literals };
 
-    ghost view = { λ f. record { texts = lines_of f.texts.items; fold = f.table.fold; whole = f.whole } };
+    ghost view = { λ f.
+        record { texts = lines_of f.texts.items; fold = f.table.fold; whole = f.whole } };
 
-    ghost invariant = { λ f. IsTable f.table × ((label : ℕ → Text) × IsTableOf (record { strings = map (keys f.table.fold) (lines_of f.texts.items); label = label }) f.table)
+    ghost invariant = { λ f. IsTable f.table ×
+        ((label : ℕ → Text) ×
+        IsTableOf
+        (record { strings = map (keys f.table.fold) (lines_of f.texts.items); label = label })
+        f.table)
         × (IsTrue f.has_empty ↔ IsString (map (keys f.table.fold) (lines_of f.texts.items)) []) };
 }
 
@@ -55,7 +61,8 @@ impl FixedSet {
     /// cases of each letter are alike. The one error is that memory was refused, or that the texts
     /// have 2^32 beginnings or more.
     pub fn new(alloc: Global, texts: &[u8], fold: bool, whole: bool) -> Result<FixedSet, AllocError>
-        ensures { IfOk result (λ f. f ≡ record { texts = lines_of texts.now; fold = fold; whole = whole }) }
+        ensures { IfOk result
+            (λ f. f ≡ record { texts = lines_of texts.now; fold = fold; whole = whole }) }
     {
         if fold {
             let lowered = texts.to_ascii_lowercase(alloc)?;
@@ -73,7 +80,8 @@ impl FixedSet {
         whole: bool,
     ) -> Result<FixedSet, AllocError>
         requires { lines_of keyed.now ≡ map (keys fold) (lines_of texts.now) }
-        ensures { IfOk result (λ f. f ≡ record { texts = lines_of texts.now; fold = fold; whole = whole }) }
+        ensures { IfOk result
+            (λ f. f ≡ record { texts = lines_of texts.now; fold = fold; whole = whole }) }
     {
         let strings = strings_of(alloc, keyed)?;
         let has_empty = has_empty(&strings);
@@ -99,8 +107,8 @@ impl FixedSet {
         self.table.is_line(line)
     }
 
-    /// Whether some string stands at some place of the line, whether or not the whole line has to be
-    /// one. No step is counted.
+    /// Whether some string stands at some place of the line, whether or not the whole line has to
+    /// be one. No step is counted.
     pub fn stands_in(&self, line: &[u8]) -> bool
         ensures { IsTrue result ↔ Matches (any_literal self.now) line.now false }
     {
@@ -136,7 +144,8 @@ impl FixedSet {
 // The lines of a text, in order.
 fn strings_of(alloc: Global, texts: &[u8]) -> Result<Vec<&[u8]>, AllocError>
     ensures ordered { IfOk result (λ strings. AreAscending (map (λ s. s.now) strings.items)) }
-    ensures same { IfOk result (λ strings. HaveSame (map (λ s. s.now) strings.items) (lines_of texts.now)) }
+    ensures same { IfOk result
+        (λ strings. HaveSame (map (λ s. s.now) strings.items) (lines_of texts.now)) }
 {
     let mut strings = Vec::new(alloc);
     'lines: for text in split_file(texts) {

@@ -1,12 +1,15 @@
 //! Matchers made from the texts of patterns.
-ghost use Rattle.std.specs.Prelude.{◌≡◌, ◌+◌, ◌-◌, ◌≤◌, ◌↔◌, ◌⊎◌, [], ◌∷◌, not, false, IsTrue, IfOk, IfErr, IfSome, length};
+ghost use Rattle.std.specs.Prelude.{◌≡◌, ◌+◌, ◌-◌, ◌≤◌, ◌↔◌, ◌⊎◌, [], ◌∷◌, not, false, IsTrue};
+ghost use Rattle.std.specs.Prelude.{IfOk, IfErr, IfSome, length};
 ghost use Rattle.re_syntax.specs.Expression.{expression_of};
 ghost use Rattle.re_syntax.specs.Holds.{Matches, positions};
 ghost use Rattle.re_syntax.specs.Profile.{most_positions, most_states};
 ghost use Rattle.re_syntax.specs.Spelled.{IsSpelled, IsMeant, has_limit};
 ghost use Rattle.re_search.specs.Working.Needles.{IsNeeded};
-ghost use Rattle.re_search.specs.Reading.{IsSmallFor, IsReadable, IsOutOfMemory, IsNotSpelled, IsRefusedFor};
-ghost use Rattle.re_search.specs.Working.Matchers.{matched_expression, wants_whole, is_fixed, room_of, entries_of, CountsSteps, IsBuildFault};
+ghost use Rattle.re_search.specs.Reading.{IsSmallFor, IsReadable, IsOutOfMemory, IsNotSpelled};
+ghost use Rattle.re_search.specs.Reading.{IsRefusedFor};
+ghost use Rattle.re_search.specs.Working.Matchers.{matched_expression, wants_whole, is_fixed};
+ghost use Rattle.re_search.specs.Working.Matchers.{room_of, entries_of, CountsSteps, IsBuildFault};
 ghost use Rattle.re_search.specs.Searching.{FindsPart, AddsAtMost};
 ghost use Rattle.re_search.specs.Working.Blocks.{IsBlock, PassesUnmatched};
 
@@ -38,8 +41,8 @@ impl Matcher {
     /// The matcher for the text of a pattern, read in its syntax; with `fold` both cases of each
     /// letter are alike (XCU grep, option `-i`), and with `whole` the whole line has to be matched
     /// (option `-x`). A string that is not folded is looked for as it is, and may be of any length;
-    /// all other patterns get an automaton and a cache of at most `states` entries, from 1 to 65,536,
-    /// which is gone without where memory for it is refused.
+    /// all other patterns get an automaton and a cache of at most `states` entries, from 1 to
+    /// 65,536, which is gone without where memory for it is refused.
     ///
     /// # Errors
     ///
@@ -61,8 +64,10 @@ impl Matcher {
         ensures kind { IfOk result (λ m. is_fixed m ≡ not (has_limit syntax fold)) }
         ensures room { IfOk result (λ m. room_of m ≤ states) }
         ensures empty { IfOk result (λ m. entries_of m ≡ []) }
-        ensures refused { IfErr result (λ fault. IsOutOfMemory fault ⊎ IsRefusedFor syntax fold text.now fault) }
-        ensures unreadable { IfErr result (λ fault. IsOutOfMemory fault ⊎ (IsReadable syntax fold text.now → ⊥)) }
+        ensures refused { IfErr result
+            (λ fault. IsOutOfMemory fault ⊎ IsRefusedFor syntax fold text.now fault) }
+        ensures unreadable { IfErr result
+            (λ fault. IsOutOfMemory fault ⊎ (IsReadable syntax fold text.now → ⊥)) }
     {
         if is_limited(syntax, fold) {
             return stepping_matcher(alloc, text, syntax, fold, whole, states);
@@ -102,7 +107,8 @@ impl LineMatch for Matcher {
     ghost whole = { wants_whole };
 
     fn is_match(&mut self, line: &[u8], meter: &mut Meter) -> bool
-        ensures told { IsTrue result ↔ Matches (matched_expression self.old) line.now (wants_whole self.old) }
+        ensures told { IsTrue result ↔
+            Matches (matched_expression self.old) line.now (wants_whole self.old) }
         ensures same_expression { matched_expression self.new ≡ matched_expression self.old }
         ensures same_whole { wants_whole self.new ≡ wants_whole self.old }
         ensures steps { AddsAtMost (length line.now + 1) meter.old meter.new }
@@ -119,7 +125,8 @@ impl LineMatch for Matcher {
 
     fn find(&mut self, line: &[u8], from: usize, meter: &mut Meter) -> Option<Span>
         requires { from ≤ length line.now }
-        ensures told { FindsPart (matched_expression self.old ∷ []) line.now (wants_whole self.old) from result }
+        ensures told { FindsPart (matched_expression self.old ∷ []) line.now (wants_whole self.old)
+            from result }
         ensures same_expression { matched_expression self.new ≡ matched_expression self.old }
         ensures same_whole { wants_whole self.new ≡ wants_whole self.old }
         ensures steps { AddsAtMost (length line.now - from + 1) meter.old meter.new }
@@ -136,7 +143,8 @@ impl LineMatch for Matcher {
 
     fn first_candidate(&self, block: &[u8]) -> usize
         requires { IsBlock block.now }
-        ensures { PassesUnmatched (matched_expression self.now) (wants_whole self.now) block.now result }
+        ensures { PassesUnmatched (matched_expression self.now) (wants_whole self.now) block.now
+            result }
     {
         match self {
             Matcher::Fixed(fixed) => fixed.first_candidate(block),
@@ -160,7 +168,8 @@ fn is_limited(syntax: Syntax, fold: bool) -> bool
 
 // The matcher that looks for the text as it is. Its one fault is that memory ran out.
 fn fixed_matcher(alloc: Global, text: &[u8], whole: bool) -> Result<Matcher, PatternFault>
-    ensures made { IfOk result (λ m. m ≡ Matcher.Fixed (record { text = text.now; whole = whole })) }
+    ensures made { IfOk result
+        (λ m. m ≡ Matcher.Fixed (record { text = text.now; whole = whole })) }
     ensures refused { IfErr result IsOutOfMemory }
 {
     match Fixed::new(alloc, text, whole) {
@@ -186,7 +195,8 @@ fn stepping_matcher(
     ensures kind { IfOk result (λ m. is_fixed m ≡ false) }
     ensures room { IfOk result (λ m. room_of m ≤ states) }
     ensures empty { IfOk result (λ m. entries_of m ≡ []) }
-    ensures refused { IfErr result (λ fault. IsOutOfMemory fault ⊎ IsRefusedFor syntax fold text.now fault) }
+    ensures refused { IfErr result
+        (λ fault. IsOutOfMemory fault ⊎ IsRefusedFor syntax fold text.now fault) }
 {
     let tree = match meant_tree(alloc, text, syntax, fold) {
         Ok(tree) => tree,
@@ -215,7 +225,8 @@ fn simulated_matcher(alloc: Global, tree: Tree, whole: bool) -> Result<Simulated
 // The matcher with a cache of so many entries, or without one where memory for it is refused.
 fn with_cache(alloc: Global, simulated: Simulated, states: usize) -> Matcher
     requires { 1 ≤ states }
-    ensures made { (matched_expression result ≡ expression_of simulated.tree) × (wants_whole result ≡ simulated.whole) }
+    ensures made { (matched_expression result ≡ expression_of simulated.tree) ×
+        (wants_whole result ≡ simulated.whole) }
     ensures kind { is_fixed result ≡ false }
     ensures room { room_of result ≤ states }
     ensures empty { entries_of result ≡ [] }
@@ -232,7 +243,8 @@ fn with_cache(alloc: Global, simulated: Simulated, states: usize) -> Matcher
 // The tree of what the text means.
 fn meant_tree(alloc: Global, text: &[u8], syntax: Syntax, fold: bool) -> Result<Tree, PatternFault>
     ensures meant { IfOk result (λ tree. IsMeant syntax fold text.now (expression_of tree)) }
-    ensures refused { IfErr result (λ fault. IsOutOfMemory fault ⊎ IsNotSpelled syntax text.now fault) }
+    ensures refused { IfErr result
+        (λ fault. IsOutOfMemory fault ⊎ IsNotSpelled syntax text.now fault) }
 {
     let tree = match spelled_tree(alloc, text, syntax) {
         Ok(tree) => tree,
@@ -247,7 +259,8 @@ fn meant_tree(alloc: Global, text: &[u8], syntax: Syntax, fold: bool) -> Result<
 // The tree of what the text spells.
 pub(crate) fn spelled_tree(alloc: Global, text: &[u8], syntax: Syntax) -> Result<Tree, PatternFault>
     ensures read { IfOk result (λ tree. IsSpelled syntax text.now (expression_of tree)) }
-    ensures refused { IfErr result (λ fault. IsOutOfMemory fault ⊎ IsNotSpelled syntax text.now fault) }
+    ensures refused { IfErr result
+        (λ fault. IsOutOfMemory fault ⊎ IsNotSpelled syntax text.now fault) }
 {
     match syntax {
         Syntax::Basic => read_basic(alloc, text),

@@ -34,9 +34,10 @@ pub struct Needle {
 }
 
 impl Needle {
-    /// A run of single bytes that is needed, through groups and what is repeated once or more; a run
-    /// of small sets where no two such bytes stand in a row; the first such byte where no two sets do
-    /// either. `None` where there is none of these. The one error is that memory was refused.
+    /// A run of single bytes that is needed, through groups and what is repeated once or more; a
+    /// run of small sets where no two such bytes stand in a row; the first such byte where no two
+    /// sets do either. `None` where there is none of these. The one error is that memory was
+    /// refused.
     pub fn of(alloc: Global, tree: &Tree) -> Result<Option<Needle>, AllocError>
         ensures { IfOk result (IsNeedleFor (expression_of tree.now)) }
     {
@@ -62,7 +63,8 @@ fn text_needle(
 ) -> Result<Option<Needle>, AllocError>
     requires start { start ≤ length marks.now }
     requires some { 1 ≤ least }
-    ensures { IfOk result (λ found. (e : Expression) → IsOutline (map shown marks.now) e → IsNeedleFor e found) }
+    ensures { IfOk result
+        (λ found. (e : Expression) → IsOutline (map shown marks.now) e → IsNeedleFor e found) }
 {
     let bytes = leading_bytes(alloc, &marks[start..])?;
     if bytes.len() < least {
@@ -85,7 +87,8 @@ fn set_needle(
 ) -> Result<Option<Needle>, AllocError>
     requires start { start ≤ length marks.now }
     requires some { 1 ≤ least }
-    ensures { IfOk result (λ found. (e : Expression) → IsOutline (map shown marks.now) e → IsNeedleFor e found) }
+    ensures { IfOk result
+        (λ found. (e : Expression) → IsOutline (map shown marks.now) e → IsNeedleFor e found) }
 {
     let sets = leading_sets(alloc, &marks[start..])?;
     if sets.len() < least {
@@ -103,7 +106,9 @@ fn set_needle(
 
 // The bytes of the marks before the first that isn't one byte.
 fn leading_bytes(alloc: Global, marks: &[Mark]) -> Result<Vec<u8>, AllocError>
-    ensures { IfOk result (λ bytes. (rest : List (Option Bytes)) × (map shown marks.now ≡ map Some (map only bytes.items) ++ rest)) }
+    ensures { IfOk result
+        (λ bytes. (rest : List (Option Bytes)) ×
+        (map shown marks.now ≡ map Some (map only bytes.items) ++ rest)) }
 {
     let mut bytes = Vec::new(alloc);
     'marks: for mark in marks {
@@ -117,7 +122,9 @@ fn leading_bytes(alloc: Global, marks: &[Mark]) -> Result<Vec<u8>, AllocError>
 
 // The sets of the marks before the first that isn't a small set, or so many as are looked for.
 fn leading_sets(alloc: Global, marks: &[Mark]) -> Result<Vec<ByteSet>, AllocError>
-    ensures { IfOk result (λ sets. (rest : List (Option Bytes)) × (map shown marks.now ≡ map Some (map members sets.items) ++ rest)) }
+    ensures { IfOk result
+        (λ sets. (rest : List (Option Bytes)) ×
+        (map shown marks.now ≡ map Some (map members sets.items) ++ rest)) }
 {
     let mut sets = Vec::new(alloc);
     'marks: for mark in marks {

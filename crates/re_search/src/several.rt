@@ -3,7 +3,8 @@
 ghost use Rattle.std.specs.Prelude.{ℕ, Bool, List, ◌≡◌, ◌+◌, ◌-◌, ◌*◌, ◌≤◌, ◌++◌, length, map};
 ghost use Rattle.re_syntax.specs.Bytes.{Text};
 ghost use Rattle.re_syntax.specs.Expression.{Expression};
-ghost use Rattle.re_search.specs.Searching.{FindsPart, FindsPartOfAll, TellsMatchOfAll, AllAnswer, AddsAtMost};
+ghost use Rattle.re_search.specs.Searching.{FindsPart, FindsPartOfAll, TellsMatchOfAll, AllAnswer};
+ghost use Rattle.re_search.specs.Searching.{AddsAtMost};
 ghost use Rattle.re_search.specs.Working.Blocks.{IsBlock, PassesUnmatchedByAll};
 
 use crate::line_match::LineMatch;
@@ -23,10 +24,12 @@ pub fn parts<M: LineMatch>(
 ) -> Option<Span>
     requires within { from ≤ length line.now }
     requires alike { (whole : Bool) × AllAnswer whole (map M.whole matchers.old) }
-    ensures told { FindsPartOfAll (map M.expression matchers.old) (map M.whole matchers.old) line.now from result }
+    ensures told { FindsPartOfAll (map M.expression matchers.old) (map M.whole matchers.old)
+        line.now from result }
     ensures same_expressions { map M.expression matchers.new ≡ map M.expression matchers.old }
     ensures same_wholes { map M.whole matchers.new ≡ map M.whole matchers.old }
-    ensures steps { AddsAtMost (length matchers.old * (length line.now - from + 1)) meter.old meter.new }
+    ensures steps { AddsAtMost (length matchers.old * (length line.now - from + 1)) meter.old
+        meter.new }
 {
     let mut best = None;
     for matcher in matchers.iter_mut() {
@@ -62,7 +65,8 @@ fn better(best: Option<Span>, found: Option<Span>) -> Option<Span>
 /// matcher and byte, and one more for each matcher.
 pub fn is_matched<M: LineMatch>(matchers: &mut [M], line: &[u8], meter: &mut Meter) -> bool
     requires { (whole : Bool) × AllAnswer whole (map M.whole matchers.old) }
-    ensures told { TellsMatchOfAll (map M.expression matchers.old) (map M.whole matchers.old) line.now result }
+    ensures told { TellsMatchOfAll (map M.expression matchers.old) (map M.whole matchers.old)
+        line.now result }
     ensures same_expressions { map M.expression matchers.new ≡ map M.expression matchers.old }
     ensures same_wholes { map M.whole matchers.new ≡ map M.whole matchers.old }
     ensures steps { AddsAtMost (length matchers.old * (length line.now + 1)) meter.old meter.new }
@@ -80,7 +84,8 @@ pub fn is_matched<M: LineMatch>(matchers: &mut [M], line: &[u8], meter: &mut Met
 /// matched. No step is taken. Of several matchers none is asked.
 pub fn first_candidate<M: LineMatch>(matchers: &[M], block: &[u8]) -> usize
     requires { IsBlock block.now }
-    ensures { PassesUnmatchedByAll (map M.expression matchers.now) (map M.whole matchers.now) block.now result }
+    ensures { PassesUnmatchedByAll (map M.expression matchers.now) (map M.whole matchers.now)
+        block.now result }
 {
     if matchers.len() != 1 {
         return 0;

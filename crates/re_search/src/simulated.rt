@@ -1,12 +1,14 @@
 //! Search by stepping an automaton over the line.
-ghost use Rattle.std.specs.Prelude.{◌≡◌, ◌+◌, ◌-◌, ◌≤◌, ◌↔◌, [], ◌∷◌, true, false, IsTrue, IfOk, IfErr, IfSome, length};
+ghost use Rattle.std.specs.Prelude.{◌≡◌, ◌+◌, ◌-◌, ◌≤◌, ◌↔◌, [], ◌∷◌, true, false, IsTrue, IfOk};
+ghost use Rattle.std.specs.Prelude.{IfErr, IfSome, length};
 ghost use Rattle.re_syntax.specs.Expression.{expression_of};
 ghost use Rattle.re_syntax.specs.Holds.{Matches, positions};
 ghost use Rattle.re_syntax.specs.Profile.{most_positions};
 ghost use Rattle.re_auto.specs.Working.Tables.{IsRefused};
 ghost use Rattle.re_search.specs.Working.Needles.{IsNeeded};
 ghost use Rattle.re_auto.specs.Working.StateSets.{IsMadeFor};
-ghost use Rattle.re_search.specs.Working.Stages.{Cache, Searches, FinishesFrom, IsSettled, mode_for};
+ghost use Rattle.re_search.specs.Working.Stages.{Cache, Searches, FinishesFrom, IsSettled};
+ghost use Rattle.re_search.specs.Working.Stages.{mode_for};
 ghost use Rattle.re_search.specs.Searching.{FindsPart, AddsAtMost};
 ghost use Rattle.re_search.specs.Working.Blocks.{IsBlock, PassesUnmatched};
 
@@ -49,7 +51,8 @@ impl Model for Simulated {
 
     ghost view = { λ s. record { tree = s.automaton; whole = s.whole } };
 
-    ghost invariant = { λ s. AreSetsFor (expression_of s.automaton) s.sets × AreStartsFor (expression_of s.automaton) s.starts
+    ghost invariant = { λ s. AreSetsFor (expression_of s.automaton) s.sets ×
+        AreStartsFor (expression_of s.automaton) s.starts
         × IsNeedleFor (expression_of s.automaton) s.needle };
 }
 
@@ -113,7 +116,8 @@ impl Simulated {
     /// What is known of the line without a step.
     #[inline(always)]
     pub(crate) fn settled(&self, line: &[u8]) -> Option<bool>
-        ensures { IfSome result (λ told. IsSettled (expression_of self.now.tree) self.now.whole line.now told) }
+        ensures { IfSome result
+            (λ told. IsSettled (expression_of self.now.tree) self.now.whole line.now told) }
     {
         if let Some(needle) = &self.needle {
             if needle.finder.find(line).is_none() {
@@ -128,7 +132,9 @@ impl Simulated {
 
     /// Whether the line is matched, by steps alone.
     pub(crate) fn step_over(&mut self, line: &[u8], meter: &mut Meter) -> bool
-        ensures searches { (cache : Cache) → cache.entries ≡ [] → Searches (expression_of self.old.tree) (mode_for self.old.whole) line.now cache cache meter.old meter.new result }
+        ensures searches { (cache : Cache) → cache.entries ≡ [] →
+            Searches (expression_of self.old.tree) (mode_for self.old.whole) line.now cache cache
+            meter.old meter.new result }
         ensures same { self.new ≡ self.old }
     {
         if self.whole {
@@ -148,7 +154,8 @@ impl Simulated {
     ) -> bool
         requires set { IsMadeFor (expression_of self.old.tree) set.now }
         requires within { from ≤ length line.now }
-        ensures finishes { FinishesFrom (expression_of self.old.tree) (mode_for self.old.whole) line.now from set.now meter.old meter.new result }
+        ensures finishes { FinishesFrom (expression_of self.old.tree) (mode_for self.old.whole)
+            line.now from set.now meter.old meter.new result }
         ensures same { self.new ≡ self.old }
     {
         if self.whole {
@@ -205,7 +212,8 @@ impl LineMatch for Simulated {
     ghost whole = { λ s. s.whole };
 
     fn is_match(&mut self, line: &[u8], meter: &mut Meter) -> bool
-        ensures told { IsTrue result ↔ Matches (expression_of self.old.tree) line.now self.old.whole }
+        ensures told { IsTrue result ↔
+            Matches (expression_of self.old.tree) line.now self.old.whole }
         ensures same_expression { expression_of self.new.tree ≡ expression_of self.old.tree }
         ensures same_whole { self.new.whole ≡ self.old.whole }
         ensures steps { AddsAtMost (length line.now + 1) meter.old meter.new }
@@ -219,7 +227,8 @@ impl LineMatch for Simulated {
 
     fn find(&mut self, line: &[u8], from: usize, meter: &mut Meter) -> Option<Span>
         requires { from ≤ length line.now }
-        ensures told { FindsPart (expression_of self.old.tree ∷ []) line.now self.old.whole from result }
+        ensures told { FindsPart (expression_of self.old.tree ∷ []) line.now self.old.whole from
+            result }
         ensures same_expression { expression_of self.new.tree ≡ expression_of self.old.tree }
         ensures same_whole { self.new.whole ≡ self.old.whole }
         ensures steps { AddsAtMost (length line.now - from + 1) meter.old meter.new }

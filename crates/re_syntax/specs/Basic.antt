@@ -2,9 +2,11 @@
 -- undefined and GNU grep has. Each relation has a text at whose front a part stands, the text that
 -- follows the part, and what the part means; a number is the part's height, how deep groups and
 -- duplications stand in one another there.
-use Rattle.std.specs.Prelude.{◌≡◌, ℕ, suc, max, Bool, not, List, [], ◌∷◌, ◌++◌, Option, Some, None, IsTrue, codes}
+use Rattle.std.specs.Prelude.{◌≡◌, ℕ, suc, max, Bool, not, List, [], ◌∷◌, ◌++◌, Option, Some, None}
+use Rattle.std.specs.Prelude.{IsTrue, codes}
 use Rattle.re_syntax.specs.Bytes.{Text, any_but_nul}
-use Rattle.re_syntax.specs.Expression.{Expression, one_of, begin, end, repeat, byte, sequence, choice}
+use Rattle.re_syntax.specs.Expression.{Expression, one_of, begin, end, repeat, byte, sequence}
+use Rattle.re_syntax.specs.Expression.{choice}
 use Rattle.re_syntax.specs.Brackets.{IsBracket}
 use Rattle.re_syntax.specs.Intervals.{Interval, IsAllowed}
 use Rattle.re_syntax.specs.Profile.{basic_escaped}
@@ -15,14 +17,16 @@ pub data Duplication : Text → ℕ → Option ℕ → Type 0 where
   star : Duplication (codes "*") 0 None
   plus : Duplication (codes "\\+") 1 None
   question : Duplication (codes "\\?") 0 (Some 1)
-  interval : {t : Text} {least : ℕ} {most : Option ℕ} → Interval t least most → IsAllowed least most → Duplication (codes "\\{" ++ t ++ codes "\\}") least most
+  interval : {t : Text} {least : ℕ} {most : Option ℕ} → Interval t least most →
+      IsAllowed least most → Duplication (codes "\\{" ++ t ++ codes "\\}") least most
 
 -- where in its branch an item stands: first, directly after the anchor that is first, or after
 -- another item
 pub data ItemPlace : Type 0 where
   First AfterAnchor Later : ItemPlace
 
--- whether a byte stands for itself: none of `[.\`; `^` only where it is not first, `*` only first or directly after the anchor (XBD 9.3.3, 9.3.8)
+-- whether a byte stands for itself: none of `[.\`; `^` only where it is not first, `*` only first
+-- or directly after the anchor (XBD 9.3.3, 9.3.8)
 abbrev pub is_ordinary : ItemPlace → ℕ → Bool
 is_ordinary First b = not (is_in (codes "[.\\^") b)
 is_ordinary AfterAnchor b = not (is_in (codes "[.\\") b)
@@ -47,21 +51,26 @@ mutual
   pub data Items : ItemPlace → ℕ → Text → Text → List Expression → Type 0 where
     none : {p : ItemPlace} {t : Text} → Items p 0 t t []
     -- a `^` that is first; a `$` that is last
-    leading : {h : ℕ} {t u : Text} {es : List Expression} → Items AfterAnchor h t u es → Items First h (codes "^" ++ t) u (begin ∷ es)
+    leading : {h : ℕ} {t u : Text} {es : List Expression} → Items AfterAnchor h t u es →
+        Items First h (codes "^" ++ t) u (begin ∷ es)
     trailing : {p : ItemPlace} {t : Text} → IsAtEnd t → Items p 0 (codes "$" ++ t) t (end ∷ [])
-    item : {p : ItemPlace} {h k : ℕ} {t u v : Text} {e : Expression} {es : List Expression} → Item p h t u e → Items Later k u v es → Items p (max h k) t v (e ∷ es)
+    item : {p : ItemPlace} {h k : ℕ} {t u v : Text} {e : Expression} {es : List Expression} →
+        Item p h t u e → Items Later k u v es → Items p (max h k) t v (e ∷ es)
 
   -- an atom, or an item and a duplication
   pub data Item : ItemPlace → ℕ → Text → Text → Expression → Type 0 where
     atom : {p : ItemPlace} {h : ℕ} {t u : Text} {e : Expression} → Atom p h t u e → Item p h t u e
-    repeated : {p : ItemPlace} {h : ℕ} {t d u : Text} {e : Expression} {least : ℕ} {most : Option ℕ} → Item p h t (d ++ u) e → Duplication d least most →
+    repeated : {p : ItemPlace} {h : ℕ} {t d u : Text} {e : Expression} {least : ℕ}
+        {most : Option ℕ} → Item p h t (d ++ u) e → Duplication d least most →
         Item p (suc h) t u (repeat e least most)
 
   pub data Atom : ItemPlace → ℕ → Text → Text → Expression → Type 0 where
     bracket : {p : ItemPlace} {t u : Text} {e : Expression} → IsBracket t u e → Atom p 0 t u e
     period : {p : ItemPlace} {u : Text} → Atom p 0 (codes "." ++ u) u (one_of any_but_nul)
-    escaped : {p : ItemPlace} {u : Text} (b : ℕ) → ¬ IsTrue (is_undefined basic_escaped b) → Atom p 0 (codes "\\" ++ b ∷ u) u (byte b)
+    escaped : {p : ItemPlace} {u : Text} (b : ℕ) → ¬ IsTrue (is_undefined basic_escaped b) →
+        Atom p 0 (codes "\\" ++ b ∷ u) u (byte b)
     -- a `$` is not last
-    ordinary : {p : ItemPlace} {u : Text} (b : ℕ) → IsTrue (is_ordinary p b) → (b ≡ 36 → ¬ IsAtEnd u) → Atom p 0 (b ∷ u) u (byte b)
+    ordinary : {p : ItemPlace} {u : Text} (b : ℕ) → IsTrue (is_ordinary p b) →
+        (b ≡ 36 → ¬ IsAtEnd u) → Atom p 0 (b ∷ u) u (byte b)
     group : {p : ItemPlace} {h : ℕ} {t u : Text} {es : List Expression} →
         Branches h t (codes "\\)" ++ u) es → Atom p (suc h) (codes "\\(" ++ t) u (choice es)

@@ -1,8 +1,15 @@
--- Why the text of a basic expression is refused (XBD 9.3): what stands at the place that is told, judged by its bytes, and where a bracket expression or a group is
--- opened or closed also by what can be read there.
+-- Why the text of a basic expression is refused (XBD 9.3): what stands at the place that is told,
+-- judged by its bytes, and where a bracket expression or a group is opened or closed also by what
+-- can be read there.
 use Rattle.std.specs.Prelude.{◌≡◌, ℕ, ◌⊎◌, [], ◌++◌, List, take, drop, codes}
 use Rattle.re_syntax.specs.declared.fault.FaultKind.{FaultKind}
-use Rattle.re_syntax.specs.declared.fault.FaultKind.TheVariants.{UnclosedBracket, BadClass, BadCollatingSymbol, BadRange, UnclosedGroup, UnopenedGroup, BadInterval, IntervalTooLarge, NothingToRepeat, TrailingBackslash, UndefinedEscape, BackReference, TooDeep, TooLarge, Memory}
+use Rattle.re_syntax.specs.declared.fault.FaultKind.TheVariants.{UnclosedBracket, BadClass}
+use Rattle.re_syntax.specs.declared.fault.FaultKind.TheVariants.{BadCollatingSymbol, BadRange}
+use Rattle.re_syntax.specs.declared.fault.FaultKind.TheVariants.{UnclosedGroup, UnopenedGroup}
+use Rattle.re_syntax.specs.declared.fault.FaultKind.TheVariants.{BadInterval, IntervalTooLarge}
+use Rattle.re_syntax.specs.declared.fault.FaultKind.TheVariants.{NothingToRepeat, TrailingBackslash}
+use Rattle.re_syntax.specs.declared.fault.FaultKind.TheVariants.{UndefinedEscape, BackReference}
+use Rattle.re_syntax.specs.declared.fault.FaultKind.TheVariants.{TooDeep, TooLarge, Memory}
 use Rattle.re_syntax.specs.declared.fault.PatternFault.{PatternFault}
 use Rattle.re_syntax.specs.declared.syntax.Syntax.TheVariants.{Basic}
 use Rattle.re_syntax.specs.Bytes.{Text, Begins}
@@ -58,8 +65,10 @@ ShowsBasicFault BadCollatingSymbol before t = ShowsBracketFault BadCollatingSymb
 ShowsBasicFault BadRange before t = ShowsBracketFault BadRange t
 ShowsBasicFault UnclosedGroup before t = OpensUnclosed t
 ShowsBasicFault UnopenedGroup before t = ClosesNone before t
-ShowsBasicFault BadInterval before t = OpensNoInterval t ⊎ OpensDisallowed (codes "\\{") (codes "\\}") BadInterval t
-ShowsBasicFault IntervalTooLarge before t = OpensDisallowed (codes "\\{") (codes "\\}") IntervalTooLarge t
+ShowsBasicFault BadInterval before t =
+    OpensNoInterval t ⊎ OpensDisallowed (codes "\\{") (codes "\\}") BadInterval t
+ShowsBasicFault IntervalTooLarge before t =
+    OpensDisallowed (codes "\\{") (codes "\\}") IntervalTooLarge t
 ShowsBasicFault NothingToRepeat before t = NeedsItem t × HasNothingToRepeat before
 ShowsBasicFault TrailingBackslash before t = t ≡ codes "\\"
 ShowsBasicFault UndefinedEscape before t = BeginsRefusedEscape basic_refused UndefinedEscape t

@@ -1,9 +1,11 @@
--- Bracket expressions (XBD 9.3.5). Each relation has a text at whose front a part stands, the text that follows the part, and what the part means.
+-- Bracket expressions (XBD 9.3.5). Each relation has a text at whose front a part stands, the text
+-- that follows the part, and what the part means.
 use Rattle.std.specs.Prelude.{◌≡◌, ◌≢◌, ℕ, ◌≤◌, ◌⊎◌, ◌∷◌, ◌++◌, length, drop, codes}
 use Rattle.re_syntax.specs.declared.bracket.ListPlace.{ListPlace}
 use Rattle.re_syntax.specs.declared.bracket.ListPlace.TheVariants.{First, AfterPoint, AfterRange}
 use Rattle.re_syntax.specs.declared.class.Class.{Class}
-use Rattle.re_syntax.specs.Bytes.{Text, Begins, Bytes, nothing, only, range, union, class_name, in_class}
+use Rattle.re_syntax.specs.Bytes.{Text, Begins, Bytes, nothing, only, range, union, class_name}
+use Rattle.re_syntax.specs.Bytes.{in_class}
 use Rattle.re_syntax.specs.Expression.{Expression, one_of, none_of}
 
 -- a `[` before one of these bytes opens an element that has a name
@@ -15,7 +17,8 @@ pub data Point : Text → Text → ℕ → Type 0 where
   bare : {t : Text} (b : ℕ) → (b ≡ 91 → ¬ OpensNamed t) → Point (b ∷ t) t b
   symbol : {t : Text} (b : ℕ) → Point (codes "[." ++ b ∷ codes ".]" ++ t) t b
 
--- a point that is no range's start: a `]` stands first; a `-` is first, last, or directly after a range or a class; and a `-` may follow only as the last
+-- a point that is no range's start: a `]` stands first; a `-` is first, last, or directly after a
+-- range or a class; and a `-` may follow only as the last
 pub record MayBeAlone (p : ListPlace) (t after : Text) : Type 0 where
   pub bracket : Begins (codes "]") t → p ≡ First
   pub hyphen : Begins (codes "-") t → (p ≢ AfterPoint) ⊎ Begins (codes "]") after
@@ -23,22 +26,29 @@ pub record MayBeAlone (p : ListPlace) (t after : Text) : Type 0 where
 
 -- an element at a place in its list, the bytes that it adds, and the place behind it
 pub data Element : ListPlace → Text → Text → Bytes → ListPlace → Type 0 where
-  class : {p : ListPlace} {t : Text} (c : Class) → Element p (codes "[:" ++ class_name c ++ codes ":]" ++ t) t (in_class c) AfterRange
-  equivalence : {p : ListPlace} {t : Text} (b : ℕ) → Element p (codes "[=" ++ b ∷ codes "=]" ++ t) t (only b) AfterRange
-  alone : {p : ListPlace} {t v : Text} {b : ℕ} → Point t v b → MayBeAlone p t v → Element p t v (only b) AfterPoint
+  class : {p : ListPlace} {t : Text} (c : Class) →
+      Element p (codes "[:" ++ class_name c ++ codes ":]" ++ t) t (in_class c) AfterRange
+  equivalence : {p : ListPlace} {t : Text} (b : ℕ) →
+      Element p (codes "[=" ++ b ∷ codes "=]" ++ t) t (only b) AfterRange
+  alone : {p : ListPlace} {t v : Text} {b : ℕ} → Point t v b → MayBeAlone p t v →
+      Element p t v (only b) AfterPoint
   -- a `]` and a `-` begin a range only as the first; a `]` ends none; and no range descends
-  span : {p : ListPlace} {t v w : Text} {a b : ℕ} → Point t (codes "-" ++ v) a → (Begins (codes "]") t ⊎ Begins (codes "-") t → p ≡ First) →
+  span : {p : ListPlace} {t v w : Text} {a b : ℕ} → Point t (codes "-" ++ v) a →
+      (Begins (codes "]") t ⊎ Begins (codes "-") t → p ≡ First) →
       Point v w b → ¬ Begins (codes "]") v → a ≤ b → Element p t w (range a b) AfterRange
 
 -- the elements of a list from a place on, and the bracket that closes it
 pub data Rest : ListPlace → Text → Text → Bytes → Type 0 where
   closing : {p : ListPlace} {u : Text} → p ≢ First → Rest p (codes "]" ++ u) u nothing
-  more : {p q : ListPlace} {t v u : Text} {a s : Bytes} → Element p t v a q → Rest q v u s → Rest p t u (union a s)
+  more : {p q : ListPlace} {t v u : Text} {a s : Bytes} → Element p t v a q → Rest q v u s →
+      Rest p t u (union a s)
 
 -- `[`, a list of elements and `]`; a caret in front of the list takes the bytes outside it
 pub data IsBracket : Text → Text → Expression → Type 0 where
-  matching : {t u : Text} {s : Bytes} → ¬ Begins (codes "^") t → Rest First t u s → IsBracket (codes "[" ++ t) u (one_of s)
-  non_matching : {t u : Text} {s : Bytes} → Rest First t u s → IsBracket (codes "[^" ++ t) u (none_of s)
+  matching : {t u : Text} {s : Bytes} → ¬ Begins (codes "^") t → Rest First t u s →
+      IsBracket (codes "[" ++ t) u (one_of s)
+  non_matching : {t u : Text} {s : Bytes} → Rest First t u s →
+      IsBracket (codes "[^" ++ t) u (none_of s)
 
 -- the bracket expression of a text that stands from one place up to another, and what it means
 pub record IsBracketUpTo (text : Text) (from behind : ℕ) (e : Expression) : Type 0 where
@@ -47,4 +57,6 @@ pub record IsBracketUpTo (text : Text) (from behind : ℕ) (e : Expression) : Ty
 
 -- a bracket expression that stands there ends at that place and has that meaning
 abbrev pub IsOnlyBracket : Text → ℕ → ℕ → Expression → Type 0
-IsOnlyBracket text from behind e = (rest : Text) (other : Expression) → IsBracket (drop from text) rest other → (rest ≡ drop behind text) × (other ≡ e)
+IsOnlyBracket text from behind e =
+    (rest : Text) (other : Expression) → IsBracket (drop from text) rest other →
+    (rest ≡ drop behind text) × (other ≡ e)

@@ -1,4 +1,5 @@
--- The bytes that a backslash may not stand before (XBD 9.3.3, 9.4.3); a syntax says which they are beside letters and digits.
+-- The bytes that a backslash may not stand before (XBD 9.3.3, 9.4.3); a syntax says which they are
+-- beside letters and digits.
 use Rattle.std.specs.Prelude.{ℕ, ◌∷◌, ◌++◌, [], IsTrue, codes}
 use Rattle.re_syntax.specs.declared.fault.FaultKind.{FaultKind}
 use Rattle.re_syntax.specs.declared.fault.FaultKind.TheVariants.{UndefinedEscape, BackReference}
@@ -11,7 +12,8 @@ one_to_nine = range 49 57
 
 -- a byte that a backslash may not stand before
 pub data IsRefusedEscape (others : Text) : FaultKind → ℕ → Type 0 where
-  undefined : {b : ℕ} → IsTrue (is_undefined others b) → ¬ IsTrue (one_to_nine b) → IsRefusedEscape others UndefinedEscape b
+  undefined : {b : ℕ} → IsTrue (is_undefined others b) → ¬ IsTrue (one_to_nine b) →
+      IsRefusedEscape others UndefinedEscape b
   reference : {b : ℕ} → IsTrue (one_to_nine b) → IsRefusedEscape others BackReference b
 
 -- a backslash and such a byte

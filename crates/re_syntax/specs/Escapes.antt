@@ -1,4 +1,5 @@
--- The bytes that a backslash lets stand for themselves, in basic and extended expressions (XBD 9.3.3, 9.4.3).
+-- The bytes that a backslash lets stand for themselves, in basic and extended expressions (XBD
+-- 9.3.3, 9.4.3).
 use Rattle.std.specs.Prelude.{ℕ, Bool, ◌||◌, nat_eq}
 use Rattle.std.specs.List.{list_any}
 use Rattle.re_syntax.specs.declared.class.Class.TheVariants.{Alnum}

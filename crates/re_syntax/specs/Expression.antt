@@ -1,4 +1,5 @@
--- Regular expressions, apart from how they are written (XBD 9.3, 9.4), and the one that a `Tree` stands for.
+-- Regular expressions, apart from how they are written (XBD 9.3, 9.4), and the one that a `Tree`
+-- stands for.
 use Rattle.std.specs.Prelude.{ℕ, List, [], ◌∷◌, Option}
 use Rattle.re_syntax.specs.Sets.{members}
 use Rattle.re_syntax.specs.Bytes.{Bytes, only}

@@ -1,8 +1,12 @@
--- Extended regular expressions (XBD 9.4). Each relation has a text at whose front a part stands, the text that follows the part, and what the part means; a truth
--- value tells whether a group stands around it, and a number is the part's height, how deep groups and duplications stand in one another there.
-use Rattle.std.specs.Prelude.{◌≡◌, ℕ, suc, max, Bool, true, not, ◌&&◌, List, [], ◌∷◌, ◌++◌, Option, Some, None, IsTrue, codes}
+-- Extended regular expressions (XBD 9.4). Each relation has a text at whose front a part stands,
+-- the text that follows the part, and what the part means; a truth value tells whether a group
+-- stands around it, and a number is the part's height, how deep groups and duplications stand in
+-- one another there.
+use Rattle.std.specs.Prelude.{◌≡◌, ℕ, suc, max, Bool, true, not, ◌&&◌, List, [], ◌∷◌, ◌++◌, Option}
+use Rattle.std.specs.Prelude.{Some, None, IsTrue, codes}
 use Rattle.re_syntax.specs.Bytes.{Text, any_but_nul}
-use Rattle.re_syntax.specs.Expression.{Expression, one_of, begin, end, repeat, byte, sequence, choice}
+use Rattle.re_syntax.specs.Expression.{Expression, one_of, begin, end, repeat, byte, sequence}
+use Rattle.re_syntax.specs.Expression.{choice}
 use Rattle.re_syntax.specs.Brackets.{IsBracket}
 use Rattle.re_syntax.specs.Intervals.{Interval, IsAllowed, HasNoInterval}
 use Rattle.re_syntax.specs.Profile.{extended_refused}
@@ -13,37 +17,48 @@ pub data Duplication : Text → ℕ → Option ℕ → Type 0 where
   star : Duplication (codes "*") 0 None
   plus : Duplication (codes "+") 1 None
   question : Duplication (codes "?") 0 (Some 1)
-  interval : {t : Text} {least : ℕ} {most : Option ℕ} → Interval t least most → IsAllowed least most → Duplication (codes "{" ++ t ++ codes "}") least most
+  interval : {t : Text} {least : ℕ} {most : Option ℕ} → Interval t least most →
+      IsAllowed least most → Duplication (codes "{" ++ t ++ codes "}") least most
 
--- whether a byte stands for itself: none of `[.\(*+?|^$`, and `)` only where no group is open (XBD 9.4.3)
+-- whether a byte stands for itself: none of `[.\(*+?|^$`, and `)` only where no group is open (XBD
+-- 9.4.3)
 abbrev pub is_ordinary : Bool → ℕ → Bool
-is_ordinary in_group b = not (is_in (codes "[.\\(*+?|^$") b) && not (in_group && is_in (codes ")") b)
+is_ordinary in_group b =
+    not (is_in (codes "[.\\(*+?|^$") b) && not (in_group && is_in (codes ")") b)
 
 mutual
   -- branches parted by bars, each a sequence (XBD 9.4.7)
   pub data Branches : Bool → ℕ → Text → Text → List Expression → Type 0 where
-    last : {g : Bool} {h : ℕ} {t u : Text} {es : List Expression} → Items g h t u es → Branches g h t u (sequence es ∷ [])
-    more : {g : Bool} {h k : ℕ} {t u v : Text} {es fs : List Expression} → Items g h t (codes "|" ++ u) es → Branches g k u v fs →
+    last : {g : Bool} {h : ℕ} {t u : Text} {es : List Expression} → Items g h t u es →
+        Branches g h t u (sequence es ∷ [])
+    more : {g : Bool} {h k : ℕ} {t u v : Text} {es fs : List Expression} →
+        Items g h t (codes "|" ++ u) es → Branches g k u v fs →
         Branches g (max h k) t v (sequence es ∷ fs)
 
   -- the items of a branch, one after another
   pub data Items : Bool → ℕ → Text → Text → List Expression → Type 0 where
     none : {g : Bool} {t : Text} → Items g 0 t t []
     -- a `^` takes no duplication (XBD 9.4.9)
-    anchor : {g : Bool} {h : ℕ} {t u : Text} {es : List Expression} → Items g h t u es → Items g h (codes "^" ++ t) u (begin ∷ es)
-    item : {g : Bool} {h k : ℕ} {t u v : Text} {e : Expression} {es : List Expression} → Item g h t u e → Items g k u v es → Items g (max h k) t v (e ∷ es)
+    anchor : {g : Bool} {h : ℕ} {t u : Text} {es : List Expression} → Items g h t u es →
+        Items g h (codes "^" ++ t) u (begin ∷ es)
+    item : {g : Bool} {h k : ℕ} {t u v : Text} {e : Expression} {es : List Expression} →
+        Item g h t u e → Items g k u v es → Items g (max h k) t v (e ∷ es)
 
   -- an atom, or an item and a duplication
   pub data Item : Bool → ℕ → Text → Text → Expression → Type 0 where
     atom : {g : Bool} {h : ℕ} {t u : Text} {e : Expression} → Atom g h t u e → Item g h t u e
-    repeated : {g : Bool} {h : ℕ} {t d u : Text} {e : Expression} {least : ℕ} {most : Option ℕ} → Item g h t (d ++ u) e → Duplication d least most →
+    repeated : {g : Bool} {h : ℕ} {t d u : Text} {e : Expression} {least : ℕ} {most : Option ℕ} →
+        Item g h t (d ++ u) e → Duplication d least most →
         Item g (suc h) t u (repeat e least most)
 
   pub data Atom : Bool → ℕ → Text → Text → Expression → Type 0 where
     bracket : {g : Bool} {t u : Text} {e : Expression} → IsBracket t u e → Atom g 0 t u e
     period : {g : Bool} {u : Text} → Atom g 0 (codes "." ++ u) u (one_of any_but_nul)
     dollar : {g : Bool} {u : Text} → Atom g 0 (codes "$" ++ u) u end
-    escaped : {g : Bool} {u : Text} (b : ℕ) → ¬ IsTrue (is_undefined extended_refused b) → Atom g 0 (codes "\\" ++ b ∷ u) u (byte b)
+    escaped : {g : Bool} {u : Text} (b : ℕ) → ¬ IsTrue (is_undefined extended_refused b) →
+        Atom g 0 (codes "\\" ++ b ∷ u) u (byte b)
     -- a `{` begins no text of an interval's form
-    ordinary : {g : Bool} {u : Text} (b : ℕ) → IsTrue (is_ordinary g b) → (b ≡ 123 → HasNoInterval (codes "}") u) → Atom g 0 (b ∷ u) u (byte b)
-    group : {g : Bool} {h : ℕ} {t u : Text} {es : List Expression} → Branches true h t (codes ")" ++ u) es → Atom g (suc h) (codes "(" ++ t) u (choice es)
+    ordinary : {g : Bool} {u : Text} (b : ℕ) → IsTrue (is_ordinary g b) →
+        (b ≡ 123 → HasNoInterval (codes "}") u) → Atom g 0 (b ∷ u) u (byte b)
+    group : {g : Bool} {h : ℕ} {t u : Text} {es : List Expression} →
+        Branches true h t (codes ")" ++ u) es → Atom g (suc h) (codes "(" ++ t) u (choice es)

@@ -1,8 +1,15 @@
--- Why the text of an extended expression is refused (XBD 9.4): what stands at the place that is told, judged by its bytes, and where a bracket expression or a group
--- is opened also by what can be read there.
+-- Why the text of an extended expression is refused (XBD 9.4): what stands at the place that is
+-- told, judged by its bytes, and where a bracket expression or a group is opened also by what can
+-- be read there.
 use Rattle.std.specs.Prelude.{◌≡◌, ℕ, ◌⊎◌, true, List, [], ◌++◌, Option, take, drop, codes}
 use Rattle.re_syntax.specs.declared.fault.FaultKind.{FaultKind}
-use Rattle.re_syntax.specs.declared.fault.FaultKind.TheVariants.{UnclosedBracket, BadClass, BadCollatingSymbol, BadRange, UnclosedGroup, UnopenedGroup, BadInterval, IntervalTooLarge, NothingToRepeat, TrailingBackslash, UndefinedEscape, BackReference, TooDeep, TooLarge, Memory}
+use Rattle.re_syntax.specs.declared.fault.FaultKind.TheVariants.{UnclosedBracket, BadClass}
+use Rattle.re_syntax.specs.declared.fault.FaultKind.TheVariants.{BadCollatingSymbol, BadRange}
+use Rattle.re_syntax.specs.declared.fault.FaultKind.TheVariants.{UnclosedGroup, UnopenedGroup}
+use Rattle.re_syntax.specs.declared.fault.FaultKind.TheVariants.{BadInterval, IntervalTooLarge}
+use Rattle.re_syntax.specs.declared.fault.FaultKind.TheVariants.{NothingToRepeat, TrailingBackslash}
+use Rattle.re_syntax.specs.declared.fault.FaultKind.TheVariants.{UndefinedEscape, BackReference}
+use Rattle.re_syntax.specs.declared.fault.FaultKind.TheVariants.{TooDeep, TooLarge, Memory}
 use Rattle.re_syntax.specs.declared.fault.PatternFault.{PatternFault}
 use Rattle.re_syntax.specs.declared.syntax.Syntax.TheVariants.{Extended}
 use Rattle.re_syntax.specs.Bytes.{Text, Begins}
@@ -20,7 +27,8 @@ pub data OpensDuplication : Text → Type 0 where
   opens_star : {u : Text} → OpensDuplication (codes "*" ++ u)
   opens_plus : {u : Text} → OpensDuplication (codes "+" ++ u)
   opens_question : {u : Text} → OpensDuplication (codes "?" ++ u)
-  opens_interval : {t u : Text} {least : ℕ} {most : Option ℕ} → ClosedInterval (codes "}") t u least most → OpensDuplication (codes "{" ++ t)
+  opens_interval : {t u : Text} {least : ℕ} {most : Option ℕ} →
+      ClosedInterval (codes "}") t u least most → OpensDuplication (codes "{" ++ t)
 
 -- what stands before a branch: nothing, a group's opening, or a bar
 abbrev pub IsStart : Text → Type 0
@@ -47,7 +55,8 @@ ShowsExtendedFault BadRange before t = ShowsBracketFault BadRange t
 ShowsExtendedFault UnclosedGroup before t = OpensUnclosed t
 ShowsExtendedFault UnopenedGroup before t = ⊥
 ShowsExtendedFault BadInterval before t = OpensDisallowed (codes "{") (codes "}") BadInterval t
-ShowsExtendedFault IntervalTooLarge before t = OpensDisallowed (codes "{") (codes "}") IntervalTooLarge t
+ShowsExtendedFault IntervalTooLarge before t =
+    OpensDisallowed (codes "{") (codes "}") IntervalTooLarge t
 ShowsExtendedFault NothingToRepeat before t = OpensDuplication t × HasNothingToRepeat before
 ShowsExtendedFault TrailingBackslash before t = t ≡ codes "\\"
 ShowsExtendedFault UndefinedEscape before t = BeginsRefusedEscape extended_refused UndefinedEscape t

@@ -1,8 +1,10 @@
--- Why a pattern's text is refused: what stands at the place that is told, judged by its bytes alone.
+-- Why a pattern's text is refused: what stands at the place that is told, judged by its bytes
+-- alone.
 use Rattle.std.specs.Prelude.{◌≡◌, ℕ, ◌⊎◌, ◌∷◌, ◌++◌, Option, drop, codes}
 use Rattle.re_syntax.specs.declared.class.Class.{Class}
 use Rattle.re_syntax.specs.declared.fault.FaultKind.{FaultKind}
-use Rattle.re_syntax.specs.declared.fault.FaultKind.TheVariants.{UnclosedBracket, BadClass, BadCollatingSymbol, BadRange}
+use Rattle.re_syntax.specs.declared.fault.FaultKind.TheVariants.{UnclosedBracket, BadClass}
+use Rattle.re_syntax.specs.declared.fault.FaultKind.TheVariants.{BadCollatingSymbol, BadRange}
 use Rattle.re_syntax.specs.declared.fault.PatternFault.{PatternFault}
 use Rattle.re_syntax.specs.Bytes.{Text, Begins, class_name}
 use Rattle.re_syntax.specs.Expression.{Expression}
@@ -12,18 +14,21 @@ use Rattle.re_syntax.specs.Brackets.{IsBracket}
 abbrev pub Ends : Text → Text → Type 0
 Ends back t = (front : Text) × (t ≡ front ++ back)
 
--- the bytes where a bracket expression's fault shows (XBD 9.3.5): its opening; a `[:` without a class's name and `:]`; a `[.` or `[=` without one byte and the
--- closing pair; a hyphen
+-- the bytes where a bracket expression's fault shows (XBD 9.3.5): its opening; a `[:` without a
+-- class's name and `:]`; a `[.` or `[=` without one byte and the closing pair; a hyphen
 abbrev pub ShowsBracketFault : FaultKind → Text → Type 0
 ShowsBracketFault UnclosedBracket t = Begins (codes "[") t
-ShowsBracketFault BadClass t = Begins (codes "[:") t × ((c : Class) → ¬ Begins (codes "[:" ++ class_name c ++ codes ":]") t)
+ShowsBracketFault BadClass t =
+    Begins (codes "[:") t × ((c : Class) → ¬ Begins (codes "[:" ++ class_name c ++ codes ":]") t)
 ShowsBracketFault BadCollatingSymbol t =
-    (Begins (codes "[.") t × ((b : ℕ) → ¬ Begins (codes "[." ++ b ∷ codes ".]") t)) ⊎ (Begins (codes "[=") t × ((b : ℕ) → ¬ Begins (codes "[=" ++ b ∷ codes "=]") t))
+    (Begins (codes "[.") t × ((b : ℕ) → ¬ Begins (codes "[." ++ b ∷ codes ".]") t)) ⊎
+    (Begins (codes "[=") t × ((b : ℕ) → ¬ Begins (codes "[=" ++ b ∷ codes "=]") t))
 ShowsBracketFault BadRange t = Begins (codes "-") t
 ShowsBracketFault _ t = ⊥
 
 -- the text begins with a duplication of the syntax
-pub record BeginsDuplication (IsDuplication : Text → ℕ → Option ℕ → Type 0) (t : Text) : Type 0 where
+pub record BeginsDuplication (IsDuplication : Text → ℕ → Option ℕ → Type 0)
+    (t : Text) : Type 0 where
   pub bytes : Text
   pub rest : Text
   pub least : ℕ
@@ -36,7 +41,8 @@ pub record OpensNoBracket (t : Text) : Type 0 where
   pub opens : ShowsBracketFault UnclosedBracket t
   pub none : (rest : Text) (e : Expression) → ¬ IsBracket t rest e
 
--- no bracket expression stands at the place, and the fault shows at its own, both counted from the text's start; an unclosed one shows at its opening
+-- no bracket expression stands at the place, and the fault shows at its own, both counted from the
+-- text's start; an unclosed one shows at its opening
 pub record IsNoBracket (text : Text) (from : ℕ) (fault : PatternFault) : Type 0 where
   pub none : (rest : Text) (e : Expression) → ¬ IsBracket (drop from text) rest e
   pub shown : ShowsBracketFault fault.kind (drop fault.at text)

@@ -8,9 +8,12 @@ use Rattle.re_syntax.specs.Profile.{most_repeats}
 
 -- why an interval of these numbers is refused; a number that is too large goes first
 pub data IsDisallowed : FaultKind → ℕ → Option ℕ → Type 0 where
-  least_too_large : {least : ℕ} {most : Option ℕ} → most_repeats < least → IsDisallowed IntervalTooLarge least most
-  most_too_large : {least top : ℕ} → most_repeats < top → IsDisallowed IntervalTooLarge least (Some top)
-  descending : {least top : ℕ} → top < least → least ≤ most_repeats → IsDisallowed BadInterval least (Some top)
+  least_too_large : {least : ℕ} {most : Option ℕ} → most_repeats < least →
+      IsDisallowed IntervalTooLarge least most
+  most_too_large : {least top : ℕ} → most_repeats < top →
+      IsDisallowed IntervalTooLarge least (Some top)
+  descending : {least top : ℕ} → top < least → least ≤ most_repeats →
+      IsDisallowed BadInterval least (Some top)
 
 -- an interval stands between these braces and is refused for its numbers
 pub record OpensDisallowed (opening close : Text) (kind : FaultKind) (t : Text) : Type 0 where

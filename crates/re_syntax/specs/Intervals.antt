@@ -1,6 +1,7 @@
 -- Interval expressions (XBD 9.3.6 item 5, 9.4.6 item 5): what stands between the braces, and its
 -- two numbers. The form without a least number is no form of the standard's, but one of GNU grep's.
-use Rattle.std.specs.Prelude.{◌≡◌, ◌≢◌, ℕ, ◌+◌, ◌-◌, ◌*◌, ◌≤◌, min, [], ◌∷◌, ◌++◌, Option, Some, None, IsTrue, IfSome, codes}
+use Rattle.std.specs.Prelude.{◌≡◌, ◌≢◌, ℕ, ◌+◌, ◌-◌, ◌*◌, ◌≤◌, min, [], ◌∷◌, ◌++◌, Option, Some}
+use Rattle.std.specs.Prelude.{None, IsTrue, IfSome, codes}
 use Rattle.std.specs.List.{list_all}
 use Rattle.re_syntax.specs.declared.class.Class.TheVariants.{Digit}
 use Rattle.re_syntax.specs.Profile.{most_repeats}
@@ -22,7 +23,8 @@ value = value_after 0
 pub data Interval : Text → ℕ → Option ℕ → Type 0 where
   exactly : (m : Text) → IsNumber m → Interval m (value m) (Some (value m))
   at_least : (m : Text) → IsNumber m → Interval (m ++ codes ",") (value m) None
-  between : (m n : Text) → IsNumber m → IsNumber n → Interval (m ++ codes "," ++ n) (value m) (Some (value n))
+  between : (m n : Text) → IsNumber m → IsNumber n →
+      Interval (m ++ codes "," ++ n) (value m) (Some (value n))
   up_to : (n : Text) → IsNumber n → Interval (codes "," ++ n) 0 (Some (value n))
 
 -- both numbers are within the limit, and the first is not above the second
@@ -31,7 +33,8 @@ pub record IsAllowed (least : ℕ) (most : Option ℕ) : Type 0 where
   pub most_fits : IfSome most (λ n. n ≤ most_repeats)
   pub ordered : IfSome most (λ n. least ≤ n)
 
--- at the front of the first text stands something of an interval's form with these numbers, and what closes it; the second text follows
+-- at the front of the first text stands something of an interval's form with these numbers, and
+-- what closes it; the second text follows
 pub record ClosedInterval (close t u : Text) (least : ℕ) (most : Option ℕ) : Type 0 where
   pub inside : Text
   pub form : Interval inside least most

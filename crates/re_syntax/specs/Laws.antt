@@ -5,7 +5,8 @@ use Rattle.re_syntax.specs.declared.syntax.Syntax.TheVariants.{Basic, Extended}
 use Rattle.re_syntax.specs.Bytes.{Text}
 use Rattle.re_syntax.specs.Expression.{Expression}
 use Rattle.re_syntax.specs.Brackets.{IsBracket}
-use Rattle.re_syntax.specs.Lines.{lines_of, ended_lines_of, list_of, AreLines, AreEndedLines, AreListed}
+use Rattle.re_syntax.specs.Lines.{lines_of, ended_lines_of, list_of, AreLines, AreEndedLines}
+use Rattle.re_syntax.specs.Lines.{AreListed}
 use Rattle.re_syntax.specs.Parts.{AreParts}
 use Rattle.re_syntax.specs.Spelled.{IsSpelled}
 use Rattle.re_syntax.specs.Working.StandardBasic.{IsStandardBasic}
@@ -13,7 +14,8 @@ use Rattle.re_syntax.specs.Working.StandardExtended.{IsStandardExtended}
 
 -- a text spells at most one expression
 abbrev pub SpellsOne : Text → Type 0
-SpellsOne text = (syntax : Syntax) (d e : Expression) → IsSpelled syntax text d → IsSpelled syntax text e → d ≡ e
+SpellsOne text =
+    (syntax : Syntax) (d e : Expression) → IsSpelled syntax text d → IsSpelled syntax text e → d ≡ e
 
 -- nowhere in the text a `{` and a comma stand side by side
 abbrev pub HasNoOpenComma : Text → Type 0
@@ -26,11 +28,14 @@ pub record KeepsStandard (text : Text) : Type 0 where
   pub extended : (e : Expression) → IsStandardExtended text e → HasNoOpenComma text →
       IsSpelled Extended text e
 
--- a text begins with at most one bracket expression, and that means one expression, whatever follows it
+-- a text begins with at most one bracket expression, and that means one expression, whatever
+-- follows it
 abbrev pub BeginsWithOneBracket : Text → Type 0
-BeginsWithOneBracket text = (u v : Text) (d e : Expression) → IsBracket text u d → IsBracket text v e → (u ≡ v) × (d ≡ e)
+BeginsWithOneBracket text =
+    (u v : Text) (d e : Expression) → IsBracket text u d → IsBracket text v e → (u ≡ v) × (d ≡ e)
 
--- an input has these lines and no others, also where only ended lines count, and a pattern list these texts and no others
+-- an input has these lines and no others, also where only ended lines count, and a pattern list
+-- these texts and no others
 pub record HasOneSplit (text : Text) : Type 0 where
   pub lines : AreLines text (lines_of text)
   pub no_other_lines : (ts : List Text) → AreLines text ts → ts ≡ lines_of text
@@ -41,4 +46,7 @@ pub record HasOneSplit (text : Text) : Type 0 where
 
 -- a line has a list of its parts, and no other
 abbrev pub HasOnePartList : Text → Type 0
-HasOnePartList line = (es : List Expression) (whole : Bool) → (ps : List (ℕ × ℕ)) × AreParts es line whole ps × ((qs : List (ℕ × ℕ)) → AreParts es line whole qs → qs ≡ ps)
+HasOnePartList line =
+    (es : List Expression) (whole : Bool) →
+    (ps : List (ℕ × ℕ)) × AreParts es line whole ps ×
+    ((qs : List (ℕ × ℕ)) → AreParts es line whole qs → qs ≡ ps)

@@ -1,4 +1,5 @@
--- The lines of a text file (XBD 3.206, 3.403), and the patterns of a pattern list (XCU grep, OPERANDS).
+-- The lines of a text file (XBD 3.206, 3.403), and the patterns of a pattern list (XCU grep,
+-- OPERANDS).
 use Rattle.std.specs.Prelude.{◌≡◌, ◌≢◌, ℕ, ◌⊎◌, List, [], ◌∷◌, ◌++◌, All, if◌then◌else◌, nat_eq}
 use Rattle.re_syntax.specs.Bytes.{Text}
 
@@ -23,7 +24,8 @@ put_before_first b (t ∷ ts) = (b ∷ t) ∷ ts
 -- the lines of an input that a newline ends: an unfinished last line is left out
 unfoldable pub ended_lines_of : Text → List Text
 ended_lines_of [] = []
-ended_lines_of (b ∷ rest) = if nat_eq b newline then [] ∷ ended_lines_of rest else put_before_first b (ended_lines_of rest)
+ended_lines_of (b ∷ rest) =
+    if nat_eq b newline then [] ∷ ended_lines_of rest else put_before_first b (ended_lines_of rest)
 
 -- the patterns of a list, parted by newlines: one more than there are newlines
 unfoldable pub list_of : Text → List Text
@@ -44,14 +46,19 @@ joined [] = []
 joined (t ∷ []) = t
 joined (t ∷ u ∷ ts) = t ++ newline ∷ joined (u ∷ ts)
 
--- no text has a newline, and the bytes are each text followed by one, or that without the last newline where the last text is not empty
+-- no text has a newline, and the bytes are each text followed by one, or that without the last
+-- newline where the last text is not empty
 abbrev pub AreLines : Text → List Text → Type 0
 AreLines bytes texts = All HasNoNewline texts × ((bytes ≡ terminated texts) ⊎
-    ((front : List Text) × (last : Text) × (texts ≡ front ++ last ∷ []) × (last ≢ []) × (bytes ≡ terminated front ++ last)))
+    ((front : List Text) × (last : Text) × (texts ≡ front ++ last ∷ []) × (last ≢ []) ×
+    (bytes ≡ terminated front ++ last)))
 
--- no text has a newline, and the bytes are each text followed by one and then a rest without newline
+-- no text has a newline, and the bytes are each text followed by one and then a rest without
+-- newline
 abbrev pub AreEndedLines : Text → List Text → Type 0
-AreEndedLines bytes texts = All HasNoNewline texts × ((rest : Text) × HasNoNewline rest × (bytes ≡ terminated texts ++ rest))
+AreEndedLines bytes texts =
+    All HasNoNewline texts ×
+    ((rest : Text) × HasNoNewline rest × (bytes ≡ terminated texts ++ rest))
 
 -- one text or more without newline, which joined by newlines are the bytes
 abbrev pub AreListed : Text → List Text → Type 0

@@ -1,4 +1,5 @@
--- The limits of this grep, and the bytes that it leaves undefined: what the standard leaves open is settled here.
+-- The limits of this grep, and the bytes that it leaves undefined: what the standard leaves open is
+-- settled here.
 use Rattle.std.specs.Prelude.{ℕ, codes}
 use Rattle.re_syntax.specs.Bytes.{Text}
 
@@ -22,13 +23,15 @@ most_patterns = 65535
 abbrev pub most_states : ℕ
 most_states = 65536
 
--- the bytes that a backslash may not stand before, beside letters and digits (XBD 9.3.3, 9.4.3): in a basic expression, and in an extended one
+-- the bytes that a backslash may not stand before, beside letters and digits (XBD 9.3.3, 9.4.3): in
+-- a basic expression, and in an extended one
 abbrev pub basic_refused : Text
 basic_refused = codes "<>`'"
 
 abbrev pub extended_refused : Text
 extended_refused = codes "<>`'"
 
--- the bytes that do not stand for themselves behind a backslash in a basic expression, beside letters and digits: those, and the ones that have a meaning there
+-- the bytes that do not stand for themselves behind a backslash in a basic expression, beside
+-- letters and digits: those, and the ones that have a meaning there
 abbrev pub basic_escaped : Text
 basic_escaped = codes "(){+?|<>`'"

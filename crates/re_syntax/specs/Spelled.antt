@@ -1,4 +1,5 @@
--- Which expression the text of a pattern spells, and which one it means (XCU grep, OPTIONS -E, -F, -i).
+-- Which expression the text of a pattern spells, and which one it means (XCU grep, OPTIONS -E, -F,
+-- -i).
 use Rattle.std.specs.Prelude.{◌≡◌, ℕ, ◌≤◌, Bool, true, false, List, [], map, if◌then◌else◌}
 use Rattle.re_syntax.specs.declared.syntax.Syntax.{Syntax}
 use Rattle.re_syntax.specs.declared.syntax.Syntax.TheVariants.{Basic, Extended, Fixed}
@@ -26,7 +27,8 @@ SpellsNoOther syntax text e = (other : Expression) → IsSpelled syntax text oth
 
 -- the expression that a text means, with both cases of each letter where `fold` is set
 abbrev pub IsMeant : Syntax → Bool → Text → Expression → Type 0
-IsMeant syntax fold text e = (s : Expression) × IsSpelled syntax text s × (e ≡ (if fold then folded s else s))
+IsMeant syntax fold text e =
+    (s : Expression) × IsSpelled syntax text s × (e ≡ (if fold then folded s else s))
 
 -- whether an expression has to be small enough: a fixed string need not, unless it is folded
 abbrev pub has_limit : Syntax → Bool → Bool

@@ -5,7 +5,8 @@ ghost use Rattle.re_syntax.specs.Working.Ahead.{IsAfter};
 /// The place behind these bytes, where they stand at this place of the text.
 pub fn after(text: &[u8], at: usize, bytes: &[u8]) -> Option<usize>
     requires { at ≤ length text.now }
-    ensures { MatchOption result (¬ Begins bytes.now (drop at text.now)) (IsAfter bytes.now text.now at) }
+    ensures { MatchOption result (¬ Begins bytes.now (drop at text.now))
+        (IsAfter bytes.now text.now at) }
 {
     if text[at..].starts_with(bytes) {
         Some(at + bytes.len())

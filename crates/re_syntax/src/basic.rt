@@ -1,15 +1,20 @@
 //! Basic regular expressions (XBD 9.3), with GNU grep's `\+`, `\?` and `\|`, read in one pass from
 //! left to right.
-ghost use Rattle.std.specs.Prelude.{◌≡◌, ℕ, ◌≤◌, ◌⊎◌, IfOk, IfErr, MatchOption, MatchBool, codes, length, take, drop};
+ghost use Rattle.std.specs.Prelude.{◌≡◌, ℕ, ◌≤◌, ◌⊎◌, IfOk, IfErr, MatchOption, MatchBool, codes};
+ghost use Rattle.std.specs.Prelude.{length, take, drop};
 ghost use Rattle.re_syntax.specs.Bytes.{Begins};
 ghost use Rattle.re_syntax.specs.Expression.{expression_of};
 ghost use Rattle.re_syntax.specs.Basic.{ItemPlace, First, IsAtEnd};
 ghost use Rattle.re_syntax.specs.declared.syntax.Syntax.TheVariants.{Basic};
 ghost use Rattle.re_syntax.specs.Profile.{most_levels};
 ghost use Rattle.re_syntax.specs.Spelled.{IsSpelled, SpellsNoOther};
-ghost use Rattle.re_syntax.specs.BasicFaults.{NeedsItem, IsStart, HasNothingToRepeat, IsShownIn, IsNoBasic};
+ghost use Rattle.re_syntax.specs.BasicFaults.{NeedsItem, IsStart, HasNothingToRepeat, IsShownIn};
+ghost use Rattle.re_syntax.specs.BasicFaults.{IsNoBasic};
 ghost use Rattle.re_syntax.specs.Working.PieceSteps.{IsRefused};
-ghost use Rattle.re_syntax.specs.Working.BasicSteps.{AtomStands, HasNoAtom, HasItem, HasNoItem, HasNoTail, IsBehindTail, SoFar, IsEnded, MayBegin, ItemStands, HasNoItems, BranchStands, HasNoBranches, BranchesStand};
+ghost use Rattle.re_syntax.specs.Working.BasicSteps.{AtomStands, HasNoAtom, HasItem, HasNoItem};
+ghost use Rattle.re_syntax.specs.Working.BasicSteps.{HasNoTail, IsBehindTail, SoFar, IsEnded};
+ghost use Rattle.re_syntax.specs.Working.BasicSteps.{MayBegin, ItemStands, HasNoItems};
+ghost use Rattle.re_syntax.specs.Working.BasicSteps.{BranchStands, HasNoBranches, BranchesStand};
 
 use self::duplications::{needs_item, read_duplication};
 use crate::ahead::after;
@@ -112,7 +117,9 @@ fn read_group(alloc: Global, text: &[u8], at: usize, levels: usize) -> Result<Pi
     requires opens { Begins (codes "\\(") (drop at text.now) }
     requires few { levels ≤ most_levels }
     ensures read { IfOk result (λ piece. (p : ItemPlace) → AtomStands p levels text.now at piece) }
-    ensures refused { IfErr result (λ fault. (p : ItemPlace) → IsRefused (HasNoAtom p levels (drop at text.now)) (IsShownIn text.now fault) fault) }
+    ensures refused { IfErr result
+        (λ fault. (p : ItemPlace) →
+        IsRefused (HasNoAtom p levels (drop at text.now)) (IsShownIn text.now fault) fault) }
 {
     if levels == 0 {
         return Err(PatternFault {
@@ -142,7 +149,9 @@ fn read_escaped(alloc: Global, text: &[u8], at: usize, levels: usize) -> Result<
     requires opens { NeedsItem (drop at text.now) → HasNothingToRepeat (take at text.now) }
     requires few { levels ≤ most_levels }
     ensures read { IfOk result (λ piece. (p : ItemPlace) → AtomStands p levels text.now at piece) }
-    ensures refused { IfErr result (λ fault. (p : ItemPlace) → IsRefused (HasNoAtom p levels (drop at text.now)) (IsShownIn text.now fault) fault) }
+    ensures refused { IfErr result
+        (λ fault. (p : ItemPlace) →
+        IsRefused (HasNoAtom p levels (drop at text.now)) (IsShownIn text.now fault) fault) }
 {
     if after(text, at, b"\\(").is_some() {
         return read_group(alloc, text, at, levels);
@@ -168,8 +177,12 @@ fn read_atom(alloc: Global, text: &[u8], at: usize, levels: usize) -> Result<Pie
     requires item { HasItem (drop at text.now) }
     requires opens { NeedsItem (drop at text.now) → HasNothingToRepeat (take at text.now) }
     requires few { levels ≤ most_levels }
-    ensures read { IfOk result (λ piece. (p : ItemPlace) → MayBegin p (drop at text.now) → AtomStands p levels text.now at piece) }
-    ensures refused { IfErr result (λ fault. (p : ItemPlace) → IsRefused (HasNoAtom p levels (drop at text.now)) (IsShownIn text.now fault) fault) }
+    ensures read { IfOk result
+        (λ piece. (p : ItemPlace) → MayBegin p (drop at text.now) →
+        AtomStands p levels text.now at piece) }
+    ensures refused { IfErr result
+        (λ fault. (p : ItemPlace) →
+        IsRefused (HasNoAtom p levels (drop at text.now)) (IsShownIn text.now fault) fault) }
 {
     match text[at] {
         b'[' => read_bracket_atom(text, at),
@@ -189,8 +202,12 @@ fn read_item(alloc: Global, text: &[u8], at: usize, levels: usize) -> Result<Pie
     requires item { HasItem (drop at text.now) }
     requires opens { NeedsItem (drop at text.now) → HasNothingToRepeat (take at text.now) }
     requires few { levels ≤ most_levels }
-    ensures read { IfOk result (λ piece. (p : ItemPlace) → MayBegin p (drop at text.now) → ItemStands p levels text.now at piece) }
-    ensures refused { IfErr result (λ fault. (p : ItemPlace) → MayBegin p (drop at text.now) → IsRefused (HasNoItems p levels (drop at text.now)) (IsShownIn text.now fault) fault) }
+    ensures read { IfOk result
+        (λ piece. (p : ItemPlace) → MayBegin p (drop at text.now) →
+        ItemStands p levels text.now at piece) }
+    ensures refused { IfErr result
+        (λ fault. (p : ItemPlace) → MayBegin p (drop at text.now) →
+        IsRefused (HasNoItems p levels (drop at text.now)) (IsShownIn text.now fault) fault) }
 {
     let mut piece = read_atom(alloc, text, at, levels)?;
     'duplications: while let Some((counts, behind)) = read_duplication(text, piece.behind)? {
@@ -217,7 +234,9 @@ fn read_branch(
     requires starts { IsStart (take from text.now) }
     requires few { levels ≤ most_levels }
     ensures read { IfOk result (BranchStands levels text.now from) }
-    ensures refused { IfErr result (λ fault. IsRefused (HasNoItems First levels (drop from text.now)) (IsShownIn text.now fault) fault) }
+    ensures refused { IfErr result
+        (λ fault.
+        IsRefused (HasNoItems First levels (drop from text.now)) (IsShownIn text.now fault) fault) }
 {
     let mut items = read_lead(alloc, text, from)?;
     'items: while has_item(text, items.behind) {
@@ -262,8 +281,8 @@ fn read_branches(
 }
 
 /// The tree of a basic regular expression (XBD 9.3, with GNU grep's `\+`, `\?` and `\|`): `Set`,
-/// `Not`, `Begin`, `End` and `Repeat` for its items, of a branch without items `Empty`, with several
-/// a `Cat` in order, and of several branches an `Alt` in order.
+/// `Not`, `Begin`, `End` and `Repeat` for its items, of a branch without items `Empty`, with
+/// several a `Cat` in order, and of several branches an `Alt` in order.
 ///
 /// # Errors
 ///
@@ -272,7 +291,8 @@ fn read_branches(
 pub fn read_basic(alloc: Global, text: &[u8]) -> Result<Tree, PatternFault>
     ensures read { IfOk result (λ tree. IsSpelled Basic text.now (expression_of tree)) }
     ensures only { IfOk result (λ tree. SpellsNoOther Basic text.now (expression_of tree)) }
-    ensures refused { IfErr result (λ fault. (fault ≡ record { kind = FaultKind.Memory; at = 0 }) ⊎ IsNoBasic text.now fault) }
+    ensures refused { IfErr result
+        (λ fault. (fault ≡ record { kind = FaultKind.Memory; at = 0 }) ⊎ IsNoBasic text.now fault) }
 {
     let branches = read_branches(alloc, text, 0, MOST_LEVELS)?;
     if branches.behind < text.len() {

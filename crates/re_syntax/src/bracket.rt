@@ -1,10 +1,14 @@
 //! Bracket expressions (XBD 9.3.5), read in one pass from left to right.
-ghost use Rattle.std.specs.Prelude.{◌≡◌, ◌≢◌, ℕ, ◌≤◌, ◌++◌, ◌∷◌, Some, IfSome, IfNone, IfOk, IfErr, OnOk, MatchOption, MatchBool, codes, slice_get};
+ghost use Rattle.std.specs.Prelude.{◌≡◌, ◌≢◌, ℕ, ◌≤◌, ◌++◌, ◌∷◌, Some, IfSome, IfNone, IfOk, IfErr};
+ghost use Rattle.std.specs.Prelude.{OnOk, MatchOption, MatchBool, codes, slice_get};
 ghost use Rattle.re_syntax.specs.Bytes.{Begins, class_name};
 ghost use Rattle.re_syntax.specs.Expression.{expression_of};
 ghost use Rattle.re_syntax.specs.Sets.{members};
-ghost use Rattle.re_syntax.specs.Brackets.{Point, Element, Rest, IsBracket, IsBracketUpTo, IsOnlyBracket};
-ghost use Rattle.re_syntax.specs.Working.BracketSteps.{Stands, OpensNoClass, MayGoOn, HasNoPoint, HasNoRangeEnd, HasNoElement, HasNoList, HasNoBracket, IsShown, PassesHyphen};
+ghost use Rattle.re_syntax.specs.Brackets.{Point, Element, Rest, IsBracket, IsBracketUpTo};
+ghost use Rattle.re_syntax.specs.Brackets.{IsOnlyBracket};
+ghost use Rattle.re_syntax.specs.Working.BracketSteps.{Stands, OpensNoClass, MayGoOn, HasNoPoint};
+ghost use Rattle.re_syntax.specs.Working.BracketSteps.{HasNoRangeEnd, HasNoElement, HasNoList};
+ghost use Rattle.re_syntax.specs.Working.BracketSteps.{HasNoBracket, IsShown, PassesHyphen};
 ghost use Rattle.re_syntax.specs.Working.Cursors.{left, Passes};
 ghost use Rattle.re_syntax.specs.Faults.{IsNoBracket};
 
@@ -30,7 +34,8 @@ pub enum ListPlace {
 
 /// One byte and the pair that closes a collating symbol or an equivalence class.
 fn take_closed_byte(cursor: &mut Cursor, closing: &[u8]) -> Option<u8>
-    ensures { MatchOption result ((b : ℕ) → ¬ Begins (b ∷ closing.now) (left cursor.old)) (λ b. Passes (b ∷ closing.now) cursor.old cursor.new) }
+    ensures { MatchOption result ((b : ℕ) → ¬ Begins (b ∷ closing.now) (left cursor.old))
+        (λ b. Passes (b ∷ closing.now) cursor.old cursor.new) }
 {
     let byte = cursor.take()?;
     if cursor.skip(closing) {
@@ -42,7 +47,9 @@ fn take_closed_byte(cursor: &mut Cursor, closing: &[u8]) -> Option<u8>
 
 /// The name of a class and its `:]`.
 fn take_class(cursor: &mut Cursor) -> Option<Class>
-    ensures { MatchOption result ((c : Class) → ¬ Begins (class_name c ++ codes ":]") (left cursor.old)) (λ c. Passes (class_name c ++ codes ":]") cursor.old cursor.new) }
+    ensures { MatchOption result
+        ((c : Class) → ¬ Begins (class_name c ++ codes ":]") (left cursor.old))
+        (λ c. Passes (class_name c ++ codes ":]") cursor.old cursor.new) }
 {
     for class in Class::ALL {
         if cursor.skip(class.closed_name()) {
@@ -125,7 +132,9 @@ fn may_begin_range(cursor: &Cursor, place: ListPlace) -> bool
 /// Goes past a hyphen that is not the last of its list, and tells its place.
 fn skip_hyphen(cursor: &mut Cursor) -> Option<usize>
     ensures found { IfSome result (PassesHyphen cursor.old cursor.new) }
-    ensures none { IfNone result ((cursor.new ≡ cursor.old) × (Begins (codes "-") (left cursor.old) → Begins (codes "-]") (left cursor.old))) }
+    ensures none { IfNone result
+        ((cursor.new ≡ cursor.old) ×
+        (Begins (codes "-") (left cursor.old) → Begins (codes "-]") (left cursor.old))) }
 {
     let hyphen = cursor.place();
     let mut behind = *cursor;
@@ -165,7 +174,8 @@ fn read_point_or_range(
     requires opened { Stands (codes "[") opening cursor.old }
     requires no_class { OpensNoClass (left cursor.old) }
     requires goes_on { MayGoOn place (left cursor.old) }
-    ensures read { IfOk result (λ found. Element place (left cursor.old) (left cursor.new) (members found.0) found.1) }
+    ensures read { IfOk result
+        (λ found. Element place (left cursor.old) (left cursor.new) (members found.0) found.1) }
     ensures refused { IfErr result (HasNoElement opening place cursor.old) }
     ensures same_text { OnOk result (cursor.new.text ≡ cursor.old.text) }
 {
@@ -191,7 +201,8 @@ fn read_element(
 ) -> Result<(ByteSet, ListPlace), PatternFault>
     requires opened { Stands (codes "[") opening cursor.old }
     requires goes_on { MayGoOn place (left cursor.old) }
-    ensures read { IfOk result (λ found. Element place (left cursor.old) (left cursor.new) (members found.0) found.1) }
+    ensures read { IfOk result
+        (λ found. Element place (left cursor.old) (left cursor.new) (members found.0) found.1) }
     ensures refused { IfErr result (HasNoElement opening place cursor.old) }
     ensures same_text { OnOk result (cursor.new.text ≡ cursor.old.text) }
 {
@@ -220,7 +231,8 @@ fn read_element(
 /// The elements of a list and the `]` that closes it: the bytes that they add.
 fn read_list(cursor: &mut Cursor, opening: usize) -> Result<ByteSet, PatternFault>
     requires opened { Stands (codes "[") opening cursor.old }
-    ensures read { IfOk result (λ set. Rest ListPlace.First (left cursor.old) (left cursor.new) (members set)) }
+    ensures read { IfOk result
+        (λ set. Rest ListPlace.First (left cursor.old) (left cursor.new) (members set)) }
     ensures refused { IfErr result (HasNoList opening cursor.old) }
     ensures same_text { OnOk result (cursor.new.text ≡ cursor.old.text) }
 {
@@ -233,11 +245,12 @@ fn read_list(cursor: &mut Cursor, opening: usize) -> Result<ByteSet, PatternFaul
     Ok(set)
 }
 
-/// The bracket expression that comes next: a `Set` of the bytes that its list adds, or under a caret
-/// a `Not` of them. Its faults are those of `read_bracket`.
+/// The bracket expression that comes next: a `Set` of the bytes that its list adds, or under a
+/// caret a `Not` of them. Its faults are those of `read_bracket`.
 pub fn read_next_bracket(cursor: &mut Cursor) -> Result<Tree, PatternFault>
     requires { Begins (codes "[") (left cursor.old) }
-    ensures read { IfOk result (λ tree. IsBracket (left cursor.old) (left cursor.new) (expression_of tree)) }
+    ensures read { IfOk result
+        (λ tree. IsBracket (left cursor.old) (left cursor.new) (expression_of tree)) }
     ensures refused { IfErr result (HasNoBracket cursor.old) }
     ensures same_text { OnOk result (cursor.new.text ≡ cursor.old.text) }
 {
@@ -257,13 +270,15 @@ pub fn read_next_bracket(cursor: &mut Cursor) -> Result<Tree, PatternFault>
 /// # Errors
 ///
 /// Where no bracket expression stands there, the first fault that a reading from the left meets:
-/// `BadClass`, `BadCollatingSymbol` or `BadRange`, or `UnclosedBracket` where the text ends first. A
-/// `[:`, `[=` or `[.` that the text's end cuts off is no unclosed bracket but a bad class or
+/// `BadClass`, `BadCollatingSymbol` or `BadRange`, or `UnclosedBracket` where the text ends first.
+/// A `[:`, `[=` or `[.` that the text's end cuts off is no unclosed bracket but a bad class or
 /// collating symbol, and as the end of a range a `[:` or `[=` is a bad range.
 pub fn read_bracket(text: &[u8], from: usize) -> Result<(Tree, usize), PatternFault>
     requires { slice_get text.now from ≡ Some 91 }
-    ensures read { IfOk result (λ found. IsBracketUpTo text.now from found.1 (expression_of found.0)) }
-    ensures only { IfOk result (λ found. IsOnlyBracket text.now from found.1 (expression_of found.0)) }
+    ensures read { IfOk result
+        (λ found. IsBracketUpTo text.now from found.1 (expression_of found.0)) }
+    ensures only { IfOk result
+        (λ found. IsOnlyBracket text.now from found.1 (expression_of found.0)) }
     ensures refused { IfErr result (IsNoBracket text.now from) }
 {
     let mut cursor = Cursor::new(text, from);

@@ -1,8 +1,8 @@
 ghost use Rattle.std.specs.Prelude.{◌≡◌, ◌++◌, codes};
 ghost use Rattle.re_syntax.specs.Bytes.{class_name};
 
-/// A class of bytes in the POSIX locale (XBD 7.3.1), as a bracket expression names it. Its bytes are
-/// `in_class` of `specs/Bytes.antt`.
+/// A class of bytes in the POSIX locale (XBD 7.3.1), as a bracket expression names it. Its bytes
+/// are `in_class` of `specs/Bytes.antt`.
 #[derive(Clone, Copy, PartialEq, Eq, Debug, Drop)]
 pub enum Class {
     /// `A` to `Z`.

@@ -47,7 +47,8 @@ impl<'a> Cursor<'a> {
 
     /// Goes past these bytes where they come next; stays where it is where they do not.
     pub fn skip(&mut self, bytes: &[u8]) -> bool
-        ensures skipped { MatchBool result (Passes bytes.now self.old self.new) (¬ Begins bytes.now (left self.old)) }
+        ensures skipped { MatchBool result (Passes bytes.now self.old self.new)
+            (¬ Begins bytes.now (left self.old)) }
         ensures else_same { MatchBool result Unit (self.new ≡ self.old) }
     {
         let follows = self.text[self.at..].starts_with(bytes);

@@ -22,7 +22,8 @@ fn is_alphanumeric(byte: u8) -> bool
 /// Why a byte may not follow a backslash, if it may not: it is a letter, a digit or one of the
 /// others.
 fn escape_fault(byte: u8, others: &[u8]) -> Option<FaultKind>
-    ensures { MatchOption result (¬ IsTrue (is_undefined others.now byte)) (λ kind. IsRefusedEscape others.now kind byte) }
+    ensures { MatchOption result (¬ IsTrue (is_undefined others.now byte))
+        (λ kind. IsRefusedEscape others.now kind byte) }
 {
     if (b'1' <= byte) & (byte <= b'9') {
         return Some(FaultKind::BackReference);

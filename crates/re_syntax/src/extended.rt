@@ -1,14 +1,19 @@
 //! Extended regular expressions (XBD 9.4), read in one pass from left to right.
-ghost use Rattle.std.specs.Prelude.{◌≡◌, ◌≤◌, ◌<◌, ◌⊎◌, ◌∷◌, [], false, IfOk, IfErr, MatchOption, MatchBool, codes, length, take, drop, map};
+ghost use Rattle.std.specs.Prelude.{◌≡◌, ◌≤◌, ◌<◌, ◌⊎◌, ◌∷◌, [], false, IfOk, IfErr, MatchOption};
+ghost use Rattle.std.specs.Prelude.{MatchBool, codes, length, take, drop, map};
 ghost use Rattle.re_syntax.specs.Bytes.{Begins};
 ghost use Rattle.re_syntax.specs.Expression.{expression_of};
 ghost use Rattle.re_syntax.specs.Extended.{Duplication};
 ghost use Rattle.re_syntax.specs.declared.syntax.Syntax.TheVariants.{Extended};
 ghost use Rattle.re_syntax.specs.Profile.{most_levels};
 ghost use Rattle.re_syntax.specs.Spelled.{IsSpelled, SpellsNoOther};
-ghost use Rattle.re_syntax.specs.ExtendedFaults.{OpensDuplication, IsStart, HasNothingToRepeat, IsShownIn, IsNoExtended};
+ghost use Rattle.re_syntax.specs.ExtendedFaults.{OpensDuplication, IsStart, HasNothingToRepeat};
+ghost use Rattle.re_syntax.specs.ExtendedFaults.{IsShownIn, IsNoExtended};
 ghost use Rattle.re_syntax.specs.Working.PieceSteps.{IsRefused};
-ghost use Rattle.re_syntax.specs.Working.ExtendedSteps.{stops, IsNoSign, DuplicationStands, HasBadInterval, MayBegin, AtomStands, HasNoAtom, ItemStands, HasNoItems, IsNext, BranchStands, HasNoBranches, BranchesStand};
+ghost use Rattle.re_syntax.specs.Working.ExtendedSteps.{stops, IsNoSign, DuplicationStands};
+ghost use Rattle.re_syntax.specs.Working.ExtendedSteps.{HasBadInterval, MayBegin, AtomStands};
+ghost use Rattle.re_syntax.specs.Working.ExtendedSteps.{HasNoAtom, ItemStands, HasNoItems, IsNext};
+ghost use Rattle.re_syntax.specs.Working.ExtendedSteps.{BranchStands, HasNoBranches, BranchesStand};
 
 use crate::ahead::{after, byte_at};
 use crate::bytes::ByteSet;
@@ -23,7 +28,8 @@ use std::alloc::Global;
 
 /// How often a byte repeats what is before it, where it is a duplication alone.
 fn sign_counts(byte: u8) -> Option<Counts>
-    ensures { MatchOption result (IsNoSign byte) (λ counts. Duplication (byte ∷ []) counts.least counts.most) }
+    ensures { MatchOption result (IsNoSign byte)
+        (λ counts. Duplication (byte ∷ []) counts.least counts.most) }
 {
     match byte {
         b'*' => Some(Counts {
@@ -46,7 +52,10 @@ fn sign_counts(byte: u8) -> Option<Counts>
 /// that begins no text of an interval's form is none.
 fn read_duplication(text: &[u8], at: usize) -> Result<Option<(Counts, usize)>, PatternFault>
     requires { at ≤ length text.now }
-    ensures read { IfOk result (λ found. MatchOption found (¬ OpensDuplication (drop at text.now)) (λ d. DuplicationStands text.now at d.0 d.1)) }
+    ensures read { IfOk result
+        (λ found.
+        MatchOption found (¬ OpensDuplication (drop at text.now))
+        (λ d. DuplicationStands text.now at d.0 d.1)) }
     ensures refused { IfErr result (HasBadInterval text.now at) }
 {
     let sign = match byte_at(text, at) {
@@ -71,7 +80,8 @@ fn read_duplication(text: &[u8], at: usize) -> Result<Option<(Counts, usize)>, P
 /// Whether a duplication stands at a place, or an interval whose numbers are refused.
 fn opens_duplication(text: &[u8], at: usize) -> bool
     requires { at ≤ length text.now }
-    ensures { MatchBool result (OpensDuplication (drop at text.now)) (¬ OpensDuplication (drop at text.now)) }
+    ensures { MatchBool result (OpensDuplication (drop at text.now))
+        (¬ OpensDuplication (drop at text.now)) }
 {
     match read_duplication(text, at) {
         Ok(found) => found.is_some(),
@@ -101,7 +111,9 @@ fn read_group(
     requires opens { Begins (codes "(") (drop at text.now) }
     requires few { levels ≤ most_levels }
     ensures read { IfOk result (AtomStands in_group levels text.now at) }
-    ensures refused { IfErr result (λ fault. IsRefused (HasNoAtom in_group levels (drop at text.now)) (IsShownIn text.now fault) fault) }
+    ensures refused { IfErr result
+        (λ fault.
+        IsRefused (HasNoAtom in_group levels (drop at text.now)) (IsShownIn text.now fault) fault) }
 {
     if levels == 0 {
         return Err(PatternFault {
@@ -137,7 +149,9 @@ fn read_atom(
     requires begins { MayBegin in_group (drop at text.now) }
     requires few { levels ≤ most_levels }
     ensures read { IfOk result (AtomStands in_group levels text.now at) }
-    ensures refused { IfErr result (λ fault. IsRefused (HasNoAtom in_group levels (drop at text.now)) (IsShownIn text.now fault) fault) }
+    ensures refused { IfErr result
+        (λ fault.
+        IsRefused (HasNoAtom in_group levels (drop at text.now)) (IsShownIn text.now fault) fault) }
 {
     match text[at] {
         b'[' => read_bracket_atom(text, at),
@@ -176,7 +190,10 @@ fn read_item(
     requires begins { MayBegin in_group (drop at text.now) }
     requires few { levels ≤ most_levels }
     ensures read { IfOk result (ItemStands in_group levels text.now at) }
-    ensures refused { IfErr result (λ fault. IsRefused (HasNoItems in_group levels (drop at text.now)) (IsShownIn text.now fault) fault) }
+    ensures refused { IfErr result
+        (λ fault.
+        IsRefused (HasNoItems in_group levels (drop at text.now)) (IsShownIn text.now fault)
+        fault) }
 {
     let mut piece = read_atom(alloc, text, at, in_group, levels)?;
     'duplications: while let Some((counts, behind)) = read_duplication(text, piece.behind)? {
@@ -205,7 +222,10 @@ fn read_next(
     requires opens { OpensDuplication (drop at text.now) → HasNothingToRepeat (take at text.now) }
     requires few { levels ≤ most_levels }
     ensures read { IfOk result (IsNext in_group levels text.now at) }
-    ensures refused { IfErr result (λ fault. IsRefused (HasNoItems in_group levels (drop at text.now)) (IsShownIn text.now fault) fault) }
+    ensures refused { IfErr result
+        (λ fault.
+        IsRefused (HasNoItems in_group levels (drop at text.now)) (IsShownIn text.now fault)
+        fault) }
 {
     if let Some(behind) = after(text, at, b"^") {
         return Ok(Piece {
@@ -236,7 +256,10 @@ fn read_branch(
     requires starts { IsStart (take from text.now) }
     requires few { levels ≤ most_levels }
     ensures read { IfOk result (BranchStands in_group levels text.now from) }
-    ensures refused { IfErr result (λ fault. IsRefused (HasNoItems in_group levels (drop from text.now)) (IsShownIn text.now fault) fault) }
+    ensures refused { IfErr result
+        (λ fault.
+        IsRefused (HasNoItems in_group levels (drop from text.now)) (IsShownIn text.now fault)
+        fault) }
 {
     let mut items = Pieces {
         trees: Vec::new(alloc),
@@ -267,7 +290,10 @@ fn read_branches(
     requires starts { IsStart (take from text.now) }
     requires few { levels ≤ most_levels }
     ensures read { IfOk result (BranchesStand in_group levels text.now from) }
-    ensures refused { IfErr result (λ fault. IsRefused (HasNoBranches in_group levels (drop from text.now)) (IsShownIn text.now fault) fault) }
+    ensures refused { IfErr result
+        (λ fault.
+        IsRefused (HasNoBranches in_group levels (drop from text.now)) (IsShownIn text.now fault)
+        fault) }
 {
     let none = Pieces {
         trees: Vec::new(alloc),
@@ -294,7 +320,9 @@ fn read_branches(
 pub fn read_extended(alloc: Global, text: &[u8]) -> Result<Tree, PatternFault>
     ensures read { IfOk result (λ tree. IsSpelled Extended text.now (expression_of tree)) }
     ensures only { IfOk result (λ tree. SpellsNoOther Extended text.now (expression_of tree)) }
-    ensures refused { IfErr result (λ fault. (fault ≡ record { kind = FaultKind.Memory; at = 0 }) ⊎ IsNoExtended text.now fault) }
+    ensures refused { IfErr result
+        (λ fault. (fault ≡ record { kind = FaultKind.Memory; at = 0 }) ⊎
+        IsNoExtended text.now fault) }
 {
     let branches = read_branches(alloc, text, 0, false, MOST_LEVELS)?;
     Ok(choice_of(branches.trees))

@@ -2,7 +2,9 @@
 ghost use Rattle.std.specs.Prelude.{◌≡◌, ◌≤◌, length, drop, MatchOption};
 ghost use Rattle.re_syntax.specs.Intervals.{IsNoPart, IsAllowed, value, capped, HasNoInterval};
 ghost use Rattle.re_syntax.specs.IntervalFaults.{IsDisallowed};
-ghost use Rattle.re_syntax.specs.Working.IntervalSteps.{AreDigits, HasNoDigit, IsDigitCount, NumberStands, HasNoGreatest, GreatestStands, IntervalStands};
+ghost use Rattle.re_syntax.specs.Working.IntervalSteps.{AreDigits, HasNoDigit, IsDigitCount};
+ghost use Rattle.re_syntax.specs.Working.IntervalSteps.{NumberStands, HasNoGreatest};
+ghost use Rattle.re_syntax.specs.Working.IntervalSteps.{GreatestStands, IntervalStands};
 
 use crate::ahead::after;
 use crate::fault::FaultKind;
@@ -43,7 +45,8 @@ fn capped_value(digits: &[u8]) -> u16
 /// A number of one or more digits, capped, and the place behind it.
 fn read_number(text: &[u8], at: usize) -> Option<(u16, usize)>
     requires { at ≤ length text.now }
-    ensures { MatchOption result (HasNoDigit (drop at text.now)) (λ found. NumberStands text.now at found.0 found.1) }
+    ensures { MatchOption result (HasNoDigit (drop at text.now))
+        (λ found. NumberStands text.now at found.0 found.1) }
 {
     let count = digit_count(&text[at..]);
     if count == 0 {
@@ -71,7 +74,8 @@ fn read_greatest(text: &[u8], comma: usize, closing: &[u8]) -> Option<(Counts, u
 pub fn read_interval(text: &[u8], at: usize, closing: &[u8]) -> Option<(Counts, usize)>
     requires within { at ≤ length text.now }
     requires closes { IsNoPart closing.now }
-    ensures { MatchOption result (HasNoInterval closing.now (drop at text.now)) (λ found. IntervalStands closing.now text.now at found.0 found.1) }
+    ensures { MatchOption result (HasNoInterval closing.now (drop at text.now))
+        (λ found. IntervalStands closing.now text.now at found.0 found.1) }
 {
     if let Some(comma) = after(text, at, b",") {
         return read_greatest(text, comma, closing);
@@ -97,7 +101,8 @@ pub fn read_interval(text: &[u8], at: usize, closing: &[u8]) -> Option<(Counts, 
 
 /// Why counts are refused, if they are: too large, which goes first, or descending.
 pub fn counts_fault(counts: Counts) -> Option<FaultKind>
-    ensures { MatchOption result (IsAllowed counts.least counts.most) (λ kind. IsDisallowed kind counts.least counts.most) }
+    ensures { MatchOption result (IsAllowed counts.least counts.most)
+        (λ kind. IsDisallowed kind counts.least counts.most) }
 {
     if counts.least > MOST_REPEATS {
         return Some(FaultKind::IntervalTooLarge);

@@ -1,5 +1,6 @@
 //! Laws of the definitions, each the contract of a function that does nothing.
-ghost use Rattle.re_syntax.specs.Laws.{SpellsOne, KeepsStandard, BeginsWithOneBracket, HasOneSplit, HasOnePartList};
+ghost use Rattle.re_syntax.specs.Laws.{SpellsOne, KeepsStandard, BeginsWithOneBracket, HasOneSplit};
+ghost use Rattle.re_syntax.specs.Laws.{HasOnePartList};
 
 /// A text spells at most one expression in each syntax.
 #[tactic(auto, using(crate::proofs::lemmas::SpelledUnique::spells_one))]

@@ -5,7 +5,8 @@ ghost use Rattle.re_syntax.specs.Sets.{members};
 ghost use Rattle.re_syntax.specs.declared.fault.FaultKind.{FaultKind};
 ghost use Rattle.re_syntax.specs.Faults.{IsNoBracket};
 ghost use Rattle.re_syntax.specs.Profile.{most_levels};
-ghost use Rattle.re_syntax.specs.Working.PieceSteps.{meant_bytes, IsBracketPiece, IsRepeated, IsJoined};
+ghost use Rattle.re_syntax.specs.Working.PieceSteps.{meant_bytes, IsBracketPiece, IsRepeated};
+ghost use Rattle.re_syntax.specs.Working.PieceSteps.{IsJoined};
 
 use crate::bracket::read_bracket;
 use crate::bytes::ByteSet;

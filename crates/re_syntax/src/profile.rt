@@ -1,4 +1,5 @@
-//! The limits of this grep, and the bytes that it leaves undefined, as `specs/Profile.antt` has them.
+//! The limits of this grep, and the bytes that it leaves undefined, as `specs/Profile.antt` has
+//! them.
 
 /// The greatest number in an interval, `RE_DUP_MAX` (XBD 9.3.6, 9.4.6).
 pub const MOST_REPEATS: u16 = 255;

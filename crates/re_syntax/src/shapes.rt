@@ -4,7 +4,8 @@ use crate::tree::Tree;
 use std::test::Fail;
 
 /// What a node of a tree should be: a byte alone, any byte but NUL, an anchor, so many in order, so
-/// many to choose from, or one repeated. A whole tree is its nodes, each before those that are in it.
+/// many to choose from, or one repeated. A whole tree is its nodes, each before those that are in
+/// it.
 #[derive(Clone, Copy, Drop)]
 pub enum Shape {
     Empty,

@@ -6,7 +6,8 @@ use Rattle.grep.specs.declared.disk.Stream.{Stream}
 use Rattle.grep.specs.declared.disk.Stream.TheVariants.{StandardInput, File, Empty, Output}
 
 -- the bytes that a stream will give, by what is known of its device
-abbrev pub known_bytes : {I F : Type 0} → (I → Option Text) → (F → Option Text) → Stream I F → Option Text
+abbrev pub known_bytes : {I F : Type 0} → (I → Option Text) → (F → Option Text) → Stream I F →
+    Option Text
 known_bytes of_input of_file (StandardInput input) = of_input input
 known_bytes of_input of_file (File file) = of_file file
 known_bytes of_input of_file Empty = Some []

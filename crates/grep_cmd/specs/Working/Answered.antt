@@ -1,5 +1,6 @@
 -- How a script is answered, one command after the other.
-use Rattle.std.specs.Prelude.{◌≡◌, ℕ, ◌<◌, Bool, true, false, List, [], ◌∷◌, ◌++◌, length, Option, Some, None, Result, Ok, Err, ◌⊎◌}
+use Rattle.std.specs.Prelude.{◌≡◌, ℕ, ◌<◌, Bool, true, false, List, [], ◌∷◌, ◌++◌, length, Option}
+use Rattle.std.specs.Prelude.{Some, None, Result, Ok, Err, ◌⊎◌}
 use Rattle.std.specs.List.{list_any}
 use Rattle.re_syntax.specs.Bytes.{Text}
 use Rattle.grep_core.specs.Files.{Inputs, whole, broken}
@@ -28,20 +29,29 @@ was_refused Truncated = true
 
 -- ---- the next lines
 
-module _ {R : Type 0} (remaining : R → Option Text) (failures : R → ℕ) (reader : R) (handed : List Text) where
-  -- behind these lines one more was handed out, or they are all, or a read failed; else nothing is lost
+module _ {R : Type 0} (remaining : R → Option Text) (failures : R → ℕ) (reader : R)
+    (handed : List Text) where
+  -- behind these lines one more was handed out, or they are all, or a read failed; else nothing is
+  -- lost
   abbrev pub ReadsNext : Numbered R → Result Bool ScriptFault → Type 0
   ReadsNext now (Ok true) = HasHanded remaining failures reader now (handed ++ now.lines.line ∷ [])
   ReadsNext now (Ok false) = StandsAs remaining failures reader now handed whole
   ReadsNext now (Err Read) = StandsAs remaining failures reader now handed broken
   ReadsNext now (Err fault) = HasHanded remaining failures reader now handed
 
-  -- behind these lines as many were taken as were counted; or fewer are left; or a read failed before
+  -- behind these lines as many were taken as were counted; or fewer are left; or a read failed
+  -- before
   abbrev pub TakesLines : ℕ → Numbered R → Result (Option (List Text)) ScriptFault → Type 0
-  TakesLines count now (Ok (Some taken)) = (length taken ≡ count) × HasHanded remaining failures reader now (handed ++ taken)
-  TakesLines count now (Ok None) = (taken : List Text) × (length taken < count) × StandsAs remaining failures reader now (handed ++ taken) whole
-  TakesLines count now (Err Read) = (taken : List Text) × (length taken < count) × StandsAs remaining failures reader now (handed ++ taken) broken
-  TakesLines count now (Err fault) = (taken : List Text) × HasHanded remaining failures reader now (handed ++ taken)
+  TakesLines count now (Ok (Some taken)) =
+      (length taken ≡ count) × HasHanded remaining failures reader now (handed ++ taken)
+  TakesLines count now (Ok None) =
+      (taken : List Text) × (length taken < count) ×
+      StandsAs remaining failures reader now (handed ++ taken) whole
+  TakesLines count now (Err Read) =
+      (taken : List Text) × (length taken < count) ×
+      StandsAs remaining failures reader now (handed ++ taken) broken
+  TakesLines count now (Err fault) =
+      (taken : List Text) × HasHanded remaining failures reader now (handed ++ taken)
 
 module _ {W : Type 0} (contents : W → Option Text) (failures : W → ℕ) (old new : W) where
   -- what was gathered was sent, or that failed
@@ -55,19 +65,23 @@ module _ {W : Type 0} (contents : W → Option Text) (failures : W → ℕ) (old
 
   -- a reply was written, and the command was answered so
   abbrev pub Replied : List Text → Answer → Result Answer ScriptFault → Type 0
-  Replied reply answer (Ok given) = (given ≡ answer) × GoesOut contents failures old new (written [] reply)
+  Replied reply answer (Ok given) =
+      (given ≡ answer) × GoesOut contents failures old new (written [] reply)
   Replied reply answer (Err Write) = StopsWithin contents failures old new (written [] reply)
   Replied reply answer (Err fault) = ⊥
 
-  -- behind a run that ended so what was gathered was sent, or that failed; where a write failed before none is tried again
+  -- behind a run that ended so what was gathered was sent, or that failed; where a write failed
+  -- before none is tried again
   abbrev pub FlushesBehind : Result ScriptEnd ScriptFault → Result ScriptEnd ScriptFault → Type 0
   FlushesBehind (Err Write) result = (new ≡ old) × (result ≡ Err Write)
   FlushesBehind ended result =
-      (GoesOut contents failures old new [] × (result ≡ ended)) ⊎ (StopsWithin contents failures old new [] × (result ≡ Err Write))
+      (GoesOut contents failures old new [] × (result ≡ ended)) ⊎
+      (StopsWithin contents failures old new [] × (result ≡ Err Write))
 
 -- ---- one command
 
-module _ {R : Type 0} (remaining : R → Option Text) (failures : R → ℕ) (reader : R) (handed : List Text) (line : Text) (now : Numbered R) (before after : Inputs) where
+module _ {R : Type 0} (remaining : R → Option Text) (failures : R → ℕ) (reader : R)
+    (handed : List Text) (line : Text) (now : Numbered R) (before after : Inputs) where
   -- a command was done, with this reply
   pub record DoesStep (reply : List Text) : Type 0 where
     pub taken : List Text
@@ -95,14 +109,18 @@ module _ {R : Type 0} (remaining : R → Option Text) (failures : R → ℕ) (re
 
   module _ {W : Type 0} (contents : W → Option Text) (write_failures : W → ℕ) (old new : W) where
     abbrev pub AnswersLine : Result Answer ScriptFault → Type 0
-    AnswersLine (Ok Truncated) = WantsLines × GoesOut contents write_failures old new (written [] (truncated ∷ []))
+    AnswersLine (Ok Truncated) =
+        WantsLines × GoesOut contents write_failures old new (written [] (truncated ∷ []))
     AnswersLine (Ok answer) =
-        (reply : List Text) × DoesStep reply × GoesOut contents write_failures old new (written [] reply) × (list_any is_refusal reply ≡ was_refused answer)
+        (reply : List Text) × DoesStep reply ×
+        GoesOut contents write_failures old new (written [] reply) ×
+        (list_any is_refusal reply ≡ was_refused answer)
     AnswersLine (Err Read) = LosesLines × GoesOut contents write_failures old new []
     AnswersLine (Err Memory) = GivesUp × GoesOut contents write_failures old new []
     AnswersLine (Err Write) =
         (GivesUp × StopsWithin contents write_failures old new [])
-        ⊎ (((reply : List Text) × DoesStep reply × StopsWithin contents write_failures old new (written [] reply))
+        ⊎ (((reply : List Text) × DoesStep reply ×
+        StopsWithin contents write_failures old new (written [] reply))
         ⊎ (WantsLines × StopsWithin contents write_failures old new (written [] (truncated ∷ []))))
 
 -- ---- the commands so far
@@ -111,11 +129,14 @@ module _ {R : Type 0} (remaining : R → Option Text) (failures : R → ℕ) (re
 abbrev pub AreDone : List Text → List Step → Type 0
 AreDone lines [] = lines ≡ []
 AreDone lines (step ∷ steps) =
-    (line : Text) × (taken : List Text) × (more : List Text) × (lines ≡ line ∷ taken ++ more) × IsStep (line_command line) taken step × AreDone more steps
+    (line : Text) × (taken : List Text) × (more : List Text) × (lines ≡ line ∷ taken ++ more) ×
+    IsStep (line_command line) taken step × AreDone more steps
 
-module _ {R W : Type 0} (remaining : R → Option Text) (failures : R → ℕ) (contents : W → Option Text) (write_failures : W → ℕ) (reader : R) (old : W) where
+module _ {R W : Type 0} (remaining : R → Option Text) (failures : R → ℕ)
+    (contents : W → Option Text) (write_failures : W → ℕ) (reader : R) (old : W) where
   -- the lines handed out so far were answered
-  pub record AnsweredSoFar (now : Numbered R) (inputs : Inputs) (new : W) (ending : ScriptEnd) : Type 0 where
+  pub record AnsweredSoFar (now : Numbered R) (inputs : Inputs) (new : W)
+      (ending : ScriptEnd) : Type 0 where
     pub handed : List Text
     pub has_handed : HasHanded remaining failures reader now handed
     pub steps : List Step

@@ -2,7 +2,8 @@
 use Rattle.std.specs.Prelude.{List}
 use Rattle.re_syntax.specs.Bytes.{Text}
 use Rattle.re_syntax.specs.Lines.{joined}
-use Rattle.grep_session.specs.Edits.{Edit, AddFile, AddMissing, DropFile, Splice, AddPatterns, DropPattern, SetFlag, SetSyntax}
+use Rattle.grep_session.specs.Edits.{Edit, AddFile, AddMissing, DropFile, Splice, AddPatterns}
+use Rattle.grep_session.specs.Edits.{DropPattern, SetFlag, SetSyntax}
 use Rattle.grep_cmd.specs.declared.script.command.LineEdit.{LineEdit}
 use Rattle.grep_cmd.specs.declared.script.command.LineEdit.TheVariants as line_edit
 use Rattle.grep_cmd.specs.declared.script.command.CountedEdit.{CountedEdit}

@@ -22,10 +22,12 @@ pub record Adds (old new : Text) (texts : List Text) : Type 0 where
   pub no_newlines : All HasNoNewline texts
 
 -- the lines of a reader were added, which has this left, and whether these are all
-pub record AddsLines (known rest : Option Text) (failed_before failed : ℕ) (old new : Text) (all : Bool) : Type 0 where
+pub record AddsLines (known rest : Option Text) (failed_before failed : ℕ) (old new : Text)
+    (all : Bool) : Type 0 where
   pub texts : List Text
   pub adds : Adds old new texts
-  pub stands : (name : Text) → StandsFor name known rest failed_before failed texts (if all then whole else broken)
+  pub stands : (name : Text) →
+      StandsFor name known rest failed_before failed texts (if all then whole else broken)
 
 abbrev pub refusal : Text → ℕ → Result (List Text) Unread
 refusal message failures = Err (record { message = message; failures = failures })
@@ -33,18 +35,27 @@ refusal message failures = Err (record { message = message; failures = failures 
 module _ (source : reading.Source) (failed_before failed : ℕ) (old new : Text) where
   -- a pattern file was read so: to its end, and its lines were added, or it wasn't
   abbrev pub ReadsFile : FileRead → Type 0
-  ReadsFile read.Whole = (texts : List Text) × FileGives source (Ok texts) × Adds old new texts × (failed ≡ failed_before)
-  ReadsFile read.Missing = (n : ℕ) × FileGives source (refusal (cannot_open source.name) n) × (failed ≡ count_more failed_before n)
-  ReadsFile read.Broken = (n : ℕ) × FileGives source (refusal (read_error source.name) n) × (failed ≡ count_more failed_before n)
+  ReadsFile read.Whole =
+      (texts : List Text) × FileGives source (Ok texts) × Adds old new texts ×
+      (failed ≡ failed_before)
+  ReadsFile read.Missing =
+      (n : ℕ) × FileGives source (refusal (cannot_open source.name) n) ×
+      (failed ≡ count_more failed_before n)
+  ReadsFile read.Broken =
+      (n : ℕ) × FileGives source (refusal (read_error source.name) n) ×
+      (failed ≡ count_more failed_before n)
 
 -- the patterns of a source were added
 abbrev pub AddsSource : Folder → PatternsFrom → Text → Text → Type 0
-AddsSource folder source old new = (texts : List Text) × GivesPatterns folder source (Ok texts) × Adds old new texts
+AddsSource folder source old new =
+    (texts : List Text) × GivesPatterns folder source (Ok texts) × Adds old new texts
 
 -- reading stops, by this law, at a file that is not read; nothing failed where memory was wanting
 module _ (Stops : Unread → Type 0) (failed_before failed : ℕ) where
   abbrev pub StopsBy : Text → Type 0
-  StopsBy message = (n : ℕ) × Stops (record { message = message; failures = n }) × (failed ≡ count_more failed_before n)
+  StopsBy message =
+      (n : ℕ) × Stops (record { message = message; failures = n }) ×
+      (failed ≡ count_more failed_before n)
 
   abbrev pub StopsFor : PatternsFault → Type 0
   StopsFor (fault.Missing word) = StopsBy (cannot_open (display_name word.now))

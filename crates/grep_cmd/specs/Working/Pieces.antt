@@ -3,7 +3,9 @@ use Rattle.std.specs.Prelude.{◌≡◌, List, ◌∷◌, map, Option, Some, Non
 use Rattle.std.specs.Borrow.{Bor}
 use Rattle.std.specs.Str.{chars}
 use Rattle.re_syntax.specs.Bytes.{Text}
-use Rattle.grep_cmd.specs.Words.{Piece, flag, reads_as, source, operand, fault, source_of, an_operand, ends_options, a_group, word_of, group, pieces, texts_of}
+use Rattle.grep_cmd.specs.Words.{Piece, flag, reads_as, source, operand, fault, source_of}
+use Rattle.grep_cmd.specs.Words.{an_operand, ends_options, a_group, word_of, group, pieces}
+use Rattle.grep_cmd.specs.Words.{texts_of}
 use Rattle.grep_cmd.specs.declared.words.UsageFault.{UsageFault}
 use Rattle.grep_cmd.specs.declared.words.pieces.Piece as code
 use Rattle.grep_cmd.specs.declared.words.pieces.Piece.TheVariants as piece

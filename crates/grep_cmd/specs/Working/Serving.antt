@@ -13,8 +13,10 @@ use Rattle.grep_core.specs.declared.options.Options.{Options}
 use Rattle.grep_core.specs.Files.{AreMeant}
 use Rattle.grep_core.specs.Working.SameChoice.{IsSameChoice}
 
--- matchers of the same choice as what the patterns mean, and no more than these; each pattern is readable
-pub record ServeFor (syntax : Syntax) (options : Options) (texts : List Text) (matchers : List Matcher) : Type 0 where
+-- matchers of the same choice as what the patterns mean, and no more than these; each pattern is
+-- readable
+pub record ServeFor (syntax : Syntax) (options : Options) (texts : List Text)
+    (matchers : List Matcher) : Type 0 where
   pub es : List Expression
   pub meant : AreMeant syntax options texts es
   pub same : IsSameChoice (map matched_expression matchers) es

@@ -25,7 +25,8 @@ use std::alloc::{AllocError, Global};
 /// Makes an edit for which the command line is enough.
 fn make_edit(session: &mut Session, edit: LineEdit, meter: &mut Meter) -> Result<(), EditFault>
     ensures gives { EditGives (line_meant edit) session.old session.new result }
-    ensures memory { NeedsNoMemory (line_meant edit) session.old → IfErr result (λ fault. fault ≢ Memory) }
+    ensures memory { NeedsNoMemory (line_meant edit) session.old →
+        IfErr result (λ fault. fault ≢ Memory) }
 {
     match edit {
         LineEdit::AddMissing(name) => session.add_missing(name),
@@ -45,8 +46,13 @@ fn make_counted_edit(
     lines: Vec<Vec<u8>>,
     meter: &mut Meter,
 ) -> Result<Result<(), EditFault>, AllocError>
-    ensures gives { IfOk result (λ answer. EditGives (counted_meant edit (map (λ l. l.items) lines.items)) session.old session.new answer) }
-    ensures memory { IfOk result (λ answer. NeedsNoMemory (counted_meant edit (map (λ l. l.items) lines.items)) session.old → IfErr answer (λ fault. fault ≢ Memory)) }
+    ensures gives { IfOk result
+        (λ answer.
+        EditGives (counted_meant edit (map (λ l. l.items) lines.items)) session.old session.new
+        answer) }
+    ensures memory { IfOk result
+        (λ answer. NeedsNoMemory (counted_meant edit (map (λ l. l.items) lines.items)) session.old →
+        IfErr answer (λ fault. fault ≢ Memory)) }
 {
     match edit {
         CountedEdit::AddFile(name) => Ok(session.add_file(name, lines, meter)),
@@ -67,7 +73,8 @@ fn reply_to_edit<W: CountedWrite>(
     answer: Result<(), EditFault>,
     out: &mut W,
 ) -> Result<Answer, ScriptFault>
-    ensures { Replied W.contents W.failures out.old out.new (reply_to answer ∷ []) (answer_for answer) result }
+    ensures { Replied W.contents W.failures out.old out.new (reply_to answer ∷ [])
+        (answer_for answer) result }
 {
     match write_reply(out, answer) {
         Ok(answer) => Ok(answer),
@@ -77,7 +84,8 @@ fn reply_to_edit<W: CountedWrite>(
 
 /// Writes the reply to a line that is no command.
 fn reply_to_bad_line<W: CountedWrite>(out: &mut W) -> Result<Answer, ScriptFault>
-    ensures { Replied W.contents W.failures out.old out.new (bad_command ∷ []) Answer.Refused result }
+    ensures { Replied W.contents W.failures out.old out.new (bad_command ∷ []) Answer.Refused
+        result }
 {
     match write_line(out, b"refused BadCommand") {
         Ok(()) => Ok(Answer::Refused),
@@ -87,7 +95,8 @@ fn reply_to_bad_line<W: CountedWrite>(out: &mut W) -> Result<Answer, ScriptFault
 
 /// Writes the reply to a command that counts more lines than follow.
 fn reply_to_truncated<W: CountedWrite>(out: &mut W) -> Result<Answer, ScriptFault>
-    ensures { Replied W.contents W.failures out.old out.new (truncated ∷ []) Answer.Truncated result }
+    ensures { Replied W.contents W.failures out.old out.new (truncated ∷ []) Answer.Truncated
+        result }
 {
     match write_line(out, b"refused Truncated") {
         Ok(()) => Ok(Answer::Truncated),
@@ -97,7 +106,8 @@ fn reply_to_truncated<W: CountedWrite>(out: &mut W) -> Result<Answer, ScriptFaul
 
 /// Writes the report.
 fn reply_to_show<W: CountedWrite>(session: &Session, out: &mut W) -> Result<Answer, ScriptFault>
-    ensures { (shown : List Text) × AreShown session.now shown × Replied W.contents W.failures out.old out.new shown Answer.Accepted result }
+    ensures { (shown : List Text) × AreShown session.now shown ×
+        Replied W.contents W.failures out.old out.new shown Answer.Accepted result }
 {
     match show(session, out) {
         Ok(()) => Ok(Answer::Accepted),
@@ -115,9 +125,11 @@ fn answer_counted<R: CountedRead, W: CountedWrite>(
     meter: &mut Meter,
     out: &mut W,
 ) -> Result<Answer, ScriptFault>
-    ensures answers { (reader : R) (handed : List Text) (line : Text) → HasHanded R.remaining R.failures reader lines.old handed
+    ensures answers { (reader : R) (handed : List Text) (line : Text) →
+        HasHanded R.remaining R.failures reader lines.old handed
         → line_command line ≡ Some (counts count (counted_meant edit))
-        → AnswersLine R.remaining R.failures reader handed line lines.new session.old session.new W.contents W.failures out.old out.new result }
+        → AnswersLine R.remaining R.failures reader handed line lines.new session.old session.new
+        W.contents W.failures out.old out.new result }
     ensures same_loan { R.loan lines.new.lines.reader ≡ R.loan lines.old.lines.reader }
 {
     let taken = match take_lines(alloc, lines, count, out) {
@@ -139,8 +151,10 @@ pub fn answer_command<R: CountedRead, W: CountedWrite>(
     meter: &mut Meter,
     out: &mut W,
 ) -> Result<Answer, ScriptFault>
-    ensures answers { (reader : R) (handed : List Text) → HasHanded R.remaining R.failures reader lines.old handed
-        → AnswersLine R.remaining R.failures reader handed lines.old.lines.line lines.new session.old session.new W.contents W.failures out.old out.new result }
+    ensures answers { (reader : R) (handed : List Text) →
+        HasHanded R.remaining R.failures reader lines.old handed
+        → AnswersLine R.remaining R.failures reader handed lines.old.lines.line lines.new
+        session.old session.new W.contents W.failures out.old out.new result }
     ensures same_loan { R.loan lines.new.lines.reader ≡ R.loan lines.old.lines.reader }
 {
     match read_command(alloc, lines.line()) {

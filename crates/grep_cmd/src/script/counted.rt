@@ -18,7 +18,9 @@ pub fn next_line<R: CountedRead, W: CountedWrite>(
     lines: &mut NumberedLines<R>,
     out: &mut W,
 ) -> Result<bool, ScriptFault>
-    ensures next { (reader : R) (handed : List Text) → HasHanded R.remaining R.failures reader lines.old handed → ReadsNext R.remaining R.failures reader handed lines.new result }
+    ensures next { (reader : R) (handed : List Text) →
+        HasHanded R.remaining R.failures reader lines.old handed →
+        ReadsNext R.remaining R.failures reader handed lines.new result }
     ensures sent { Flushes W.contents W.failures out.old out.new result }
     ensures same_loan { R.loan lines.new.lines.reader ≡ R.loan lines.old.lines.reader }
 {
@@ -35,7 +37,9 @@ pub fn next_line<R: CountedRead, W: CountedWrite>(
 
 /// Puts a copy of the line behind the others.
 fn push_line(alloc: Global, lines: &mut Vec<Vec<u8>>, line: &[u8]) -> Result<(), AllocError>
-    ensures { IfOk result (λ _. map (λ l. l.items) lines.new.items ≡ map (λ l. l.items) lines.old.items ++ line.now ∷ []) }
+    ensures { IfOk result
+        (λ _. map (λ l. l.items) lines.new.items ≡ map (λ l. l.items) lines.old.items ++ line.now ∷
+        []) }
 {
     let mut copy = Vec::new(alloc);
     copy.extend_from_slice(line)?;
@@ -51,8 +55,11 @@ pub fn take_lines<R: CountedRead, W: CountedWrite>(
     count: usize,
     out: &mut W,
 ) -> Result<Option<Vec<Vec<u8>>>, ScriptFault>
-    ensures takes { (reader : R) (handed : List Text) → HasHanded R.remaining R.failures reader lines.old handed
-        → TakesLines R.remaining R.failures reader handed count lines.new (result_map_both (λ taken. option_map (λ ls. map (λ l. l.items) ls.items) taken) (λ e. e) result) }
+    ensures takes { (reader : R) (handed : List Text) →
+        HasHanded R.remaining R.failures reader lines.old handed
+        → TakesLines R.remaining R.failures reader handed count lines.new
+        (result_map_both (λ taken. option_map (λ ls. map (λ l. l.items) ls.items) taken)
+        (λ e. e) result) }
     ensures sent { Flushes W.contents W.failures out.old out.new result }
     ensures same_loan { R.loan lines.new.lines.reader ≡ R.loan lines.old.lines.reader }
 {
@@ -73,7 +80,8 @@ pub fn take_lines<R: CountedRead, W: CountedWrite>(
 
 /// Adds a line, behind a newline where it is not the first.
 fn add_line(text: &mut Vec<u8>, first: bool, line: &[u8]) -> Result<(), AllocError>
-    ensures { IfOk result (λ _. text.new.items ≡ text.old.items ++ (if first then line.now else newline ∷ line.now)) }
+    ensures { IfOk result
+        (λ _. text.new.items ≡ text.old.items ++ (if first then line.now else newline ∷ line.now)) }
 {
     if first {
         text.extend_from_slice(line)?;

@@ -65,7 +65,8 @@ impl<'a> LineWords<'a> {
 
     /// The two words that are left.
     pub fn two(mut self) -> Option<(&'a [u8], &'a [u8])>
-        ensures { option_map (λ words. words.0.now ∷ words.1.now ∷ []) result ≡ two_words self.entry }
+        ensures { option_map (λ words. words.0.now ∷ words.1.now ∷ []) result ≡
+            two_words self.entry }
     {
         let first = self.next()?;
         let second = self.only()?;
@@ -74,7 +75,9 @@ impl<'a> LineWords<'a> {
 
     /// The four words that are left, two and two.
     pub fn four(mut self) -> Option<((&'a [u8], &'a [u8]), (&'a [u8], &'a [u8]))>
-        ensures { option_map (λ words. words.0.0.now ∷ words.0.1.now ∷ words.1.0.now ∷ words.1.1.now ∷ []) result ≡ four_words self.entry }
+        ensures { option_map
+            (λ words. words.0.0.now ∷ words.0.1.now ∷ words.1.0.now ∷ words.1.1.now ∷ []) result ≡
+            four_words self.entry }
     {
         let first = self.next()?;
         let second = self.next()?;

@@ -25,7 +25,8 @@ pub enum Answer {
 
 /// Writes which pattern is refused, counted from 0.
 fn write_place<W: CountedWrite>(out: &mut W, place: usize) -> Result<(), WriteFault>
-    ensures { Writes W.contents W.failures out.old out.new (codes "refused Pattern " ++ decimal place) result }
+    ensures { Writes W.contents W.failures out.old out.new
+        (codes "refused Pattern " ++ decimal place) result }
 {
     push_all(out, b"refused Pattern ")?;
     write_decimal(out, place as u64)
@@ -59,7 +60,10 @@ fn write_pattern_refused<W: CountedWrite>(
     fault: PatternFault,
 ) -> Result<(), WriteFault>
     ensures { Writes W.contents W.failures out.old out.new
-        (output_line [] (refused_for (codes "Pattern " ++ decimal place ++ codes " " ++ kind_name fault.kind ++ codes " " ++ decimal fault.at))) result }
+        (output_line []
+        (refused_for
+        (codes "Pattern " ++ decimal place ++ codes " " ++ kind_name fault.kind ++ codes " " ++
+        decimal fault.at))) result }
 {
     write_place_and_kind(out, place, fault.kind)?;
     write_count(out, b" ", None, fault.at as u64)
@@ -68,7 +72,8 @@ fn write_pattern_refused<W: CountedWrite>(
 /// Writes the refusal of an edit.
 #[tactic(auto, unfolding(crate::specs::Replies::cause))]
 fn write_refused<W: CountedWrite>(out: &mut W, fault: EditFault) -> Result<(), WriteFault>
-    ensures { Writes W.contents W.failures out.old out.new (output_line [] (refused_for (cause fault))) result }
+    ensures { Writes W.contents W.failures out.old out.new
+        (output_line [] (refused_for (cause fault))) result }
 {
     match fault {
         EditFault::NoSuchFile => write_line(out, b"refused NoSuchFile"),
@@ -87,7 +92,8 @@ pub fn write_reply<W: CountedWrite>(
     out: &mut W,
     answer: Result<(), EditFault>,
 ) -> Result<Answer, WriteFault>
-    ensures written { Writes W.contents W.failures out.old out.new (output_line [] (reply_to answer)) result }
+    ensures written { Writes W.contents W.failures out.old out.new
+        (output_line [] (reply_to answer)) result }
     ensures answered { IfOk result (λ given. given ≡ answer_for answer) }
 {
     match answer {

@@ -1,4 +1,5 @@
--- A pass over the lines of a reader, from its first line on: which lines were handed out, and what was written for them.
+-- A pass over the lines of a reader, from its first line on: which lines were handed out, and what
+-- was written for them.
 use Rattle.std.specs.Prelude.{◌≡◌, ℕ, ◌⊎◌, List, [], ◌∷◌, ◌++◌, All, Option}
 use Rattle.std.specs.Io.KnownBytes.{Consumes, IsAtEnd}
 use Rattle.re_syntax.specs.Bytes.{Text}
@@ -7,7 +8,8 @@ use Rattle.grep_core.specs.declared.input.lines.Stage.{Stage}
 use Rattle.grep_core.specs.declared.input.lines.Stage.TheVariants.{Open, Ended, Failed}
 use Rattle.grep_core.specs.Working.LineReader.{LineReader, to_come}
 use Rattle.grep_core.specs.Files.{File, Ending, whole, broken}
-use Rattle.grep_core.specs.Reading.{Reading, IsReadingOf, open_source, file_of, failures_of, AreLeft}
+use Rattle.grep_core.specs.Reading.{Reading, IsReadingOf, open_source, file_of, failures_of}
+use Rattle.grep_core.specs.Reading.{AreLeft}
 use Rattle.grep_core.specs.Run.{count_more}
 
 -- each line handed out ended in a newline; only the last line of an input may lack it
@@ -25,15 +27,18 @@ module _ {R : Type 0} (remaining : R → Option Text) (failures : R → ℕ) whe
     pub all_given : now.stage ≡ Ended → IsAtEnd (to_come remaining failures now)
     pub none_failed : failures now.reader ≡ failures reader
 
--- a source that is open, failed so often while it was read, and has this left, stands for a file of these lines
-pub record StandsFor (name : Text) (known rest : Option Text) (failed_before failed : ℕ) (lines : List Text) (ending : Ending) : Type 0 where
+-- a source that is open, failed so often while it was read, and has this left, stands for a file of
+-- these lines
+pub record StandsFor (name : Text) (known rest : Option Text) (failed_before failed : ℕ)
+    (lines : List Text) (ending : Ending) : Type 0 where
   pub reading : Reading
   pub is_reading : IsReadingOf (open_source name known) reading
   pub is_left : AreLeft (open_source name known) reading (rest ∷ [])
   pub file : file_of name reading ≡ record { name = name; lines = lines; ending = ending }
   pub counted : failed ≡ count_more failed_before (failures_of reading)
 
--- a source that is open, read as far as some lines, may stand for a file that begins with these lines
+-- a source that is open, read as far as some lines, may stand for a file that begins with these
+-- lines
 pub record BeginsWith (name : Text) (known : Option Text) (lines : List Text) : Type 0 where
   pub reading : Reading
   pub is_reading : IsReadingOf (open_source name known) reading

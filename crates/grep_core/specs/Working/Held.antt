@@ -1,5 +1,6 @@
 -- The bytes that are held between two calls, and the line that was handed out.
-use Rattle.std.specs.Prelude.{◌≡◌, ℕ, ◌-◌, ◌<◌, ◌≤◌, Bool, true, false, [], length, get_or, take, slice_range, ⊤}
+use Rattle.std.specs.Prelude.{◌≡◌, ℕ, ◌-◌, ◌<◌, ◌≤◌, Bool, true, false, [], length, get_or, take}
+use Rattle.std.specs.Prelude.{slice_range, ⊤}
 use Rattle.re_syntax.specs.Bytes.{Text}
 use Rattle.re_syntax.specs.Lines.{newline, HasNoNewline}
 use Rattle.grep_core.specs.declared.input.window.Shown.{Shown}
@@ -37,9 +38,10 @@ ShownFits Nothing = ⊤
 ShownFits (Short from to) = (from ≤ to) × (to ≤ 65536)
 ShownFits Long = ⊤
 
--- the buffer is full, its places are in order, what waits is the beginning of one line, and what is ahead in the buffer has its last
--- newline before the place `last`, if any
-pub record IsSound (buffer : Text) (start last end : ℕ) (shown : Shown) (spill : Text) : Type 0 where
+-- the buffer is full, its places are in order, what waits is the beginning of one line, and what is
+-- ahead in the buffer has its last newline before the place `last`, if any
+pub record IsSound (buffer : Text) (start last end : ℕ) (shown : Shown)
+    (spill : Text) : Type 0 where
   pub full : length buffer ≡ 65536
   pub ordered : start ≤ last
   pub before_end : last ≤ end

@@ -32,7 +32,8 @@ module _ {R : Type 0} (remaining : R → Option Text) (failures : R → ℕ) whe
   abbrev pub IsLineOf : LineReader R → LineReader R → Stage → Type 0
   IsLineOf old new Open = Consumes (to_come old) (to_come new) (new.line ++ newline ∷ [])
   IsLineOf old new Ended =
-      Consumes (to_come old) (to_come new) new.line × IsAtEnd (to_come new) × (new.line ≢ []) × (new.ahead ≡ [])
+      Consumes (to_come old) (to_come new) new.line × IsAtEnd (to_come new) × (new.line ≢ []) ×
+      (new.ahead ≡ [])
   IsLineOf old new Failed = ⊥
 
   -- a line was handed out

@@ -10,7 +10,8 @@ use Rattle.grep_core.specs.declared.options.Options.{Options}
 use Rattle.grep_core.specs.Files.{AreMeant}
 
 -- one matcher for each pattern, each of which is readable
-pub record AreMatchers (syntax : Syntax) (options : Options) (texts : List Text) (matchers : List Matcher) : Type 0 where
+pub record AreMatchers (syntax : Syntax) (options : Options) (texts : List Text)
+    (matchers : List Matcher) : Type 0 where
   pub meant : AreMeant syntax options texts (map matched_expression matchers)
   pub wholes : AllAnswer options.line_regexp (map wants_whole matchers)
   pub readable : All (IsReadable syntax options.ignore_case) texts

@@ -1,5 +1,6 @@
 -- What a reader of numbered lines has handed out, and what a call for the next line does.
-use Rattle.std.specs.Prelude.{◌≡◌, ℕ, ◌≤◌, ◌⊎◌, All, Bool, true, false, List, [], ◌∷◌, ◌++◌, length, Option, Result, Ok, Err}
+use Rattle.std.specs.Prelude.{◌≡◌, ℕ, ◌≤◌, ◌⊎◌, All, Bool, true, false, List, [], ◌∷◌, ◌++◌, length}
+use Rattle.std.specs.Prelude.{Option, Result, Ok, Err}
 use Rattle.re_syntax.specs.Bytes.{Text}
 use Rattle.re_syntax.specs.Lines.{terminated, HasNoNewline}
 use Rattle.grep_core.specs.declared.input.lines.ReadFault.{ReadFault}
@@ -24,10 +25,12 @@ module _ {R : Type 0} (remaining : R → Option Text) (failures : R → ℕ) whe
   -- the reader stands for a file of these lines, which ends so
   abbrev pub StandsAs : R → Numbered R → List Text → Ending → Type 0
   StandsAs reader now handed ending =
-      (name : Text) → StandsFor name (remaining reader) (remaining now.lines.reader) (failures reader) (failures now.lines.reader) handed ending
+      (name : Text) →
+      StandsFor name (remaining reader) (remaining now.lines.reader) (failures reader)
+      (failures now.lines.reader) handed ending
 
-  -- behind these lines a line was handed out; or they are all; or a read failed, or there is one more than can be
-  -- numbered; or a growth was refused, and nothing is lost
+  -- behind these lines a line was handed out; or they are all; or a read failed, or there is one
+  -- more than can be numbered; or a growth was refused, and nothing is lost
   abbrev pub NextIs : R → List Text → Numbered R → Result Bool ReadFault → Type 0
   NextIs reader handed now (Ok true) = HasHanded reader now (handed ++ now.lines.line ∷ [])
   NextIs reader handed now (Ok false) = StandsAs reader now handed whole
@@ -35,10 +38,14 @@ module _ {R : Type 0} (remaining : R → Option Text) (failures : R → ℕ) whe
   NextIs reader handed now (Err Memory) = HasHanded reader now handed
 
   abbrev pub HandsNext : Numbered R → Numbered R → Result Bool ReadFault → Type 0
-  HandsNext old new result = (reader : R) (handed : List Text) → HasHanded reader old handed → NextIs reader handed new result
+  HandsNext old new result =
+      (reader : R) (handed : List Text) → HasHanded reader old handed →
+      NextIs reader handed new result
 
   -- whole lines of so many bytes were passed, as if they had been handed out; or none was
   abbrev pub PassesNext : Numbered R → Numbered R → ℕ → Type 0
   PassesNext old new count =
-      (lines : List Text) (rest : Text) → All HasNoNewline lines → old.lines.ahead ≡ terminated lines ++ rest → count ≡ length (terminated lines)
-      → (reader : R) (handed : List Text) → HasHanded reader old handed → HasHanded reader new handed ⊎ HasHanded reader new (handed ++ lines)
+      (lines : List Text) (rest : Text) → All HasNoNewline lines →
+      old.lines.ahead ≡ terminated lines ++ rest → count ≡ length (terminated lines)
+      → (reader : R) (handed : List Text) → HasHanded reader old handed →
+      HasHanded reader new handed ⊎ HasHanded reader new (handed ++ lines)

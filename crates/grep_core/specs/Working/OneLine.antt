@@ -6,7 +6,8 @@ use Rattle.grep_core.specs.declared.options.Options.{Options}
 use Rattle.grep_core.specs.Counted.{one_more}
 use Rattle.grep_core.specs.Choose.{IfHolds}
 use Rattle.grep_core.specs.Files.{File, Selected}
-use Rattle.grep_core.specs.Output.{Form, parts, lines, form, head_of, RowsOf, PartsOfLine, PartRowsOf}
+use Rattle.grep_core.specs.Output.{Form, parts, lines, form, head_of, RowsOf, PartsOfLine}
+use Rattle.grep_core.specs.Output.{PartRowsOf}
 use Rattle.grep_core.specs.Run.{Writer, TakesAll, TakesFront}
 use Rattle.grep_core.specs.Working.Handed.{file_so_far}
 
@@ -19,13 +20,17 @@ module _ (es : List Expression) (options : Options) (many : Bool) where
 
   -- the rows of a selected line
   abbrev pub RowsOfSelected : Form → Text → ℕ → Text → List Text → Type 0
-  RowsOfSelected lines name number line rows = rows ≡ (head_of es options many (file_so_far name []) number ++ line) ∷ []
-  RowsOfSelected parts name number line rows = PartsOfLine es options many (file_so_far name []) (number, line) rows
+  RowsOfSelected lines name number line rows =
+      rows ≡ (head_of es options many (file_so_far name []) number ++ line) ∷ []
+  RowsOfSelected parts name number line rows =
+      PartsOfLine es options many (file_so_far name []) (number, line) rows
   RowsOfSelected _ name number line rows = rows ≡ []
 
   -- the rows of a line
   abbrev pub RowsOfLine : Text → ℕ → Text → List Text → Type 0
-  RowsOfLine name number line rows = IfHolds (Selected es options line) (RowsOfSelected (form options) name number line rows) (rows ≡ [])
+  RowsOfLine name number line rows =
+      IfHolds (Selected es options line) (RowsOfSelected (form options) name number line rows)
+      (rows ≡ [])
 
   module _ (name : Text) (number : ℕ) (line : Text) (old new : Writer) where
     -- the rows of a selected line were written

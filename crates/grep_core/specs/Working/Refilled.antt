@@ -14,7 +14,8 @@ module _ {R : Type 0} (remaining : R → Option Text) (failures : R → ℕ) whe
       Keeps (prepend_known held.ahead (remaining reader)) (prepend_known new.ahead (remaining next))
       × (failures next ≡ failures reader) × (new.line ≡ []) × (length held.ahead < length new.ahead)
   Refilled held new reader next Ended =
-      (new.ahead ≡ []) × (new.line ≡ held.ahead) × IsAtEnd (remaining reader) × IsAtEnd (remaining next)
+      (new.ahead ≡ []) × (new.line ≡ held.ahead) × IsAtEnd (remaining reader) ×
+      IsAtEnd (remaining next)
       × Keeps (remaining reader) (remaining next) × (failures next ≡ failures reader)
   Refilled held new reader next Failed =
       (new.ahead ≡ held.ahead) × (new.line ≡ []) × Keeps (remaining reader) (remaining next)

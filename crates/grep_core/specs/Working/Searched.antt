@@ -1,5 +1,6 @@
 -- What a search of one source does.
-use Rattle.std.specs.Prelude.{◌≡◌, ℕ, nat_lt, ◌≤◌, Bool, true, false, ◌||◌, IsTrue, ◌↔◌, List, [], ◌∷◌, ◌++◌, length, Option, Result, Ok, Err, if◌then◌else◌}
+use Rattle.std.specs.Prelude.{◌≡◌, ℕ, nat_lt, ◌≤◌, Bool, true, false, ◌||◌, IsTrue, ◌↔◌, List, []}
+use Rattle.std.specs.Prelude.{◌∷◌, ◌++◌, length, Option, Result, Ok, Err, if◌then◌else◌}
 use Rattle.std.specs.Fmt.{decimal}
 use Rattle.re_syntax.specs.Bytes.{Text}
 use Rattle.re_syntax.specs.Expression.{Expression}
@@ -19,7 +20,8 @@ use Rattle.grep_core.specs.Files.{Ending, whole, missing, broken, HasSelected}
 use Rattle.grep_core.specs.Output.{Form, names, counts, form, OutAs}
 use Rattle.grep_core.specs.Messages.{message, FaultMet, Told}
 use Rattle.grep_core.specs.Reading.{Source, Reading, IsReadingOf, file_of, failures_of, AreLeft}
-use Rattle.grep_core.specs.Run.{Writer, Devices, TakesAll, TakesFront, RowsAs, first_lines, count_more}
+use Rattle.grep_core.specs.Run.{Writer, Devices, TakesAll, TakesFront, RowsAs, first_lines}
+use Rattle.grep_core.specs.Run.{count_more}
 use Rattle.grep_core.specs.Working.Wanted.{name_shown}
 use Rattle.grep_core.specs.Cost.{SearchesLines}
 
@@ -65,20 +67,26 @@ told_of silent end name = if silent then [] else message (ending_of end) name
 abbrev pub status_by : Bool → Bool → Status
 status_by some faulty = if faulty then Error else if some then Selected else NoneSelected
 
--- `began` and `ended` are the steps that were counted before and after the search; there are no more than that of the file's lines costs.
--- `given` says of what readers may have left that readers were given back that had this left, in the search of the source
-module _ (es : List Expression) (options : Options) (many : Bool) (source : Source) (given : List (Option Text) → Type 0) where
-  -- how often the devices failed in the source, where a fault is met in it, and what its reader had left
+-- `began` and `ended` are the steps that were counted before and after the search; there are no
+-- more than that of the file's lines costs.
+-- `given` says of what readers may have left that readers were given back that had this left, in
+-- the search of the source
+module _ (es : List Expression) (options : Options) (many : Bool) (source : Source)
+    (given : List (Option Text) → Type 0) where
+  -- how often the devices failed in the source, where a fault is met in it, and what its reader had
+  -- left
   pub record CountsSource (reading : Reading) (before after : ℕ) : Type 0 where
     pub own : ℕ
-    pub are_own : IfHolds (FaultMet es options (file_of source.name reading)) (own ≡ failures_of reading) (own ≡ 0)
+    pub are_own : IfHolds (FaultMet es options (file_of source.name reading))
+        (own ≡ failures_of reading) (own ≡ 0)
     pub counted : after ≡ count_more before own
     pub left : List (Option Text)
     pub are_left : AreLeft source reading left
     pub gave_back : given left
 
   -- a beginning of what is written of the source's file went out, and a write failed
-  pub record BreaksSource (failed_before failed : ℕ) (old new : Writer) (began ended : Steps) : Type 0 where
+  pub record BreaksSource (failed_before failed : ℕ) (old new : Writer)
+      (began ended : Steps) : Type 0 where
     pub reading : Reading
     pub is_reading : IsReadingOf source reading
     pub failures : CountsSource reading failed_before failed
@@ -89,7 +97,8 @@ module _ (es : List Expression) (options : Options) (many : Bool) (source : Sour
     pub steps : SearchesLines es options (length es) (file_of source.name reading).lines began ended
 
   -- the rows of the first n lines of the source's file went out, and no device failed
-  pub record StopsSource (n failed_before failed : ℕ) (old new : Writer) (began ended : Steps) : Type 0 where
+  pub record StopsSource (n failed_before failed : ℕ) (old new : Writer)
+      (began ended : Steps) : Type 0 where
     pub reading : Reading
     pub is_reading : IsReadingOf source reading
     pub none_failed : failed ≡ failed_before
@@ -97,12 +106,15 @@ module _ (es : List Expression) (options : Options) (many : Bool) (source : Sour
     pub gave_back : given (rest ∷ [])
     pub in_file : n ≤ length (file_of source.name reading).lines
     pub rows : List Text
-    pub are_rows : RowsAs es options (form options) many (first_lines n (file_of source.name reading)) rows
+    pub are_rows : RowsAs es options (form options) many
+        (first_lines n (file_of source.name reading)) rows
     pub wrote : TakesAll old new rows
     pub steps : SearchesLines es options (length es) (file_of source.name reading).lines began ended
 
-  -- the source was searched: it stands for a file, of whose output the rows went out and the summary is left
-  pub record SearchesSource (failed_before failed : ℕ) (old new : Writer) (began ended : Steps) (end : FileEnd) (selected : ℕ) : Type 0 where
+  -- the source was searched: it stands for a file, of whose output the rows went out and the
+  -- summary is left
+  pub record SearchesSource (failed_before failed : ℕ) (old new : Writer) (began ended : Steps)
+      (end : FileEnd) (selected : ℕ) : Type 0 where
     pub reading : Reading
     pub is_reading : IsReadingOf source reading
     pub failures : CountsSource reading failed_before failed
@@ -110,7 +122,8 @@ module _ (es : List Expression) (options : Options) (many : Bool) (source : Sour
     pub fault : IsTrue (is_fault end) ↔ FaultMet es options (file_of source.name reading)
     pub ends : IsTrue (is_fault end) → (file_of source.name reading).ending ≡ ending_of end
     pub rows : List Text
-    pub are_rows : OutAs es options many (form options) (file_of source.name reading ∷ []) (rows ++ summary_as (form options) many source.name end selected)
+    pub are_rows : OutAs es options many (form options) (file_of source.name reading ∷ [])
+        (rows ++ summary_as (form options) many source.name end selected)
     pub wrote : TakesAll old new rows
     pub steps : SearchesLines es options (length es) (file_of source.name reading).lines began ended
 
@@ -127,7 +140,8 @@ module _ (es : List Expression) (options : Options) (many : Bool) (source : Sour
     pub messages : List Text
     pub are_messages : Told es options (file_of source.name reading ∷ []) messages
     pub told : TakesAll old.messages new.messages messages
-    pub steps : SearchesLines es options (length es) (file_of source.name reading).lines old.steps new.steps
+    pub steps : SearchesLines es options (length es) (file_of source.name reading).lines old.steps
+        new.steps
 
   -- the output for the source's file was written, and a write failed within its message
   pub record BreaksMessage (old new : Devices) : Type 0 where
@@ -141,11 +155,17 @@ module _ (es : List Expression) (options : Options) (many : Bool) (source : Sour
     pub are_messages : Told es options (file_of source.name reading ∷ []) messages
     pub told : TakesFront old.messages new.messages messages
     pub counted : new.messages.failures ≡ one_more old.messages.failures
-    pub steps : SearchesLines es options (length es) (file_of source.name reading).lines old.steps new.steps
+    pub steps : SearchesLines es options (length es) (file_of source.name reading).lines old.steps
+        new.steps
 
   -- what a search of source k answers
   abbrev pub SourceGives : ℕ → Devices → Devices → Result FileFound RunFault → Type 0
   SourceGives k old new (Ok found) = FinishesSource old new found.end found.selected
-  SourceGives k old new (Err Write) = BreaksSource old.source_failures new.source_failures old.out new.out old.steps new.steps × (new.messages ≡ old.messages)
+  SourceGives k old new (Err Write) =
+      BreaksSource old.source_failures new.source_failures old.out new.out old.steps new.steps ×
+      (new.messages ≡ old.messages)
   SourceGives k old new (Err MessageWrite) = BreaksMessage old new
-  SourceGives k old new (Err (Memory at n)) = (at ≡ k) × StopsSource n old.source_failures new.source_failures old.out new.out old.steps new.steps × (new.messages ≡ old.messages)
+  SourceGives k old new (Err (Memory at n)) =
+      (at ≡ k) ×
+      StopsSource n old.source_failures new.source_failures old.out new.out old.steps new.steps ×
+      (new.messages ≡ old.messages)

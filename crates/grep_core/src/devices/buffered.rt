@@ -15,8 +15,8 @@ const ROOM: usize = 65_536;
 
 /// A writer that gathers up to 65,536 bytes before they go to the inner writer. Where it is full it
 /// sends the rows that are whole, so that no row that fits is parted between two sends; where no
-/// newline waits it sends all. A failed write of the inner writer ends the call that made it, and is
-/// not tried again in that call.
+/// newline waits it sends all. A failed write of the inner writer ends the call that made it, and
+/// is not tried again in that call.
 /// Contracts see it as the inner writer and the bytes that wait. Bytes that still wait when it is
 /// dropped are lost: call `send` or `flush` first.
 #[derive(Drop)]
@@ -88,8 +88,10 @@ impl<W: CountedWrite> Buffered<W> {
     fn make_room(&mut self) -> Result<(), WriteFault>
         ensures kept { Keeps (all_contents W.contents self.old) (all_contents W.contents self.new) }
         ensures room { IfOk result (λ _. length self.new.waiting < 65536) }
-        ensures none_failed { IfOk result (λ _. W.failures self.new.inner ≡ W.failures self.old.inner) }
-        ensures one_failed { OnErr result (W.failures self.new.inner ≡ one_more (W.failures self.old.inner)) }
+        ensures none_failed { IfOk result
+            (λ _. W.failures self.new.inner ≡ W.failures self.old.inner) }
+        ensures one_failed { OnErr result
+            (W.failures self.new.inner ≡ one_more (W.failures self.old.inner)) }
     {
         if self.buffer.len() < ROOM {
             return Ok(());

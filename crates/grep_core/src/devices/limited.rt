@@ -82,7 +82,8 @@ impl<T: Write> Write for Limited<T> {
 
     fn write(&mut self, buf: &[u8]) -> Result<usize>
         ensures bound { WritesAtMost result buf.now }
-        ensures bytes { WriteAppends (T.contents self.old.inner) (T.contents self.new.inner) result buf.now }
+        ensures bytes { WriteAppends (T.contents self.old.inner) (T.contents self.new.inner) result
+            buf.now }
         ensures few { MovesFew self.old.step self.old.left self.new.left result }
         ensures step { self.new.step ≡ self.old.step }
         ensures over { self.old.left ≡ 0 → IsErr result }

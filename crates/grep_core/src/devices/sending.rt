@@ -1,5 +1,6 @@
 // Bytes that come into a buffer and leave it for the writer beneath, and where rows end.
-ghost use Rattle.std.specs.Prelude.{◌≡◌, ◌+◌, ◌≤◌, ◌++◌, MatchOption, MatchResult, length, vec_len, vec_capacity};
+ghost use Rattle.std.specs.Prelude.{◌≡◌, ◌+◌, ◌≤◌, ◌++◌, MatchOption, MatchResult, length, vec_len};
+ghost use Rattle.std.specs.Prelude.{vec_capacity};
 ghost use Rattle.re_syntax.specs.Lines.{HasNoNewline};
 ghost use Rattle.grep_core.specs.Buffer.{SendsSome};
 ghost use Rattle.grep_core.specs.Working.Sent.{EndsRows, SendsFront};
@@ -44,9 +45,11 @@ pub fn send_front<W: CountedWrite>(
     requires { end ≤ vec_len buffer.old }
     ensures sent { MatchResult result
         (λ _. SendsFront W.contents W.failures end
-        (record { inner = out.old; waiting = buffer.old.items }) (record { inner = out.new; waiting = buffer.new.items }))
+        (record { inner = out.old; waiting = buffer.old.items })
+        (record { inner = out.new; waiting = buffer.new.items }))
         (λ _. SendsSome W.contents W.failures
-        (record { inner = out.old; waiting = buffer.old.items }) (record { inner = out.new; waiting = buffer.new.items })) }
+        (record { inner = out.old; waiting = buffer.old.items })
+        (record { inner = out.new; waiting = buffer.new.items })) }
     ensures fewer { vec_len buffer.new ≤ vec_len buffer.old }
     ensures capacity { vec_capacity buffer.old ≤ vec_capacity buffer.new }
 {

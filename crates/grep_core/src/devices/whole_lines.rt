@@ -1,5 +1,6 @@
 // A writer that hands lines whole to the device.
-ghost use Rattle.std.specs.Prelude.{◌≡◌, ◌+◌, ◌<◌, ◌≤◌, [], IfSome, IfOk, OnErr, length, take, vec_len, vec_capacity};
+ghost use Rattle.std.specs.Prelude.{◌≡◌, ◌+◌, ◌<◌, ◌≤◌, [], IfSome, IfOk, OnErr, length, take};
+ghost use Rattle.std.specs.Prelude.{vec_len, vec_capacity};
 ghost use Rattle.std.specs.Io.KnownBytes.{Keeps, Appends};
 ghost use Rattle.re_syntax.specs.Lines.{HasNoNewline};
 ghost use Rattle.grep_core.specs.Counted.{PushAppends, Counts, one_more};
@@ -15,9 +16,9 @@ use std::marker::Model;
 const ROOM: usize = 4_096;
 
 /// A writer that gathers bytes until a newline comes, and then hands all that was gathered to the
-/// inner writer in one write, so that lines that several programs write to one terminal or append to
-/// one file aren't mixed. A line that is longer than 4,096 bytes goes in pieces. Where a write takes
-/// a part alone, the rest goes in further writes.
+/// inner writer in one write, so that lines that several programs write to one terminal or append
+/// to one file aren't mixed. A line that is longer than 4,096 bytes goes in pieces. Where a write
+/// takes a part alone, the rest goes in further writes.
 /// A failed write of the inner writer ends the call that made it, and is not tried again in that
 /// call; of the bytes that the call was given none waits then.
 /// Contracts see it as the inner writer and the bytes that wait, among which there never is a
@@ -38,7 +39,8 @@ impl<W> Model for WholeLines<W> {
 
     ghost view = { λ a. record { inner = a.inner; waiting = a.buffer.items } };
 
-    ghost invariant = { λ a. (vec_len a.buffer ≤ 4096) × (4096 ≤ vec_capacity a.buffer) × HasNoNewline a.buffer.items };
+    ghost invariant = { λ a. (vec_len a.buffer ≤ 4096) × (4096 ≤ vec_capacity a.buffer) ×
+        HasNoNewline a.buffer.items };
 }
 
 impl<W> WholeLines<W> {
@@ -76,8 +78,10 @@ impl<W: CountedWrite> WholeLines<W> {
     fn make_room(&mut self) -> Result<(), WriteFault>
         ensures kept { Keeps (all_contents W.contents self.old) (all_contents W.contents self.new) }
         ensures room { IfOk result (λ _. length self.new.waiting < 4096) }
-        ensures none_failed { IfOk result (λ _. W.failures self.new.inner ≡ W.failures self.old.inner) }
-        ensures one_failed { OnErr result (W.failures self.new.inner ≡ one_more (W.failures self.old.inner)) }
+        ensures none_failed { IfOk result
+            (λ _. W.failures self.new.inner ≡ W.failures self.old.inner) }
+        ensures one_failed { OnErr result
+            (W.failures self.new.inner ≡ one_more (W.failures self.old.inner)) }
         ensures no_line_waits { HasNoNewline self.new.waiting }
     {
         if self.buffer.len() < ROOM {
@@ -112,7 +116,8 @@ fn push_past<W: CountedWrite>(out: &mut W, bytes: &[u8], few: usize) -> usize
 fn push_line<W: CountedWrite>(out: &mut W, buffer: &mut Vec<u8>, line: &[u8]) -> Option<usize>
     requires some { 0 < length line.now }
     requires room { vec_len buffer.old + length line.now ≤ vec_capacity buffer.old }
-    ensures sent { SendsLine W.contents W.failures (record { inner = out.old; waiting = buffer.old.items })
+    ensures sent { SendsLine W.contents W.failures
+        (record { inner = out.old; waiting = buffer.old.items })
         (record { inner = out.new; waiting = buffer.new.items }) line.now result }
     ensures fewer { vec_len buffer.new ≤ vec_len buffer.old }
     ensures capacity { vec_capacity buffer.old ≤ vec_capacity buffer.new }
@@ -141,7 +146,8 @@ impl<W: CountedWrite> CountedWrite for WholeLines<W> {
         requires { 0 < length from.now }
         ensures some_taken { IfSome result (λ n. 0 < n) }
         ensures bound { IfSome result (λ n. n ≤ length from.now) }
-        ensures bytes { PushAppends (all_contents W.contents self.old) (all_contents W.contents self.new) result from.now }
+        ensures bytes { PushAppends (all_contents W.contents self.old)
+            (all_contents W.contents self.new) result from.now }
         ensures counted { Counts (W.failures self.old.inner) (W.failures self.new.inner) result }
         ensures no_line_waits { HasNoNewline self.new.waiting }
     {

@@ -1,5 +1,6 @@
 // The lines that a reader gives, one at a time.
-ghost use Rattle.std.specs.Prelude.{◌≡◌, [], ◌++◌, ⊤, Ok, Err, IfOk, IfErr, MatchBool, false, length, take};
+ghost use Rattle.std.specs.Prelude.{◌≡◌, [], ◌++◌, ⊤, Ok, Err, IfOk, IfErr, MatchBool, false};
+ghost use Rattle.std.specs.Prelude.{length, take};
 ghost use Rattle.re_syntax.specs.Bytes.{Text};
 ghost use Rattle.re_search.specs.Working.Blocks.{IsBlock, PassesAll};
 ghost use Rattle.grep_core.specs.Working.Held.{HasWholeLine};
@@ -72,7 +73,8 @@ impl<R: CountedRead> Lines<R> {
     /// is refused.
     pub fn new(alloc: Global, reader: R) -> Result<Lines<R>, R>
         ensures ok { IfOk result
-            (λ lines. lines ≡ record { reader = reader; ahead = []; line = []; stage = Stage.Open }) }
+            (λ lines. lines ≡
+            record { reader = reader; ahead = []; line = []; stage = Stage.Open }) }
         ensures err { IfErr result (λ given_back. given_back ≡ reader) }
     {
         match Window::new(alloc) {

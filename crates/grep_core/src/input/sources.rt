@@ -6,8 +6,8 @@ ghost use Rattle.grep_core.specs.Sources.{source_at, Opens, GivesBack};
 
 use crate::devices::counted::CountedRead;
 
-/// Files, streams or pieces of memory, by their places in a list, counted from 0. They are opened in
-/// order, each at most once, read from front to back, and their readers are given back.
+/// Files, streams or pieces of memory, by their places in a list, counted from 0. They are opened
+/// in order, each at most once, read from front to back, and their readers are given back.
 pub trait Sources {
     /// What a source is read by.
     type Reader: CountedRead;
@@ -49,7 +49,8 @@ pub trait Sources {
         ensures next { stands_at self.new (k + 1) }
         ensures none_back { GivesBack given_back self.old self.new [] }
         ensures same_loan { loan self.new ≡ loan self.old }
-        ensures given { Opens Self.Reader.remaining Self.Reader.failures (source_at (listed self.old) k)
+        ensures given { Opens Self.Reader.remaining Self.Reader.failures
+            (source_at (listed self.old) k)
             (failures self.old) (failures self.new) result };
 
     /// Takes a reader back, and counts its failures.
@@ -58,7 +59,8 @@ pub trait Sources {
         ensures same_place { (k : ℕ) → stands_at self.old k → stands_at self.new k }
         ensures back { GivesBack given_back self.old self.new (Self.Reader.remaining reader ∷ []) }
         ensures same_loan { loan self.new ≡ loan self.old }
-        ensures counted { failures self.new ≡ count_more (failures self.old) (Self.Reader.failures reader) };
+        ensures counted { failures self.new ≡
+            count_more (failures self.old) (Self.Reader.failures reader) };
 
     /// How many attempts to open a source, and reads of readers that were given back, have failed.
     /// The count stays at the greatest `u64`.

@@ -1,11 +1,14 @@
 // The buffer of a reader of lines.
-ghost use Rattle.std.specs.Prelude.{◌≡◌, ◌+◌, ◌-◌, ◌^◌, ◌<◌, ◌≤◌, [], ◌∷◌, ◌++◌, ⊤, get_or, IfOk, OnErr, IfSome, MatchBool, MatchOption, length, take, drop, slice_range, vec_len};
+ghost use Rattle.std.specs.Prelude.{◌≡◌, ◌+◌, ◌-◌, ◌^◌, ◌<◌, ◌≤◌, [], ◌∷◌, ◌++◌, ⊤, get_or, IfOk};
+ghost use Rattle.std.specs.Prelude.{OnErr, IfSome, MatchBool, MatchOption, length, take, drop};
+ghost use Rattle.std.specs.Prelude.{slice_range, vec_len};
 ghost use Rattle.re_syntax.specs.Bytes.{Text};
 ghost use Rattle.re_syntax.specs.Lines.{newline, HasNoNewline};
 ghost use Rattle.re_search.specs.Working.Blocks.{IsBlock, PassesAll};
 ghost use Rattle.grep_core.specs.Counted.{PullConsumes, Counts};
 ghost use Rattle.grep_core.specs.Working.Refilled.{Refilled};
-ghost use Rattle.grep_core.specs.Working.Held.{IsOneLineAndFew, HasWholeLine, waiting, shown_line, ShownFits};
+ghost use Rattle.grep_core.specs.Working.Held.{IsOneLineAndFew, HasWholeLine, waiting, shown_line};
+ghost use Rattle.grep_core.specs.Working.Held.{ShownFits};
 
 use crate::devices::counted::CountedRead;
 use memchr::{memchr, memrchr};
@@ -171,7 +174,8 @@ impl Window {
     #[tactic(auto, using(crate::proofs::lemmas::WindowLemmas::keeping_few))]
     pub fn refill<R: CountedRead>(&mut self, reader: &mut R) -> Result<Refill, AllocError>
         requires { HasNoNewline self.old.ahead }
-        ensures ok { IfOk result (Refilled R.remaining R.failures self.old self.new reader.old reader.new) }
+        ensures ok { IfOk result
+            (Refilled R.remaining R.failures self.old self.new reader.old reader.new) }
         ensures bound { length self.new.ahead < 2 ^ 64 }
         ensures err { OnErr result ((self.new.ahead ≡ self.old.ahead) × (self.new.line ≡ [])) }
         ensures err_few { OnErr result (IsOneLineAndFew self.new.ahead) }
@@ -205,7 +209,8 @@ fn pull_over<R: CountedRead>(reader: &mut R, buffer: &mut Vec<u8>) -> Option<usi
     requires { 0 < vec_len buffer.old }
     ensures len { vec_len buffer.new ≡ vec_len buffer.old }
     ensures bound { IfSome result (λ n. n ≤ vec_len buffer.new) }
-    ensures bytes { PullConsumes (R.remaining reader.old) (R.remaining reader.new) result buffer.new.items }
+    ensures bytes { PullConsumes (R.remaining reader.old) (R.remaining reader.new) result
+        buffer.new.items }
     ensures counted { Counts (R.failures reader.old) (R.failures reader.new) result }
     ensures same_loan { R.loan reader.new ≡ R.loan reader.old }
 {
@@ -214,7 +219,8 @@ fn pull_over<R: CountedRead>(reader: &mut R, buffer: &mut Vec<u8>) -> Option<usi
 
 // The place of the first newline.
 fn first_newline(bytes: &[u8]) -> Option<usize>
-    ensures none { MatchOption result (HasNoNewline bytes.now) (λ k. HasNoNewline (take k bytes.now)) }
+    ensures none { MatchOption result (HasNoNewline bytes.now)
+        (λ k. HasNoNewline (take k bytes.now)) }
     ensures some { IfSome result (λ k. (k < length bytes.now)
         × (bytes.now ≡ take k bytes.now ++ newline ∷ drop (k + 1) bytes.now)) }
 {

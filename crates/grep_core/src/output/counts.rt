@@ -57,7 +57,8 @@ pub fn write_name<W: CountedWrite>(
     margin: &[u8],
     name: &[u8],
 ) -> Result<(), WriteFault>
-    ensures { Writes W.contents W.failures out.old out.new (output_line margin.now name.now) result }
+    ensures { Writes W.contents W.failures out.old out.new (output_line margin.now name.now)
+        result }
 {
     write_line_behind(out, margin, name)
 }

@@ -11,7 +11,8 @@ use crate::output::rows::write_row;
 ///
 /// `WriteFault` comes where a write fails. It is not tried again.
 pub fn write_cannot_open<M: CountedWrite>(messages: &mut M, name: &[u8]) -> Result<(), WriteFault>
-    ensures { Writes M.contents M.failures messages.old messages.new (output_line [] (cannot_open name.now)) result }
+    ensures { Writes M.contents M.failures messages.old messages.new
+        (output_line [] (cannot_open name.now)) result }
 {
     write_row(messages, b"grep: ", b':', Some(name), None, b" cannot open")
 }
@@ -20,7 +21,8 @@ pub fn write_cannot_open<M: CountedWrite>(messages: &mut M, name: &[u8]) -> Resu
 ///
 /// `WriteFault` comes where a write fails. It is not tried again.
 pub fn write_read_error<M: CountedWrite>(messages: &mut M, name: &[u8]) -> Result<(), WriteFault>
-    ensures { Writes M.contents M.failures messages.old messages.new (output_line [] (read_error name.now)) result }
+    ensures { Writes M.contents M.failures messages.old messages.new
+        (output_line [] (read_error name.now)) result }
 {
     write_row(messages, b"grep: ", b':', Some(name), None, b" read error")
 }

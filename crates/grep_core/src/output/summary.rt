@@ -28,7 +28,8 @@ pub fn write_summary<W: CountedWrite>(
     margin: &[u8],
 ) -> Result<(), WriteFault>
     ensures { Writes W.contents W.failures out.old out.new (written margin.now
-        (summary_as (form wanted.now.options) wanted.now.many wanted.now.name.now found.end found.selected)) result }
+        (summary_as (form wanted.now.options) wanted.now.many wanted.now.name.now found.end
+        found.selected)) result }
 {
     match wanted.options.form() {
         Form::Names => {
@@ -55,7 +56,8 @@ fn tell_missing<N: CountedWrite>(
     messages: &mut N,
     margin: &[u8],
 ) -> Result<(), WriteFault>
-    ensures { Writes N.contents N.failures messages.old messages.new (output_line margin.now (cannot_open name.now)) result }
+    ensures { Writes N.contents N.failures messages.old messages.new
+        (output_line margin.now (cannot_open name.now)) result }
 {
     push_all(messages, margin)?;
     write_cannot_open(messages, name)
@@ -67,7 +69,8 @@ fn tell_broken<N: CountedWrite>(
     messages: &mut N,
     margin: &[u8],
 ) -> Result<(), WriteFault>
-    ensures { Writes N.contents N.failures messages.old messages.new (output_line margin.now (read_error name.now)) result }
+    ensures { Writes N.contents N.failures messages.old messages.new
+        (output_line margin.now (read_error name.now)) result }
 {
     push_all(messages, margin)?;
     write_read_error(messages, name)
@@ -85,7 +88,8 @@ pub fn tell_fault<N: CountedWrite>(
     messages: &mut N,
     margin: &[u8],
 ) -> Result<(), WriteFault>
-    ensures { Writes N.contents N.failures messages.old messages.new (written margin.now (told_of silent end name.now)) result }
+    ensures { Writes N.contents N.failures messages.old messages.new
+        (written margin.now (told_of silent end name.now)) result }
 {
     if silent {
         return Ok(());

@@ -1,11 +1,13 @@
 //! The search of one source.
-ghost use Rattle.std.specs.Prelude.{◌≡◌, ℕ, ◌+◌, ◌-◌, ◌^◌, ◌<◌, [], nat_lt, map, length, Err, IfOk, IfSome, if◌then◌else◌};
+ghost use Rattle.std.specs.Prelude.{◌≡◌, ℕ, ◌+◌, ◌-◌, ◌^◌, ◌<◌, [], nat_lt, map, length, Err, IfOk};
+ghost use Rattle.std.specs.Prelude.{IfSome, if◌then◌else◌};
 ghost use Rattle.re_search.specs.Working.Filters.{AreNeeded};
 ghost use Rattle.re_search.specs.Searching.{AllAnswer};
 ghost use Rattle.grep_core.specs.Reading.{open_source, OneLeft};
 ghost use Rattle.grep_core.specs.Run.{writer};
 ghost use Rattle.grep_core.specs.Sources.{source_at, GivesBack};
-ghost use Rattle.grep_core.specs.Working.Searched.{is_missing, is_fault, SearchesSource, BreaksSource, StopsSource};
+ghost use Rattle.grep_core.specs.Working.Searched.{is_missing, is_fault, SearchesSource};
+ghost use Rattle.grep_core.specs.Working.Searched.{BreaksSource, StopsSource};
 
 use crate::devices::counted::{CountedRead, CountedWrite, WriteFault};
 use crate::input::lines::{ReadFault, Stage};
@@ -117,19 +119,28 @@ fn search_lines<R: CountedRead, M: LineMatch, W: CountedWrite>(
     requires none_numbered { lines.old.number ≡ 0 }
     requires whole { AllAnswer wanted.now.options.line_regexp (map M.whole matchers.old) }
     requires needed { IfSome filter (λ f. AreNeeded f.now (map M.expression matchers.old)) }
-    ensures ok { IfOk result (λ found. SearchesSource (map M.expression matchers.old) wanted.now.options wanted.now.many
-        (open_source wanted.now.name.now (R.remaining lines.old.lines.reader)) (OneLeft (R.remaining lines.new.lines.reader))
+    ensures ok { IfOk result
+        (λ found. SearchesSource (map M.expression matchers.old) wanted.now.options wanted.now.many
+        (open_source wanted.now.name.now (R.remaining lines.old.lines.reader))
+        (OneLeft (R.remaining lines.new.lines.reader))
         (R.failures lines.old.lines.reader) (R.failures lines.new.lines.reader)
         (writer W.contents W.failures out.old) (writer W.contents W.failures out.new)
         meter.old meter.new found.end found.selected) }
-    ensures write { result ≡ Err SearchFault.Write → BreaksSource (map M.expression matchers.old) wanted.now.options wanted.now.many
-        (open_source wanted.now.name.now (R.remaining lines.old.lines.reader)) (OneLeft (R.remaining lines.new.lines.reader))
+    ensures write { result ≡ Err SearchFault.Write →
+        BreaksSource (map M.expression matchers.old) wanted.now.options wanted.now.many
+        (open_source wanted.now.name.now (R.remaining lines.old.lines.reader))
+        (OneLeft (R.remaining lines.new.lines.reader))
         (R.failures lines.old.lines.reader) (R.failures lines.new.lines.reader)
-        (writer W.contents W.failures out.old) (writer W.contents W.failures out.new) meter.old meter.new }
-    ensures memory { (count : ℕ) → result ≡ Err (SearchFault.Memory count) → StopsSource (map M.expression matchers.old)
-        wanted.now.options wanted.now.many (open_source wanted.now.name.now (R.remaining lines.old.lines.reader))
-        (OneLeft (R.remaining lines.new.lines.reader)) count (R.failures lines.old.lines.reader) (R.failures lines.new.lines.reader)
-        (writer W.contents W.failures out.old) (writer W.contents W.failures out.new) meter.old meter.new }
+        (writer W.contents W.failures out.old) (writer W.contents W.failures out.new) meter.old
+        meter.new }
+    ensures memory { (count : ℕ) → result ≡ Err (SearchFault.Memory count) →
+        StopsSource (map M.expression matchers.old)
+        wanted.now.options wanted.now.many
+        (open_source wanted.now.name.now (R.remaining lines.old.lines.reader))
+        (OneLeft (R.remaining lines.new.lines.reader)) count (R.failures lines.old.lines.reader)
+        (R.failures lines.new.lines.reader)
+        (writer W.contents W.failures out.old) (writer W.contents W.failures out.new) meter.old
+        meter.new }
     ensures same_expressions { map M.expression matchers.new ≡ map M.expression matchers.old }
     ensures same_wholes { map M.whole matchers.new ≡ map M.whole matchers.old }
 {

@@ -6,7 +6,8 @@ ghost use Rattle.grep_core.specs.Files.{Selected};
 ghost use Rattle.grep_core.specs.Output.{form, parts};
 ghost use Rattle.grep_core.specs.Run.{writer};
 ghost use Rattle.grep_core.specs.Cost.{AsksParts, SearchesLine};
-ghost use Rattle.grep_core.specs.Working.OneLine.{WritesSelected, BreaksSelected, TakesLine, BreaksLine};
+ghost use Rattle.grep_core.specs.Working.OneLine.{WritesSelected, BreaksSelected, TakesLine};
+ghost use Rattle.grep_core.specs.Working.OneLine.{BreaksLine};
 
 use crate::devices::counted::{CountedWrite, WriteFault};
 use crate::options::Form;
@@ -25,13 +26,18 @@ fn write_parts<M: LineMatch, W: CountedWrite>(
 ) -> Result<(), WriteFault>
     requires whole { AllAnswer wanted.now.options.line_regexp (map M.whole matchers.old) }
     requires asked { form wanted.now.options ≡ parts }
-    ensures ok { IfOk result (λ _. WritesSelected (map M.expression matchers.old) wanted.now.options wanted.now.many
-        wanted.now.name.now number line.now (writer W.contents W.failures out.old) (writer W.contents W.failures out.new)) }
-    ensures err { OnErr result (BreaksSelected (map M.expression matchers.old) wanted.now.options wanted.now.many
-        wanted.now.name.now number line.now (writer W.contents W.failures out.old) (writer W.contents W.failures out.new)) }
+    ensures ok { IfOk result
+        (λ _. WritesSelected (map M.expression matchers.old) wanted.now.options wanted.now.many
+        wanted.now.name.now number line.now (writer W.contents W.failures out.old)
+        (writer W.contents W.failures out.new)) }
+    ensures err { OnErr result
+        (BreaksSelected (map M.expression matchers.old) wanted.now.options wanted.now.many
+        wanted.now.name.now number line.now (writer W.contents W.failures out.old)
+        (writer W.contents W.failures out.new)) }
     ensures same_expressions { map M.expression matchers.new ≡ map M.expression matchers.old }
     ensures same_wholes { map M.whole matchers.new ≡ map M.whole matchers.old }
-    ensures steps { AsksParts (map M.expression matchers.old) wanted.now.options (length matchers.old) line.now meter.old meter.new }
+    ensures steps { AsksParts (map M.expression matchers.old) wanted.now.options
+        (length matchers.old) line.now meter.old meter.new }
 {
     let mut from = 0;
     while let Some(part) = next_part(matchers, wanted.options, line, from, meter) {
@@ -51,13 +57,18 @@ fn write_selected<M: LineMatch, W: CountedWrite>(
     meter: &mut Meter,
 ) -> Result<(), WriteFault>
     requires { AllAnswer wanted.now.options.line_regexp (map M.whole matchers.old) }
-    ensures ok { IfOk result (λ _. WritesSelected (map M.expression matchers.old) wanted.now.options wanted.now.many
-        wanted.now.name.now number line.now (writer W.contents W.failures out.old) (writer W.contents W.failures out.new)) }
-    ensures err { OnErr result (BreaksSelected (map M.expression matchers.old) wanted.now.options wanted.now.many
-        wanted.now.name.now number line.now (writer W.contents W.failures out.old) (writer W.contents W.failures out.new)) }
+    ensures ok { IfOk result
+        (λ _. WritesSelected (map M.expression matchers.old) wanted.now.options wanted.now.many
+        wanted.now.name.now number line.now (writer W.contents W.failures out.old)
+        (writer W.contents W.failures out.new)) }
+    ensures err { OnErr result
+        (BreaksSelected (map M.expression matchers.old) wanted.now.options wanted.now.many
+        wanted.now.name.now number line.now (writer W.contents W.failures out.old)
+        (writer W.contents W.failures out.new)) }
     ensures same_expressions { map M.expression matchers.new ≡ map M.expression matchers.old }
     ensures same_wholes { map M.whole matchers.new ≡ map M.whole matchers.old }
-    ensures steps { AsksParts (map M.expression matchers.old) wanted.now.options (length matchers.old) line.now meter.old meter.new }
+    ensures steps { AsksParts (map M.expression matchers.old) wanted.now.options
+        (length matchers.old) line.now meter.old meter.new }
 {
     match wanted.options.form() {
         Form::Lines => wanted.write_text(number, line, out, b""),
@@ -80,13 +91,18 @@ pub fn search_line<M: LineMatch, W: CountedWrite>(
 ) -> Result<bool, WriteFault>
     requires whole { AllAnswer wanted.now.options.line_regexp (map M.whole matchers.old) }
     requires needed { IfSome filter (λ f. AreNeeded f.now (map M.expression matchers.old)) }
-    ensures ok { IfOk result (λ found. TakesLine (map M.expression matchers.old) wanted.now.options wanted.now.many
-        wanted.now.name.now number line.now (writer W.contents W.failures out.old) (writer W.contents W.failures out.new) found) }
-    ensures err { OnErr result (BreaksLine (map M.expression matchers.old) wanted.now.options wanted.now.many
-        wanted.now.name.now number line.now (writer W.contents W.failures out.old) (writer W.contents W.failures out.new)) }
+    ensures ok { IfOk result
+        (λ found. TakesLine (map M.expression matchers.old) wanted.now.options wanted.now.many
+        wanted.now.name.now number line.now (writer W.contents W.failures out.old)
+        (writer W.contents W.failures out.new) found) }
+    ensures err { OnErr result
+        (BreaksLine (map M.expression matchers.old) wanted.now.options wanted.now.many
+        wanted.now.name.now number line.now (writer W.contents W.failures out.old)
+        (writer W.contents W.failures out.new)) }
     ensures same_expressions { map M.expression matchers.new ≡ map M.expression matchers.old }
     ensures same_wholes { map M.whole matchers.new ≡ map M.whole matchers.old }
-    ensures steps { SearchesLine (map M.expression matchers.old) wanted.now.options (length matchers.old) line.now meter.old meter.new }
+    ensures steps { SearchesLine (map M.expression matchers.old) wanted.now.options
+        (length matchers.old) line.now meter.old meter.new }
 {
     if !is_selected_behind(matchers, filter, wanted.options, line, meter) {
         return Ok(false);

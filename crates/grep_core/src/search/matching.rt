@@ -1,5 +1,6 @@
 //! Whether a line is selected, and its parts, by several matchers.
-ghost use Rattle.std.specs.Prelude.{◌≡◌, ◌↔◌, ◌<◌, ◌≤◌, IsTrue, IfSome, IsSomeAnd, false, length, map};
+ghost use Rattle.std.specs.Prelude.{◌≡◌, ◌↔◌, ◌<◌, ◌≤◌, IsTrue, IfSome, IsSomeAnd, false, length};
+ghost use Rattle.std.specs.Prelude.{map};
 ghost use Rattle.re_search.specs.Working.Filters.{AreNeeded};
 ghost use Rattle.re_search.specs.Working.Literals.{any_literal};
 ghost use Rattle.re_search.specs.Searching.{AllAnswer, AddsAtMost, FindsPart};
@@ -31,7 +32,8 @@ pub fn is_selected<M: LineMatch>(
 /// Whether there is a filter, and none of its strings stands on the line.
 #[inline]
 fn is_ruled_out(filter: Option<&FixedSet>, line: &[u8]) -> bool
-    ensures { IsTrue result ↔ IsSomeAnd filter.entry (λ f. Matches (any_literal f.now) line.now false → ⊥) }
+    ensures { IsTrue result ↔
+        IsSomeAnd filter.entry (λ f. Matches (any_literal f.now) line.now false → ⊥) }
 {
     let Some(filter) = filter else {
         return false;
@@ -72,8 +74,10 @@ pub fn next_part<M: LineMatch>(
 ) -> Option<Span>
     requires within { from ≤ length line.now }
     requires whole { AllAnswer options.line_regexp (map M.whole matchers.old) }
-    ensures told { FindsPart (map M.expression matchers.old) line.now options.line_regexp from result }
-    ensures bounds { IfSome result (λ part. (part.start < part.end) × (part.end ≤ length line.now)) }
+    ensures told { FindsPart (map M.expression matchers.old) line.now options.line_regexp from
+        result }
+    ensures bounds { IfSome result
+        (λ part. (part.start < part.end) × (part.end ≤ length line.now)) }
     ensures ahead { IfSome result (λ part. from ≤ part.start) }
     ensures same_expressions { map M.expression matchers.new ≡ map M.expression matchers.old }
     ensures same_wholes { map M.whole matchers.new ≡ map M.whole matchers.old }

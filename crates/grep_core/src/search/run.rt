@@ -28,7 +28,8 @@ fn end_output<W: CountedWrite>(
     out: &mut W,
 ) -> Result<(), WriteFault>
     ensures { Writes W.contents W.failures out.old out.new (written []
-        (summary_as (form wanted.now.options) wanted.now.many wanted.now.name.now found.end found.selected)) result }
+        (summary_as (form wanted.now.options) wanted.now.many wanted.now.name.now found.end
+        found.selected)) result }
 {
     write_summary(wanted, found, out, b"")?;
     if wanted.options.no_messages | !found.end.is_fault() {
@@ -123,7 +124,8 @@ pub fn search_all<S: Sources, M: LineMatch, W: CountedWrite, N: CountedWrite>(
     requires in_order { S.stands_at sources.old 0 }
     requires whole { AllAnswer options.now.line_regexp (map M.whole matchers.old) }
     ensures same_loan { S.loan sources.new ≡ S.loan sources.old }
-    ensures run { RunGives (map M.expression matchers.old) options.now (S.listed sources.old) (GivesBack S.given_back sources.old sources.new)
+    ensures run { RunGives (map M.expression matchers.old) options.now (S.listed sources.old)
+        (GivesBack S.given_back sources.old sources.new)
         (devices (writer W.contents W.failures out.old) (writer N.contents N.failures messages.old)
         (S.failures sources.old) meter.old)
         (devices (writer W.contents W.failures out.new) (writer N.contents N.failures messages.new)

@@ -10,12 +10,17 @@ use Rattle.grep_session.specs.Edits.{Reads}
 
 -- the inputs with another syntax and other options
 abbrev pub read_as : Syntax → Options → Inputs → Inputs
-read_as syntax options old = record { syntax = syntax; options = options; patterns = old.patterns; files = old.files }
+read_as syntax options old =
+    record { syntax = syntax; options = options; patterns = old.patterns; files = old.files }
 
 abbrev pub AreReadable : Syntax → Options → Inputs → Type 0
 AreReadable syntax options old = All (IsReadable syntax options.ignore_case) old.patterns
 
-abbrev pub ReadsAgain : {T : Type 0} → Syntax → Options → Inputs → Inputs → Result T EditFault → Type 0
-ReadsAgain syntax options old new (Ok done) = Reads syntax options.ignore_case old.patterns (read_as syntax options old) (Ok new)
+abbrev pub ReadsAgain : {T : Type 0} → Syntax → Options → Inputs → Inputs → Result T EditFault →
+    Type 0
+ReadsAgain syntax options old new (Ok done) =
+    Reads syntax options.ignore_case old.patterns (read_as syntax options old) (Ok new)
 ReadsAgain syntax options old new (Err Memory) = new ≡ old
-ReadsAgain syntax options old new (Err fault) = Reads syntax options.ignore_case old.patterns (read_as syntax options old) (Err fault) × (new ≡ old)
+ReadsAgain syntax options old new (Err fault) =
+    Reads syntax options.ignore_case old.patterns (read_as syntax options old) (Err fault) ×
+    (new ≡ old)

@@ -6,7 +6,8 @@ use Rattle.grep_session.specs.Working.Finds.{Finds, no_finds}
 
 abbrev pub finds_in : Option (Box Found Global) → Finds
 finds_in None = no_finds
-finds_in (Some found) = record { numbers = found.value.numbers.items; spans = found.value.spans.items }
+finds_in (Some found) =
+    record { numbers = found.value.numbers.items; spans = found.value.spans.items }
 
 abbrev pub numbers_in : Option (Box Found Global) → List ℕ
 numbers_in found = (finds_in found).numbers

@@ -16,7 +16,9 @@ use Rattle.grep_session.specs.Touched.{PartsCostOf}
 -- the expressions before a change, those behind it, and those that came or went
 abbrev pub HasChanged : Change → List Expression → List Expression → List Expression → Type 0
 HasChanged (Added first) es before changed = (before ≡ take first es) × (changed ≡ drop first es)
-HasChanged (Dropped p) es before changed = (e : Expression) × (p < length before) × (e ≡ get_or before p e) × (es ≡ remove before p) × (changed ≡ e ∷ [])
+HasChanged (Dropped p) es before changed =
+    (e : Expression) × (p < length before) × (e ≡ get_or before p e) × (es ≡ remove before p) ×
+    (changed ≡ e ∷ [])
 
 -- there are as many patterns as a change speaks of
 abbrev pub IsWithin : Change → ℕ → Type 0
@@ -28,7 +30,8 @@ abbrev pub searched_for : Change → List Expression → ℕ
 searched_for (Added first) changed = length changed
 searched_for (Dropped p) changed = 0
 
--- the cost of a line: its search by so many expressions, and that for its parts where one of those that came or went matches it
+-- the cost of a line: its search by so many expressions, and that for its parts where one of those
+-- that came or went matches it
 abbrev pub ChangeCost : Change → List Expression → List Expression → Options → Text → ℕ → Type 0
 ChangeCost change changed es options line cost =
     (own : ℕ) × IfHolds (Matched changed options line) (PartsCostOf es options line own) (own ≡ 0)
@@ -37,10 +40,12 @@ ChangeCost change changed es options line cost =
 -- the cost of lines, each of which has its own
 abbrev pub CostOfEach : (Text → ℕ → Type 0) → List Text → ℕ → Type 0
 CostOfEach C [] cost = cost ≡ 0
-CostOfEach C (line ∷ lines) cost = (own : ℕ) × (rest : ℕ) × C line own × CostOfEach C lines rest × (cost ≡ own + rest)
+CostOfEach C (line ∷ lines) cost =
+    (own : ℕ) × (rest : ℕ) × C line own × CostOfEach C lines rest × (cost ≡ own + rest)
 
 -- no more steps were taken than lines cost
-pub record SearchesEach (C : Text → ℕ → Type 0) (lines : List Text) (begun ended : Steps) : Type 0 where
+pub record SearchesEach (C : Text → ℕ → Type 0) (lines : List Text)
+    (begun ended : Steps) : Type 0 where
   pub cost : ℕ
   pub is_cost : CostOfEach C lines cost
   pub few : AddsAtMost cost begun ended

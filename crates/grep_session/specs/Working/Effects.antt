@@ -11,15 +11,19 @@ use Rattle.grep_session.specs.Touched.{touched_by_flag, searched_by, all_lines, 
 
 -- under the option other lines may be matched
 pub record ChangesVerdicts (flag : Flag) : Type 0 where
-  pub touches : (old : Inputs) → touched_by_flag flag old ≡ searched_by (length old.patterns) (all_lines old)
+  pub touches : (old : Inputs) →
+      touched_by_flag flag old ≡ searched_by (length old.patterns) (all_lines old)
   pub no_output : is_of_output flag → ⊥
   pub no_parts : flag ≡ OnlyMatching → ⊥
 
 -- what is kept serves the option, set so, as it did
 pub record KeepsAll (flag : Flag) (on : Bool) : Type 0 where
-  pub same_whole : (options : Options) → (with_option flag on options).line_regexp ≡ options.line_regexp
-  pub same_case : (options : Options) → (with_option flag on options).ignore_case ≡ options.ignore_case
-  pub no_parts : (options : Options) → IsTrue (with_option flag on options).only_matching → IsTrue options.only_matching
+  pub same_whole : (options : Options) →
+      (with_option flag on options).line_regexp ≡ options.line_regexp
+  pub same_case : (options : Options) →
+      (with_option flag on options).ignore_case ≡ options.ignore_case
+  pub no_parts : (options : Options) → IsTrue (with_option flag on options).only_matching →
+      IsTrue options.only_matching
 
 abbrev pub HasEffect : Flag → Bool → Effect → Type 0
 HasEffect flag on Verdicts = ChangesVerdicts flag

@@ -2,7 +2,8 @@
 use Rattle.std.specs.Prelude.{ℕ, List, [], ◌∷◌}
 use Rattle.re_search.specs.declared.span.Span.{Span}
 
--- the numbers of the patterns that match the line, in ascending order, and the parts of it that are kept
+-- the numbers of the patterns that match the line, in ascending order, and the parts of it that are
+-- kept
 pub record Finds : Type 0 where
   pub numbers : List ℕ
   pub spans : List Span

@@ -25,22 +25,29 @@ with_found (line ∷ lines) [] = line ∷ lines
 with_found (line ∷ lines) (one ∷ found) = line_with line one ∷ with_found lines found
 
 -- what was found is what these expressions find in the line
-pub record IsRight (es : List Expression) (options : Options) (line : Text) (found : Finds) : Type 0 where
+pub record IsRight (es : List Expression) (options : Options) (line : Text)
+    (found : Finds) : Type 0 where
   pub matching : AreMatching line options.line_regexp 0 es found.numbers
   pub parts : ArePartsKept es options line found.spans
 
--- what has to be known of a line before it is searched: nothing where it is searched anew, and else which expressions match it
+-- what has to be known of a line before it is searched: nothing where it is searched anew, and else
+-- which expressions match it
 abbrev pub IsReady : Bool → List Expression → Options → KeptLine → Type 0
 IsReady true es options line = ⊤
-IsReady false es options line = AreMatching line.text.items options.line_regexp 0 es line.found.numbers
+IsReady false es options line =
+    AreMatching line.text.items options.line_regexp 0 es line.found.numbers
 
--- what is found in a line by these expressions, where those of these numbers match it: its parts were searched, or those that were kept stay
+-- what is found in a line by these expressions, where those of these numbers match it: its parts
+-- were searched, or those that were kept stay
 abbrev pub IsFoundAgain : Bool → List Expression → Options → KeptLine → List ℕ → Finds → Type 0
-IsFoundAgain true es options line numbers found = AreMatching line.text.items options.line_regexp 0 es numbers → IsRight es options line.text.items found
+IsFoundAgain true es options line numbers found =
+    AreMatching line.text.items options.line_regexp 0 es numbers →
+    IsRight es options line.text.items found
 IsFoundAgain false es options line numbers found = found ≡ finds_with numbers line.found.spans
 
 -- what is right for these lines was added
-pub record AddsRight (es : List Expression) (options : Options) (lines : List Text) (old new : List Finds) : Type 0 where
+pub record AddsRight (es : List Expression) (options : Options) (lines : List Text)
+    (old new : List Finds) : Type 0 where
   pub found : List Finds
   pub are_right : AllZip (IsRight es options) lines found
   pub added : new ≡ old ++ found

@@ -1,5 +1,6 @@
 -- What a session keeps of its patterns and files, and the inputs for which that stands.
-use Rattle.std.specs.Prelude.{◌≡◌, ℕ, suc, ◌+◌, Bool, List, [], ◌∷◌, ◌++◌, map, Option, None, Some, IfSome, MatchBool, All, ⊤}
+use Rattle.std.specs.Prelude.{◌≡◌, ℕ, suc, ◌+◌, Bool, List, [], ◌∷◌, ◌++◌, map, Option, None, Some}
+use Rattle.std.specs.Prelude.{IfSome, MatchBool, All, ⊤}
 use Rattle.std.specs.Option.{option_map}
 use Rattle.re_syntax.specs.Bytes.{Text}
 use Rattle.re_syntax.specs.Expression.{Expression}
@@ -22,10 +23,12 @@ use Rattle.grep_session.specs.Touched.{PartsCostOf, PartsCost, pairs_cost}
 abbrev pub AreMatching : Text → Bool → ℕ → List Expression → List ℕ → Type 0
 AreMatching line entire first [] numbers = numbers ≡ []
 AreMatching line entire first (e ∷ es) numbers =
-    (rest : List ℕ) × IfHolds (Matches e line entire) (numbers ≡ first ∷ rest) (numbers ≡ rest) × AreMatching line entire (suc first) es rest
+    (rest : List ℕ) × IfHolds (Matches e line entire) (numbers ≡ first ∷ rest) (numbers ≡ rest) ×
+    AreMatching line entire (suc first) es rest
 
 -- these numbers were added to others
-pub record AddsMatching (line : Text) (entire : Bool) (first : ℕ) (es : List Expression) (old new : List ℕ) : Type 0 where
+pub record AddsMatching (line : Text) (entire : Bool) (first : ℕ) (es : List Expression)
+    (old new : List ℕ) : Type 0 where
   pub found : List ℕ
   pub are_found : AreMatching line entire first es found
   pub added : new ≡ old ++ found
@@ -44,7 +47,9 @@ kept_lines file = option_map (λ lines. lines.items) file.lines
 module _ (es : List Expression) (options : Options) where
   -- under `-o` the parts of a line are kept
   abbrev pub ArePartsKept : Text → List Span → Type 0
-  ArePartsKept line spans = MatchBool options.only_matching (AreParts es line options.line_regexp (map span_places spans)) ⊤
+  ArePartsKept line spans =
+      MatchBool options.only_matching (AreParts es line options.line_regexp (map span_places spans))
+      ⊤
 
   -- what is kept of a line is what these expressions find in it
   pub record IsKept (line : KeptLine) : Type 0 where

@@ -19,4 +19,7 @@ told_at place fault = told_by fault.kind place fault
 
 -- memory ran out, or the first text that is not readable is told
 abbrev pub RefusesFirst : Syntax → Bool → List Text → EditFault → Type 0
-RefusesFirst syntax fold texts told = (told ≡ Memory) ⊎ ((place : ℕ) × (fault : PatternFault) × IsFirstRefused syntax fold texts place fault × (told ≡ Pattern place fault))
+RefusesFirst syntax fold texts told =
+    (told ≡ Memory) ⊎
+    ((place : ℕ) × (fault : PatternFault) × IsFirstRefused syntax fold texts place fault ×
+    (told ≡ Pattern place fault))

@@ -1,5 +1,7 @@
 -- What is written of files that are kept, as a function of what is kept.
-use Rattle.std.specs.Prelude.{◌==◌, ℕ, ◌+◌, ◌≤◌, Bool, false, ◌&&◌, not, IsTrue, List, [], ◌∷◌, ◌++◌, All, map, length, slice_range, Option, None, Some, if◌then◌else◌, Result, IfOk}
+use Rattle.std.specs.Prelude.{◌==◌, ℕ, ◌+◌, ◌≤◌, Bool, false, ◌&&◌, not, IsTrue, List, [], ◌∷◌}
+use Rattle.std.specs.Prelude.{◌++◌, All, map, length, slice_range, Option, None, Some}
+use Rattle.std.specs.Prelude.{if◌then◌else◌, Result, IfOk}
 use Rattle.std.specs.List.{list_any, flat_map}
 use Rattle.re_syntax.specs.Bytes.{Text}
 use Rattle.re_syntax.specs.Expression.{Expression}
@@ -50,7 +52,8 @@ end_of file = end_with (kept_lines file)
 -- how many of the lines are selected
 abbrev pub selected_count : Options → List KeptLine → ℕ
 selected_count options [] = 0
-selected_count options (line ∷ more) = (if is_selected options line then 1 else 0) + selected_count options more
+selected_count options (line ∷ more) =
+    (if is_selected options line then 1 else 0) + selected_count options more
 
 -- ---- rows
 
@@ -60,7 +63,8 @@ OnLine text span = (span.start ≤ span.end) × (span.end ≤ length text)
 
 -- under `-o` the parts that are kept of a line are stretches of it
 abbrev pub PartsFit : Options → KeptLine → Type 0
-PartsFit options line = IsTrue options.only_matching → All (OnLine (line_text line)) line.found.spans
+PartsFit options line =
+    IsTrue options.only_matching → All (OnLine (line_text line)) line.found.spans
 
 abbrev pub LinesFit : Options → Option (List KeptLine) → Type 0
 LinesFit options None = Unit {0}
@@ -76,7 +80,8 @@ module _ (options : Options) (many : Bool) (name : Text) where
 
   -- the rows of the parts of a line
   abbrev pub part_rows : ℕ → Text → List Span → List Text
-  part_rows number text spans = map (λ span. row number (slice_range text span.start span.end)) spans
+  part_rows number text spans =
+      map (λ span. row number (slice_range text span.start span.end)) spans
 
   -- the rows of a selected line, by what is asked for
   abbrev pub selected_rows : Form → ℕ → KeptLine → List Text
@@ -86,7 +91,8 @@ module _ (options : Options) (many : Bool) (name : Text) where
 
   module _ (shape : Form) where
     abbrev pub line_rows_as : ℕ → KeptLine → List Text
-    line_rows_as number line = if is_selected options line then selected_rows shape number line else []
+    line_rows_as number line =
+        if is_selected options line then selected_rows shape number line else []
 
     -- the rows of lines, the first of which has this number
     abbrev pub rows_as : ℕ → List KeptLine → List Text
@@ -102,7 +108,8 @@ module _ (options : Options) (many : Bool) (name : Text) where
   -- what is written of the lines of a file, and behind them
   abbrev pub rows_with : Option (List KeptLine) → List Text
   rows_with None = summary_as (form options) many name Missing 0
-  rows_with (Some text) = rows_from 1 text ++ summary_as (form options) many name Whole (selected_count options text)
+  rows_with (Some text) =
+      rows_from 1 text ++ summary_as (form options) many name Whole (selected_count options text)
 
 abbrev pub file_rows : Options → Bool → KeptFile → List Text
 file_rows options many file = rows_with options many file.name.items (kept_lines file)
@@ -135,11 +142,13 @@ any_missing files = list_any is_faulty files
 
 abbrev pub status_by_files : Options → List KeptFile → Status
 status_by_files options files =
-    if options.quiet && any_selected options files then selected else status_by (any_selected options files) (any_missing files)
+    if options.quiet && any_selected options files then selected
+    else status_by (any_selected options files) (any_missing files)
 
 -- ---- what a report and messages are
 
-module _ {W : Type 0} (contents : W → Option Text) (failures : W → ℕ) (es : List Expression) (options : Options) (files : List File) (margin : Text) (old new : W) where
+module _ {W : Type 0} (contents : W → Option Text) (failures : W → ℕ) (es : List Expression)
+    (options : Options) (files : List File) (margin : Text) (old new : W) where
   -- the output for the files was written, or a beginning of it, and what is answered is the status
   pub record Reports {E : Type 0} (result : Result Status E) : Type 0 where
     pub out : List Text

@@ -8,11 +8,19 @@ use Rattle.grep_session.specs.Working.Kept.{IsFileKept, kept_file}
 use Rattle.grep_core.specs.Working.MatcherLists.{AreMatchers}
 
 abbrev pub inputs_of : Inside → Inputs
-inputs_of s = record { syntax = s.syntax; options = s.options; patterns = map (λ text. text.items) s.texts.items; files = map kept_file s.files.items }
+inputs_of s =
+    record {
+      syntax = s.syntax;
+      options = s.options;
+      patterns = map (λ text. text.items)
+          s.texts.items;
+      files = map kept_file s.files.items;
+    }
 
 -- the matchers are those of the patterns, and what is kept of each line is what they find in it
 pub record IsSession (s : Inside) : Type 0 where
-  pub matchers : AreMatchers s.syntax s.options (map (λ text. text.items) s.texts.items) s.matchers.items
+  pub matchers : AreMatchers s.syntax s.options (map (λ text. text.items) s.texts.items)
+      s.matchers.items
   pub few : length s.matchers.items ≤ most_patterns
   pub kept : All (IsFileKept (map matched_expression s.matchers.items) s.options) s.files.items
   pub some_states : 1 ≤ s.states

@@ -9,4 +9,6 @@ use Rattle.grep_session.specs.Edits.{Splice, Applies, HasPlace}
 -- it has, or a splice there is refused for this, whatever the lines are
 abbrev pub PlaceGives : {T : Type 0} → List File → ℕ → ℕ → ℕ → Result T EditFault → Type 0
 PlaceGives files k start count (Ok done) = HasPlace files k start count
-PlaceGives files k start count (Err fault) = (old : Inputs) (lines : List Text) → old.files ≡ files → Applies (Splice k start count lines) old (Err fault)
+PlaceGives files k start count (Err fault) =
+    (old : Inputs) (lines : List Text) → old.files ≡ files →
+    Applies (Splice k start count lines) old (Err fault)

@@ -1,5 +1,6 @@
 -- Sets of numbers, as words of 64 bits, and tables whose rows are such sets.
-use Rattle.std.specs.Prelude.{◌≡◌, ℕ, ◌+◌, ◌*◌, ◌/◌, ◌%◌, ◌<◌, ◌↔◌, List, length, slice_index, slice_range}
+use Rattle.std.specs.Prelude.{◌≡◌, ℕ, ◌+◌, ◌*◌, ◌/◌, ◌%◌, ◌<◌, ◌↔◌, List, length, slice_index}
+use Rattle.std.specs.Prelude.{slice_range}
 use Rattle.std.specs.Int.{bit_at}
 
 -- the set has the number
@@ -20,4 +21,5 @@ Are words S width = (length words ≡ width) × ((q : ℕ) → Has words q ↔ S
 
 -- the row of each number below `rows` is the set of the numbers that S names for it
 abbrev pub RowsAre : List ℕ → (ℕ → ℕ → Type 0) → ℕ → ℕ → Type 0
-RowsAre table S rows width = (length table ≡ rows * width) × ((r q : ℕ) → r < rows → Has (row_of table width r) q ↔ S r q)
+RowsAre table S rows width =
+    (length table ≡ rows * width) × ((r q : ℕ) → r < rows → Has (row_of table width r) q ↔ S r q)

@@ -1,5 +1,6 @@
 -- How the tables of an expression grow, one part of it after another.
-use Rattle.std.specs.Prelude.{◌≡◌, ℕ, ◌+◌, ◌*◌, ◌<◌, ◌≤◌, ◌⊎◌, Bool, true, false, IsTrue, ◌↔◌, length, Option, Some, None, IfSome, Vec}
+use Rattle.std.specs.Prelude.{◌≡◌, ℕ, ◌+◌, ◌*◌, ◌<◌, ◌≤◌, ◌⊎◌, Bool, true, false, IsTrue, ◌↔◌}
+use Rattle.std.specs.Prelude.{length, Option, Some, None, IfSome, Vec}
 use Rattle.std.specs.Global.{Global}
 use Rattle.re_syntax.specs.Expression.{Expression, repeat}
 use Rattle.re_syntax.specs.Holds.{positions}
@@ -9,7 +10,8 @@ use Rattle.re_auto.specs.declared.build.ends.Ends.{Ends}
 use Rattle.re_auto.specs.declared.build.rows.Rows.{Rows}
 use Rattle.re_auto.specs.declared.tables.Empty.{Empty}
 use Rattle.re_auto.specs.Working.Bits.{Has, row_of, Are}
-use Rattle.re_auto.specs.Working.Positions.{Part, without_positions, one_position, again, copies_before, up_to, part_of}
+use Rattle.re_auto.specs.Working.Positions.{Part, without_positions, one_position, again}
+use Rattle.re_auto.specs.Working.Positions.{copies_before, up_to, part_of}
 use Rattle.re_auto.specs.Working.Tables.{TellsEmpty, most_words, words_for}
 
 -- the words are the set, and so many
@@ -30,9 +32,11 @@ pub record Adds (part : Part) (old new : Rows) : Type 0 where
   pub follow_length : length new.follow.items ≡ length old.follow.items
   pub takes_length : length new.takes.items ≡ length old.takes.items
   pub follow : (p q : ℕ) → p * old.width + old.width ≤ length old.follow.items →
-      Has (row_of new.follow.items old.width p) q ↔ (Has (row_of old.follow.items old.width p) q ⊎ part.follow p q)
+      Has (row_of new.follow.items old.width p) q ↔
+      (Has (row_of old.follow.items old.width p) q ⊎ part.follow p q)
   pub takes : (c q : ℕ) → c < 256 →
-      Has (row_of new.takes.items old.width c) q ↔ (Has (row_of old.takes.items old.width c) q ⊎ part.takes q c)
+      Has (row_of new.takes.items old.width c) q ↔
+      (Has (row_of old.takes.items old.width c) q ⊎ part.takes q c)
 
 -- there are rows for each number before `behind`, and rows for each byte
 pub record HasRoom (behind : ℕ) (rows : Rows) : Type 0 where
@@ -41,7 +45,8 @@ pub record HasRoom (behind : ℕ) (rows : Rows) : Type 0 where
   pub follow : behind * rows.width ≤ length rows.follow.items
   pub takes : length rows.takes.items ≡ 256 * rows.width
 
--- a part of so many positions, the last of them before `behind`, was added to the rows, and these are its ends
+-- a part of so many positions, the last of them before `behind`, was added to the rows, and these
+-- are its ends
 pub record IsAdded (part : ℕ → Part) (size behind : ℕ) (old new : Rows) (ends : Ends) : Type 0 where
   pub begins : ends.begins + size ≡ behind
   pub shows : Shows (part ends.begins) old.width ends
@@ -118,7 +123,8 @@ IsAddedOf e behind old new ends = IsAdded (part_of e) (positions e) behind old n
 abbrev pub HasRows : (ℕ → Type 0) → Rows → Type 0
 HasRows S rows = (p : ℕ) → S p → p * rows.width + rows.width ≤ length rows.follow.items
 
--- what stands behind the copies that a repeated part has to have: up to so many more, or the part again and again
+-- what stands behind the copies that a repeated part has to have: up to so many more, or the part
+-- again and again
 abbrev pub tail_of : (ℕ → Part) → ℕ → Option ℕ → ℕ → Part
 tail_of part size None from = again (part from)
 tail_of part size (Some turns) from = up_to part size turns from
@@ -131,19 +137,26 @@ tail_copies (Some turns) = turns
 -- so many copies of the expression and such a tail were added
 abbrev pub AreTurns : Expression → ℕ → Option ℕ → ℕ → Rows → Rows → Ends → Type 0
 AreTurns e turns tail behind old new ends =
-    IsAdded (copies_before (part_of e) (positions e) turns (tail_of (part_of e) (positions e) tail)) (turns * positions e + tail_copies tail * positions e) behind old new ends
+    IsAdded (copies_before (part_of e) (positions e) turns (tail_of (part_of e) (positions e) tail))
+    (turns * positions e + tail_copies tail * positions e) behind old new ends
 
 -- up to so many copies of the expression were added
 abbrev pub AreUpTo : Expression → ℕ → ℕ → Rows → Rows → Ends → Type 0
-AreUpTo e turns behind old new ends = IsAdded (up_to (part_of e) (positions e) turns) (turns * positions e) behind old new ends
+AreUpTo e turns behind old new ends =
+    IsAdded (up_to (part_of e) (positions e) turns) (turns * positions e) behind old new ends
 
 -- such a tail was added
 abbrev pub IsTail : Expression → Option ℕ → ℕ → Rows → Rows → Ends → Type 0
-IsTail e tail behind old new ends = IsAdded (tail_of (part_of e) (positions e) tail) (tail_copies tail * positions e) behind old new ends
+IsTail e tail behind old new ends =
+    IsAdded (tail_of (part_of e) (positions e) tail) (tail_copies tail * positions e) behind old new
+    ends
 
--- an expression without positions was added, as one that is repeated from `least` times on, to any bound that is not below
+-- an expression without positions was added, as one that is repeated from `least` times on, to any
+-- bound that is not below
 abbrev pub IsOnce : Expression → ℕ → ℕ → Rows → Rows → Ends → Type 0
-IsOnce e least behind old new ends = (most : Option ℕ) → IfSome most (λ top. least ≤ top) → IsAddedOf (repeat e least most) behind old new ends
+IsOnce e least behind old new ends =
+    (most : Option ℕ) → IfSome most (λ top. least ≤ top) →
+    IsAddedOf (repeat e least most) behind old new ends
 
 -- rows without members, for so many positions
 pub record AreBlankRows (count : ℕ) (rows : Rows) : Type 0 where

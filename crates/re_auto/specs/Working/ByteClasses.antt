@@ -6,8 +6,10 @@ use Rattle.re_auto.specs.Working.Bits.{row_of}
 -- the row of each byte is that of its class
 pub record AreClasses (rows : List ℕ) (width : ℕ) (classes : Classes) : Type 0 where
   pub bytes : length classes.class_of.items ≡ 256
-  pub within : (c : ℕ) → c < 256 → slice_index classes.class_of.items c * width + width ≤ length classes.takes.items
-  pub same : (c : ℕ) → c < 256 → row_of classes.takes.items width (slice_index classes.class_of.items c) ≡ row_of rows width c
+  pub within : (c : ℕ) → c < 256 →
+      slice_index classes.class_of.items c * width + width ≤ length classes.takes.items
+  pub same : (c : ℕ) → c < 256 →
+      row_of classes.takes.items width (slice_index classes.class_of.items c) ≡ row_of rows width c
 
 -- the row has this class, which may be a new one behind those that there were
 pub record IsClassed (count width : ℕ) (row old new : List ℕ) (class : ℕ) : Type 0 where

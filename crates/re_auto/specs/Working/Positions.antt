@@ -1,11 +1,15 @@
--- The positions of an expression: the places in it that take a byte, numbered from the left once each interval is written out (Glushkov's position automaton). Each
--- question that an anchor can change has an answer for each kind of place.
-use Rattle.std.specs.Prelude.{◌≡◌, ℕ, zero, suc, ◌+◌, ◌-◌, ◌<◌, ⊤, Bool, true, false, IsTrue, nat_eq, nat_le, ◌⊎◌, length, slice_index, Option, Some, None}
+-- The positions of an expression: the places in it that take a byte, numbered from the left once
+-- each interval is written out (Glushkov's position automaton). Each question that an anchor can
+-- change has an answer for each kind of place.
+use Rattle.std.specs.Prelude.{◌≡◌, ℕ, zero, suc, ◌+◌, ◌-◌, ◌<◌, ⊤, Bool, true, false, IsTrue}
+use Rattle.std.specs.Prelude.{nat_eq, nat_le, ◌⊎◌, length, slice_index, Option, Some, None}
 use Rattle.re_syntax.specs.Bytes.{Text}
-use Rattle.re_syntax.specs.Expression.{Expression, empty, one_of, none_of, begin, end, cat_none, cat_more, alt_none, alt_more, repeat}
+use Rattle.re_syntax.specs.Expression.{Expression, empty, one_of, none_of, begin, end, cat_none}
+use Rattle.re_syntax.specs.Expression.{cat_more, alt_none, alt_more, repeat}
 use Rattle.re_syntax.specs.Holds.{positions}
 
--- What is asked of a part of an expression. The first Bool says that the place is the line's first, the second that it is its last.
+-- What is asked of a part of an expression. The first Bool says that the place is the line's first,
+-- the second that it is its last.
 pub record Part : Type 1 where
   -- holds on the empty stretch
   pub empty : Bool → Bool → Type 0
@@ -28,7 +32,8 @@ is_end line i = nat_eq i (length line)
 abbrev pub ByteAt : (ℕ → Type 0) → Text → ℕ → Type 0
 ByteAt P line i = (i < length line) × P (slice_index line i)
 
--- A stretch from i that has read the bytes before j can have come to position q, which took the last of them.
+-- A stretch from i that has read the bytes before j can have come to position q, which took the
+-- last of them.
 abbrev pub Reaches : Part → Text → ℕ → ℕ → ℕ → Type 0
 Reaches part line i zero q = ⊥
 Reaches part line i (suc j) q =
@@ -68,8 +73,10 @@ one_position n P = record {
   takes = λ q c. (q ≡ n) × P c;
 }
 
--- both parts, the second beginning a stretch where `Skip` lets it, and following the first where `Cross` does
-abbrev pub joined : Part → Part → (Bool → Type 0) → Type 0 → (Bool → Bool → Type 0) → (Bool → ℕ → Type 0) → Part
+-- both parts, the second beginning a stretch where `Skip` lets it, and following the first where
+-- `Cross` does
+abbrev pub joined : Part → Part → (Bool → Type 0) → Type 0 → (Bool → Bool → Type 0) →
+    (Bool → ℕ → Type 0) → Part
 joined f g Skip Cross E L = record {
   empty = E;
   first = λ b q. f.first b q ⊎ Skip b × g.first b q;
@@ -114,12 +121,14 @@ optional f = record {
 -- so many copies in turn, each with numbers of its own, and then what follows them
 abbrev pub copies_before : (ℕ → Part) → ℕ → ℕ → (ℕ → Part) → ℕ → Part
 copies_before part size zero rest from = rest from
-copies_before part size (suc turns) rest from = in_turn (part from) (copies_before part size turns rest (from + size))
+copies_before part size (suc turns) rest from =
+    in_turn (part from) (copies_before part size turns rest (from + size))
 
 -- none of the copies, or the first and then perhaps more of them
 abbrev pub up_to : (ℕ → Part) → ℕ → ℕ → ℕ → Part
 up_to part size zero from = nothing_more
-up_to part size (suc turns) from = optional (in_turn (part from) (up_to part size turns (from + size)))
+up_to part size (suc turns) from =
+    optional (in_turn (part from) (up_to part size turns (from + size)))
 
 -- the part, or one that never holds
 abbrev pub only_if : Bool → Part → Part
@@ -130,7 +139,9 @@ only_if false part = never
 abbrev pub repeated : (ℕ → Part) → ℕ → ℕ → Option ℕ → ℕ → Part
 repeated part size zero None from = optional (again (part from))
 repeated part size (suc least) None from = copies_before part size least (λ m. again (part m)) from
-repeated part size least (Some most) from = only_if (nat_le least most) (copies_before part size least (up_to part size (most - least)) from)
+repeated part size least (Some most) from =
+    only_if (nat_le least most)
+    (copies_before part size least (up_to part size (most - least)) from)
 
 -- the expression as a part, its positions numbered from n on
 abbrev pub part_of : Expression → ℕ → Part

@@ -1,5 +1,7 @@
--- Least starts: for each position the least place at which a stretch begins that can have come to it.
-use Rattle.std.specs.Prelude.{◌≡◌, ℕ, ◌<◌, ◌≤◌, Bool, ◌⊎◌, nat_le, if◌then◌else◌, Option, Some, None}
+-- Least starts: for each position the least place at which a stretch begins that can have come to
+-- it.
+use Rattle.std.specs.Prelude.{◌≡◌, ℕ, ◌<◌, ◌≤◌, Bool, ◌⊎◌, nat_le, if◌then◌else◌, Option, Some}
+use Rattle.std.specs.Prelude.{None}
 use Rattle.re_syntax.specs.Bytes.{Text}
 use Rattle.re_syntax.specs.Expression.{Expression}
 use Rattle.re_syntax.specs.Holds.{Holds}
@@ -16,11 +18,15 @@ abbrev pub Least : (ℕ → Type 0) → Option ℕ → Type 0
 Least P (Some i) = IsLeast P i
 Least P None = (k : ℕ) → ¬ P k
 
--- each position with the least place, `from` or later, at which a stretch of the mode begins that can have come to it at place j
+-- each position with the least place, `from` or later, at which a stretch of the mode begins that
+-- can have come to it at place j
 abbrev pub StartsAfter : Part → Mode → ℕ → Text → ℕ → (ℕ → Option ℕ) → Type 0
-StartsAfter part mode from line j least = (q : ℕ) → Least (λ i. (from ≤ i) × MayBegin mode (is_begin i) × Reaches part line i j q) (least q)
+StartsAfter part mode from line j least =
+    (q : ℕ) →
+    Least (λ i. (from ≤ i) × MayBegin mode (is_begin i) × Reaches part line i j q) (least q)
 
--- the starts that the byte c at place j can bring to position q: from a position before it, or this place itself
+-- the starts that the byte c at place j can bring to position q: from a position before it, or this
+-- place itself
 abbrev pub Brought : Part → Mode → ℕ → (ℕ → Option ℕ) → ℕ → ℕ → ℕ → Type 0
 Brought part mode j least c q i =
     part.takes q c
@@ -37,9 +43,11 @@ Told part end least i = (q : ℕ) × (least q ≡ Some i) × part.last end q
 
 -- a matched stretch of the mode that is not empty and begins at `from` or later
 abbrev pub IsMatched : Expression → Mode → ℕ → Text → ℕ → ℕ → Type 0
-IsMatched e mode from line i j = (from ≤ i) × (i < j) × MayBegin mode (is_begin i) × Holds line e i j
+IsMatched e mode from line i j =
+    (from ≤ i) × (i < j) × MayBegin mode (is_begin i) × Holds line e i j
 
--- The best of the stretches in R that end at `to` or before: it begins earliest, and of those that begin there it ends last.
+-- The best of the stretches in R that end at `to` or before: it begins earliest, and of those that
+-- begin there it ends last.
 abbrev pub IsBest : (ℕ → ℕ → Type 0) → ℕ → Option (ℕ × ℕ) → Type 0
 IsBest R to None = (i j : ℕ) → j ≤ to → ¬ R i j
 IsBest R to (Some (i, j)) =

@@ -12,13 +12,16 @@ use Rattle.re_auto.specs.Working.Tables.{words_for}
 
 -- the set was made for the automaton of this expression, and has none but its positions
 abbrev pub IsMadeFor : Expression → StateSet → Type 0
-IsMadeFor e set = (length set.words.items ≡ words_for (positions e)) × ((q : ℕ) → Has set.words.items q → q < positions e)
+IsMadeFor e set =
+    (length set.words.items ≡ words_for (positions e)) ×
+    ((q : ℕ) → Has set.words.items q → q < positions e)
 
 -- the two sets were made for automata of the same size
 abbrev pub IsAlike : StateSet → StateSet → Type 0
 IsAlike one other = length one.words.items ≡ length other.words.items
 
--- the two sets have the same positions and the same mark, so that all that is said of the one is true of the other
+-- the two sets have the same positions and the same mark, so that all that is said of the one is
+-- true of the other
 abbrev pub IsSame : StateSet → StateSet → Type 0
 IsSame one other = (one.words.items ≡ other.words.items) × (one.at_begin ≡ other.at_begin)
 
@@ -26,14 +29,17 @@ IsSame one other = (one.words.items ≡ other.words.items) × (one.at_begin ≡ 
 abbrev pub IsNowhere : StateSet → Type 0
 IsNowhere set = (set.at_begin ≡ false) × ((q : ℕ) → ¬ Has set.words.items q)
 
--- the set is right at place j of the line: its mark says whether that is the first, and its positions are those to which stretches of the mode can have come
+-- the set is right at place j of the line: its mark says whether that is the first, and its
+-- positions are those to which stretches of the mode can have come
 unfoldable pub StandsAt : Expression → Mode → Text → ℕ → StateSet → Type 0
-StandsAt e mode line j set = (set.at_begin ≡ is_begin j) × IsAfter (part_of e 0) mode line j (Has set.words.items)
+StandsAt e mode line j set =
+    (set.at_begin ≡ is_begin j) × IsAfter (part_of e 0) mode line j (Has set.words.items)
 
 -- the second set is what the first becomes by one more byte
 unfoldable pub IsNextSet : Expression → Mode → StateSet → ℕ → StateSet → Type 0
 IsNextSet e mode from byte into =
-    (into.at_begin ≡ false) × IsNext (part_of e 0) mode from.at_begin (Has from.words.items) byte (Has into.words.items)
+    (into.at_begin ≡ false) ×
+    IsNext (part_of e 0) mode from.at_begin (Has from.words.items) byte (Has into.words.items)
 
 -- by the set's mark and positions, some stretch of the mode that ends here is matched
 unfoldable pub IsAccepting : Expression → Mode → StateSet → Bool → Type 0
@@ -45,4 +51,5 @@ TakenAlike e b c = (q : ℕ) → (part_of e 0).takes q b ↔ (part_of e 0).takes
 
 -- bytes of one class are taken by the same positions
 abbrev pub AreAlikeInClasses : Expression → List ℕ → Type 0
-AreAlikeInClasses e classes = (b c : ℕ) → b < 256 → c < 256 → slice_index classes b ≡ slice_index classes c → TakenAlike e b c
+AreAlikeInClasses e classes =
+    (b c : ℕ) → b < 256 → c < 256 → slice_index classes b ≡ slice_index classes c → TakenAlike e b c

@@ -1,5 +1,6 @@
 -- What the tables of an automaton tell of the positions of an expression.
-use Rattle.std.specs.Prelude.{◌≡◌, ℕ, ◌+◌, ◌*◌, ◌/◌, ◌<◌, ◌≤◌, Bool, true, false, IsTrue, ◌↔◌, List, length, slice_index, slice_index_or}
+use Rattle.std.specs.Prelude.{◌≡◌, ℕ, ◌+◌, ◌*◌, ◌/◌, ◌<◌, ◌≤◌, Bool, true, false, IsTrue, ◌↔◌, List}
+use Rattle.std.specs.Prelude.{length, slice_index, slice_index_or}
 use Rattle.re_syntax.specs.Expression.{Expression}
 use Rattle.re_syntax.specs.Holds.{positions}
 use Rattle.re_syntax.specs.Profile.{most_positions}
@@ -28,7 +29,8 @@ CanBegin part c = (q : ℕ) × part.first false q × part.takes q c
 
 -- there is a mark for each of the 256 bytes, which says whether S holds of it
 abbrev pub Marks : List Bool → (ℕ → Type 0) → Type 0
-Marks marks S = (length marks ≡ 256) × ((c : ℕ) → c < 256 → IsTrue (slice_index_or marks c false) ↔ S c)
+Marks marks S =
+    (length marks ≡ 256) × ((c : ℕ) → c < 256 → IsTrue (slice_index_or marks c false) ↔ S c)
 
 -- the four answers on the empty stretch
 pub record TellsEmpty (part : Part) (empty : Empty) : Type 0 where
@@ -40,8 +42,11 @@ pub record TellsEmpty (part : Part) (empty : Empty) : Type 0 where
 -- each byte's class has a row, the positions that take the byte
 pub record TellsTakes (part : Part) (tables : Tables) : Type 0 where
   pub classes : length tables.class_of.items ≡ 256
-  pub within : (c : ℕ) → c < 256 → slice_index tables.class_of.items c * tables.width + tables.width ≤ length tables.takes.items
-  pub takes : (c q : ℕ) → c < 256 → Has (row_of tables.takes.items tables.width (slice_index tables.class_of.items c)) q ↔ part.takes q c
+  pub within : (c : ℕ) → c < 256 →
+      slice_index tables.class_of.items c * tables.width + tables.width ≤ length tables.takes.items
+  pub takes : (c q : ℕ) → c < 256 →
+      Has (row_of tables.takes.items tables.width (slice_index tables.class_of.items c)) q ↔
+      part.takes q c
 
 -- the tables of an expression, whose positions are numbered from 0 on
 pub record AreTablesOf (e : Expression) (tables : Tables) : Type 0 where
@@ -57,7 +62,8 @@ pub record AreTablesOf (e : Expression) (tables : Tables) : Type 0 where
   pub empty : TellsEmpty (part_of e 0) tables.empty
   pub beginnings : Marks tables.beginnings (CanBegin (part_of e 0))
 
--- what a refusal says of the count of positions: too large exactly where there are more than an automaton may have
+-- what a refusal says of the count of positions: too large exactly where there are more than an
+-- automaton may have
 abbrev pub IsRefused : ℕ → BuildFault → Type 0
 IsRefused count TooLarge = most_positions < count
 IsRefused count Memory = count ≤ most_positions

@@ -78,7 +78,8 @@ impl Ends {
         requires left { HasWidth (length self.first_inside.items) self }
         requires right { HasWidth (length self.first_inside.items) rest }
         ensures begins { result.begins ≡ self.begins }
-        ensures shows { Shows (in_turn (shown self) (shown rest)) (length self.first_inside.items) result }
+        ensures shows { Shows (in_turn (shown self) (shown rest)) (length self.first_inside.items)
+            result }
     {
         let mut first_at_begin = self.first_at_begin;
         let mut first_inside = self.first_inside;
@@ -107,7 +108,8 @@ impl Ends {
         requires left { HasWidth (length self.first_inside.items) self }
         requires right { HasWidth (length self.first_inside.items) rest }
         ensures begins { result.begins ≡ self.begins }
-        ensures shows { Shows (either (shown self) (shown rest)) (length self.first_inside.items) result }
+        ensures shows { Shows (either (shown self) (shown rest)) (length self.first_inside.items)
+            result }
     {
         let mut first_at_begin = self.first_at_begin;
         let mut first_inside = self.first_inside;
@@ -149,7 +151,8 @@ fn one_member(alloc: Global, width: usize, member: usize) -> Result<Vec<u64>, Al
 fn add_if(into: &mut Vec<u64>, row: &Vec<u64>, wanted: bool)
     requires same { length into.old.items ≡ length row.now.items }
     ensures len { length into.new.items ≡ length into.old.items }
-    ensures added { (q : ℕ) → Has into.new.items q ↔ (Has into.old.items q ⊎ IsTrue wanted × Has row.now.items q) }
+    ensures added { (q : ℕ) →
+        Has into.new.items q ↔ (Has into.old.items q ⊎ IsTrue wanted × Has row.now.items q) }
 {
     if wanted {
         add_set(into, row);

@@ -2,7 +2,8 @@
 ghost use Rattle.std.specs.Prelude.{◌≡◌, ◌+◌, ◌*◌, ◌≤◌, ◌<◌, max, IfOk, map};
 ghost use Rattle.re_syntax.specs.Expression.{alt, cat, expression_of, repeat};
 ghost use Rattle.re_syntax.specs.Holds.{positions};
-ghost use Rattle.re_auto.specs.Working.Building.{AreTurns, AreUpTo, HasRoom, IsAdded, IsAddedOf, IsOnce, IsTail, tail_copies, wanted_position};
+ghost use Rattle.re_auto.specs.Working.Building.{AreTurns, AreUpTo, HasRoom, IsAdded, IsAddedOf};
+ghost use Rattle.re_auto.specs.Working.Building.{IsOnce, IsTail, tail_copies, wanted_position};
 
 use crate::build::count::position_count;
 use crate::build::ends::Ends;
@@ -12,8 +13,8 @@ use re_syntax::{ByteSet, Tree};
 use std::alloc::{AllocError, Global};
 
 impl Rows {
-    /// Adds the expression to the rows, its positions being the last before the number `behind`, and
-    /// gives its ends.
+    /// Adds the expression to the rows, its positions being the last before the number `behind`,
+    /// and gives its ends.
     #[cycle(add)]
     pub fn add(&mut self, alloc: Global, tree: &Tree, behind: usize) -> Result<Ends, AllocError>
         requires fits { positions (expression_of tree.now) ≤ behind }
@@ -51,7 +52,8 @@ impl Rows {
     ) -> Result<Ends, AllocError>
         requires fits { positions (cat (map expression_of members.now)) ≤ behind }
         requires room { HasRoom behind self.old }
-        ensures { IfOk result (IsAddedOf (cat (map expression_of members.now)) behind self.old self.new) }
+        ensures { IfOk result
+            (IsAddedOf (cat (map expression_of members.now)) behind self.old self.new) }
     {
         let mut rest = Ends::blank(alloc, self.width, behind, Empty::anywhere())?;
         let mut left = members.len();
@@ -73,7 +75,8 @@ impl Rows {
     ) -> Result<Ends, AllocError>
         requires fits { positions (alt (map expression_of branches.now)) ≤ behind }
         requires room { HasRoom behind self.old }
-        ensures { IfOk result (IsAddedOf (alt (map expression_of branches.now)) behind self.old self.new) }
+        ensures { IfOk result
+            (IsAddedOf (alt (map expression_of branches.now)) behind self.old self.new) }
     {
         let mut rest = Ends::blank(alloc, self.width, behind, Empty::nowhere())?;
         let mut left = branches.len();
@@ -85,8 +88,8 @@ impl Rows {
         Ok(rest)
     }
 
-    /// Adds a part that stands from `least` to `most` times. One that never holds keeps the numbers of
-    /// its copies.
+    /// Adds a part that stands from `least` to `most` times. One that never holds keeps the numbers
+    /// of its copies.
     #[cycle(add)]
     fn add_bounded(
         &mut self,
@@ -99,7 +102,9 @@ impl Rows {
         requires fits { most * positions (expression_of part.now) ≤ behind }
         requires small { most < 65536 }
         requires room { HasRoom behind self.old }
-        ensures { IfOk result (IsAddedOf (repeat (expression_of part.now) least (Some most)) behind self.old self.new) }
+        ensures { IfOk result
+            (IsAddedOf (repeat (expression_of part.now) least (Some most)) behind self.old
+            self.new) }
     {
         let size = position_count(part);
         if most < least {
@@ -122,7 +127,8 @@ impl Rows {
     ) -> Result<Ends, AllocError>
         requires fits { max least 1 * positions (expression_of part.now) ≤ behind }
         requires room { HasRoom behind self.old }
-        ensures { IfOk result (IsAddedOf (repeat (expression_of part.now) least None) behind self.old self.new) }
+        ensures { IfOk result
+            (IsAddedOf (repeat (expression_of part.now) least None) behind self.old self.new) }
     {
         if position_count(part) == 0 {
             return self.add_once(alloc, part, least, behind);
@@ -134,7 +140,8 @@ impl Rows {
         self.add_turns(alloc, part, least - 1, None, behind)
     }
 
-    /// Adds a part without positions, however often it stands: its turns are all on the empty stretch.
+    /// Adds a part without positions, however often it stands: its turns are all on the empty
+    /// stretch.
     #[cycle(add)]
     fn add_once(
         &mut self,
@@ -165,9 +172,11 @@ impl Rows {
         tail: Option<usize>,
         behind: usize,
     ) -> Result<Ends, AllocError>
-        requires fits { turns * positions (expression_of part.now) + tail_copies tail * positions (expression_of part.now) ≤ behind }
+        requires fits { turns * positions (expression_of part.now) +
+            tail_copies tail * positions (expression_of part.now) ≤ behind }
         requires room { HasRoom behind self.old }
-        ensures { IfOk result (AreTurns (expression_of part.now) turns tail behind self.old self.new) }
+        ensures { IfOk result
+            (AreTurns (expression_of part.now) turns tail behind self.old self.new) }
     {
         let mut rest = self.add_tail(alloc, part, tail, behind)?;
         'turns: for _turn in 0..turns {
@@ -231,7 +240,8 @@ impl Rows {
     ) -> Result<Ends, AllocError>
         requires fits { 0 < behind }
         requires room { HasRoom behind self.old }
-        ensures { IfOk result (IsAdded (wanted_position set.now wanted) 1 behind self.old self.new) }
+        ensures { IfOk result
+            (IsAdded (wanted_position set.now wanted) 1 behind self.old self.new) }
     {
         let ends = Ends::one(alloc, self.width, behind - 1)?;
         self.take(set, wanted, behind - 1);

@@ -4,7 +4,8 @@ ghost use Rattle.std.specs.Int.{bit_at};
 ghost use Rattle.re_syntax.specs.Profile.{most_positions};
 ghost use Rattle.re_syntax.specs.Sets.{members};
 ghost use Rattle.re_auto.specs.Working.Bits.{Has, row_of};
-ghost use Rattle.re_auto.specs.Working.Building.{Adds, AreBlankRows, HasRows, HasWidth, Shows, Wanted, crossing, shown};
+ghost use Rattle.re_auto.specs.Working.Building.{Adds, AreBlankRows, HasRows, HasWidth, Shows};
+ghost use Rattle.re_auto.specs.Working.Building.{Wanted, crossing, shown};
 ghost use Rattle.re_auto.specs.Working.Positions.{again, in_turn, one_position};
 ghost use Rattle.re_auto.specs.Working.Tables.{most_words};
 
@@ -88,10 +89,14 @@ impl Rows {
 // Adds the members of `first` to the row of each member of word `k` of a set.
 fn cross_word(follow: &mut [u64], width: usize, k: usize, word: u64, first: &[u64])
     requires same { length first.now ≡ width }
-    requires rows { (b : ℕ) → b < 64 → bit_at word b ≡ 1 → (k * 64 + b) * width + width ≤ length follow.old }
+    requires rows { (b : ℕ) → b < 64 → bit_at word b ≡ 1 →
+        (k * 64 + b) * width + width ≤ length follow.old }
     requires few { k < most_words }
     ensures len { length follow.new ≡ length follow.old }
-    ensures added { (x q : ℕ) → x * width + width ≤ length follow.old → Has (row_of follow.new width x) q ↔ (Has (row_of follow.old width x) q ⊎ ((b : ℕ) × (b < 64) × (bit_at word b ≡ 1) × ((x ≡ k * 64 + b) × Has first.now q))) }
+    ensures added { (x q : ℕ) → x * width + width ≤ length follow.old →
+        Has (row_of follow.new width x) q ↔
+        (Has (row_of follow.old width x) q ⊎
+        ((b : ℕ) × (b < 64) × (bit_at word b ≡ 1) × ((x ≡ k * 64 + b) × Has first.now q))) }
 {
     let mut left = word;
     'bits: while left != 0 {
@@ -106,7 +111,9 @@ fn cross_rows(follow: &mut [u64], width: usize, last: &[u64], first: &[u64])
     requires few { length last.now ≤ most_words }
     requires rows { (p : ℕ) → Has last.now p → p * width + width ≤ length follow.old }
     ensures len { length follow.new ≡ length follow.old }
-    ensures added { (x q : ℕ) → x * width + width ≤ length follow.old → Has (row_of follow.new width x) q ↔ (Has (row_of follow.old width x) q ⊎ Has last.now x × Has first.now q) }
+    ensures added { (x q : ℕ) → x * width + width ≤ length follow.old →
+        Has (row_of follow.new width x) q ↔
+        (Has (row_of follow.old width x) q ⊎ Has last.now x × Has first.now q) }
 {
     'words: for k in 0..last.len() {
         cross_word(follow, width, k, last[k], first);
@@ -118,7 +125,8 @@ fn insert_in_row(table: &mut [u64], width: usize, r: usize, e: usize)
     requires room { r * width + width ≤ length table.old }
     requires small { e < width * 64 }
     ensures len { length table.new ≡ length table.old }
-    ensures added { (x q : ℕ) → x * width + width ≤ length table.old → Has (row_of table.new width x) q ↔ (Has (row_of table.old width x) q ⊎ (x ≡ r) × (q ≡ e)) }
+    ensures added { (x q : ℕ) → x * width + width ≤ length table.old →
+        Has (row_of table.new width x) q ↔ (Has (row_of table.old width x) q ⊎ (x ≡ r) × (q ≡ e)) }
 {
     bits::insert(&mut table[r * width..r * width + width], e);
 }
@@ -128,7 +136,9 @@ fn mark_takers(takes: &mut [u64], width: usize, set: &ByteSet, wanted: bool, pos
     requires room { length takes.old ≡ 256 * width }
     requires small { position < width * 64 }
     ensures len { length takes.new ≡ length takes.old }
-    ensures added { (c q : ℕ) → c < 256 → Has (row_of takes.new width c) q ↔ (Has (row_of takes.old width c) q ⊎ (members set.now c ≡ wanted) × (q ≡ position)) }
+    ensures added { (c q : ℕ) → c < 256 →
+        Has (row_of takes.new width c) q ↔
+        (Has (row_of takes.old width c) q ⊎ (members set.now c ≡ wanted) × (q ≡ position)) }
 {
     'bytes: for c in 0..256usize {
         if set.has(c as u8) == wanted {

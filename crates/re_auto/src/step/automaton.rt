@@ -1,5 +1,6 @@
 //! The position automaton of an expression, and how sets of its positions are stepped.
-ghost use Rattle.std.specs.Prelude.{◌≡◌, ℕ, suc, Bool, true, false, ◌<◌, ◌≤◌, ◌↔◌, Some, IsTrue, IfOk, IfErr, vec_len, length, slice_get, slice_index};
+ghost use Rattle.std.specs.Prelude.{◌≡◌, ℕ, suc, Bool, true, false, ◌<◌, ◌≤◌, ◌↔◌, Some, IsTrue};
+ghost use Rattle.std.specs.Prelude.{IfOk, IfErr, vec_len, length, slice_get, slice_index};
 ghost use Rattle.re_syntax.specs.Bytes.{Text};
 ghost use Rattle.re_syntax.specs.Expression.{expression_of};
 ghost use Rattle.re_syntax.specs.Holds.{Holds, positions};
@@ -10,7 +11,8 @@ ghost use Rattle.re_auto.specs.Meters.{many_built};
 ghost use Rattle.re_auto.specs.Working.Positions.{part_of, is_begin, is_end};
 ghost use Rattle.re_auto.specs.Working.Stepping.{MayBegin, IsNext};
 ghost use Rattle.re_auto.specs.Working.Tables.{most_words, words_for, CanBegin, IsRefused};
-ghost use Rattle.re_auto.specs.Working.StateSets.{IsMadeFor, IsNowhere, StandsAt, IsNextSet, IsAccepting, AreAlikeInClasses};
+ghost use Rattle.re_auto.specs.Working.StateSets.{IsMadeFor, IsNowhere, StandsAt, IsNextSet};
+ghost use Rattle.re_auto.specs.Working.StateSets.{IsAccepting, AreAlikeInClasses};
 
 mod one_word;
 
@@ -67,7 +69,8 @@ impl Automaton {
     pub fn start(&self, into: &mut StateSet)
         requires made { IsMadeFor (expression_of self.now) into.old }
         ensures made { IsMadeFor (expression_of self.now) into.new }
-        ensures stands { (mode : Mode) (line : Text) → StandsAt (expression_of self.now) mode line 0 into.new }
+        ensures stands { (mode : Mode) (line : Text) →
+            StandsAt (expression_of self.now) mode line 0 into.new }
     {
         bits::clear(&mut into.words);
         into.at_begin = true;
@@ -87,7 +90,8 @@ impl Automaton {
         ensures made { IsMadeFor (expression_of self.now) into.new }
         ensures next { IsNextSet (expression_of self.now) mode from.now byte into.new }
         ensures stands { (line : Text) (j : ℕ) → slice_get line j ≡ Some byte
-            → StandsAt (expression_of self.now) mode line j from.now → StandsAt (expression_of self.now) mode line (suc j) into.new }
+            → StandsAt (expression_of self.now) mode line j from.now →
+            StandsAt (expression_of self.now) mode line (suc j) into.new }
         ensures counted { meter.new ≡ many_built 1 meter.old }
     {
         self.step(mode, from.at_begin, &from.words, byte, &mut into.words);
@@ -100,8 +104,10 @@ impl Automaton {
     pub fn accepts(&self, mode: Mode, set: &StateSet, at_end: bool) -> bool
         requires made { IsMadeFor (expression_of self.now) set.now }
         ensures told { IsTrue result ↔ IsAccepting (expression_of self.now) mode set.now at_end }
-        ensures matched { (line : Text) (j : ℕ) → StandsAt (expression_of self.now) mode line j set.now → at_end ≡ is_end line j
-            → IsTrue result ↔ ((i : ℕ) × MayBegin mode (is_begin i) × Holds line (expression_of self.now) i j) }
+        ensures matched { (line : Text) (j : ℕ) →
+            StandsAt (expression_of self.now) mode line j set.now → at_end ≡ is_end line j
+            → IsTrue result ↔
+            ((i : ℕ) × MayBegin mode (is_begin i) × Holds line (expression_of self.now) i j) }
     {
         let longer = self.has_last(&set.words, at_end);
         let may_begin = mode.may_begin(set.at_begin);
@@ -114,8 +120,10 @@ impl Automaton {
     #[inline(always)]
     pub fn begins(&self, byte: u8) -> bool
         ensures can { IsTrue result ↔ CanBegin (part_of (expression_of self.now) 0) byte }
-        ensures stays { result ≡ false → (set : StateSet) (line : Text) (j : ℕ) → IsNowhere set → slice_get line j ≡ Some byte
-            → StandsAt (expression_of self.now) Search line j set → StandsAt (expression_of self.now) Search line (suc j) set }
+        ensures stays { result ≡ false → (set : StateSet) (line : Text) (j : ℕ) → IsNowhere set →
+            slice_get line j ≡ Some byte
+            → StandsAt (expression_of self.now) Search line j set →
+            StandsAt (expression_of self.now) Search line (suc j) set }
     {
         self.tables.beginnings.has(byte)
     }
@@ -126,8 +134,10 @@ impl Automaton {
     pub fn next_beginning(&self, line: &[u8], place: usize) -> usize
         requires { place ≤ length line.now }
         ensures within { (place ≤ result) × (result ≤ length line.now) }
-        ensures passed { (k : ℕ) → place ≤ k → k < result → ¬ CanBegin (part_of (expression_of self.now) 0) (slice_index line.now k) }
-        ensures stops { result < length line.now → CanBegin (part_of (expression_of self.now) 0) (slice_index line.now result) }
+        ensures passed { (k : ℕ) → place ≤ k → k < result →
+            ¬ CanBegin (part_of (expression_of self.now) 0) (slice_index line.now k) }
+        ensures stops { result < length line.now →
+            CanBegin (part_of (expression_of self.now) 0) (slice_index line.now result) }
     {
         self.tables.beginnings.next_in(line, place)
     }
@@ -149,7 +159,8 @@ impl Automaton {
 
     /// The words of an empty set.
     pub(crate) fn blank_words(&self, alloc: Global) -> Result<Vec<u64>, AllocError>
-        ensures blank { IfOk result (λ words. Are words.items (λ _. ⊥) (words_for (positions (expression_of self.now)))) }
+        ensures blank { IfOk result
+            (λ words. Are words.items (λ _. ⊥) (words_for (positions (expression_of self.now)))) }
         ensures few { IfOk result (λ words. vec_len words ≤ most_words) }
     {
         vec![in alloc; 0; self.tables.width]
@@ -157,10 +168,13 @@ impl Automaton {
 
     // The words after one more byte.
     fn step(&self, mode: Mode, at_begin: bool, from: &[u64], byte: u8, into: &mut [u64])
-        requires from { Are from.now (λ q. Has from.now q × (q < positions (expression_of self.now))) (words_for (positions (expression_of self.now))) }
+        requires from { Are from.now
+            (λ q. Has from.now q × (q < positions (expression_of self.now)))
+            (words_for (positions (expression_of self.now))) }
         requires into { length into.old ≡ length from.now }
         ensures len { length into.new ≡ length into.old }
-        ensures next { IsNext (part_of (expression_of self.now) 0) mode at_begin (Has from.now) byte (Has into.new) }
+        ensures next { IsNext (part_of (expression_of self.now) 0) mode at_begin (Has from.now) byte
+            (Has into.new) }
     {
         if self.tables.width == 1 {
             let word = self.step_word(mode, at_begin, bits::only_word(from), byte);
@@ -172,10 +186,13 @@ impl Automaton {
 
     // The same, word by word.
     fn step_words(&self, mode: Mode, at_begin: bool, from: &[u64], byte: u8, into: &mut [u64])
-        requires from { Are from.now (λ q. Has from.now q × (q < positions (expression_of self.now))) (words_for (positions (expression_of self.now))) }
+        requires from { Are from.now
+            (λ q. Has from.now q × (q < positions (expression_of self.now)))
+            (words_for (positions (expression_of self.now))) }
         requires into { length into.old ≡ length from.now }
         ensures len { length into.new ≡ length into.old }
-        ensures next { IsNext (part_of (expression_of self.now) 0) mode at_begin (Has from.now) byte (Has into.new) }
+        ensures next { IsNext (part_of (expression_of self.now) 0) mode at_begin (Has from.now) byte
+            (Has into.new) }
     {
         if mode.may_begin(at_begin) {
             bits::copy(into, self.beginning(at_begin));
@@ -189,7 +206,8 @@ impl Automaton {
     /// The positions that a stretch can begin with at such a place.
     #[inline(always)]
     pub(crate) fn beginning(&self, at_begin: bool) -> &[u64]
-        ensures { Are result.now (λ q. (part_of (expression_of self.now) 0).first at_begin q) (words_for (positions (expression_of self.now))) }
+        ensures { Are result.now (λ q. (part_of (expression_of self.now) 0).first at_begin q)
+            (words_for (positions (expression_of self.now))) }
     {
         if at_begin {
             return &self.tables.first_at_begin;
@@ -200,7 +218,8 @@ impl Automaton {
     /// The positions that a stretch can end with at such a place.
     #[inline(always)]
     pub(crate) fn ending(&self, at_end: bool) -> &[u64]
-        ensures { Are result.now (λ q. (part_of (expression_of self.now) 0).last at_end q) (words_for (positions (expression_of self.now))) }
+        ensures { Are result.now (λ q. (part_of (expression_of self.now) 0).last at_end q)
+            (words_for (positions (expression_of self.now))) }
     {
         if at_end {
             return &self.tables.last_at_end;
@@ -212,7 +231,8 @@ impl Automaton {
     #[inline(always)]
     pub(crate) fn following(&self, p: usize) -> &[u64]
         requires { p < positions (expression_of self.now) }
-        ensures { Are result.now (λ q. (part_of (expression_of self.now) 0).follow p q) (words_for (positions (expression_of self.now))) }
+        ensures { Are result.now (λ q. (part_of (expression_of self.now) 0).follow p q)
+            (words_for (positions (expression_of self.now))) }
     {
         bits::row(&self.tables.follow, self.tables.width, p)
     }
@@ -220,7 +240,8 @@ impl Automaton {
     /// The positions that take the byte.
     #[inline(always)]
     pub(crate) fn taking(&self, byte: u8) -> &[u64]
-        ensures { Are result.now (λ q. (part_of (expression_of self.now) 0).takes q byte) (words_for (positions (expression_of self.now))) }
+        ensures { Are result.now (λ q. (part_of (expression_of self.now) 0).takes q byte)
+            (words_for (positions (expression_of self.now))) }
     {
         let class = self.tables.class_of[byte as usize];
         bits::row(&self.tables.takes, self.tables.width, class as usize)
@@ -229,7 +250,8 @@ impl Automaton {
     // Whether a stretch that is not empty can end with one of the positions.
     fn has_last(&self, words: &[u64], at_end: bool) -> bool
         requires made { length words.now ≡ words_for (positions (expression_of self.now)) }
-        ensures { IsTrue result ↔ ((q : ℕ) × Has words.now q × (part_of (expression_of self.now) 0).last at_end q) }
+        ensures { IsTrue result ↔
+            ((q : ℕ) × Has words.now q × (part_of (expression_of self.now) 0).last at_end q) }
     {
         bits::meets(words, self.ending(at_end))
     }

@@ -18,7 +18,8 @@ Lacks text line = (k : ℕ) → ¬ OccursAt line text k
 -- the first `count` bytes are whole lines, of each of which this holds
 abbrev pub PassesAll : (Text → Type 0) → Text → ℕ → Type 0
 PassesAll Holds bytes count =
-    (lines : List Text) × (rest : Text) × All HasNoNewline lines × All Holds lines × (bytes ≡ terminated lines ++ rest) × (count ≡ length (terminated lines))
+    (lines : List Text) × (rest : Text) × All HasNoNewline lines × All Holds lines ×
+    (bytes ≡ terminated lines ++ rest) × (count ≡ length (terminated lines))
 
 -- the first `count` bytes are whole lines, none of which the expression matches
 abbrev pub PassesUnmatched : Expression → Bool → Text → ℕ → Type 0
@@ -26,4 +27,6 @@ PassesUnmatched e whole block count = PassesAll (λ line. ¬ Matches e line whol
 
 -- none of which any of the expressions matches, by the answer that all matchers give
 abbrev pub PassesUnmatchedByAll : List Expression → List Bool → Text → ℕ → Type 0
-PassesUnmatchedByAll es wholes block count = (whole : Bool) → AllAnswer whole wholes → PassesAll (λ line. ¬ SomeMatches es line whole) block count
+PassesUnmatchedByAll es wholes block count =
+    (whole : Bool) → AllAnswer whole wholes →
+    PassesAll (λ line. ¬ SomeMatches es line whole) block count

@@ -1,5 +1,7 @@
 -- The beginnings of strings that stand in order.
-use Rattle.std.specs.Prelude.{◌≡◌, ℕ, ◌+◌, ◌<◌, ◌≤◌, List, [], ◌∷◌, ◌++◌, length, take, get_or, slice_get, slice_index, All, nat_eq, ◌↔◌, if◌then◌else◌, Option, Some, None}
+use Rattle.std.specs.Prelude.{◌≡◌, ℕ, ◌+◌, ◌<◌, ◌≤◌, List, [], ◌∷◌, ◌++◌, length, take, get_or}
+use Rattle.std.specs.Prelude.{slice_get, slice_index, All, nat_eq, ◌↔◌, if◌then◌else◌, Option, Some}
+use Rattle.std.specs.Prelude.{None}
 use Rattle.re_syntax.specs.Bytes.{Text, Begins}
 use Rattle.re_search.specs.declared.fixed_set.growth.Branch.{Branch}
 use Rattle.re_search.specs.Working.FixedSets.{IsFront, IsString}
@@ -15,7 +17,9 @@ rank (Some b) = b + 1
 
 -- of two strings that begin with the same bytes the next byte of the first is no greater
 abbrev pub AreAscending : List Text → Type 0
-AreAscending texts = (w : Text) (i j : ℕ) → i ≤ j → j < length texts → Begins w (text_at texts i) → Begins w (text_at texts j)
+AreAscending texts =
+    (w : Text) (i j : ℕ) → i ≤ j → j < length texts → Begins w (text_at texts i) →
+    Begins w (text_at texts j)
     → rank (slice_get (text_at texts i) (length w)) ≤ rank (slice_get (text_at texts j) (length w))
 
 -- the beginning that a branch is
@@ -26,7 +30,8 @@ branch_text texts b = take b.depth (text_at texts b.low)
 pub record IsBranch (texts : List Text) (b : Branch) : Type 0 where
   pub within : b.high ≤ length texts
   pub deep : length (branch_text texts b) ≡ b.depth
-  pub exact : (i : ℕ) → i < length texts → Begins (branch_text texts b) (text_at texts i) → (b.low ≤ i) × (i < b.high)
+  pub exact : (i : ℕ) → i < length texts → Begins (branch_text texts b) (text_at texts i) →
+      (b.low ≤ i) × (i < b.high)
   pub shared : (i : ℕ) → b.low ≤ i → i < b.high → Begins (branch_text texts b) (text_at texts i)
 
 abbrev pub no_branch : Branch
@@ -36,12 +41,18 @@ abbrev pub branch_at : List Branch → ℕ → Branch
 branch_at branches m = get_or branches m no_branch
 
 -- the branches from one place to another are those of one byte more than this one
-pub record IsRow (texts : List Text) (branches : List Branch) (b : Branch) (from to : ℕ) : Type 0 where
-  pub child : (m : ℕ) → from ≤ m → m < to → branch_text texts (branch_at branches m) ≡ branch_text texts b ++ (branch_at branches m).byte ∷ []
-  pub complete : (c : ℕ) → IsFront texts (branch_text texts b ++ c ∷ []) → (m : ℕ) × (from ≤ m) × (m < to) × ((branch_at branches m).byte ≡ c)
+pub record IsRow (texts : List Text) (branches : List Branch) (b : Branch)
+    (from to : ℕ) : Type 0 where
+  pub child : (m : ℕ) → from ≤ m → m < to →
+      branch_text texts (branch_at branches m) ≡ branch_text texts b ++
+      (branch_at branches m).byte ∷ []
+  pub complete : (c : ℕ) → IsFront texts (branch_text texts b ++ c ∷ []) →
+      (m : ℕ) × (from ≤ m) × (m < to) × ((branch_at branches m).byte ≡ c)
 
--- the branches of one byte more than each of those before `done` stand together, from its entry on up to the next
-pub record AreRows (texts : List Text) (branches : List Branch) (first : List ℕ) (done : ℕ) : Type 0 where
+-- the branches of one byte more than each of those before `done` stand together, from its entry on
+-- up to the next
+pub record AreRows (texts : List Text) (branches : List Branch) (first : List ℕ)
+    (done : ℕ) : Type 0 where
   pub few : done ≤ length branches
   pub entries : length first ≡ done + 1
   pub start : slice_index first 0 ≡ 1
@@ -52,7 +63,8 @@ pub record AreRows (texts : List Text) (branches : List Branch) (first : List �
   pub behind : (n : ℕ) → n < done → n < slice_index first n
   pub ordered : (n : ℕ) → n < done → slice_index first n ≤ slice_index first (n + 1)
   pub within : (n : ℕ) → n < done → slice_index first (n + 1) ≤ length branches
-  pub rows : (n : ℕ) → n < done → IsRow texts branches (branch_at branches n) (slice_index first n) (slice_index first (n + 1))
+  pub rows : (n : ℕ) → n < done →
+      IsRow texts branches (branch_at branches n) (slice_index first n) (slice_index first (n + 1))
 
 -- the length of a beginning that is a string, 0 of another
 abbrev pub own_length : List Text → Branch → ℕ

@@ -7,7 +7,8 @@ use Rattle.re_search.specs.declared.cached.table.Table.{Table}
 use Rattle.re_search.specs.Working.Rows.{IsRight, IsBlank}
 use Rattle.re_search.specs.Working.Stages.{Cache}
 
--- the expression's tree, whether the whole line has to be matched (XCU grep, option -x), what the cache holds, and how many entries it may have
+-- the expression's tree, whether the whole line has to be matched (XCU grep, option -x), what the
+-- cache holds, and how many entries it may have
 pub record CachedMatcher : Type 0 where
   pub tree : Tree
   pub whole : Bool

@@ -9,7 +9,9 @@ use Rattle.re_search.specs.Searching.{SomeMatches}
 
 -- some of the strings stands on each line that some of the expressions matches
 abbrev pub AreNeeded : Literals → List Expression → Type 0
-AreNeeded strings es = (line : Text) (whole : Bool) → SomeMatches es line whole → Matches (any_literal strings) line false
+AreNeeded strings es =
+    (line : Text) (whole : Bool) → SomeMatches es line whole →
+    Matches (any_literal strings) line false
 
 -- the expression needs some of the texts
 abbrev pub NeedsOneOf : List Text → Expression → Type 0

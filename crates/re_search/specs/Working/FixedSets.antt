@@ -1,5 +1,7 @@
--- Many fixed strings at once: the tree of their beginnings, each with the longest end of it that is such a beginning too (Aho and Corasick, 1975).
-use Rattle.std.specs.Prelude.{◌≡◌, ℕ, ◌+◌, ◌-◌, ◌<◌, ◌≤◌, Bool, List, [], ◌∷◌, ◌++◌, length, take, drop, Any, slice_index, Option, nat_eq, nat_lt, if◌then◌else◌}
+-- Many fixed strings at once: the tree of their beginnings, each with the longest end of it that is
+-- such a beginning too (Aho and Corasick, 1975).
+use Rattle.std.specs.Prelude.{◌≡◌, ℕ, ◌+◌, ◌-◌, ◌<◌, ◌≤◌, Bool, List, [], ◌∷◌, ◌++◌, length, take}
+use Rattle.std.specs.Prelude.{drop, Any, slice_index, Option, nat_eq, nat_lt, if◌then◌else◌}
 use Rattle.re_syntax.specs.Bytes.{Text, Begins}
 use Rattle.re_auto.specs.Working.Starts.{IsBest}
 use Rattle.re_search.specs.declared.span.Span.{Span}
@@ -15,7 +17,8 @@ IsFront strings w = Any (λ s. Begins w s) strings
 abbrev pub IsString : List Text → Text → Type 0
 IsString strings w = Any (λ s. s ≡ w) strings
 
--- the label is the longest end of the text, no longer than that from place `from` on, with which some string begins
+-- the label is the longest end of the text, no longer than that from place `from` on, with which
+-- some string begins
 pub record StandsFor (strings : List Text) (label w : Text) (from : ℕ) : Type 0 where
   pub start : ℕ
   pub low : from ≤ start
@@ -31,7 +34,8 @@ pub record MayStandFor (strings : List Text) (label w : Text) (b from : ℕ) : T
   pub is : label ≡ drop start w
   pub none : (j : ℕ) → from ≤ j → j < start → IsFront strings (drop j w ++ b ∷ []) → ⊥
 
--- n is the length of the longest string, not the empty one, with which the label ends; 0 where there is none
+-- n is the length of the longest string, not the empty one, with which the label ends; 0 where
+-- there is none
 pub record EndsIn (strings : List Text) (label : Text) (n : ℕ) : Type 0 where
   pub within : n ≤ length label
   pub ends : 0 < n → IsString strings (drop (length label - n) label)
@@ -42,7 +46,8 @@ pub record Labels : Type 0 where
   pub strings : List Text
   pub label : ℕ → Text
 
--- The children of node n are those from `first n` on and before `first (n + 1)`; all of them come behind it.
+-- The children of node n are those from `first n` on and before `first (n + 1)`; all of them come
+-- behind it.
 pub record IsTrie (first bytes : List ℕ) : Type 0 where
   pub rows : length first ≡ length bytes + 1
   pub some : 0 < length bytes
@@ -56,11 +61,14 @@ pub record IsTrie (first bytes : List ℕ) : Type 0 where
 abbrev pub IsChild : List ℕ → ℕ → ℕ → Type 0
 IsChild first n m = (slice_index first n ≤ m) × (m < slice_index first (n + 1))
 
--- each child has its byte behind the label of its parent, and there is one for each byte with which a string goes on
+-- each child has its byte behind the label of its parent, and there is one for each byte with which
+-- a string goes on
 pub record IsTrieOf (all : Labels) (first bytes : List ℕ) : Type 0 where
   pub root : all.label 0 ≡ []
-  pub child : (n m : ℕ) → n < length bytes → IsChild first n m → all.label m ≡ all.label n ++ slice_index bytes m ∷ []
-  pub complete : (n b : ℕ) → n < length bytes → IsFront all.strings (all.label n ++ b ∷ []) → (m : ℕ) × IsChild first n m × (slice_index bytes m ≡ b)
+  pub child : (n m : ℕ) → n < length bytes → IsChild first n m →
+      all.label m ≡ all.label n ++ slice_index bytes m ∷ []
+  pub complete : (n b : ℕ) → n < length bytes → IsFront all.strings (all.label n ++ b ∷ []) →
+      (m : ℕ) × IsChild first n m × (slice_index bytes m ≡ b)
 
 -- behind the root the fallback of each node comes before it
 abbrev pub AreFallbacks : List ℕ → Type 0
@@ -68,15 +76,21 @@ AreFallbacks fails = (n : ℕ) → 0 < n → n < length fails → slice_index fa
 
 -- its label is the longest end of the node's own, but for all of it, with which some string begins
 abbrev pub AreFallbacksOf : Labels → List ℕ → Type 0
-AreFallbacksOf all fails = (n : ℕ) → 0 < n → n < length fails → StandsFor all.strings (all.label (slice_index fails n)) (all.label n) 1
+AreFallbacksOf all fails =
+    (n : ℕ) → 0 < n → n < length fails →
+    StandsFor all.strings (all.label (slice_index fails n)) (all.label n) 1
 
 -- what a step over a byte does to a node
 abbrev pub Steps : Labels → ℕ → ℕ → ℕ → Type 0
-Steps all n b m = (w : Text) (from : ℕ) → StandsFor all.strings (all.label n) w from → StandsFor all.strings (all.label m) (w ++ b ∷ []) from
+Steps all n b m =
+    (w : Text) (from : ℕ) → StandsFor all.strings (all.label n) w from →
+    StandsFor all.strings (all.label m) (w ++ b ∷ []) from
 
 -- the same where shorter ends were tried before
 abbrev pub StepsOn : Labels → ℕ → ℕ → ℕ → Type 0
-StepsOn all n b m = (w : Text) (from : ℕ) → MayStandFor all.strings (all.label n) w b from → StandsFor all.strings (all.label m) (w ++ b ∷ []) from
+StepsOn all n b m =
+    (w : Text) (from : ℕ) → MayStandFor all.strings (all.label n) w b from →
+    StandsFor all.strings (all.label m) (w ++ b ∷ []) from
 
 -- the children of the root by their bytes, 0 where there is none
 pub record AreStarts (first starts : List ℕ) : Type 0 where
@@ -89,11 +103,13 @@ AreStartsOf fold all starts = (b : ℕ) → b < 256 → StepsOn all 0 (key fold 
 
 -- a string, not the empty one, stands from place i, `from` or later, to place j
 abbrev pub Occurs : List Text → ℕ → Text → ℕ → ℕ → Type 0
-Occurs strings from line i j = (from ≤ i) × (i < j) × (j ≤ length line) × IsString strings (drop i (take j line))
+Occurs strings from line i j =
+    (from ≤ i) × (i < j) × (j ≤ length line) × IsString strings (drop i (take j line))
 
 -- no string ends between two places
 abbrev pub NoneBetween : List Text → ℕ → Text → ℕ → ℕ → Type 0
-NoneBetween strings from line place next = (i k : ℕ) → place < k → k < next → ¬ Occurs strings from line i k
+NoneBetween strings from line place next =
+    (i k : ℕ) → place < k → k < next → ¬ Occurs strings from line i k
 
 -- the tables have a row for each node
 pub record IsTable (t : Table) : Type 0 where
@@ -109,24 +125,34 @@ pub record IsTableOf (all : Labels) (t : Table) : Type 0 where
   pub trie : IsTrieOf all t.trie.first.items t.trie.bytes.items
   pub starts : AreStartsOf t.fold all t.starts.items
   pub fails : AreFallbacksOf all t.fails.items
-  pub depths : (n : ℕ) → n < length t.trie.bytes.items → slice_index t.depths.items n ≡ length (all.label n)
-  pub ends : (n : ℕ) → n < length t.trie.bytes.items → EndsIn all.strings (all.label n) (slice_index t.ends.items n)
+  pub depths : (n : ℕ) → n < length t.trie.bytes.items →
+      slice_index t.depths.items n ≡ length (all.label n)
+  pub ends : (n : ℕ) → n < length t.trie.bytes.items →
+      EndsIn all.strings (all.label n) (slice_index t.ends.items n)
 
 -- the node is the longest end of the line up to this place that a string begins with
 abbrev pub StandsAtNode : Labels → ℕ → Text → ℕ → ℕ → Type 0
-StandsAtNode all from line place node = StandsFor all.strings (all.label node) (take place line) from
+StandsAtNode all from line place node =
+    StandsFor all.strings (all.label node) (take place line) from
 
--- the best so far, where the longest string that ends at this place has this length, or there is none where that is 0
+-- the best so far, where the longest string that ends at this place has this length, or there is
+-- none where that is 0
 abbrev pub better_ending : Option Span → ℕ → ℕ → Option Span
-better_ending best end n = if nat_eq n 0 then best else better_span best (record { start = end - n; end = end })
+better_ending best end n =
+    if nat_eq n 0 then best else better_span best (record { start = end - n; end = end })
 
--- of the strings that stand on the line up to a place the span is the one that begins earliest, and then the longest
+-- of the strings that stand on the line up to a place the span is the one that begins earliest, and
+-- then the longest
 unfoldable pub IsBestOccurrence : List Text → ℕ → Text → ℕ → Option Span → Type 0
 IsBestOccurrence strings from line to best = IsBest (Occurs strings from line) to (places best)
 
--- the strings in their order, and what each node has to end with: its own length where it is a string, else 0
+-- the strings in their order, and what each node has to end with: its own length where it is a
+-- string, else 0
 abbrev pub AreOwn : Labels → List ℕ → Type 0
-AreOwn all owns = (n : ℕ) → n < length owns → (0 < slice_index owns n → (slice_index owns n ≡ length (all.label n)) × IsString all.strings (all.label n))
+AreOwn all owns =
+    (n : ℕ) → n < length owns →
+    (0 < slice_index owns n →
+    (slice_index owns n ≡ length (all.label n)) × IsString all.strings (all.label n))
     × (IsString all.strings (all.label n) → slice_index owns n ≡ length (all.label n))
 
 -- so many nodes have their rows

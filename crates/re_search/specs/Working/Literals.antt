@@ -14,7 +14,8 @@ pub record Literal : Type 0 where
 abbrev pub literal_expression : Literal → Expression
 literal_expression literal = sequence (map byte literal.text)
 
--- the strings that are looked for, whether both cases of each letter are alike, and whether the whole line has to be one of them
+-- the strings that are looked for, whether both cases of each letter are alike, and whether the
+-- whole line has to be one of them
 pub record Literals : Type 0 where
   pub texts : List Text
   pub fold : Bool
@@ -22,7 +23,8 @@ pub record Literals : Type 0 where
 
 -- the sequence of a string's bytes, with both cases of each letter where `fold` is set
 abbrev pub literal_meaning : Bool → Text → Expression
-literal_meaning fold text = if fold then folded (sequence (map byte text)) else sequence (map byte text)
+literal_meaning fold text =
+    if fold then folded (sequence (map byte text)) else sequence (map byte text)
 
 -- a choice of what the strings mean
 abbrev pub any_literal : Literals → Expression

@@ -51,11 +51,15 @@ abbrev pub CountsSteps : Text → Matcher → Steps → Matcher → Steps → Bo
 CountsSteps line (m.Fixed literal) before new after answer = ⊤
 CountsSteps line (m.FixedSet literals) before new after answer = ⊤
 CountsSteps line (m.Simulated matcher) before new after answer = ⊤
-CountsSteps line (m.Cached old) before (m.Cached new) after answer = AnswersLine (expression_of old.tree) old.whole line old.cache new.cache before after answer
+CountsSteps line (m.Cached old) before (m.Cached new) after answer =
+    AnswersLine (expression_of old.tree) old.whole line old.cache new.cache before after answer
 CountsSteps line (m.Cached old) before (m.Fixed new) after answer = ⊥
 CountsSteps line (m.Cached old) before (m.FixedSet new) after answer = ⊥
 CountsSteps line (m.Cached old) before (m.Simulated new) after answer = ⊥
 
--- why no automaton is made for an expression of so many positions, told at the text's first place: it has too many, or memory ran out
+-- why no automaton is made for an expression of so many positions, told at the text's first place:
+-- it has too many, or memory ran out
 abbrev pub IsBuildFault : ℕ → PatternFault → Type 0
-IsBuildFault count fault = ((fault ≡ record { kind = TooLarge; at = 0 }) × (most_positions < count)) ⊎ (IsOutOfMemory fault × (count ≤ most_positions))
+IsBuildFault count fault =
+    ((fault ≡ record { kind = TooLarge; at = 0 }) × (most_positions < count)) ⊎
+    (IsOutOfMemory fault × (count ≤ most_positions))

@@ -16,18 +16,21 @@ StandsBetween line text i j = (k : ℕ) × (i ≤ k) × (k + length text ≤ j) 
 
 -- it does so wherever the expression holds from i to j
 abbrev pub IsNeeded : Text → Expression → Type 0
-IsNeeded text e = (line : Text) (i j : ℕ) → j ≤ length line → Holds line e i j → StandsBetween line text i j
+IsNeeded text e =
+    (line : Text) (i j : ℕ) → j ≤ length line → Holds line e i j → StandsBetween line text i j
 
 -- the same of a run of sets
 abbrev pub RunStandsBetween : Text → List Bytes → ℕ → ℕ → Type 0
 RunStandsBetween line run i j = (k : ℕ) × (i ≤ k) × (k + length run ≤ j) × RunStandsAt line run k
 
 abbrev pub RunIsNeeded : List Bytes → Expression → Type 0
-RunIsNeeded run e = (line : Text) (i j : ℕ) → j ≤ length line → Holds line e i j → RunStandsBetween line run i j
+RunIsNeeded run e =
+    (line : Text) (i j : ℕ) → j ≤ length line → Holds line e i j → RunStandsBetween line run i j
 
 -- the expression holds just where the run stands
 pub record IsJustRun (run : List Bytes) (e : Expression) : Type 0 where
-  pub stands : (line : Text) (i j : ℕ) → j ≤ length line → Holds line e i j → RunStandsAt line run i × (j ≡ i + length run)
+  pub stands : (line : Text) (i j : ℕ) → j ≤ length line → Holds line e i j →
+      RunStandsAt line run i × (j ≡ i + length run)
   pub holds : (line : Text) (k : ℕ) → RunStandsAt line run k → Holds line e k (k + length run)
 
 -- the run that is looked for: of a string the sets of its bytes alone
@@ -35,7 +38,8 @@ abbrev pub run_of : RunFinder → List Bytes
 run_of (r.Text text) = map only text
 run_of (r.Sets sets) = map members sets
 
--- The run is needed by the expression; where it is told to be all of it, the expression holds just where it stands.
+-- The run is needed by the expression; where it is told to be all of it, the expression holds just
+-- where it stands.
 pub record IsNeedleOf (e : Expression) (needle : Needle) : Type 0 where
   pub needed : RunIsNeeded (run_of needle.finder) e
   pub some : 1 ≤ length (run_of needle.finder)

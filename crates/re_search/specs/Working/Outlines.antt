@@ -1,4 +1,5 @@
--- Outlines of expressions: sets of bytes one after another, with stretches between of which nothing is told.
+-- Outlines of expressions: sets of bytes one after another, with stretches between of which nothing
+-- is told.
 use Rattle.std.specs.Prelude.{◌≡◌, ℕ, ◌≤◌, ⊤, List, [], ◌∷◌, ◌++◌, map, Option, None, Some}
 use Rattle.re_syntax.specs.Bytes.{Bytes, Text}
 use Rattle.re_syntax.specs.Expression.{Expression, one_of}
@@ -31,7 +32,8 @@ abbrev pub AreSetMarks : List (Option Bytes) → Type 0
 AreSetMarks [] = ⊤
 AreSetMarks (mark ∷ marks) = IsSetMark mark × AreSetMarks marks
 
--- The marks fit each stretch on which the expression holds; where all of them are sets, it holds on all that they fit.
+-- The marks fit each stretch on which the expression holds; where all of them are sets, it holds on
+-- all that they fit.
 pub record IsOutline (marks : List (Option Bytes)) (e : Expression) : Type 0 where
   pub fits : (line : Text) (i j : ℕ) → Holds line e i j → Fits line marks i j
   pub holds : AreSetMarks marks → (line : Text) (i j : ℕ) → Fits line marks i j → Holds line e i j

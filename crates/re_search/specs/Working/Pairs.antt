@@ -1,5 +1,6 @@
 -- Cells that show what a bounded cache holds.
-use Rattle.std.specs.Prelude.{◌≡◌, ℕ, ◌-◌, ◌^◌, ◌<◌, ◌⊎◌, List, nat_eq, length, slice_index, Option, Some, None}
+use Rattle.std.specs.Prelude.{◌≡◌, ℕ, ◌-◌, ◌^◌, ◌<◌, ◌⊎◌, List, nat_eq, length, slice_index, Option}
+use Rattle.std.specs.Prelude.{Some, None}
 use Rattle.std.specs.Map.{lookup}
 
 -- the cells, the entries of the cache, and how many these may be
@@ -19,8 +20,10 @@ shown (Some cell) = cell
 
 -- each cell shows what the cache holds at its place, and it holds nothing at other places
 pub record Mirrors (entries : List (ℕ × ℕ)) (cells : List ℕ) : Type 0 where
-  pub shows : (at : ℕ) → at < length cells → slice_index cells at ≡ shown (lookup (nat_eq at) entries)
-  pub within : (at cell : ℕ) → lookup (nat_eq at) entries ≡ Some cell → (at < length cells) × (cell < unknown)
+  pub shows : (at : ℕ) → at < length cells →
+      slice_index cells at ≡ shown (lookup (nat_eq at) entries)
+  pub within : (at cell : ℕ) → lookup (nat_eq at) entries ≡ Some cell →
+      (at < length cells) × (cell < unknown)
 
 -- a cell is as it was, or nothing is held any more at its place
 abbrev pub IsKeptOrLost : ℕ → ℕ → Type 0

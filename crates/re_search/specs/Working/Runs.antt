@@ -1,5 +1,6 @@
 -- Runs of sets of bytes: where one stands in a line, and small sets by their bytes.
-use Rattle.std.specs.Prelude.{◌≡◌, ℕ, ◌+◌, ◌<◌, ◌≤◌, ◌⊎◌, Bool, IsTrue, List, Option, length, get_or, slice_index}
+use Rattle.std.specs.Prelude.{◌≡◌, ℕ, ◌+◌, ◌<◌, ◌≤◌, ◌⊎◌, Bool, IsTrue, List, Option, length}
+use Rattle.std.specs.Prelude.{get_or, slice_index}
 use Rattle.re_syntax.specs.Bytes.{Bytes, Text, nothing}
 use Rattle.memchr.specs.Find.{IsFirst, is_byte, is_byte2, is_byte3}
 use Rattle.re_search.specs.declared.needle.few.Few.{Few}

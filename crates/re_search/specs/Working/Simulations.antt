@@ -41,12 +41,15 @@ abbrev pub better_span : Option Span → Span → Option Span
 better_span None found = Some found
 better_span (Some known) found = if nat_lt known.start found.start then Some known else Some found
 
--- of the matched stretches from a place on that end at `to` or before, the span is the one that begins earliest, and then the longest
+-- of the matched stretches from a place on that end at `to` or before, the span is the one that
+-- begins earliest, and then the longest
 unfoldable pub IsBestSpan : Expression → ℕ → Text → ℕ → Option Span → Type 0
 IsBestSpan e from line to best = IsBest (IsMatched e Search from line) to (places best)
 
--- The starts are right at place j, and the span is the best so far. No matched stretch begins before `floor`, so that none is carried from there.
-pub record Carries (e : Expression) (from : ℕ) (line : Text) (j : ℕ) (starts : Starts) (span : Option Span) : Type 0 where
+-- The starts are right at place j, and the span is the best so far. No matched stretch begins
+-- before `floor`, so that none is carried from there.
+pub record Carries (e : Expression) (from : ℕ) (line : Text) (j : ℕ) (starts : Starts)
+    (span : Option Span) : Type 0 where
   pub floor : ℕ
   pub low : from ≤ floor
   pub none_before : (i k : ℕ) → IsMatched e Search from line i k → floor ≤ i

@@ -1,5 +1,8 @@
--- How a search goes over a line, byte by byte: what its cache holds on the way, and which steps it counts.
-use Rattle.std.specs.Prelude.{◌≡◌, ℕ, zero, suc, ◌+◌, ◌*◌, ◌<◌, ◌≤◌, ◌↔◌, ◌⊎◌, Bool, true, false, IsTrue, if◌then◌else◌, List, [], length, nat_eq, slice_get, slice_index, Some, IsSome}
+-- How a search goes over a line, byte by byte: what its cache holds on the way, and which steps it
+-- counts.
+use Rattle.std.specs.Prelude.{◌≡◌, ℕ, zero, suc, ◌+◌, ◌*◌, ◌<◌, ◌≤◌, ◌↔◌, ◌⊎◌, Bool, true, false}
+use Rattle.std.specs.Prelude.{IsTrue, if◌then◌else◌, List, [], length, nat_eq, slice_get}
+use Rattle.std.specs.Prelude.{slice_index, Some, IsSome}
 use Rattle.std.specs.Map.{lookup}
 use Rattle.re_syntax.specs.Bytes.{Bytes, Text}
 use Rattle.re_syntax.specs.Expression.{Expression}
@@ -8,12 +11,14 @@ use Rattle.re_auto.specs.declared.mode.Mode.TheVariants.{Search, Whole}
 use Rattle.re_auto.specs.declared.step.state_set.StateSet.{StateSet}
 use Rattle.re_auto.specs.Meters.{Steps, many_built, many_reused}
 use Rattle.re_auto.specs.Working.Positions.{part_of}
-use Rattle.re_auto.specs.Working.StateSets.{IsSame, IsNowhere, IsNextSet, IsAccepting, StandsAt, TakenAlike}
+use Rattle.re_auto.specs.Working.StateSets.{IsSame, IsNowhere, IsNextSet, IsAccepting, StandsAt}
+use Rattle.re_auto.specs.Working.StateSets.{TakenAlike}
 use Rattle.re_auto.specs.Working.Tables.{CanBegin}
 use Rattle.re_search.specs.Working.Needles.{RunIsNeeded, IsJustRun}
 use Rattle.re_search.specs.Working.Runs.{RunStandsAt, LacksRun}
 
--- What a cache holds: a class for each byte, sets of positions by number, and entries. The entry for a set and a byte stands at the set's number times `stride`, plus the byte's class.
+-- What a cache holds: a class for each byte, sets of positions by number, and entries. The entry
+-- for a set and a byte stands at the set's number times `stride`, plus the byte's class.
 pub record Cache : Type 0 where
   pub classes : List ℕ
   pub stride : ℕ
@@ -26,13 +31,18 @@ pub record IsHeld (cache : Cache) (set : StateSet) (c : ℕ) : Type 0 where
   pub same : StateSet
   pub is : slice_get cache.sets number ≡ Some same
   pub alike : IsSame same set
-  pub held : IsSome (lookup (nat_eq (number * cache.stride + slice_index cache.classes c)) cache.entries)
+  pub held : IsSome
+      (lookup (nat_eq (number * cache.stride + slice_index cache.classes c)) cache.entries)
 
--- the new cache holds no pair that the old one didn't, but for those of this set and of bytes that the same positions take as this one
+-- the new cache holds no pair that the old one didn't, but for those of this set and of bytes that
+-- the same positions take as this one
 abbrev pub HoldsNoOther : Expression → Cache → StateSet → ℕ → Cache → Type 0
-HoldsNoOther e old set c new = (other : StateSet) (b : ℕ) → b < 256 → IsHeld new other b → IsHeld old other b ⊎ (IsSame other set × TakenAlike e b c)
+HoldsNoOther e old set c new =
+    (other : StateSet) (b : ℕ) → b < 256 → IsHeld new other b →
+    IsHeld old other b ⊎ (IsSame other set × TakenAlike e b c)
 
--- what a search has come to at some place: the set of positions that stands there, what the cache holds, and the steps counted
+-- what a search has come to at some place: the set of positions that stands there, what the cache
+-- holds, and the steps counted
 pub record Stage : Type 0 where
   pub set : StateSet
   pub cache : Cache
@@ -77,16 +87,22 @@ pub record GoesOver (e : Expression) (mode : Mode) (c : ℕ) (old new : Stage) :
 -- it goes over the first so many bytes of the line, one after the other
 unfoldable pub Goes : Expression → Mode → Text → ℕ → Stage → Stage → Type 0
 Goes e mode line zero first last = AreAlike last first
-Goes e mode line (suc j) first last = (middle : Stage) × Goes e mode line j first middle × GoesOver e mode (slice_index line j) middle last
+Goes e mode line (suc j) first last =
+    (middle : Stage) × Goes e mode line j first middle ×
+    GoesOver e mode (slice_index line j) middle last
 
--- it goes on from place j with one set to place k with another, with a cache that holds nothing; the first set is not one where it ends
-abbrev pub GoesFrom : Expression → Mode → Text → ℕ → StateSet → Steps → ℕ → StateSet → Steps → Type 0
+-- it goes on from place j with one set to place k with another, with a cache that holds nothing;
+-- the first set is not one where it ends
+abbrev pub GoesFrom : Expression → Mode → Text → ℕ → StateSet → Steps → ℕ → StateSet → Steps →
+    Type 0
 GoesFrom e mode line j set before k next after =
-    (first : Stage) (cache : Cache) → cache.entries ≡ [] → IsPlain e mode set → Goes e mode line j first (record { set = set; cache = cache; steps = before })
+    (first : Stage) (cache : Cache) → cache.entries ≡ [] → IsPlain e mode set →
+    Goes e mode line j first (record { set = set; cache = cache; steps = before })
     → Goes e mode line k first (record { set = next; cache = cache; steps = after })
 
 -- a matched stretch ends at the place, which lies inside the line
-pub record EndsInside (e : Expression) (mode : Mode) (line : Text) (place : ℕ) (set : StateSet) (answer : Bool) : Type 0 where
+pub record EndsInside (e : Expression) (mode : Mode) (line : Text) (place : ℕ) (set : StateSet)
+    (answer : Bool) : Type 0 where
   pub search : mode ≡ Search
   pub within : place < length line
   pub accepting : IsAccepting e Search set false
@@ -99,40 +115,49 @@ pub record IsLost (mode : Mode) (set : StateSet) (answer : Bool) : Type 0 where
   pub no : answer ≡ false
 
 -- the place is the line's end, and the set tells
-pub record EndsLine (e : Expression) (mode : Mode) (line : Text) (place : ℕ) (set : StateSet) (answer : Bool) : Type 0 where
+pub record EndsLine (e : Expression) (mode : Mode) (line : Text) (place : ℕ) (set : StateSet)
+    (answer : Bool) : Type 0 where
   pub last : place ≡ length line
   pub told : IsTrue answer ↔ IsAccepting e mode set true
 
 -- why a search ends where this set stands, with this answer
 abbrev pub Decides : Expression → Mode → Text → ℕ → StateSet → Bool → Type 0
-Decides e mode line place set answer = EndsInside e mode line place set answer ⊎ (IsLost mode set answer ⊎ EndsLine e mode line place set answer)
+Decides e mode line place set answer =
+    EndsInside e mode line place set answer ⊎
+    (IsLost mode set answer ⊎ EndsLine e mode line place set answer)
 
 -- the search went as far as it takes to answer, with such a cache and such steps at its end
-pub record Finishes (e : Expression) (mode : Mode) (line : Text) (first : Stage) (cache : Cache) (steps : Steps) (answer : Bool) : Type 0 where
+pub record Finishes (e : Expression) (mode : Mode) (line : Text) (first : Stage) (cache : Cache)
+    (steps : Steps) (answer : Bool) : Type 0 where
   pub place : ℕ
   pub within : place ≤ length line
   pub set : StateSet
   pub goes : Goes e mode line place first (record { set = set; cache = cache; steps = steps })
   pub decides : Decides e mode line place set answer
 
--- it does so from a place at which this set stands and on the way to which none of its answers came, with a cache that holds nothing
+-- it does so from a place at which this set stands and on the way to which none of its answers
+-- came, with a cache that holds nothing
 abbrev pub FinishesFrom : Expression → Mode → Text → ℕ → StateSet → Steps → Steps → Bool → Type 0
 FinishesFrom e mode line from set old new answer =
-    (first : Stage) (cache : Cache) → cache.entries ≡ [] → Goes e mode line from first (record { set = set; cache = cache; steps = old }) → Finishes e mode line first cache new answer
+    (first : Stage) (cache : Cache) → cache.entries ≡ [] →
+    Goes e mode line from first (record { set = set; cache = cache; steps = old }) →
+    Finishes e mode line first cache new answer
 
 -- a cache is as it was, or it was made ready and holds nothing as before
 abbrev pub IsReadied : Cache → Cache → Type 0
 IsReadied old new = (new ≡ old) ⊎ ((old.entries ≡ []) × (new.entries ≡ []))
 
 -- a whole search of a line, from its first place on
-pub record Searches (e : Expression) (mode : Mode) (line : Text) (old new : Cache) (before after : Steps) (answer : Bool) : Type 0 where
+pub record Searches (e : Expression) (mode : Mode) (line : Text) (old new : Cache)
+    (before after : Steps) (answer : Bool) : Type 0 where
   pub first : Stage
   pub stands : StandsAt e mode line 0 first.set
   pub cache : IsReadied old first.cache
   pub steps : first.steps ≡ before
   pub finishes : Finishes e mode line first new after answer
 
--- what a search tells without a step: the line lacks a run of sets that every match has in it, or has the run that is all that matches
+-- what a search tells without a step: the line lacks a run of sets that every match has in it, or
+-- has the run that is all that matches
 pub record Lacks (e : Expression) (line : Text) (answer : Bool) : Type 0 where
   pub run : List Bytes
   pub needed : RunIsNeeded run e
@@ -155,10 +180,13 @@ abbrev pub mode_for : Bool → Mode
 mode_for whole = if whole then Whole else Search
 
 -- the answer was known without a step, or it came of a search
-pub record TellsAtOnce (e : Expression) (whole : Bool) (line : Text) (old new : Cache) (before after : Steps) (answer : Bool) : Type 0 where
+pub record TellsAtOnce (e : Expression) (whole : Bool) (line : Text) (old new : Cache)
+    (before after : Steps) (answer : Bool) : Type 0 where
   pub settled : IsSettled e whole line answer
   pub cache : new ≡ old
   pub steps : after ≡ before
 
 abbrev pub AnswersLine : Expression → Bool → Text → Cache → Cache → Steps → Steps → Bool → Type 0
-AnswersLine e whole line old new before after answer = TellsAtOnce e whole line old new before after answer ⊎ Searches e (mode_for whole) line old new before after answer
+AnswersLine e whole line old new before after answer =
+    TellsAtOnce e whole line old new before after answer ⊎
+    Searches e (mode_for whole) line old new before after answer

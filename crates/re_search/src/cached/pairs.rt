@@ -1,5 +1,6 @@
 //! Cells that show what a bounded cache holds.
-ghost use Rattle.std.specs.Prelude.{◌≡◌, ℕ, ◌+◌, ◌<◌, ◌≤◌, ◌⊎◌, [], ◌++◌, IfOk, OnOk, OnErr, length, replicate, slice_index};
+ghost use Rattle.std.specs.Prelude.{◌≡◌, ℕ, ◌+◌, ◌<◌, ◌≤◌, ◌⊎◌, [], ◌++◌, IfOk, OnOk, OnErr};
+ghost use Rattle.std.specs.Prelude.{length, replicate, slice_index};
 ghost use Rattle.std.specs.NonZero.{non_zero_usize_get};
 ghost use Rattle.re_search.specs.Working.Pairs.{unknown, IsKeptOrLost, Mirrors};
 
@@ -24,7 +25,8 @@ impl Model for Pairs {
 
     ghost Value = { Held };
 
-    ghost view = { λ p. record { cells = p.cells.items; entries = p.entries.entries; most = p.entries.cap } };
+    ghost view = { λ p.
+        record { cells = p.cells.items; entries = p.entries.entries; most = p.entries.cap } };
 
     ghost invariant = { λ p. Mirrors p.entries.entries p.cells.items };
 }
@@ -32,7 +34,8 @@ impl Model for Pairs {
 impl Pairs {
     /// No cell, and a cache for at most so many.
     pub fn new(alloc: Global, most: NonZeroUsize) -> Result<Pairs, AllocError>
-        ensures { IfOk result (λ p. p ≡ record { cells = []; entries = []; most = non_zero_usize_get most }) }
+        ensures { IfOk result
+            (λ p. p ≡ record { cells = []; entries = []; most = non_zero_usize_get most }) }
     {
         let entries = LruCache::sparse(alloc, most)?;
         Ok(Pairs {
@@ -93,8 +96,10 @@ impl Pairs {
         requires known { cell < unknown }
         requires none { slice_index self.old.cells at ≡ unknown }
         ensures len { length self.new.cells ≡ length self.old.cells }
-        ensures here { (slice_index self.new.cells at ≡ cell) ⊎ (slice_index self.new.cells at ≡ unknown) }
-        ensures others { (k : ℕ) → (k ≡ at → ⊥) → IsKeptOrLost (slice_index self.old.cells k) (slice_index self.new.cells k) }
+        ensures here { (slice_index self.new.cells at ≡ cell) ⊎
+            (slice_index self.new.cells at ≡ unknown) }
+        ensures others { (k : ℕ) → (k ≡ at → ⊥) →
+            IsKeptOrLost (slice_index self.old.cells k) (slice_index self.new.cells k) }
         ensures most { self.new.most ≡ self.old.most }
         ensures mirrors { Mirrors self.new.entries self.new.cells }
     {

@@ -1,11 +1,15 @@
 //! Sets of positions by number, and what each becomes over a byte, as far as that is held.
-ghost use Rattle.std.specs.Prelude.{◌≡◌, ℕ, ◌+◌, ◌-◌, ◌*◌, ◌<◌, ◌≤◌, ◌↔◌, [], ◌∷◌, ◌++◌, false, Some, IsTrue, IfOk, OnOk, IfSome, length, slice_get, slice_index};
+ghost use Rattle.std.specs.Prelude.{◌≡◌, ℕ, ◌+◌, ◌-◌, ◌*◌, ◌<◌, ◌≤◌, ◌↔◌, [], ◌∷◌, ◌++◌, false};
+ghost use Rattle.std.specs.Prelude.{Some, IsTrue, IfOk, OnOk, IfSome, length, slice_get};
+ghost use Rattle.std.specs.Prelude.{slice_index};
 ghost use Rattle.std.specs.NonZero.{non_zero_usize_get};
 ghost use Rattle.re_syntax.specs.Expression.{expression_of};
 ghost use Rattle.re_auto.specs.declared.step.state_set.StateSet.{StateSet as Set};
 ghost use Rattle.re_auto.specs.declared.mode.Mode.TheVariants.{Search};
-ghost use Rattle.re_auto.specs.Working.StateSets.{IsMadeFor, IsSame, IsAccepting, AreAlikeInClasses};
-ghost use Rattle.re_search.specs.Working.Rows.{limit, IsSound, IsRight, IsBlank, IsMarkOf, IsCellOf, Extends};
+ghost use Rattle.re_auto.specs.Working.StateSets.{IsMadeFor, IsSame, IsAccepting};
+ghost use Rattle.re_auto.specs.Working.StateSets.{AreAlikeInClasses};
+ghost use Rattle.re_search.specs.Working.Rows.{limit, IsSound, IsRight, IsBlank, IsMarkOf};
+ghost use Rattle.re_search.specs.Working.Rows.{IsCellOf, Extends};
 
 use crate::cached::pairs::Pairs;
 use crate::cached::stride::Stride;
@@ -129,7 +133,9 @@ impl Table {
         requires made { IsMadeFor (expression_of automaton.now) set.now }
         ensures sound { IfSome result (λ _. IsSound (expression_of automaton.now) mode self.new) }
         ensures kept { IfSome result (λ _. Extends self.old self.new) }
-        ensures number { IfSome result (λ number. (same : Set) × (slice_get self.new.sets.keys number ≡ Some same) × IsSame same set.now) }
+        ensures number { IfSome result
+            (λ number. (same : Set) × (slice_get self.new.sets.keys number ≡ Some same) ×
+            IsSame same set.now) }
         ensures most { self.new.pairs.most ≡ self.old.pairs.most }
     {
         if let Some(number) = self.sets.get_index_of(set) {
@@ -151,11 +157,16 @@ impl Table {
     ) -> Result<usize, AllocError>
         requires sound { IsSound (expression_of automaton.now) mode self.old }
         requires made { IsMadeFor (expression_of automaton.now) set.now }
-        requires fresh { (t : ℕ) (other : Set) → slice_get self.old.sets.keys t ≡ Some other → IsSame other set.now → ⊥ }
+        requires fresh { (t : ℕ) (other : Set) → slice_get self.old.sets.keys t ≡ Some other →
+            IsSame other set.now → ⊥ }
         ensures sound { OnOk result (IsSound (expression_of automaton.now) mode self.new) }
         ensures kept { OnOk result (Extends self.old self.new) }
-        ensures added { OnOk result ((same : Set) × (self.new.sets.keys ≡ self.old.sets.keys ++ same ∷ []) × IsSame same set.now) }
-        ensures number { IfOk result (λ number. (same : Set) × (slice_get self.new.sets.keys number ≡ Some same) × IsSame same set.now) }
+        ensures added { OnOk result
+            ((same : Set) × (self.new.sets.keys ≡ self.old.sets.keys ++ same ∷ []) ×
+            IsSame same set.now) }
+        ensures number { IfOk result
+            (λ number. (same : Set) × (slice_get self.new.sets.keys number ≡ Some same) ×
+            IsSame same set.now) }
         ensures most { self.new.pairs.most ≡ self.old.pairs.most }
     {
         if !self.has_room() {
@@ -192,7 +203,8 @@ impl Table {
     pub fn cell_of(&self, mode: Mode, number: usize) -> u32
         requires within { number < length self.now.marks.items }
         requires small { number * self.now.stride < limit }
-        ensures { (mark : Mark) → slice_get self.now.marks.items number ≡ Some mark → IsCellOf mode mark (number * self.now.stride) result }
+        ensures { (mark : Mark) → slice_get self.now.marks.items number ≡ Some mark →
+            IsCellOf mode mark (number * self.now.stride) result }
     {
         let row = self.stride.row(number) as u32;
         if mode == Mode::Search && self.marks[number].inside {

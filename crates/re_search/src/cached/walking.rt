@@ -1,5 +1,6 @@
 //! Searches by what is held.
-ghost use Rattle.std.specs.Prelude.{◌≡◌, ℕ, suc, ◌+◌, ◌-◌, ◌*◌, ◌<◌, ◌≤◌, false, Some, IsTrue, IfSome, IfNone, length, slice_get, slice_index};
+ghost use Rattle.std.specs.Prelude.{◌≡◌, ℕ, suc, ◌+◌, ◌-◌, ◌*◌, ◌<◌, ◌≤◌, false, Some, IsTrue};
+ghost use Rattle.std.specs.Prelude.{IfSome, IfNone, length, slice_get, slice_index};
 ghost use Rattle.re_syntax.specs.Bytes.{Text};
 ghost use Rattle.re_syntax.specs.Expression.{expression_of};
 ghost use Rattle.re_auto.specs.declared.step.state_set.StateSet.{StateSet as Set};
@@ -8,7 +9,9 @@ ghost use Rattle.re_auto.specs.Meters.{Steps, many_built};
 ghost use Rattle.re_auto.specs.Working.StateSets.{IsMadeFor, IsNextSet, IsAccepting};
 ghost use Rattle.re_search.specs.Working.Pairs.{unknown};
 ghost use Rattle.re_search.specs.Working.Stages.{Stage, HoldsNoOther, IsPlain};
-ghost use Rattle.re_search.specs.Working.Rows.{limit, IsRight, IsRowOf, IsRow, TellsNext, ComesTo, Lands, LandsAlone, cell_at, cache_of, row_under, walked};
+ghost use Rattle.re_search.specs.Working.Rows.{limit, IsRight, IsRowOf, IsRow, TellsNext, ComesTo};
+ghost use Rattle.re_search.specs.Working.Rows.{Lands, LandsAlone, cell_at, cache_of, row_under};
+ghost use Rattle.re_search.specs.Working.Rows.{walked};
 ghost use Rattle.re_search.specs.Working.Walks.{LeadsOn, Arrives, Gives};
 
 use crate::cached::pace::Pace;
@@ -75,7 +78,8 @@ impl Table {
         requires into { IsMadeFor (expression_of automaton.now) into.old }
         ensures into { IsMadeFor (expression_of automaton.now) into.new }
         ensures most { self.new.pairs.most ≡ self.old.pairs.most }
-        ensures gives { Gives (expression_of automaton.now) mode line.now self.old meter.old self.new into.new meter.new result }
+        ensures gives { Gives (expression_of automaton.now) mode line.now self.old meter.old
+            self.new into.new meter.new result }
     {
         if self.is_matched_at_once(automaton, mode, line) {
             return Outcome::Told(true);
@@ -98,8 +102,11 @@ impl Table {
     #[inline(always)]
     fn is_matched_at_once(&self, automaton: &Automaton, mode: Mode, line: &[u8]) -> bool
         requires right { IsRight (expression_of automaton.now) mode self.now }
-        ensures yes { (start : Set) → slice_get self.now.sets.keys 1 ≡ Some start → IsTrue result → (0 < length line.now) × (mode ≡ Search) × IsAccepting (expression_of automaton.now) Search start false }
-        ensures no { (start : Set) → slice_get self.now.sets.keys 1 ≡ Some start → result ≡ false → 0 < length line.now → IsPlain (expression_of automaton.now) mode start }
+        ensures yes { (start : Set) → slice_get self.now.sets.keys 1 ≡ Some start → IsTrue result →
+            (0 < length line.now) × (mode ≡ Search) ×
+            IsAccepting (expression_of automaton.now) Search start false }
+        ensures no { (start : Set) → slice_get self.now.sets.keys 1 ≡ Some start → result ≡ false →
+            0 < length line.now → IsPlain (expression_of automaton.now) mode start }
     {
         if line.is_empty() || mode == Mode::Whole {
             return false;
@@ -125,7 +132,8 @@ impl Table {
         requires into { IsMadeFor (expression_of automaton.now) into.old }
         ensures into { IsMadeFor (expression_of automaton.now) into.new }
         ensures most { self.new.pairs.most ≡ self.old.pairs.most }
-        ensures arrives { Arrives (expression_of automaton.now) mode line.now self.old meter.old spot self.new into.new meter.new result }
+        ensures arrives { Arrives (expression_of automaton.now) mode line.now self.old meter.old
+            spot self.new into.new meter.new result }
     {
         let floor = (mode == Mode::Whole || pace.passes()) as u32;
         let walk = self.walk(automaton, mode, line, spot, floor);
@@ -152,9 +160,15 @@ impl Table {
         requires row { IsRow self.now from.row }
         ensures on { (from.place ≤ result.place) × (result.place ≤ length line.now) }
         ensures row { IsRow self.now result.row }
-        ensures cell { result.place < length line.now → result.cell ≡ cell_at self.now.classes.items self.now.pairs.cells result.row (slice_index line.now result.place) }
-        ensures comes { (first : Stage) (steps : Steps) → ComesTo (expression_of automaton.now) mode line.now first (cache_of self.now) steps from.place from.row
-            → ComesTo (expression_of automaton.now) mode line.now first (cache_of self.now) (walked (result.place - from.place) steps) result.place result.row }
+        ensures cell { result.place < length line.now →
+            result.cell ≡
+            cell_at self.now.classes.items self.now.pairs.cells result.row
+            (slice_index line.now result.place) }
+        ensures comes { (first : Stage) (steps : Steps) →
+            ComesTo (expression_of automaton.now) mode line.now first (cache_of self.now) steps
+            from.place from.row
+            → ComesTo (expression_of automaton.now) mode line.now first (cache_of self.now)
+            (walked (result.place - from.place) steps) result.place result.row }
     {
         let classes = self.classes.as_slice();
         let cells = self.pairs.cells();
@@ -191,15 +205,23 @@ impl Table {
     ) -> Option<u32>
         requires right { IsRight (expression_of automaton.now) mode self.old }
         requires row { IsRow self.old walk.row }
-        requires cell { walk.cell ≡ cell_at self.old.classes.items self.old.pairs.cells walk.row byte }
+        requires cell { walk.cell ≡
+            cell_at self.old.classes.items self.old.pairs.cells walk.row byte }
         requires into { IsMadeFor (expression_of automaton.now) into.old }
         ensures into { IsMadeFor (expression_of automaton.now) into.new }
         ensures most { self.new.pairs.most ≡ self.old.pairs.most }
         ensures right { IfSome result (λ _. IsRight (expression_of automaton.now) mode self.new) }
         ensures cell { IfSome result (λ cell. (cell < unknown) × IsRow self.new (row_under cell)) }
-        ensures lands { IfSome result (λ cell. (line : Text) (first : Stage) (j : ℕ) → slice_get line j ≡ Some byte → ComesTo (expression_of automaton.now) mode line first (cache_of self.old) meter.old j walk.row
-            → Lands (expression_of automaton.now) mode line first (cache_of self.new) meter.new j cell) }
-        ensures alone { IfNone result ((line : Text) (first : Stage) (j : ℕ) → slice_get line j ≡ Some byte → ComesTo (expression_of automaton.now) mode line first (cache_of self.old) meter.old j walk.row
+        ensures lands { IfSome result
+            (λ cell. (line : Text) (first : Stage) (j : ℕ) → slice_get line j ≡ Some byte →
+            ComesTo (expression_of automaton.now) mode line first (cache_of self.old) meter.old j
+            walk.row
+            → Lands (expression_of automaton.now) mode line first (cache_of self.new) meter.new j
+            cell) }
+        ensures alone { IfNone result
+            ((line : Text) (first : Stage) (j : ℕ) → slice_get line j ≡ Some byte →
+            ComesTo (expression_of automaton.now) mode line first (cache_of self.old) meter.old j
+            walk.row
             → LandsAlone (expression_of automaton.now) mode line first into.new meter.new j) }
     {
         if walk.cell != UNKNOWN {
@@ -232,11 +254,20 @@ impl Table {
         requires into { IsMadeFor (expression_of automaton.now) into.old }
         ensures into { IsMadeFor (expression_of automaton.now) into.new }
         ensures most { self.new.pairs.most ≡ self.old.pairs.most }
-        ensures next { (set : Set) → IsRowOf self.old.sets.keys self.old.stride row set → IsNextSet (expression_of automaton.now) mode set byte into.new }
+        ensures next { (set : Set) → IsRowOf self.old.sets.keys self.old.stride row set →
+            IsNextSet (expression_of automaton.now) mode set byte into.new }
         ensures counted { meter.new ≡ many_built 1 meter.old }
         ensures right { IfSome result (λ _. IsRight (expression_of automaton.now) mode self.new) }
-        ensures found { (set : Set) → IsRowOf self.old.sets.keys self.old.stride row set → IfSome result (λ cell. (cell < unknown) × TellsNext (expression_of automaton.now) mode self.new.sets.keys self.new.stride set byte cell) }
-        ensures others { (set : Set) → IsRowOf self.old.sets.keys self.old.stride row set → IfSome result (λ _. HoldsNoOther (expression_of automaton.now) (cache_of self.old) set byte (cache_of self.new)) }
+        ensures found { (set : Set) → IsRowOf self.old.sets.keys self.old.stride row set →
+            IfSome result
+            (λ cell. (cell < unknown) ×
+            TellsNext (expression_of automaton.now) mode self.new.sets.keys self.new.stride set byte
+            cell) }
+        ensures others { (set : Set) → IsRowOf self.old.sets.keys self.old.stride row set →
+            IfSome result
+            (λ _.
+            HoldsNoOther (expression_of automaton.now) (cache_of self.old) set byte
+            (cache_of self.new)) }
     {
         let from = &self.sets.as_slice()[self.stride.number(row)];
         automaton.advance(mode, from, byte, into, meter);

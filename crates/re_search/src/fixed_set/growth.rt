@@ -1,7 +1,9 @@
 //! The tree of the beginnings of strings in order.
-ghost use Rattle.std.specs.Prelude.{◌≡◌, ℕ, ◌+◌, ◌^◌, ◌<◌, ◌≤◌, ◌++◌, [], ◌∷◌, List, All, IfOk, IfSome, length, map, slice_get};
+ghost use Rattle.std.specs.Prelude.{◌≡◌, ℕ, ◌+◌, ◌^◌, ◌<◌, ◌≤◌, ◌++◌, [], ◌∷◌, List, All, IfOk};
+ghost use Rattle.std.specs.Prelude.{IfSome, length, map, slice_get};
 ghost use Rattle.re_search.specs.declared.fixed_set.growth.Branch.{Branch};
-ghost use Rattle.re_search.specs.Working.Branches.{AreAscending, IsBranch, IsRow, AreRows, branch_at, text_at};
+ghost use Rattle.re_search.specs.Working.Branches.{AreAscending, IsBranch, IsRow, AreRows};
+ghost use Rattle.re_search.specs.Working.Branches.{branch_at, text_at};
 
 use std::alloc::{AllocError, Global};
 
@@ -31,7 +33,10 @@ pub struct Growth {
 /// or that more than 2^32 - 1 beginnings would be needed.
 pub fn grow(alloc: Global, strings: &[&[u8]]) -> Result<Growth, AllocError>
     requires { AreAscending (map (λ s. s.now) strings.now) }
-    ensures rows { IfOk result (λ g. AreRows (map (λ s. s.now) strings.now) g.branches.items g.first.items (length g.branches.items)) }
+    ensures rows { IfOk result
+        (λ g.
+        AreRows (map (λ s. s.now) strings.now) g.branches.items g.first.items
+        (length g.branches.items)) }
     ensures few { IfOk result (λ g. length g.branches.items < 2 ^ 32) }
 {
     let count = count_of(strings);
@@ -97,9 +102,14 @@ fn expand(strings: &[&[u8]], branches: &mut Vec<Branch>, node: usize) -> Result<
     requires ordered { AreAscending (map (λ s. s.now) strings.now) }
     requires are { All (IsBranch (map (λ s. s.now) strings.now)) branches.old.items }
     requires within { node < length branches.old.items }
-    ensures grown { IfOk result (λ _. (more : List Branch) × (branches.new.items ≡ branches.old.items ++ more)) }
-    ensures are { IfOk result (λ _. All (IsBranch (map (λ s. s.now) strings.now)) branches.new.items) }
-    ensures row { IfOk result (λ _. IsRow (map (λ s. s.now) strings.now) branches.new.items (branch_at branches.old.items node) (length branches.old.items) (length branches.new.items)) }
+    ensures grown { IfOk result
+        (λ _. (more : List Branch) × (branches.new.items ≡ branches.old.items ++ more)) }
+    ensures are { IfOk result
+        (λ _. All (IsBranch (map (λ s. s.now) strings.now)) branches.new.items) }
+    ensures row { IfOk result
+        (λ _.
+        IsRow (map (λ s. s.now) strings.now) branches.new.items (branch_at branches.old.items node)
+        (length branches.old.items) (length branches.new.items)) }
 {
     let branch = branches[node];
     let depth = branch.depth as usize;
@@ -124,7 +134,9 @@ fn add_branch(
     low: usize,
     high: usize,
 ) -> Result<(), AllocError>
-    ensures { IfOk result (λ _. branches.new.items ≡ branches.old.items ++ record { byte = byte; depth = depth; low = low; high = high } ∷ []) }
+    ensures { IfOk result
+        (λ _. branches.new.items ≡ branches.old.items ++
+        record { byte = byte; depth = depth; low = low; high = high } ∷ []) }
 {
     let depth = number(depth)?;
     let low = number(low)?;
@@ -142,7 +154,8 @@ fn add_branch(
 fn key_at(strings: &[&[u8]], place: usize, depth: usize) -> Option<u8>
     requires { place < length strings.now }
     ensures told { result ≡ slice_get (text_at (map (λ s. s.now) strings.now) place) depth }
-    ensures within { IfSome result (λ _. depth < length (text_at (map (λ s. s.now) strings.now) place)) }
+    ensures within { IfSome result
+        (λ _. depth < length (text_at (map (λ s. s.now) strings.now) place)) }
 {
     let string = strings[place];
     if depth < string.len() {
@@ -156,8 +169,10 @@ fn run_end(strings: &[&[u8]], at: usize, high: usize, depth: usize, key: Option<
     requires within { at < high }
     requires in_strings { high ≤ length strings.now }
     ensures within { (at < result) × (result ≤ high) }
-    ensures same { (i : ℕ) → at < i → i < result → slice_get (text_at (map (λ s. s.now) strings.now) i) depth ≡ key }
-    ensures other { result < high → slice_get (text_at (map (λ s. s.now) strings.now) result) depth ≡ key → ⊥ }
+    ensures same { (i : ℕ) → at < i → i < result →
+        slice_get (text_at (map (λ s. s.now) strings.now) i) depth ≡ key }
+    ensures other { result < high →
+        slice_get (text_at (map (λ s. s.now) strings.now) result) depth ≡ key → ⊥ }
 {
     'places: for end in at + 1..high {
         if key_at(strings, end, depth) != key {

@@ -1,6 +1,10 @@
 //! The fallbacks of the nodes, and the strings that they end with.
-ghost use Rattle.std.specs.Prelude.{◌≡◌, ℕ, ◌+◌, ◌^◌, ◌<◌, ◌≤◌, ◌++◌, [], ◌∷◌, false, IfOk, length, slice_index};
-ghost use Rattle.re_search.specs.Working.FixedSets.{IsTrie, IsTrieOf, AreStarts, AreStartsOf, AreFallbacks, AreFallbacksOf, AreOwn, AreLinked, AreLinkedFor, Labels, StandsFor, StepsOn, longer_ending};
+ghost use Rattle.std.specs.Prelude.{◌≡◌, ℕ, ◌+◌, ◌^◌, ◌<◌, ◌≤◌, ◌++◌, [], ◌∷◌, false, IfOk, length};
+ghost use Rattle.std.specs.Prelude.{slice_index};
+ghost use Rattle.re_search.specs.Working.FixedSets.{IsTrie, IsTrieOf, AreStarts, AreStartsOf};
+ghost use Rattle.re_search.specs.Working.FixedSets.{AreFallbacks, AreFallbacksOf, AreOwn};
+ghost use Rattle.re_search.specs.Working.FixedSets.{AreLinked, AreLinkedFor, Labels, StandsFor};
+ghost use Rattle.re_search.specs.Working.FixedSets.{StepsOn, longer_ending};
 
 use crate::fixed_set::keys::key_of;
 use crate::fixed_set::table::step;
@@ -21,7 +25,9 @@ pub fn starts_of(alloc: Global, trie: &Trie, fold: bool) -> Result<Vec<u32>, All
     requires trie { IsTrie trie.now.first.items trie.now.bytes.items }
     requires few { length trie.now.bytes.items < 2 ^ 32 }
     ensures starts { IfOk result (λ starts. AreStarts trie.now.first.items starts.items) }
-    ensures right { IfOk result (λ starts. (all : Labels) → IsTrieOf all trie.now.first.items trie.now.bytes.items → AreStartsOf fold all starts.items) }
+    ensures right { IfOk result
+        (λ starts. (all : Labels) → IsTrieOf all trie.now.first.items trie.now.bytes.items →
+        AreStartsOf fold all starts.items) }
 {
     let mut starts = Vec::new(alloc);
     'bytes: while starts.len() < 256 {
@@ -42,7 +48,9 @@ pub fn line_starts(
     requires few { length trie.now.bytes.items < 2 ^ 32 }
     requires plain { AreStarts trie.now.first.items plain.items }
     ensures starts { IfOk result (λ starts. AreStarts trie.now.first.items starts.items) }
-    ensures right { IfOk result (λ starts. (all : Labels) → IsTrieOf all trie.now.first.items trie.now.bytes.items → AreStartsOf false all plain.items → AreStartsOf fold all starts.items) }
+    ensures right { IfOk result
+        (λ starts. (all : Labels) → IsTrieOf all trie.now.first.items trie.now.bytes.items →
+        AreStartsOf false all plain.items → AreStartsOf fold all starts.items) }
 {
     if fold {
         let starts = starts_of(alloc, trie, fold)?;
@@ -55,7 +63,8 @@ pub fn line_starts(
 fn start_of(trie: &Trie, byte: u8) -> usize
     requires trie { IsTrie trie.now.first.items trie.now.bytes.items }
     ensures near { result < slice_index trie.now.first.items 1 }
-    ensures right { (all : Labels) → IsTrieOf all trie.now.first.items trie.now.bytes.items → StepsOn all 0 byte result }
+    ensures right { (all : Labels) → IsTrieOf all trie.now.first.items trie.now.bytes.items →
+        StepsOn all 0 byte result }
 {
     match trie.child(0, byte) {
         Some(child) => child,
@@ -74,8 +83,11 @@ pub fn links_of(
     requires few { length trie.now.bytes.items < 2 ^ 32 }
     requires starts { AreStarts trie.now.first.items starts.now }
     requires owns { length owns.now ≡ length trie.now.bytes.items }
-    ensures linked { IfOk result (λ links. AreLinked (length trie.now.bytes.items) links.fails.items links.ends.items) }
-    ensures right { IfOk result (λ links. (all : Labels) → IsTrieOf all trie.now.first.items trie.now.bytes.items → AreStartsOf false all starts.now → AreOwn all owns.now
+    ensures linked { IfOk result
+        (λ links. AreLinked (length trie.now.bytes.items) links.fails.items links.ends.items) }
+    ensures right { IfOk result
+        (λ links. (all : Labels) → IsTrieOf all trie.now.first.items trie.now.bytes.items →
+        AreStartsOf false all starts.now → AreOwn all owns.now
         → AreLinkedFor all links.fails.items links.ends.items) }
 {
     let mut fails = Vec::with_capacity(alloc, trie.bytes.len())?;
@@ -102,10 +114,17 @@ fn link_children(
     requires starts { AreStarts trie.now.first.items starts.now }
     requires owns { length owns.now ≡ length trie.now.bytes.items }
     requires within { node < length trie.now.bytes.items }
-    requires linked { AreLinked (slice_index trie.now.first.items node) links.old.fails.items links.old.ends.items }
-    ensures linked { IfOk result (λ _. AreLinked (slice_index trie.now.first.items (node + 1)) links.new.fails.items links.new.ends.items) }
-    ensures right { IfOk result (λ _. (all : Labels) → IsTrieOf all trie.now.first.items trie.now.bytes.items → AreStartsOf false all starts.now → AreOwn all owns.now
-        → AreLinkedFor all links.old.fails.items links.old.ends.items → AreLinkedFor all links.new.fails.items links.new.ends.items) }
+    requires linked { AreLinked (slice_index trie.now.first.items node) links.old.fails.items
+        links.old.ends.items }
+    ensures linked { IfOk result
+        (λ _.
+        AreLinked (slice_index trie.now.first.items (node + 1)) links.new.fails.items
+        links.new.ends.items) }
+    ensures right { IfOk result
+        (λ _. (all : Labels) → IsTrieOf all trie.now.first.items trie.now.bytes.items →
+        AreStartsOf false all starts.now → AreOwn all owns.now
+        → AreLinkedFor all links.old.fails.items links.old.ends.items →
+        AreLinkedFor all links.new.fails.items links.new.ends.items) }
 {
     let end = trie.first[node + 1] as usize;
     'children: while links.fails.len() < end {
@@ -126,7 +145,8 @@ fn fallback(trie: &Trie, starts: &[u32], fails: &[u32], node: usize, byte: u8) -
     requires within { node < length fails.now }
     requires linked { slice_index trie.now.first.items node ≤ length fails.now }
     ensures before { result < slice_index trie.now.first.items node }
-    ensures right { (all : Labels) → IsTrieOf all trie.now.first.items trie.now.bytes.items → AreStartsOf false all starts.now → AreFallbacksOf all fails.now
+    ensures right { (all : Labels) → IsTrieOf all trie.now.first.items trie.now.bytes.items →
+        AreStartsOf false all starts.now → AreFallbacksOf all fails.now
         → StandsFor all.strings (all.label result) (all.label node ++ byte ∷ []) 1 }
 {
     if node == 0 {
@@ -144,7 +164,9 @@ fn longer_end(own: u32, end: u32) -> u32
 
 // Adds the links of a node.
 fn add_link(links: &mut Links, fail: usize, end: u32) -> Result<(), AllocError>
-    ensures { IfOk result (λ _. (links.new.fails.items ≡ links.old.fails.items ++ fail ∷ []) × (links.new.ends.items ≡ links.old.ends.items ++ end ∷ [])) }
+    ensures { IfOk result
+        (λ _. (links.new.fails.items ≡ links.old.fails.items ++ fail ∷ []) ×
+        (links.new.ends.items ≡ links.old.ends.items ++ end ∷ [])) }
 {
     push_number(&mut links.fails, fail)?;
     links.ends.push(end)?;

@@ -2,7 +2,8 @@
 ghost use Rattle.std.specs.Prelude.{◌≡◌, ℕ, ◌^◌, ◌<◌, ◌≤◌, List, IfOk, length, map, slice_index};
 ghost use Rattle.re_syntax.specs.Bytes.{Text};
 ghost use Rattle.re_search.specs.Working.Branches.{AreAscending, branch_at, own_length, HaveSame};
-ghost use Rattle.re_search.specs.Working.FixedSets.{IsTable, IsTableOf, IsTrie, IsTrieOf, AreOwn, Labels};
+ghost use Rattle.re_search.specs.Working.FixedSets.{IsTable, IsTableOf, IsTrie, IsTrieOf, AreOwn};
+ghost use Rattle.re_search.specs.Working.FixedSets.{Labels};
 
 use crate::fixed_set::growth::{Branch, grow};
 use crate::fixed_set::links::{line_starts, links_of, starts_of};
@@ -24,7 +25,8 @@ pub fn table_of(alloc: Global, strings: &[&[u8]], fold: bool) -> Result<Table, A
     requires { AreAscending (map (λ s. s.now) strings.now) }
     ensures table { IfOk result IsTable }
     ensures fold { IfOk result (λ t. t.fold ≡ fold) }
-    ensures right { IfOk result (λ t. (texts : List Text) → HaveSame (map (λ s. s.now) strings.now) texts
+    ensures right { IfOk result
+        (λ t. (texts : List Text) → HaveSame (map (λ s. s.now) strings.now) texts
         → (label : ℕ → Text) × IsTableOf (record { strings = texts; label = label }) t) }
 {
     let nodes = nodes_of(alloc, strings)?;
@@ -52,8 +54,11 @@ fn nodes_of(alloc: Global, strings: &[&[u8]]) -> Result<Nodes, AllocError>
     ensures trie { IfOk result (λ nodes. IsTrie nodes.trie.first.items nodes.trie.bytes.items) }
     ensures few { IfOk result (λ nodes. length nodes.trie.bytes.items < 2 ^ 32) }
     ensures owns { IfOk result (λ nodes. length nodes.owns.items ≡ length nodes.trie.bytes.items) }
-    ensures right { IfOk result (λ nodes. (texts : List Text) → HaveSame (map (λ s. s.now) strings.now) texts
-        → (label : ℕ → Text) × IsTrieOf (record { strings = texts; label = label }) nodes.trie.first.items nodes.trie.bytes.items
+    ensures right { IfOk result
+        (λ nodes. (texts : List Text) → HaveSame (map (λ s. s.now) strings.now) texts
+        → (label : ℕ → Text) ×
+        IsTrieOf (record { strings = texts; label = label }) nodes.trie.first.items
+        nodes.trie.bytes.items
         × AreOwn (record { strings = texts; label = label }) nodes.owns.items) }
 {
     let growth = grow(alloc, strings)?;
@@ -67,7 +72,9 @@ fn nodes_of(alloc: Global, strings: &[&[u8]]) -> Result<Nodes, AllocError>
 // The last byte of each.
 fn bytes_of(alloc: Global, branches: &[Branch]) -> Result<Vec<u8>, AllocError>
     ensures all { IfOk result (λ bytes. length bytes.items ≡ length branches.now) }
-    ensures each { IfOk result (λ bytes. (n : ℕ) → n < length branches.now → slice_index bytes.items n ≡ (branch_at branches.now n).byte) }
+    ensures each { IfOk result
+        (λ bytes. (n : ℕ) → n < length branches.now →
+        slice_index bytes.items n ≡ (branch_at branches.now n).byte) }
 {
     let mut bytes = Vec::with_capacity(alloc, branches.len())?;
     'places: for place in 0..branches.len() {
@@ -79,7 +86,10 @@ fn bytes_of(alloc: Global, branches: &[Branch]) -> Result<Vec<u8>, AllocError>
 // The length of each that is a string, 0 for others.
 fn owns_of(alloc: Global, strings: &[&[u8]], branches: &[Branch]) -> Result<Vec<u32>, AllocError>
     ensures all { IfOk result (λ owns. length owns.items ≡ length branches.now) }
-    ensures each { IfOk result (λ owns. (n : ℕ) → n < length branches.now → slice_index owns.items n ≡ own_length (map (λ s. s.now) strings.now) (branch_at branches.now n)) }
+    ensures each { IfOk result
+        (λ owns. (n : ℕ) → n < length branches.now →
+        slice_index owns.items n ≡
+        own_length (map (λ s. s.now) strings.now) (branch_at branches.now n)) }
 {
     let mut owns = Vec::with_capacity(alloc, branches.len())?;
     'places: for place in 0..branches.len() {
@@ -108,8 +118,10 @@ fn depths_of(alloc: Global, trie: &Trie) -> Result<Vec<u32>, AllocError>
     requires trie { IsTrie trie.now.first.items trie.now.bytes.items }
     requires few { length trie.now.bytes.items < 2 ^ 32 }
     ensures all { IfOk result (λ depths. length depths.items ≡ length trie.now.bytes.items) }
-    ensures right { IfOk result (λ depths. (all : Labels) → IsTrieOf all trie.now.first.items trie.now.bytes.items
-        → (n : ℕ) → n < length trie.now.bytes.items → slice_index depths.items n ≡ length (all.label n)) }
+    ensures right { IfOk result
+        (λ depths. (all : Labels) → IsTrieOf all trie.now.first.items trie.now.bytes.items
+        → (n : ℕ) → n < length trie.now.bytes.items →
+        slice_index depths.items n ≡ length (all.label n)) }
 {
     let mut depths = Vec::with_capacity(alloc, trie.bytes.len())?;
     depths.push(0)?;
@@ -124,8 +136,12 @@ fn depths_of(alloc: Global, trie: &Trie) -> Result<Vec<u32>, AllocError>
 fn add_depths(depths: &mut Vec<u32>, depth: u32, end: usize) -> Result<(), AllocError>
     requires { length depths.old.items ≤ end }
     ensures all { IfOk result (λ _. length depths.new.items ≡ end) }
-    ensures same { IfOk result (λ _. (n : ℕ) → n < length depths.old.items → slice_index depths.new.items n ≡ slice_index depths.old.items n) }
-    ensures added { IfOk result (λ _. (n : ℕ) → length depths.old.items ≤ n → n < end → slice_index depths.new.items n ≡ depth) }
+    ensures same { IfOk result
+        (λ _. (n : ℕ) → n < length depths.old.items →
+        slice_index depths.new.items n ≡ slice_index depths.old.items n) }
+    ensures added { IfOk result
+        (λ _. (n : ℕ) → length depths.old.items ≤ n → n < end →
+        slice_index depths.new.items n ≡ depth) }
 {
     'nodes: while depths.len() < end {
         depths.push(depth)?;

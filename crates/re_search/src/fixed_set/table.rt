@@ -1,7 +1,11 @@
 //! The steps over a line for many fixed strings.
-ghost use Rattle.std.specs.Prelude.{◌≡◌, ℕ, ◌+◌, ◌<◌, ◌≤◌, ◌↔◌, [], ◌∷◌, ◌++◌, IsTrue, Some, length, slice_index};
+ghost use Rattle.std.specs.Prelude.{◌≡◌, ℕ, ◌+◌, ◌<◌, ◌≤◌, ◌↔◌, [], ◌∷◌, ◌++◌, IsTrue, Some};
+ghost use Rattle.std.specs.Prelude.{length, slice_index};
 ghost use Rattle.re_syntax.specs.Bytes.{Text};
-ghost use Rattle.re_search.specs.Working.FixedSets.{IsTrie, IsTrieOf, IsTable, IsTableOf, IsString, AreFallbacks, AreFallbacksOf, AreStarts, Labels, Steps, StepsOn, Occurs, NoneBetween, StandsAtNode, IsBestOccurrence, better_ending};
+ghost use Rattle.re_search.specs.Working.FixedSets.{IsTrie, IsTrieOf, IsTable, IsTableOf, IsString};
+ghost use Rattle.re_search.specs.Working.FixedSets.{AreFallbacks, AreFallbacksOf, AreStarts};
+ghost use Rattle.re_search.specs.Working.FixedSets.{Labels, Steps, StepsOn, Occurs, NoneBetween};
+ghost use Rattle.re_search.specs.Working.FixedSets.{StandsAtNode, IsBestOccurrence, better_ending};
 ghost use Rattle.re_search.specs.Working.Literals.{keys};
 ghost use Rattle.re_search.specs.declared.span.Span.{Span};
 
@@ -30,7 +34,8 @@ impl Table {
     /// Whether some string stands on the line.
     pub fn stands_in(&self, line: &[u8]) -> bool
         requires { IsTable self.now }
-        ensures { (all : Labels) → IsTableOf all self.now → IsTrue result ↔ ((i j : ℕ) × Occurs all.strings 0 (keys self.now.fold line.now) i j) }
+        ensures { (all : Labels) → IsTableOf all self.now →
+            IsTrue result ↔ ((i j : ℕ) × Occurs all.strings 0 (keys self.now.fold line.now) i j) }
     {
         if self.fold {
             return self.stands_by(line, true);
@@ -44,7 +49,8 @@ impl Table {
     fn stands_by(&self, line: &[u8], fold: bool) -> bool
         requires table { IsTable self.now }
         requires alike { fold ≡ self.now.fold }
-        ensures { (all : Labels) → IsTableOf all self.now → IsTrue result ↔ ((i j : ℕ) × Occurs all.strings 0 (keys self.now.fold line.now) i j) }
+        ensures { (all : Labels) → IsTableOf all self.now →
+            IsTrue result ↔ ((i j : ℕ) × Occurs all.strings 0 (keys self.now.fold line.now) i j) }
     {
         let mut place = 0;
         let mut node = 0;
@@ -64,7 +70,9 @@ impl Table {
     pub fn find(&self, line: &[u8], from: usize) -> Option<Span>
         requires table { IsTable self.now }
         requires within { from ≤ length line.now }
-        ensures { (all : Labels) → IsTableOf all self.now → IsBestOccurrence all.strings from (keys self.now.fold line.now) (length line.now) result }
+        ensures { (all : Labels) → IsTableOf all self.now →
+            IsBestOccurrence all.strings from (keys self.now.fold line.now) (length line.now)
+            result }
     {
         if self.fold {
             return self.find_by(line, from, true);
@@ -78,7 +86,9 @@ impl Table {
         requires table { IsTable self.now }
         requires within { from ≤ length line.now }
         requires alike { fold ≡ self.now.fold }
-        ensures { (all : Labels) → IsTableOf all self.now → IsBestOccurrence all.strings from (keys self.now.fold line.now) (length line.now) result }
+        ensures { (all : Labels) → IsTableOf all self.now →
+            IsBestOccurrence all.strings from (keys self.now.fold line.now) (length line.now)
+            result }
     {
         let mut place = from;
         let mut node = 0;
@@ -99,7 +109,8 @@ impl Table {
     pub fn is_line(&self, line: &[u8]) -> bool
         requires table { IsTable self.now }
         requires some { 0 < length line.now }
-        ensures { (all : Labels) → IsTableOf all self.now → IsTrue result ↔ IsString all.strings (keys self.now.fold line.now) }
+        ensures { (all : Labels) → IsTableOf all self.now →
+            IsTrue result ↔ IsString all.strings (keys self.now.fold line.now) }
     {
         let mut node = 0;
         'places: for place in 0..line.len() {
@@ -121,9 +132,11 @@ impl Table {
         requires alike { fold ≡ self.now.fold }
         ensures on { (place < result.0) × (result.0 ≤ length line.now) }
         ensures in_trie { result.1 < length self.now.trie.bytes.items }
-        ensures stands { (all : Labels) → IsTableOf all self.now → (from : ℕ) → from ≤ place → StandsAtNode all from (keys self.now.fold line.now) place node
+        ensures stands { (all : Labels) → IsTableOf all self.now → (from : ℕ) → from ≤ place →
+            StandsAtNode all from (keys self.now.fold line.now) place node
             → StandsAtNode all from (keys self.now.fold line.now) result.0 result.1 }
-        ensures between { (all : Labels) → IsTableOf all self.now → (from : ℕ) → from ≤ place → StandsAtNode all from (keys self.now.fold line.now) place node
+        ensures between { (all : Labels) → IsTableOf all self.now → (from : ℕ) → from ≤ place →
+            StandsAtNode all from (keys self.now.fold line.now) place node
             → NoneBetween all.strings from (keys self.now.fold line.now) place result.0 }
     {
         if node == 0 {
@@ -148,7 +161,8 @@ pub fn step(trie: &Trie, starts: &[u32], fails: &[u32], node: usize, byte: u8) -
     requires within { node < length fails.now }
     ensures within { result < length trie.now.bytes.items }
     ensures near { result < slice_index trie.now.first.items (node + 1) }
-    ensures step { (all : Labels) → IsTrieOf all trie.now.first.items trie.now.bytes.items → StepsOn all 0 byte (slice_index starts.now byte) → AreFallbacksOf all fails.now
+    ensures step { (all : Labels) → IsTrieOf all trie.now.first.items trie.now.bytes.items →
+        StepsOn all 0 byte (slice_index starts.now byte) → AreFallbacksOf all fails.now
         → Steps all node byte result }
 {
     let mut at = node;
@@ -167,7 +181,8 @@ fn next_start(starts: &[u32], line: &[u8], place: usize) -> usize
     requires full { length starts.now ≡ 256 }
     requires within { place ≤ length line.now }
     ensures within { (place ≤ result) × (result ≤ length line.now) }
-    ensures passed { (k : ℕ) → place ≤ k → k < result → (slice_index line.now k < 256) × (slice_index starts.now (slice_index line.now k) ≡ 0) }
+    ensures passed { (k : ℕ) → place ≤ k → k < result →
+        (slice_index line.now k < 256) × (slice_index starts.now (slice_index line.now k) ≡ 0) }
 {
     'places: for next in place..line.len() {
         if starts[line[next] as usize] > 0 {

@@ -1,5 +1,6 @@
 //! The tree of the beginnings of some strings.
-ghost use Rattle.std.specs.Prelude.{◌≡◌, ℕ, ◌+◌, ◌<◌, ◌≤◌, [], ◌∷◌, ◌++◌, length, slice_index, MatchOption, IfSome};
+ghost use Rattle.std.specs.Prelude.{◌≡◌, ℕ, ◌+◌, ◌<◌, ◌≤◌, [], ◌∷◌, ◌++◌, length, slice_index};
+ghost use Rattle.std.specs.Prelude.{MatchOption, IfSome};
 ghost use Rattle.re_search.specs.Working.FixedSets.{IsTrie, IsTrieOf, IsFront, Labels};
 
 use memchr::memchr;
@@ -21,9 +22,12 @@ impl Trie {
     pub fn child(&self, node: usize, byte: u8) -> Option<usize>
         requires trie { IsTrie self.now.first.items self.now.bytes.items }
         requires within { node < length self.now.bytes.items }
-        ensures behind { IfSome result (λ m. (node < m) × (m < length self.now.bytes.items) × (m < slice_index self.now.first.items (node + 1))) }
+        ensures behind { IfSome result
+            (λ m. (node < m) × (m < length self.now.bytes.items) ×
+            (m < slice_index self.now.first.items (node + 1))) }
         ensures told { (all : Labels) → IsTrieOf all self.now.first.items self.now.bytes.items
-            → MatchOption result (IsFront all.strings (all.label node ++ byte ∷ []) → ⊥) (λ m. all.label m ≡ all.label node ++ byte ∷ []) }
+            → MatchOption result (IsFront all.strings (all.label node ++ byte ∷ []) → ⊥)
+            (λ m. all.label m ≡ all.label node ++ byte ∷ []) }
     {
         let from = self.first[node] as usize;
         let to = self.first[node + 1] as usize;

@@ -19,7 +19,8 @@ pub enum Mark {
 /// one error is that memory was refused.
 #[cycle(outline)]
 pub fn add_outline(tree: &Tree, marks: &mut Vec<Mark>) -> Result<(), AllocError>
-    ensures { IfOk result (λ _. AddsOutline marks.old.items (expression_of tree.now) marks.new.items) }
+    ensures { IfOk result
+        (λ _. AddsOutline marks.old.items (expression_of tree.now) marks.new.items) }
 {
     match tree {
         Tree::Set(set) => add_mark(marks, Mark::Set(*set)),
@@ -38,7 +39,8 @@ pub fn add_outline(tree: &Tree, marks: &mut Vec<Mark>) -> Result<(), AllocError>
 /// Adds the outlines of parts that stand one after another.
 #[cycle(outline)]
 fn add_all(parts: &[Tree], marks: &mut Vec<Mark>) -> Result<(), AllocError>
-    ensures { IfOk result (λ _. AddsOutline marks.old.items (cat (map expression_of parts.now)) marks.new.items) }
+    ensures { IfOk result
+        (λ _. AddsOutline marks.old.items (cat (map expression_of parts.now)) marks.new.items) }
 {
     'parts: for i in 0..parts.len() {
         add_outline(&parts[i], marks)?;

@@ -1,5 +1,6 @@
 //! Search for a run of small sets of bytes.
-ghost use Rattle.std.specs.Prelude.{◌≡◌, ◌<◌, ◌≤◌, ◌↔◌, ℕ, IsTrue, IfSome, MatchOption, length, map};
+ghost use Rattle.std.specs.Prelude.{◌≡◌, ◌<◌, ◌≤◌, ◌↔◌, ℕ, IsTrue, IfSome, MatchOption, length};
+ghost use Rattle.std.specs.Prelude.{map};
 ghost use Rattle.re_syntax.specs.Sets.{members};
 ghost use Rattle.re_search.specs.Working.Runs.{FindsRun, RunStandsAt, set_at};
 
@@ -26,7 +27,8 @@ impl Model for SetFinder {
 
     ghost view = { λ f. f.sets.items };
 
-    ghost invariant = { λ f. (f.rare < length f.sets.items) × Covers f.few (set_at (map members f.sets.items) f.rare) };
+    ghost invariant = { λ f. (f.rare < length f.sets.items) ×
+        Covers f.few (set_at (map members f.sets.items) f.rare) };
 }
 
 impl SetFinder {
@@ -71,8 +73,10 @@ impl SetFinder {
     #[inline(always)]
     fn candidate(&self, line: &[u8], from: usize) -> Option<usize>
         requires { from < length line.now }
-        ensures { MatchOption result ((k : ℕ) → from ≤ k → ¬ RunStandsAt line.now (map members self.now) k)
-            (λ at. (from ≤ at) × (at < length line.now) × ((k : ℕ) → from ≤ k → k < at → ¬ RunStandsAt line.now (map members self.now) k)) }
+        ensures { MatchOption result
+            ((k : ℕ) → from ≤ k → ¬ RunStandsAt line.now (map members self.now) k)
+            (λ at. (from ≤ at) × (at < length line.now) ×
+            ((k : ℕ) → from ≤ k → k < at → ¬ RunStandsAt line.now (map members self.now) k)) }
     {
         if self.rare >= line.len() - from {
             return None;

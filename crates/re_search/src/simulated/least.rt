@@ -1,5 +1,6 @@
 //! Least starts on their way over a line.
-ghost use Rattle.std.specs.Prelude.{◌≡◌, ℕ, suc, ◌-◌, ◌<◌, ◌≤◌, [], ◌∷◌, false, Some, IsTrue, IfOk, IfErr, length};
+ghost use Rattle.std.specs.Prelude.{◌≡◌, ℕ, suc, ◌-◌, ◌<◌, ◌≤◌, [], ◌∷◌, false, Some, IsTrue, IfOk};
+ghost use Rattle.std.specs.Prelude.{IfErr, length};
 ghost use Rattle.re_syntax.specs.Bytes.{Text};
 ghost use Rattle.re_syntax.specs.Expression.{Expression, expression_of};
 ghost use Rattle.re_auto.specs.declared.build.BuildFault.TheVariants.{Memory};
@@ -7,7 +8,8 @@ ghost use Rattle.re_auto.specs.declared.mode.Mode.TheVariants.{Search};
 ghost use Rattle.re_auto.specs.Meters.{many_built};
 ghost use Rattle.re_auto.specs.Working.StartSets.{place_of};
 ghost use Rattle.re_search.specs.Searching.{FindsPart, AddsAtMost};
-ghost use Rattle.re_search.specs.Working.Simulations.{AreStartsFor, IsBestSpan, Carries, better_span};
+ghost use Rattle.re_search.specs.Working.Simulations.{AreStartsFor, IsBestSpan, Carries};
+ghost use Rattle.re_search.specs.Working.Simulations.{better_span};
 
 use crate::span::Span;
 use re_auto::{Automaton, BuildFault, Meter, Mode, Starts};
@@ -62,7 +64,8 @@ impl StartPair {
 
     // Whether the best stretch so far is the part: all that is carried begins behind it.
     fn is_settled(&self, best: Option<Span>) -> bool
-        ensures { IsTrue result → (e : Expression) (from : ℕ) (line : Text) (j : ℕ) → Carries e from line j self.now.current best
+        ensures { IsTrue result → (e : Expression) (from : ℕ) (line : Text) (j : ℕ) →
+            Carries e from line j self.now.current best
             → IsBestSpan e from line (length line) best }
     {
         match best {
@@ -85,8 +88,10 @@ impl StartPair {
         requires here { place_of self.old.current ≡ place }
         ensures made { AreStartsFor (expression_of automaton.now) self.new }
         ensures place { place_of self.new.current ≡ suc place }
-        ensures carries { (from : ℕ) → Carries (expression_of automaton.now) from line.now place self.old.current best
-            → Carries (expression_of automaton.now) from line.now (suc place) self.new.current result }
+        ensures carries { (from : ℕ) →
+            Carries (expression_of automaton.now) from line.now place self.old.current best
+            → Carries (expression_of automaton.now) from line.now (suc place) self.new.current
+            result }
         ensures counted { meter.new ≡ many_built 1 meter.old }
     {
         self.current.advance(automaton, Mode::Search, line[place], &mut self.spare, meter);
@@ -114,7 +119,8 @@ impl StartPair {
         ensures made { AreStartsFor (expression_of automaton.now) self.new }
         ensures place { place_of self.new.current ≡ result }
         ensures on { (place ≤ result) × (result ≤ length line.now) }
-        ensures carries { (from : ℕ) → Carries (expression_of automaton.now) from line.now place self.old.current best
+        ensures carries { (from : ℕ) →
+            Carries (expression_of automaton.now) from line.now place self.old.current best
             → Carries (expression_of automaton.now) from line.now result self.new.current best }
     {
         if best.is_some() || !self.current.is_spent(place - 1) {

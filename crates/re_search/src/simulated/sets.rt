@@ -35,7 +35,9 @@ impl SetPair {
     pub fn stands_in(&mut self, automaton: &Automaton, line: &[u8], meter: &mut Meter) -> bool
         requires made { AreSetsFor (expression_of automaton.now) self.old }
         ensures made { AreSetsFor (expression_of automaton.now) self.new }
-        ensures searches { (cache : Cache) → cache.entries ≡ [] → Searches (expression_of automaton.now) Search line.now cache cache meter.old meter.new result }
+        ensures searches { (cache : Cache) → cache.entries ≡ [] →
+            Searches (expression_of automaton.now) Search line.now cache cache meter.old meter.new
+            result }
     {
         automaton.start(&mut self.current);
         self.rest_stands(automaton, line, 0, meter)
@@ -54,7 +56,8 @@ impl SetPair {
         requires set { IsMadeFor (expression_of automaton.now) set.now }
         requires within { from ≤ length line.now }
         ensures made { AreSetsFor (expression_of automaton.now) self.new }
-        ensures finishes { FinishesFrom (expression_of automaton.now) Search line.now from set.now meter.old meter.new result }
+        ensures finishes { FinishesFrom (expression_of automaton.now) Search line.now from set.now
+            meter.old meter.new result }
     {
         self.current.copy_from(set);
         self.rest_stands(automaton, line, from, meter)
@@ -65,7 +68,9 @@ impl SetPair {
     pub fn is_line(&mut self, automaton: &Automaton, line: &[u8], meter: &mut Meter) -> bool
         requires made { AreSetsFor (expression_of automaton.now) self.old }
         ensures made { AreSetsFor (expression_of automaton.now) self.new }
-        ensures searches { (cache : Cache) → cache.entries ≡ [] → Searches (expression_of automaton.now) Whole line.now cache cache meter.old meter.new result }
+        ensures searches { (cache : Cache) → cache.entries ≡ [] →
+            Searches (expression_of automaton.now) Whole line.now cache cache meter.old meter.new
+            result }
     {
         automaton.start(&mut self.current);
         self.rest_is_line(automaton, line, 0, meter)
@@ -84,7 +89,8 @@ impl SetPair {
         requires set { IsMadeFor (expression_of automaton.now) set.now }
         requires within { from ≤ length line.now }
         ensures made { AreSetsFor (expression_of automaton.now) self.new }
-        ensures finishes { FinishesFrom (expression_of automaton.now) Whole line.now from set.now meter.old meter.new result }
+        ensures finishes { FinishesFrom (expression_of automaton.now) Whole line.now from set.now
+            meter.old meter.new result }
     {
         self.current.copy_from(set);
         self.rest_is_line(automaton, line, from, meter)
@@ -101,7 +107,8 @@ impl SetPair {
         requires made { AreSetsFor (expression_of automaton.now) self.old }
         requires within { from ≤ length line.now }
         ensures made { AreSetsFor (expression_of automaton.now) self.new }
-        ensures finishes { FinishesFrom (expression_of automaton.now) Search line.now from self.old.current meter.old meter.new result }
+        ensures finishes { FinishesFrom (expression_of automaton.now) Search line.now from
+            self.old.current meter.old meter.new result }
     {
         let mut place = from;
         'places: while place < line.len() {
@@ -124,7 +131,8 @@ impl SetPair {
         requires made { AreSetsFor (expression_of automaton.now) self.old }
         requires within { from ≤ length line.now }
         ensures made { AreSetsFor (expression_of automaton.now) self.new }
-        ensures finishes { FinishesFrom (expression_of automaton.now) Whole line.now from self.old.current meter.old meter.new result }
+        ensures finishes { FinishesFrom (expression_of automaton.now) Whole line.now from
+            self.old.current meter.old meter.new result }
     {
         'places: for place in from..line.len() {
             if self.current.is_nowhere() {
@@ -142,7 +150,8 @@ impl SetPair {
         requires within { place < length line.now }
         ensures made { AreSetsFor (expression_of automaton.now) self.new }
         ensures on { (place < result) × (result ≤ length line.now) }
-        ensures goes { GoesFrom (expression_of automaton.now) Search line.now place self.old.current meter.old result self.new.current meter.new }
+        ensures goes { GoesFrom (expression_of automaton.now) Search line.now place self.old.current
+            meter.old result self.new.current meter.new }
     {
         if self.current.is_nowhere() {
             let next = automaton.next_beginning(line, place);
@@ -159,7 +168,8 @@ impl SetPair {
     fn advance(&mut self, automaton: &Automaton, mode: Mode, byte: u8, meter: &mut Meter)
         requires made { AreSetsFor (expression_of automaton.now) self.old }
         ensures made { AreSetsFor (expression_of automaton.now) self.new }
-        ensures next { IsNextSet (expression_of automaton.now) mode self.old.current byte self.new.current }
+        ensures next { IsNextSet (expression_of automaton.now) mode self.old.current byte
+            self.new.current }
         ensures counted { meter.new ≡ many_built 1 meter.old }
     {
         if automaton.has_one_word() {
@@ -174,7 +184,8 @@ impl SetPair {
     fn advance_in_spare(&mut self, automaton: &Automaton, mode: Mode, byte: u8, meter: &mut Meter)
         requires made { AreSetsFor (expression_of automaton.now) self.old }
         ensures made { AreSetsFor (expression_of automaton.now) self.new }
-        ensures next { IsNextSet (expression_of automaton.now) mode self.old.current byte self.new.current }
+        ensures next { IsNextSet (expression_of automaton.now) mode self.old.current byte
+            self.new.current }
         ensures counted { meter.new ≡ many_built 1 meter.old }
     {
         automaton.advance(mode, &self.current, byte, &mut self.spare, meter);

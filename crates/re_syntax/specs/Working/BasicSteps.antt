@@ -1,4 +1,5 @@
--- What each step of reading a basic expression says: which part of the grammar stands at a place of the text, or that none does and where that shows.
+-- What each step of reading a basic expression says: which part of the grammar stands at a place of
+-- the text, or that none does and where that shows.
 use Rattle.std.specs.Prelude.{◌≡◌, ℕ, ◌<◌, ◌≤◌, max, [], ◌++◌, List, length, take, drop, map, codes}
 use Rattle.re_syntax.specs.declared.pieces.Piece.{Piece}
 use Rattle.re_syntax.specs.declared.pieces.Pieces.{Pieces}
@@ -8,7 +9,8 @@ use Rattle.re_syntax.specs.Bytes.{Text, Begins}
 use Rattle.re_syntax.specs.Working.Ahead.{IsAfter}
 use Rattle.re_syntax.specs.Working.DuplicationSteps.{HasNone, HasOne}
 use Rattle.re_syntax.specs.Expression.{Expression, sequence, expression_of}
-use Rattle.re_syntax.specs.Basic.{ItemPlace, First, Later, Duplication, IsAtEnd, Branches, Items, Item, Atom}
+use Rattle.re_syntax.specs.Basic.{ItemPlace, First, Later, Duplication, IsAtEnd, Branches, Items}
+use Rattle.re_syntax.specs.Basic.{Item, Atom}
 use Rattle.re_syntax.specs.BasicFaults.{NeedsItem, HasNothingToRepeat, IsShownIn}
 
 -- no duplication stands at the front
@@ -58,27 +60,32 @@ pub record MayBegin (p : ItemPlace) (t : Text) : Type 0 where
   pub no_duplication : p ≡ Later → OpensNoDuplication t
 
 -- an atom stands from one place up to another, at most so high
-pub record AtomStands (p : ItemPlace) (levels : ℕ) (text : Text) (at : ℕ) (piece : Piece) : Type 0 where
+pub record AtomStands (p : ItemPlace) (levels : ℕ) (text : Text) (at : ℕ)
+    (piece : Piece) : Type 0 where
   pub forward : at < piece.behind
   pub within : piece.behind ≤ length text
   pub height : piece.height ≤ levels
-  pub stands : Atom p piece.height (drop at text) (drop piece.behind text) (expression_of piece.tree)
+  pub stands : Atom p piece.height (drop at text) (drop piece.behind text)
+      (expression_of piece.tree)
 
 -- no atom stands there, or only a higher one
 pub record HasNoAtom (p : ItemPlace) (levels : ℕ) (t : Text) : Type 0 where
   pub none : (h : ℕ) (u : Text) (e : Expression) → Atom p h t u e → h ≤ levels → ⊥
 
 -- the same of an item, behind which no duplication stands
-pub record ItemStands (p : ItemPlace) (levels : ℕ) (text : Text) (at : ℕ) (piece : Piece) : Type 0 where
+pub record ItemStands (p : ItemPlace) (levels : ℕ) (text : Text) (at : ℕ)
+    (piece : Piece) : Type 0 where
   pub forward : at < piece.behind
   pub within : piece.behind ≤ length text
   pub height : piece.height ≤ levels
   pub no_more : OpensNoDuplication (drop piece.behind text)
-  pub stands : Item p piece.height (drop at text) (drop piece.behind text) (expression_of piece.tree)
+  pub stands : Item p piece.height (drop at text) (drop piece.behind text)
+      (expression_of piece.tree)
 
 -- no items of a branch stand there, or only higher ones
 pub record HasNoItems (p : ItemPlace) (levels : ℕ) (t : Text) : Type 0 where
-  pub none : (h : ℕ) (u : Text) (es : List Expression) → Items p h t u es → IsAtEnd u → h ≤ levels → ⊥
+  pub none : (h : ℕ) (u : Text) (es : List Expression) → Items p h t u es → IsAtEnd u → h ≤ levels →
+      ⊥
 
 -- a `$` that is last stands from one place up to another
 pub record IsBehindTail (text : Text) (at behind : ℕ) : Type 0 where
@@ -97,9 +104,12 @@ pub record SoFar (levels : ℕ) (text : Text) (from : ℕ) (items : Pieces) : Ty
   pub opens : NeedsItem (drop items.behind text) → HasNothingToRepeat (take items.behind text)
   pub place : ItemPlace
   pub begins : MayBegin place (drop items.behind text)
-  pub ahead : (k : ℕ) (v : Text) (es : List Expression) → Items place k (drop items.behind text) v es →
-      Items First (max items.height k) (drop from text) v (map expression_of items.trees.items ++ es)
-  pub back : HasNoItems place levels (drop items.behind text) → HasNoItems First levels (drop from text)
+  pub ahead : (k : ℕ) (v : Text) (es : List Expression) →
+      Items place k (drop items.behind text) v es →
+      Items First (max items.height k) (drop from text) v
+      (map expression_of items.trees.items ++ es)
+  pub back : HasNoItems place levels (drop items.behind text) →
+      HasNoItems First levels (drop from text)
 
 -- the items, and behind them the end of their branch
 pub record IsEnded (text : Text) (old new : Pieces) : Type 0 where
@@ -132,4 +142,5 @@ pub record BranchesStand (levels : ℕ) (text : Text) (from : ℕ) (branches : P
   pub within : branches.behind ≤ length text
   pub height : branches.height ≤ levels
   pub at_end : IsAtLast (drop branches.behind text)
-  pub stands : Branches branches.height (drop from text) (drop branches.behind text) (map expression_of branches.trees.items)
+  pub stands : Branches branches.height (drop from text) (drop branches.behind text)
+      (map expression_of branches.trees.items)

@@ -1,4 +1,5 @@
--- What each step of reading a bracket expression says: which part of the grammar stands before the cursor, or that none does and where that shows.
+-- What each step of reading a bracket expression says: which part of the grammar stands before the
+-- cursor, or that none does and where that shows.
 use Rattle.std.specs.Prelude.{◌≡◌, ◌≢◌, ℕ, ◌≤◌, ◌⊎◌, drop, codes}
 use Rattle.re_syntax.specs.declared.bracket.ListPlace.{ListPlace}
 use Rattle.re_syntax.specs.declared.bracket.ListPlace.TheVariants.{First, AfterPoint}
@@ -20,7 +21,8 @@ pub record OpensNoClass (t : Text) : Type 0 where
   pub class : ¬ Begins (codes "[:") t
   pub equivalence : ¬ Begins (codes "[=") t
 
--- an element may stand here: no bracket closes the list, and after a point a hyphen stands only as the last
+-- an element may stand here: no bracket closes the list, and after a point a hyphen stands only as
+-- the last
 pub record MayGoOn (p : ListPlace) (t : Text) : Type 0 where
   pub bracket : Begins (codes "]") t → p ≡ First
   pub hyphen : Begins (codes "-") t → (p ≢ AfterPoint) ⊎ Begins (codes "-]") t
@@ -31,12 +33,14 @@ pub record PassesHyphen (old new : Cursor) (at : ℕ) : Type 0 where
   pub not_last : ¬ Begins (codes "-]") (left old)
   pub stands : Stands (codes "-") at old
 
--- the fault shows at its place of the cursor's text; an unclosed bracket expression shows at this opening
+-- the fault shows at its place of the cursor's text; an unclosed bracket expression shows at this
+-- opening
 pub record IsShown (opening : ℕ) (c : Cursor) (fault : PatternFault) : Type 0 where
   pub shows : ShowsBracketFault fault.kind (drop fault.at c.text.now)
   pub unclosed : fault.kind ≡ UnclosedBracket → fault.at ≡ opening
 
--- no point, no point from the byte `first` on, no element and no list of elements comes next in the bracket expression that is open
+-- no point, no point from the byte `first` on, no element and no list of elements comes next in the
+-- bracket expression that is open
 pub record HasNoPoint (opening : ℕ) (c : Cursor) (fault : PatternFault) : Type 0 where
   pub none : (v : Text) (b : ℕ) → ¬ Point (left c) v b
   pub shown : IsShown opening c fault
@@ -45,7 +49,8 @@ pub record HasNoRangeEnd (opening first : ℕ) (c : Cursor) (fault : PatternFaul
   pub none : (v : Text) (b : ℕ) → Point (left c) v b → ¬ (first ≤ b)
   pub shown : IsShown opening c fault
 
-pub record HasNoElement (opening : ℕ) (p : ListPlace) (c : Cursor) (fault : PatternFault) : Type 0 where
+pub record HasNoElement (opening : ℕ) (p : ListPlace) (c : Cursor)
+    (fault : PatternFault) : Type 0 where
   pub none : (v : Text) (a : Bytes) (q : ListPlace) → ¬ Element p (left c) v a q
   pub shown : IsShown opening c fault
 

@@ -5,10 +5,12 @@ use Rattle.re_syntax.specs.Bytes.{Text}
 
 -- no duplication stands at the front
 pub record HasNone (IsDuplication : Text → ℕ → Option ℕ → Type 0) (t : Text) : Type 0 where
-  pub none : (d : Text) (least : ℕ) (most : Option ℕ) (u : Text) → IsDuplication d least most → t ≡ d ++ u → ⊥
+  pub none : (d : Text) (least : ℕ) (most : Option ℕ) (u : Text) → IsDuplication d least most →
+      t ≡ d ++ u → ⊥
 
 -- a duplication stands from one place up to another
-pub record HasOne (IsDuplication : Text → ℕ → Option ℕ → Type 0) (text : Text) (at : ℕ) (counts : Counts) (behind : ℕ) : Type 0 where
+pub record HasOne (IsDuplication : Text → ℕ → Option ℕ → Type 0) (text : Text) (at : ℕ)
+    (counts : Counts) (behind : ℕ) : Type 0 where
   pub within : behind ≤ length text
   pub bytes : Text
   pub duplication : IsDuplication bytes counts.least counts.most

@@ -15,5 +15,7 @@ pub record EscapeStands (others text : Text) (at byte : ℕ) : Type 0 where
 
 -- a backslash and no byte that may follow it
 pub data HasNoEscape (others text : Text) (at : ℕ) (fault : PatternFault) : Type 0 where
-  trailing : fault ≡ record { kind = TrailingBackslash; at = at } → drop at text ≡ codes "\\" → HasNoEscape others text at fault
-  refused : {kind : FaultKind} → fault ≡ record { kind = kind; at = at } → BeginsRefusedEscape others kind (drop at text) → HasNoEscape others text at fault
+  trailing : fault ≡ record { kind = TrailingBackslash; at = at } → drop at text ≡ codes "\\" →
+      HasNoEscape others text at fault
+  refused : {kind : FaultKind} → fault ≡ record { kind = kind; at = at } →
+      BeginsRefusedEscape others kind (drop at text) → HasNoEscape others text at fault

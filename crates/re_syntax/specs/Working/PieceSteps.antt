@@ -31,6 +31,7 @@ pub record IsRepeated (old : Piece) (counts : Counts) (behind : ℕ) (new : Piec
 
 -- the piece is the last of the pieces, and the others are as they were
 pub record IsJoined (old : Pieces) (piece : Piece) (new : Pieces) : Type 0 where
-  pub means : map expression_of new.trees.items ≡ map expression_of old.trees.items ++ expression_of piece.tree ∷ []
+  pub means : map expression_of new.trees.items ≡ map expression_of old.trees.items ++
+      expression_of piece.tree ∷ []
   pub height : new.height ≡ max old.height piece.height
   pub place : new.behind ≡ piece.behind

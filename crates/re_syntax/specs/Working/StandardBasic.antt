@@ -1,7 +1,8 @@
 -- Basic regular expressions of the standard alone (XBD 9.3), as in Basic without branches, `\+`,
 -- `\?` and the interval that has no least number. The law that what the standard defines is read as
 -- before is said in them; no definition rests on this.
-use Rattle.std.specs.Prelude.{◌≡◌, ℕ, suc, max, ◌≤◌, List, [], ◌∷◌, ◌++◌, Option, None, IsTrue, codes}
+use Rattle.std.specs.Prelude.{◌≡◌, ℕ, suc, max, ◌≤◌, List, [], ◌∷◌, ◌++◌, Option, None, IsTrue}
+use Rattle.std.specs.Prelude.{codes}
 use Rattle.re_syntax.specs.Bytes.{Text, any_but_nul}
 use Rattle.re_syntax.specs.Expression.{Expression, one_of, begin, end, repeat, byte, sequence}
 use Rattle.re_syntax.specs.Basic.{ItemPlace, First, AfterAnchor, Later, is_ordinary}

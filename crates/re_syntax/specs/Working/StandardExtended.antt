@@ -1,9 +1,11 @@
 -- Extended regular expressions of the standard alone (XBD 9.4), as in Extended without the interval
 -- that has no least number. The law that what the standard defines is read as before is said in
 -- them; no definition rests on this.
-use Rattle.std.specs.Prelude.{◌≡◌, ℕ, suc, max, ◌≤◌, Bool, true, false, List, [], ◌∷◌, ◌++◌, Option, Some, None, IsTrue, codes}
+use Rattle.std.specs.Prelude.{◌≡◌, ℕ, suc, max, ◌≤◌, Bool, true, false, List, [], ◌∷◌, ◌++◌, Option}
+use Rattle.std.specs.Prelude.{Some, None, IsTrue, codes}
 use Rattle.re_syntax.specs.Bytes.{Text, any_but_nul}
-use Rattle.re_syntax.specs.Expression.{Expression, one_of, begin, end, repeat, byte, sequence, choice}
+use Rattle.re_syntax.specs.Expression.{Expression, one_of, begin, end, repeat, byte, sequence}
+use Rattle.re_syntax.specs.Expression.{choice}
 use Rattle.re_syntax.specs.Extended.{is_ordinary}
 use Rattle.re_syntax.specs.Brackets.{IsBracket}
 use Rattle.re_syntax.specs.Intervals.{IsAllowed}

@@ -1,7 +1,8 @@
 //! Duplications of basic expressions (XBD 9.3.6), with GNU grep's `\+` and `\?`.
 ghost use Rattle.std.specs.Prelude.{◌≤◌, IfOk, IfErr, MatchOption, MatchBool, length, drop};
 ghost use Rattle.re_syntax.specs.BasicFaults.{NeedsItem};
-ghost use Rattle.re_syntax.specs.Working.BasicSteps.{HasNoSign, OpensNoDuplication, DuplicationStands, HasBadInterval};
+ghost use Rattle.re_syntax.specs.Working.BasicSteps.{HasNoSign, OpensNoDuplication};
+ghost use Rattle.re_syntax.specs.Working.BasicSteps.{DuplicationStands, HasBadInterval};
 
 use crate::ahead::after;
 use crate::fault::{FaultKind, PatternFault};

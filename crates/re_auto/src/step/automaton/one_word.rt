@@ -34,7 +34,8 @@ impl Automaton {
         ensures made { IsMadeFor (expression_of self.now) set.new }
         ensures next { IsNextSet (expression_of self.now) mode set.old byte set.new }
         ensures stands { (line : Text) (j : ℕ) → slice_get line j ≡ Some byte
-            → StandsAt (expression_of self.now) mode line j set.old → StandsAt (expression_of self.now) mode line (suc j) set.new }
+            → StandsAt (expression_of self.now) mode line j set.old →
+            StandsAt (expression_of self.now) mode line (suc j) set.new }
         ensures counted { meter.new ≡ many_built 1 meter.old }
     {
         let word = self.step_word(mode, set.at_begin, bits::only_word(&set.words), byte);
@@ -48,7 +49,8 @@ impl Automaton {
     pub(super) fn step_word(&self, mode: Mode, at_begin: bool, from: u64, byte: u8) -> u64
         requires one { HasOneWord (expression_of self.now) }
         requires small { (q : ℕ) → InWord from q → q < positions (expression_of self.now) }
-        ensures { IsNext (part_of (expression_of self.now) 0) mode at_begin (InWord from) byte (InWord result) }
+        ensures { IsNext (part_of (expression_of self.now) 0) mode at_begin (InWord from) byte
+            (InWord result) }
     {
         let first = self.first_word(mode, at_begin);
         self.with_followers(first, from) & bits::only_word(self.taking(byte))
@@ -58,7 +60,9 @@ impl Automaton {
     #[inline(always)]
     fn first_word(&self, mode: Mode, at_begin: bool) -> u64
         requires { HasOneWord (expression_of self.now) }
-        ensures { (q : ℕ) → InWord result q ↔ (MayBegin mode at_begin × (part_of (expression_of self.now) 0).first at_begin q) }
+        ensures { (q : ℕ) →
+            InWord result q ↔
+            (MayBegin mode at_begin × (part_of (expression_of self.now) 0).first at_begin q) }
     {
         if !mode.may_begin(at_begin) {
             return 0;
@@ -71,7 +75,10 @@ impl Automaton {
     fn with_followers(&self, word: u64, from: u64) -> u64
         requires one { HasOneWord (expression_of self.now) }
         requires small { (q : ℕ) → InWord from q → q < positions (expression_of self.now) }
-        ensures { (q : ℕ) → InWord result q ↔ (InWord word q ⊎ ((p : ℕ) × InWord from p × (part_of (expression_of self.now) 0).follow p q)) }
+        ensures { (q : ℕ) →
+            InWord result q ↔
+            (InWord word q ⊎
+            ((p : ℕ) × InWord from p × (part_of (expression_of self.now) 0).follow p q)) }
     {
         let mut next = word;
         let mut left = from;

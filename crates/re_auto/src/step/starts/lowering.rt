@@ -18,12 +18,14 @@ impl Starts {
     /// Carries over what follows the positions of `from`, as far as `taking` has it.
     pub(super) fn carry(&mut self, automaton: &Automaton, from: &Starts, taking: &[u64])
         requires from { IsMadeForStarts (expression_of automaton.now) from.now }
-        requires size { length self.old.held.items ≡ words_for (positions (expression_of automaton.now)) }
+        requires size { length self.old.held.items ≡
+            words_for (positions (expression_of automaton.now)) }
         requires taking { length taking.now ≡ words_for (positions (expression_of automaton.now)) }
         requires small { (q : ℕ) → Has taking.now q → q < length self.old.starts.items }
         ensures alike { AreAlike self.new self.old }
         ensures carried { (q m : ℕ) → Carries self.new q m ↔ (Carries self.old q m
-            ⊎ ((p : ℕ) × Has from.now.held.items p × Brings (expression_of automaton.now) from.now taking.now p q m)) }
+            ⊎ ((p : ℕ) × Has from.now.held.items p ×
+            Brings (expression_of automaton.now) from.now taking.now p q m)) }
     {
         'words: for k in 0..from.held.len() {
             self.carry_word(automaton, from, taking, k);
@@ -33,7 +35,8 @@ impl Starts {
     // The same for the positions of word `k`.
     fn carry_word(&mut self, automaton: &Automaton, from: &Starts, taking: &[u64], k: usize)
         requires from { IsMadeForStarts (expression_of automaton.now) from.now }
-        requires size { length self.old.held.items ≡ words_for (positions (expression_of automaton.now)) }
+        requires size { length self.old.held.items ≡
+            words_for (positions (expression_of automaton.now)) }
         requires taking { length taking.now ≡ words_for (positions (expression_of automaton.now)) }
         requires small { (q : ℕ) → Has taking.now q → q < length self.old.starts.items }
         requires within { k < length from.now.held.items }
@@ -53,12 +56,15 @@ impl Starts {
     /// Gives `place` to the positions that a stretch can begin with there, as far as `taking` has
     /// them.
     pub(super) fn begin(&mut self, automaton: &Automaton, mode: Mode, place: usize, taking: &[u64])
-        requires size { length self.old.held.items ≡ words_for (positions (expression_of automaton.now)) }
+        requires size { length self.old.held.items ≡
+            words_for (positions (expression_of automaton.now)) }
         requires taking { length taking.now ≡ words_for (positions (expression_of automaton.now)) }
         requires small { (q : ℕ) → Has taking.now q → q < length self.old.starts.items }
         ensures alike { AreAlike self.new self.old }
         ensures begun { (q m : ℕ) → Carries self.new q m ↔ (Carries self.old q m
-            ⊎ (MayBegin mode (is_begin place) × (part_of (expression_of automaton.now) 0).first (is_begin place) q × Has taking.now q × (place ≤ m))) }
+            ⊎ (MayBegin mode (is_begin place) ×
+            (part_of (expression_of automaton.now) 0).first (is_begin place) q ×
+            Has taking.now q × (place ≤ m))) }
     {
         let at_begin = place == 0;
         if mode.may_begin(at_begin) {
@@ -73,7 +79,9 @@ impl Starts {
         requires taking { length taking.now ≡ length self.old.held.items }
         requires small { (q : ℕ) → Has taking.now q → q < length self.old.starts.items }
         ensures alike { AreAlike self.new self.old }
-        ensures lowered { (q m : ℕ) → Carries self.new q m ↔ (Carries self.old q m ⊎ (Has row.now q × Has taking.now q × (start ≤ m))) }
+        ensures lowered { (q m : ℕ) →
+            Carries self.new q m ↔
+            (Carries self.old q m ⊎ (Has row.now q × Has taking.now q × (start ≤ m))) }
     {
         'words: for k in 0..row.len() {
             self.lower_word(k, row[k] & taking[k], start);
@@ -84,7 +92,8 @@ impl Starts {
     #[inline(always)]
     fn lower_word(&mut self, k: usize, word: u64, start: usize)
         requires within { k < length self.old.held.items }
-        requires small { (b : ℕ) → b < 64 → bit_at word b ≡ 1 → k * 64 + b < length self.old.starts.items }
+        requires small { (b : ℕ) → b < 64 → bit_at word b ≡ 1 →
+            k * 64 + b < length self.old.starts.items }
         ensures alike { AreAlike self.new self.old }
         ensures lowered { (q m : ℕ) → Carries self.new q m ↔ (Carries self.old q m
             ⊎ ((b : ℕ) × (b < 64) × (bit_at word b ≡ 1) × ((q ≡ k * 64 + b) × (start ≤ m)))) }
@@ -102,7 +111,8 @@ impl Starts {
         requires room { q < length self.old.held.items * 64 }
         requires small { q < length self.old.starts.items }
         ensures alike { AreAlike self.new self.old }
-        ensures lowered { (p m : ℕ) → Carries self.new p m ↔ (Carries self.old p m ⊎ ((p ≡ q) × (start ≤ m))) }
+        ensures lowered { (p m : ℕ) →
+            Carries self.new p m ↔ (Carries self.old p m ⊎ ((p ≡ q) × (start ≤ m))) }
     {
         if !bits::has(&self.held, q) | (start < self.starts[q]) {
             self.starts[q] = start;

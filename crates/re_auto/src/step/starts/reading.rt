@@ -11,7 +11,10 @@ impl Starts {
     /// The least start that is carried at a position of the row.
     pub(super) fn least_among(&self, row: &[u64]) -> Option<usize>
         requires row { length row.now ≡ length self.now.held.items }
-        ensures { (m : ℕ) → AtMost result m ↔ ((q : ℕ) × Has self.now.held.items q × Has row.now q × (slice_index self.now.starts.items q ≤ m)) }
+        ensures { (m : ℕ) →
+            AtMost result m ↔
+            ((q : ℕ) × Has self.now.held.items q × Has row.now q ×
+            (slice_index self.now.starts.items q ≤ m)) }
     {
         let mut least = None;
         'words: for k in 0..row.len() {
@@ -25,7 +28,8 @@ impl Starts {
     fn least_of_word(&self, least: Option<usize>, k: usize, word: u64) -> Option<usize>
         requires { (b : ℕ) → b < 64 → bit_at word b ≡ 1 → Has self.now.held.items (k * 64 + b) }
         ensures { (m : ℕ) → AtMost result m ↔ (AtMost least m
-            ⊎ ((b : ℕ) × (b < 64) × (bit_at word b ≡ 1) × (slice_index self.now.starts.items (k * 64 + b) ≤ m))) }
+            ⊎ ((b : ℕ) × (b < 64) × (bit_at word b ≡ 1) ×
+            (slice_index self.now.starts.items (k * 64 + b) ≤ m))) }
     {
         let mut found = least;
         let mut left = word;

@@ -1,5 +1,6 @@
 //! Least starts stepped over a line one byte at a time.
-ghost use Rattle.std.specs.Prelude.{◌≡◌, ℕ, suc, ◌-◌, ◌^◌, ◌<◌, ◌≤◌, ◌↔◌, Some, IsTrue, IfOk, IfErr, slice_get};
+ghost use Rattle.std.specs.Prelude.{◌≡◌, ℕ, suc, ◌-◌, ◌^◌, ◌<◌, ◌≤◌, ◌↔◌, Some, IsTrue, IfOk};
+ghost use Rattle.std.specs.Prelude.{IfErr, slice_get};
 ghost use Rattle.re_syntax.specs.Bytes.{Text};
 ghost use Rattle.re_syntax.specs.Expression.{Expression, expression_of};
 ghost use Rattle.re_auto.specs.declared.build.BuildFault.TheVariants.{Memory};
@@ -7,7 +8,8 @@ ghost use Rattle.re_auto.specs.declared.mode.Mode.{Mode};
 ghost use Rattle.re_auto.specs.Meters.{many_built};
 ghost use Rattle.re_auto.specs.Working.Positions.{is_end};
 ghost use Rattle.re_auto.specs.Working.Starts.{Least, IsMatched, IsSpent};
-ghost use Rattle.re_auto.specs.Working.StartSets.{place_of, least_of, IsMadeForStarts, AreOfOneSize, AreSame, StartsAt, AreNext};
+ghost use Rattle.re_auto.specs.Working.StartSets.{place_of, least_of, IsMadeForStarts};
+ghost use Rattle.re_auto.specs.Working.StartSets.{AreOfOneSize, AreSame, StartsAt, AreNext};
 
 use crate::bits;
 use crate::build::BuildFault;
@@ -41,7 +43,8 @@ impl Starts {
     pub fn start(&mut self, from: usize)
         ensures made { (e : Expression) → IsMadeForStarts e self.old → IsMadeForStarts e self.new }
         ensures place { place_of self.new ≡ from }
-        ensures stands { (e : Expression) (mode : Mode) (line : Text) → StartsAt e mode from line from self.new }
+        ensures stands { (e : Expression) (mode : Mode) (line : Text) →
+            StartsAt e mode from line from self.new }
     {
         bits::clear(&mut self.held);
         self.place = from;
@@ -73,7 +76,8 @@ impl Starts {
         ensures place { place_of into.new ≡ suc (place_of self.now) }
         ensures next { AreNext (expression_of automaton.now) mode self.now byte into.new }
         ensures stands { (from : ℕ) (line : Text) (j : ℕ) → slice_get line j ≡ Some byte
-            → StartsAt (expression_of automaton.now) mode from line j self.now → StartsAt (expression_of automaton.now) mode from line (suc j) into.new }
+            → StartsAt (expression_of automaton.now) mode from line j self.now →
+            StartsAt (expression_of automaton.now) mode from line (suc j) into.new }
         ensures counted { meter.new ≡ many_built 1 meter.old }
     {
         let taking = automaton.taking(byte);
@@ -88,7 +92,9 @@ impl Starts {
     /// place is the line's last. `None` where there is no such stretch.
     pub fn accepts(&self, automaton: &Automaton, at_end: bool) -> Option<usize>
         requires made { IsMadeForStarts (expression_of automaton.now) self.now }
-        ensures { (mode : Mode) (from : ℕ) (line : Text) (j : ℕ) → StartsAt (expression_of automaton.now) mode from line j self.now → at_end ≡ is_end line j
+        ensures { (mode : Mode) (from : ℕ) (line : Text) (j : ℕ) →
+            StartsAt (expression_of automaton.now) mode from line j self.now →
+            at_end ≡ is_end line j
             → Least (λ i. IsMatched (expression_of automaton.now) mode from line i j) result }
     {
         self.least_among(automaton.ending(at_end))
@@ -98,7 +104,9 @@ impl Starts {
     /// begins at `start` or before ends here or later, and the pass may stop.
     pub fn is_spent(&self, start: usize) -> bool
         ensures spent { IsTrue result ↔ IsSpent (least_of self.now) start }
-        ensures over { IsTrue result → (e : Expression) (mode : Mode) (from : ℕ) (line : Text) (j : ℕ) → StartsAt e mode from line j self.now
+        ensures over { IsTrue result →
+            (e : Expression) (mode : Mode) (from : ℕ) (line : Text) (j : ℕ) →
+            StartsAt e mode from line j self.now
             → start < j → (i k : ℕ) → i ≤ start → j ≤ k → ¬ IsMatched e mode from line i k }
     {
         match self.least_among(&self.held) {
