@@ -640,7 +640,7 @@ Answer over how many."
                     (format "was killed by signal %d" (process-exit-status process))
                   (format "ended with status %d" (process-exit-status process)))))
       (live-occur--tell-fault
-       list (concat live-occur-program " " how
+       list (concat (file-name-nondirectory live-occur-program) " " how
                     (unless (string-empty-p said)
                       (concat " (" (car (split-string said "\n")) ")")))))))
 
@@ -1116,11 +1116,15 @@ Where rows are parts it is the part of the row itself, and else the first."
   (goto-char position))
 
 (defun live-occur-visit ()
-  "Go to the line of the row at point."
+  "Go to the line of the row at point.
+The list keeps its window."
   (interactive)
-  (pcase-let ((`(,buffer . ,position) (live-occur--place (live-occur--this-row))))
+  (pcase-let ((`(,buffer . ,position) (live-occur--place (live-occur--this-row)))
+              (in-list (eq (window-buffer) (current-buffer))))
     (setq next-error-last-buffer (current-buffer))
-    (pop-to-buffer buffer)
+    (pop-to-buffer buffer
+                   (unless in-list
+                     '((display-buffer-reuse-window display-buffer-same-window))))
     (live-occur--move-to position)))
 
 (defun live-occur-visit-by-mouse (event)
