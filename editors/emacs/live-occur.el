@@ -1,5 +1,8 @@
 ;;; live-occur.el --- Matching lines, kept right while buffers are edited  -*- lexical-binding: t; -*-
 
+;; Copyright (c) 2026 The Gaxtrel authors
+
+;; Author: The Gaxtrel authors
 ;; Version: 0.1.0
 ;; Package-Requires: ((emacs "28.1"))
 ;; Keywords: matching, tools, convenience
@@ -258,12 +261,22 @@ Answer whether it begins."
 (put 'live-occur--after-change 'permanent-local-hook t)
 (put 'live-occur--killed 'permanent-local-hook t)
 
+(defun live-occur--same-text-p (buffer other)
+  "Whether BUFFER and OTHER share their text."
+  (eq (or (buffer-base-buffer buffer) buffer)
+      (or (buffer-base-buffer other) other)))
+
 (defun live-occur--family (buffer)
   "All buffers that share the text of BUFFER."
-  (let ((base (or (buffer-base-buffer buffer) buffer)))
-    (seq-filter (lambda (other)
-                  (eq base (or (buffer-base-buffer other) other)))
-                (buffer-list))))
+  (seq-filter (lambda (other) (live-occur--same-text-p buffer other))
+              (buffer-list)))
+
+(defun live-occur--told ()
+  "The sources that are told of edits of this buffer.
+A copy of a buffer has its local variables, and another text."
+  (seq-filter (lambda (source)
+                (live-occur--same-text-p (live-occur--source-buffer source) (current-buffer)))
+              live-occur--sources-here))
 
 (defun live-occur--track (source)
   "Gather the edits of SOURCE from now on."
@@ -334,7 +347,7 @@ Answer whether it begins."
 
 (defun live-occur--before-change (start end)
   "Take note of the lines from START to END, which are about to change."
-  (dolist (source live-occur--sources-here)
+  (dolist (source (live-occur--told))
     (condition-case nil
         (live-occur--before source start end)
       (error (live-occur--lose source)))))
@@ -366,7 +379,7 @@ are whole lines, and the buffer's size."
 
 (defun live-occur--after-change (start end removed)
   "Gather the change that put START to END in the place of REMOVED characters."
-  (dolist (source live-occur--sources-here)
+  (dolist (source (live-occur--told))
     (condition-case nil
         (live-occur--after source start end removed)
       (error (live-occur--lose source)))
@@ -695,14 +708,27 @@ Answer over how many."
   "Send what has changed, and ask for a report.
 If nothing has changed ask for none, but with ALWAYS non-nil."
   (when (live-occur--can-go-on)
-    (cl-loop for source in live-occur--sources
-             for file from 0
-             do (when (live-occur--flush source live-occur--session file)
-                  (setq always t)))
-    (when (or always (not (equal (live-occur--make-key) live-occur--key)))
+    (when (or (live-occur--flush-all)
+              always
+              (not (equal (live-occur--make-key) live-occur--key)))
       (if live-occur--asked
           (setq live-occur--again t)
         (live-occur--ask-for-report)))))
+
+(defun live-occur--flush-all ()
+  "Send what has changed in all sources, and answer whether anything has.
+To be broken off between would leave the session out of step.  A buffer may
+be killed without a word, as temporary ones are."
+  (let ((inhibit-quit t) (any nil))
+    (dolist (source live-occur--sources)
+      (unless (buffer-live-p (live-occur--source-buffer source))
+        (live-occur--close source)
+        (setq any t)))
+    (cl-loop for source in live-occur--sources
+             for file from 0
+             do (when (live-occur--flush source live-occur--session file)
+                  (setq any t)))
+    any))
 
 (defun live-occur--ask-for-report ()
   "Ask for a report, and show it when it comes."
@@ -1235,8 +1261,8 @@ It is a list of the pattern's number, the kind, and the place in characters."
               (live-occur--underlined (nth number patterns) place)))
     (_ (message "occur answered: %s" reply))))
 
-(defun live-occur--read-text (prompt initial fault)
-  "Read a pattern with PROMPT and the text INITIAL.
+(defun live-occur--read-text (prompt initial fault offered)
+  "Read a pattern with PROMPT and the text INITIAL, and offer OFFERED.
 FAULT is nil, or the kind and the place at which INITIAL was refused."
   (let ((place (cadr fault)))
     (minibuffer-with-setup-hook
@@ -1250,12 +1276,12 @@ FAULT is nil, or the kind and the place at which INITIAL was refused."
       (read-from-minibuffer
        (concat (and fault (format "%s at %d; " (car fault) place)) prompt)
        (and initial (if fault (cons initial (1+ place)) initial))
-       nil nil 'live-occur-history (live-occur--symbol-at-point)))))
+       nil nil 'live-occur-history offered))))
 
-(defun live-occur--symbol-at-point ()
-  "The symbol at point as a pattern that matches it, or nil."
+(defun live-occur--symbol-at-point (syntax)
+  "The symbol at point as a pattern in SYNTAX that matches it, or nil."
   (when-let ((symbol (thing-at-point 'symbol t)))
-    (pcase live-occur--the-syntax
+    (pcase syntax
       ('fixed symbol)
       ('basic (replace-regexp-in-string "[][\\.*^$]" "\\\\\\&" symbol))
       (_ (replace-regexp-in-string "[][\\.*^$+?(){}|]" "\\\\\\&" symbol)))))
@@ -1270,9 +1296,11 @@ FAULT is nil, or the kind and the place at which INITIAL was refused."
 
 (defun live-occur--add-by-asking (list prompt initial)
   "Read patterns with PROMPT and the text INITIAL until LIST takes one."
-  (let (fault added)
+  (let ((offered (live-occur--symbol-at-point
+                  (buffer-local-value 'live-occur--the-syntax list)))
+        fault added)
     (while (not added)
-      (let* ((text (live-occur--read-text prompt initial fault))
+      (let* ((text (live-occur--read-text prompt initial fault offered))
              (patterns (split-string text "\n"))
              (reply (with-current-buffer list (live-occur--add text))))
         (if (equal reply "ok")

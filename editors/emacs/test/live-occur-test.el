@@ -601,6 +601,38 @@ All buffers and processes that it makes are taken away after it."
         (insert "a")
         (should (equal (live-occur-test--rows list) "a:1:a\n"))))))
 
+(ert-deftest live-occur-closes-the-file-of-a-buffer-that-is-gone ()
+  (live-occur-test--with '("a\n")
+    (let (list)
+      (with-temp-buffer
+        (rename-buffer "temporary")
+        (insert "a\n")
+        (setq list (live-occur "a" (list (current-buffer) a)))
+        (should (equal (live-occur-test--rows list) "temporary:1:a\na:1:a\n")))
+      (insert "a\n")
+      (should (equal (live-occur-test--rows list) "a:1:a\na:2:a\n")))))
+
+(ert-deftest live-occur-is-not-told-of-edits-of-a-copy ()
+  (live-occur-test--with '("a\n")
+    (let ((list (live-occur "a")))
+      (live-occur-test--rows list)
+      (with-current-buffer (clone-buffer "copy")
+        (should live-occur--sources-here)
+        (insert "a\na\n"))
+      (should (equal (live-occur-test--rows list) "a:1:a\n"))
+      (insert "a\n")
+      (should (equal (live-occur-test--rows list) "a:1:a\na:2:a\n"))
+      (with-current-buffer list
+        (should-not (live-occur--source-lost (car live-occur--sources)))))))
+
+(ert-deftest live-occur-offers-the-symbol-at-point ()
+  (live-occur-test--with '("")
+    (emacs-lisp-mode)
+    (insert "a*b+c")
+    (should (equal (live-occur--symbol-at-point 'basic) "a\\*b+c"))
+    (should (equal (live-occur--symbol-at-point 'extended) "a\\*b\\+c"))
+    (should (equal (live-occur--symbol-at-point 'fixed) "a*b+c"))))
+
 (ert-deftest live-occur-searches-no-list ()
   (live-occur-test--with '("a\n")
     (with-current-buffer (live-occur "a")
