@@ -463,11 +463,6 @@ not change."
 
 ;;;; Sending lines
 
-(defconst live-occur--piece 30000
-  "About how many characters go out in one command.
-Emacs waits where the pipe is full, and goes on as soon as a reply comes:
-so many short commands are sent faster than a long one.")
-
 (defun live-occur--bytes (text)
   "The bytes of TEXT: UTF-8, and bytes that are no character as they are."
   (if (multibyte-string-p text)
@@ -526,41 +521,19 @@ the session has them."
 
 (defun live-occur--splice (source session file start removed added)
   "Put the ADDED lines after point in the place of REMOVED ones at START.
-SOURCE is number FILE of SESSION.  Long texts go out in pieces."
+SOURCE is number FILE of SESSION."
   (let ((list (live-occur--source-list source))
-        (left added))
-    (while (or (> left 0) (> removed 0))
-      (let* ((from (point))
-             (count (if (= left 0) 0 (live-occur--forward-piece left)))
-             (lines (live-occur--bytes (buffer-substring-no-properties from (point)))))
-        (live-occur--send
-         session
-         (live-occur--command (format "splice %d %d %d " file start removed) lines count)
-         (lambda (reply _rows _count)
-           (unless (equal reply "ok")
-             (live-occur--tell-fault list (concat "occur answered: " reply)))))
-        (setq start (+ start count)
-              left (- left count)
-              removed 0)))))
-
-(defun live-occur--forward-piece (most)
-  "Move over at most MOST lines, and some of them where they are long.
-Answer over how many."
-  (let ((from (point))
-        (limit (min (point-max) (+ (point) live-occur--piece))))
-    (goto-char limit)
-    (unless (bolp)
-      (forward-line 1))
-    (let* ((end (point))
-           (count (live-occur--newlines from end)))
-      (goto-char end)
-      (unless (bolp)
-        (cl-incf count))
-      (when (> count most)
-        (setq count most)
-        (goto-char from)
-        (forward-line most))
-      count)))
+        (from (point)))
+    (forward-line added)
+    (live-occur--send
+     session
+     (live-occur--command
+      (format "splice %d %d %d " file start removed)
+      (live-occur--bytes (buffer-substring-no-properties from (point)))
+      added)
+     (lambda (reply _rows _count)
+       (unless (equal reply "ok")
+         (live-occur--tell-fault list (concat "occur answered: " reply)))))))
 
 ;;;; A list
 

@@ -451,7 +451,7 @@ All buffers and processes that it makes are taken away after it."
                      (concat "a:2:" (make-string 1000 ?a) "…\na:3:x needle\n")))
       (should (equal (live-occur-test--mark list) '(nil (6 "needle")))))))
 
-(ert-deftest live-occur-sends-long-texts-in-pieces ()
+(ert-deftest live-occur-sends-long-texts ()
   (live-occur-test--with (list (concat (mapconcat #'number-to-string
                                                   (number-sequence 1 60000) "\n")))
     (let ((list (live-occur "7777$")))
