@@ -180,14 +180,13 @@ ENDED is called with the session when the program ends by itself."
 (defun live-occur--send (session text function)
   "Send the command TEXT to SESSION, and call FUNCTION with its reply.
 FUNCTION gets the last line of the reply, the lines before it in one string
-of bytes, and their number.  A program that has ended gives no reply; that
-is told when it ends."
+of bytes, and their number.  A program that has ended gives no reply, and one
+that can't be written to is ended; either is told by its sentinel."
   (cl-callf append (live-occur--session-waiting session) (list function))
   (condition-case nil
       (process-send-string (live-occur--session-process session) text)
-    (file-error nil)
     (error (when (live-occur--running-p session)
-             (error "Can't write to %s" live-occur-program)))))
+             (delete-process (live-occur--session-process session))))))
 
 (defun live-occur--read (session text)
   "Take TEXT from the program of SESSION, and hand out the replies in it."
@@ -641,10 +640,11 @@ SOURCE is number FILE of SESSION."
       (message "%s: %s" (buffer-name) (live-occur--fault-and-help)))))
 
 (defun live-occur--fault-and-help ()
-  "Why this list stands still, and what helps."
-  (substitute-command-keys
-   (concat (or live-occur--fault "The program has ended")
-           "; \\<live-occur-mode-map>\\[live-occur-restart] in the list starts it again")))
+  "Why this list stands still, and what helps, if it was ever shown."
+  (concat (or live-occur--fault "The program has ended")
+          (when live-occur--sources
+            (substitute-command-keys
+             "; \\<live-occur-mode-map>\\[live-occur-restart] in the list starts it again"))))
 
 (defun live-occur--can-go-on ()
   "Whether this list has a program that is alive and in step."
@@ -946,10 +946,18 @@ A character of which only some bytes are in a place is in it."
     (unless (and (live-occur--running-p live-occur--parts)
                  (equal key live-occur--parts-key))
       (live-occur--end live-occur--parts)
-      (setq live-occur--parts (live-occur--start #'ignore)
+      (setq live-occur--parts (live-occur--start (live-occur--parts-ended (current-buffer)))
             live-occur--parts-key key)
       (live-occur--send-words live-occur--parts key))
     live-occur--parts))
+
+(defun live-occur--parts-ended (list)
+  "A function after which LIST may ask for parts again."
+  (lambda (session)
+    (when (buffer-live-p list)
+      (with-current-buffer list
+        (when (eq session live-occur--parts)
+          (setq live-occur--parts-asked nil))))))
 
 (defun live-occur--mark-visible (&rest _)
   "Find the parts of the rows in view, but of rows that have them."

@@ -526,7 +526,7 @@ All buffers and processes that it makes are taken away after it."
 (ert-deftest live-occur-tells-of-words-that-are-refused ()
   (live-occur-test--with '("a\n")
     (let ((live-occur-states 0))
-      (should (string-match-p "ended with status 2 (.*0.*--states.*)"
+      (should (string-match-p "ended with status 2 (.*0.*--states.*)\\'"
                               (cadr (should-error (live-occur "a") :type 'user-error)))))))
 
 ;;;; The program
@@ -681,6 +681,34 @@ All buffers and processes that it makes are taken away after it."
         (live-occur-toggle-inverse)
         (live-occur-toggle-parts))
       (should (equal (live-occur-test--mark list) '((4 "a") (4 "a") (4 "a") (4 "a")))))))
+
+(ert-deftest live-occur-highlights-by-a-new-program-where-one-was-killed ()
+  (live-occur-test--with '("ab\n")
+    (let ((list (live-occur "b")))
+      (should (equal (live-occur-test--mark list) '((5 "b"))))
+      (with-current-buffer list
+        (signal-process (live-occur--session-process live-occur--parts) 'KILL))
+      (insert "cb\n")
+      (live-occur-test--mark list)
+      (should (equal (live-occur-test--mark list) '((5 "b") (5 "b")))))))
+
+(ert-deftest live-occur-ends-a-program-that-is-stopped ()
+  (live-occur-test--with '("a\n")
+    (let ((list (live-occur "a")))
+      (should (equal (live-occur-test--rows list) "a:1:a\n"))
+      (with-current-buffer list
+        (let ((process (live-occur--session-process live-occur--session)))
+          (signal-process process 'STOP)
+          (with-timeout (10)
+            (while (eq (process-status process) 'run)
+              (accept-process-output nil 0.02)))
+          (should (eq (process-status process) 'stop))))
+      (insert "a\n")
+      (should (equal (live-occur-test--rows list) "a:1:a\n"))
+      (with-current-buffer list
+        (should (string-search "killed by signal 9" (live-occur--header)))
+        (live-occur-restart))
+      (should (equal (live-occur-test--rows list) "a:1:a\na:2:a\n")))))
 
 ;;;; Going to lines
 
@@ -874,6 +902,7 @@ All buffers and processes that it makes are taken away after it."
                                   collect (live-occur-test--text most))
     (let* ((folder (make-temp-file "live-occur" t))
            (live-occur-max-rows nil)
+           (indirect (make-indirect-buffer (nth 3 buffers) "indirect"))
            (list (live-occur "ab" buffers))
            (compared 0) (rows 0) (lost 0))
       (unwind-protect
@@ -882,12 +911,15 @@ All buffers and processes that it makes are taken away after it."
             (advice-add 'live-occur--lose :before
                         (lambda (_) (cl-incf lost)) '((name . live-occur-test)))
             (dotimes (_ live-occur-test--edits)
-              (with-current-buffer (nth (random 4) buffers)
-                (if (= (random 10) 0)
-                    (save-restriction
-                      (apply #'narrow-to-region (live-occur-test--region))
-                      (live-occur-test--edit))
-                  (live-occur-test--edit)))
+              (with-current-buffer (or (nth (random 5) buffers) indirect)
+                (pcase (random 60)
+                  (0 (let ((inhibit-modification-hooks t))
+                       (live-occur-test--edit)))
+                  ((pred (> 7))
+                   (save-restriction
+                     (apply #'narrow-to-region (live-occur-test--region))
+                     (live-occur-test--edit)))
+                  (_ (live-occur-test--edit))))
               (when (= (random 12) 0)
                 (live-occur-test--change list))
               (when (= (random 3) 0)
