@@ -5,13 +5,17 @@
 # make test-random  compares the built occur with the built grep on 100,000 random edits
 # make test-memory  runs the programs, matchers and sessions with each of their allocations refused in turn (wants a C
 #                 compiler and Python 3.11)
-# make install    copies the programs and their manual pages below $(DESTDIR)$(PREFIX)
+# make test-editor  tests the Emacs client on the built programs (wants Emacs 28)
+# make install    copies the programs and their manual pages below $(DESTDIR)$(PREFIX), and the Emacs client
+#                 to $(DESTDIR)$(SITE_LISP), if SITE_LISP names a folder
 # make clean      removes what make built; what rt keeps of its proofs stays
 
 PREFIX = /usr/local
 DESTDIR =
+SITE_LISP =
+EMACS = emacs
 
-.PHONY: all prove programs first-rows gate test test-program test-random test-memory install clean
+.PHONY: all prove programs first-rows gate test test-program test-random test-memory test-editor install clean
 
 all: first-rows
 
@@ -57,12 +61,22 @@ test-memory: build/grep build/occur
 	python3 tests/refused_growths.py build/occur
 	tools/refuse_growths.sh
 
+# The tests run on the compiled client, as its users do.
+test-editor: build/grep build/occur
+	mkdir -p build/emacs
+	cp editors/emacs/live-occur.el build/emacs/
+	$(EMACS) -Q --batch -f batch-byte-compile build/emacs/live-occur.el
+	OCCUR=$(CURDIR)/build/occur GREP=$(CURDIR)/build/grep \
+	    $(EMACS) -Q --batch -L build/emacs -l editors/emacs/test/live-occur-test.el -f ert-run-tests-batch-and-exit
+
 install: build/grep build/occur
 	install -d "$(DESTDIR)$(PREFIX)/bin" "$(DESTDIR)$(PREFIX)/share/man/man1"
 	install -m 755 build/grep "$(DESTDIR)$(PREFIX)/bin/grep"
 	install -m 755 build/occur "$(DESTDIR)$(PREFIX)/bin/occur"
 	install -m 644 man/grep.1 "$(DESTDIR)$(PREFIX)/share/man/man1/grep.1"
 	install -m 644 man/occur.1 "$(DESTDIR)$(PREFIX)/share/man/man1/occur.1"
+	if test -n "$(SITE_LISP)"; then \
+	    install -d "$(DESTDIR)$(SITE_LISP)" && install -m 644 editors/emacs/live-occur.el "$(DESTDIR)$(SITE_LISP)/"; fi
 
 clean:
 	rm -rf build

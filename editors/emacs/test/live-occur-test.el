@@ -1,0 +1,998 @@
+;;; live-occur-test.el --- Tests of live-occur  -*- lexical-binding: t; -*-
+
+;; SPDX-License-Identifier: MIT OR Apache-2.0
+
+;;; Commentary:
+
+;; Run by `make test-editor', against the built programs, which the variables
+;; OCCUR and GREP of the environment name.
+
+;;; Code:
+
+(require 'ert)
+(require 'live-occur)
+(require 'checkdoc)
+
+(setq live-occur-program (or (getenv "OCCUR") "occur"))
+
+(defvar live-occur-test--grep (or (getenv "GREP") "grep")
+  "The program whose rows the lists are compared with.")
+
+;;;; Helpers
+
+(defun live-occur-test--busy-p ()
+  "Whether a reply of this list is on its way."
+  (or live-occur--parts-asked
+      (and (live-occur--running-p live-occur--session)
+           (live-occur--session-waiting live-occur--session))))
+
+(defun live-occur-test--wait ()
+  "Wait until all replies of this list have come."
+  (with-timeout (20 (error "A reply does not come"))
+    (while (live-occur-test--busy-p)
+      (accept-process-output nil 0.02))))
+
+(defun live-occur-test--rows (list)
+  "The rows of LIST, brought up to date."
+  (with-current-buffer list
+    (live-occur--update)
+    (live-occur-test--wait)
+    (buffer-substring-no-properties (point-min) (point-max))))
+
+(defun live-occur-test--mark (list)
+  "Find the parts of all rows of LIST, and answer the places of each row."
+  (live-occur-test--rows list)
+  (with-current-buffer list
+    (live-occur--mark 0 (length live-occur--rows))
+    (live-occur-test--wait)
+    (goto-char (point-min))
+    (let (all)
+      (while (not (eobp))
+        (let ((at (next-single-property-change (point) 'live-occur-head)) parts)
+          (while (setq at (text-property-any at (line-end-position) 'face 'live-occur-match))
+            (let ((end (next-single-property-change at 'face nil (line-end-position))))
+              (push (- at (line-beginning-position)) parts)
+              (push (buffer-substring-no-properties at end) parts)
+              (setq at end)))
+          (push (nreverse parts) all))
+        (forward-line 1))
+      (nreverse all))))
+
+(defun live-occur-test--buffers (texts)
+  "New buffers called a, b and so on that hold TEXTS."
+  (cl-loop for text in texts
+           for letter from ?a
+           collect (with-current-buffer (generate-new-buffer (string letter))
+                     (insert text)
+                     (set-buffer-modified-p nil)
+                     (buffer-enable-undo)
+                     (current-buffer))))
+
+(defmacro live-occur-test--with (texts &rest body)
+  "Run BODY with BUFFERS that hold TEXTS and, A being the first, in it.
+All buffers and processes that it makes are taken away after it."
+  (declare (indent 1) (debug t))
+  `(let* ((before (buffer-list))
+          (buffers (live-occur-test--buffers ,texts))
+          (a (car buffers))
+          (live-occur-syntax 'basic)
+          (live-occur-flags nil)
+          (inhibit-message t))
+     (ignore a)
+     (unwind-protect
+         (with-current-buffer a ,@body)
+       (dolist (buffer (buffer-list))
+         (unless (memq buffer before)
+           (when (buffer-live-p buffer)
+             (with-current-buffer buffer
+               (set-buffer-modified-p nil))
+             (let ((kill-buffer-query-functions nil))
+               (kill-buffer buffer))))))))
+
+(defun live-occur-test--answers (&rest answers)
+  "A function in the place of `read-from-minibuffer' that gives ANSWERS."
+  (lambda (&rest _) (or (pop answers) (error "Asked too often"))))
+
+(defun live-occur-test--tell (&rest words)
+  "Tell WORDS, as `message' does, though messages may be off."
+  (let ((inhibit-message nil))
+    (apply #'message words)))
+
+(defun live-occur-test--at (list row)
+  "Move to ROW of LIST, from 1, there and in its windows."
+  (with-current-buffer list
+    (live-occur--go-to-row (1- row))
+    (dolist (window (get-buffer-window-list nil nil t))
+      (set-window-point window (point)))))
+
+;;;; Rows
+
+(ert-deftest live-occur-lists-lines-of-one-buffer ()
+  (live-occur-test--with '("one\ntwo\nthree\n")
+    (let ((list (live-occur "e")))
+      (should (equal (live-occur-test--rows list) "a:1:one\na:3:three\n")))))
+
+(ert-deftest live-occur-lists-lines-of-several-buffers ()
+  (live-occur-test--with '("one\ntwo\n" "" "x\n\none:1" "\n")
+    (let ((list (live-occur "one" buffers)))
+      (should (equal (live-occur-test--rows list) "a:1:one\nc:3:one:1\n")))
+    (let ((list (live-occur "^$" buffers)))
+      (should (equal (live-occur-test--rows list) "c:2:\nd:1:\n")))))
+
+(ert-deftest live-occur-lists-a-last-line-without-newline ()
+  (live-occur-test--with '("a\na")
+    (let ((list (live-occur "a")))
+      (should (equal (live-occur-test--rows list) "a:1:a\na:2:a\n"))
+      (goto-char (point-max))
+      (insert "\n")
+      (should (equal (live-occur-test--rows list) "a:1:a\na:2:a\n"))
+      (insert "a")
+      (should (equal (live-occur-test--rows list) "a:1:a\na:2:a\na:3:a\n"))
+      (erase-buffer)
+      (should (equal (live-occur-test--rows list) ""))
+      (insert "ba")
+      (should (equal (live-occur-test--rows list) "a:1:ba\n")))))
+
+(ert-deftest live-occur-takes-several-patterns ()
+  (live-occur-test--with '("one\ntwo\nthree\n")
+    (let ((list (live-occur "one\ntwo")))
+      (should (equal (live-occur-test--rows list) "a:1:one\na:2:two\n"))
+      (with-current-buffer list
+        (should (equal live-occur--patterns '("one" "two")))
+        (cl-letf (((symbol-function 'read-from-minibuffer) (live-occur-test--answers "hr")))
+          (live-occur-add-pattern))
+        (should (equal (live-occur-test--rows list) "a:1:one\na:2:two\na:3:three\n"))
+        (cl-letf (((symbol-function 'completing-read) (lambda (&rest _) "two")))
+          (live-occur-drop-pattern))
+        (should (equal (live-occur-test--rows list) "a:1:one\na:3:three\n"))
+        (cl-letf (((symbol-function 'completing-read) (lambda (&rest _) "one"))
+                  ((symbol-function 'read-from-minibuffer) (live-occur-test--answers "wo")))
+          (live-occur-edit-pattern))
+        (should (equal live-occur--patterns '("hr" "wo")))
+        (should (equal (live-occur-test--rows list) "a:2:two\na:3:three\n"))))))
+
+(ert-deftest live-occur-has-flags ()
+  (live-occur-test--with '("a\nA\nba ab\nc\n" "c\n")
+    (let ((list (live-occur "a" buffers)))
+      (with-current-buffer list
+        (pcase-dolist (`(,key . ,rows)
+                       '(("i" . "a:1:a\na:2:A\na:3:ba ab\n")
+                         ("x" . "a:1:a\na:2:A\n")
+                         ("i" . "a:1:a\n")
+                         ("v" . "a:2:A\na:3:ba ab\na:4:c\nb:1:c\n")
+                         ("x" . "a:2:A\na:4:c\nb:1:c\n")
+                         ("c" . "a:2\nb:1\n")
+                         ("v" . "a:2\nb:0\n")
+                         ("c" . "a:1:a\na:3:ba ab\n")
+                         ("o" . "a:1:a\na:3:a\na:3:a\n")))
+          (call-interactively (key-binding (kbd key)))
+          (should (equal (live-occur-test--rows list) rows)))
+        (should (equal live-occur--the-flags '(?o)))
+        (should (string-prefix-p " basic -o  a  3 rows, 2 buffers" (live-occur--header)))))))
+
+(ert-deftest live-occur-has-syntaxes ()
+  (live-occur-test--with '("a+b\naab\n")
+    (let ((list (live-occur "a+b")))
+      (with-current-buffer list
+        (should (equal (live-occur-test--rows list) "a:1:a+b\n"))
+        (call-interactively (key-binding "E"))
+        (should (equal (live-occur-test--rows list) "a:2:aab\n"))
+        (call-interactively (key-binding "F"))
+        (should (equal (live-occur-test--rows list) "a:1:a+b\n"))
+        (call-interactively (key-binding "G"))
+        (should (equal live-occur--the-syntax 'basic))))))
+
+(ert-deftest live-occur-begins-with-settings ()
+  (live-occur-test--with '("AB\nb\n")
+    (let* ((live-occur-syntax 'extended)
+           (live-occur-flags '(?x ?i))
+           (list (live-occur "(a|b)+")))
+      (should (equal (live-occur-test--rows list) "a:1:AB\na:2:b\n"))
+      (with-current-buffer list
+        (should (string-prefix-p " extended -ix  (a|b)+" (live-occur--header)))))))
+
+(ert-deftest live-occur-shows-no-more-rows-than-it-may ()
+  (live-occur-test--with (list (apply #'concat (make-list 50 "a\n")))
+    (let* ((live-occur-max-rows 7)
+           (list (live-occur "a")))
+      (should (= (length (split-string (live-occur-test--rows list) "\n" t)) 7))
+      (with-current-buffer list
+        (should (string-search "the first 7 of 50 rows" (live-occur--header)))))))
+
+(ert-deftest live-occur-shows-the-name-that-a-buffer-has ()
+  (live-occur-test--with '("x\n")
+    (let ((list (live-occur "x")))
+      (should (equal (live-occur-test--rows list) "a:1:x\n"))
+      (rename-buffer "a new: name")
+      (should (equal (live-occur-test--rows list) "a new: name:1:x\n")))))
+
+;;;; Edits
+
+(ert-deftest live-occur-follows-edits ()
+  (live-occur-test--with '("one\ntwo\nthree\nfour\n")
+    (let ((list (live-occur "o")))
+      (should (equal (live-occur-test--rows list) "a:1:one\na:2:two\na:4:four\n"))
+      (goto-char (point-min))
+      (insert "o\no\n")
+      (should (equal (live-occur-test--rows list)
+                     "a:1:o\na:2:o\na:3:one\na:4:two\na:6:four\n"))
+      (delete-region 3 (- (point-max) 2))
+      (should (equal (live-occur-test--rows list) "a:1:o\n"))
+      (should (equal (buffer-string) "o\nr\n"))
+      (goto-char (point-max))
+      (insert "o")
+      (should (equal (live-occur-test--rows list) "a:1:o\na:3:o\n"))
+      (undo-boundary)
+      (erase-buffer)
+      (should (equal (live-occur-test--rows list) ""))
+      (undo-boundary)
+      (undo)
+      (should (equal (live-occur-test--rows list) "a:1:o\na:3:o\n")))))
+
+(ert-deftest live-occur-sends-only-lines-that-changed ()
+  (live-occur-test--with (list (apply #'concat (make-list 1000 "line\n")))
+    (let* ((live-occur-highlight nil)
+           (list (live-occur "x"))
+           sent)
+      (live-occur-test--rows list)
+      (cl-letf* ((send (symbol-function 'process-send-string))
+                 ((symbol-function 'process-send-string)
+                  (lambda (process text)
+                    (push text sent)
+                    (funcall send process text))))
+        (goto-char (point-min))
+        (insert "x")
+        (goto-char (point-max))
+        (insert "x\n")
+        (goto-char 3505)
+        (insert "x\n")
+        (goto-char 3002)
+        (delete-char 5)
+        (goto-char 2502)
+        (insert "x\n")
+        (live-occur-test--rows list))
+      (should (equal (nreverse sent)
+                     '("splice 0 1000 0 1\nx\n"
+                       "splice 0 700 1 2\nlinx\ne\n"
+                       "splice 0 600 1 0\n"
+                       "splice 0 500 0 1\nx\n"
+                       "splice 0 0 1 1\nxline\n"
+                       "show\n")))
+      (should (equal (live-occur-test--rows list)
+                     "a:1:xline\na:501:x\na:701:linx\na:1002:x\n")))))
+
+(ert-deftest live-occur-asks-for-one-report-at-a-time ()
+  (live-occur-test--with '("a\n")
+    (let ((list (live-occur "a")) (most 0) (all 0))
+      (live-occur-test--rows list)
+      (cl-letf* ((send (symbol-function 'live-occur--send))
+                 (due 0)
+                 ((symbol-function 'live-occur--send)
+                  (lambda (session text function)
+                    (if (not (equal text "show\n"))
+                        (funcall send session text function)
+                      (setq due (1+ due) all (1+ all) most (max most due))
+                      (funcall send session text
+                               (lambda (&rest reply)
+                                 (setq due (1- due))
+                                 (apply function reply)))))))
+        (dotimes (_ 20)
+          (goto-char (point-max))
+          (insert "a\n")
+          (with-current-buffer list
+            (live-occur--update)))
+        (should (equal (length (split-string (live-occur-test--rows list) "\n" t)) 21)))
+      (should (= most 1))
+      (should (<= 2 all 20)))))
+
+(ert-deftest live-occur-searches-all-of-a-narrowed-buffer ()
+  (live-occur-test--with '("a\nb\na\n")
+    (narrow-to-region 3 4)
+    (let ((list (live-occur "a")))
+      (should (equal (live-occur-test--rows list) "a:1:a\na:3:a\n"))
+      (goto-char (point-max))
+      (insert "a\na")
+      (should (equal (live-occur-test--rows list) "a:1:a\na:2:ba\na:3:a\na:4:a\n"))
+      (should (buffer-narrowed-p))
+      (live-occur-test--at list 4)
+      (with-current-buffer list
+        (let ((widen-automatically nil))
+          (should-error (live-occur-visit) :type 'user-error)))
+      (with-current-buffer list
+        (live-occur-visit))
+      (should-not (buffer-narrowed-p))
+      (should (= (line-number-at-pos) 4)))))
+
+(ert-deftest live-occur-follows-a-buffer-that-is-reverted ()
+  (live-occur-test--with '("")
+    (let* ((file (make-temp-file "live-occur" nil nil "one\ntwo\nthree\n"))
+           (buffer (find-file-noselect file))
+           list)
+      (unwind-protect
+          (with-current-buffer buffer
+            (rename-buffer "visited")
+            (setq list (live-occur "o"))
+            (should (equal (live-occur-test--rows list) "visited:1:one\nvisited:2:two\n"))
+            (write-region "zero\none\nthree\ntoo\n" nil file nil 'quiet)
+            (revert-buffer t t)
+            (should (equal (live-occur-test--rows list)
+                           "visited:1:zero\nvisited:2:one\nvisited:4:too\n"))
+            (goto-char (point-min))
+            (insert "o\n")
+            (should (equal (live-occur-test--rows list)
+                           "visited:1:o\nvisited:2:zero\nvisited:3:one\nvisited:5:too\n"))
+            (revert-buffer t t)
+            (emacs-lisp-mode)
+            (goto-char (point-max))
+            (insert "o\n")
+            (should (memq #'live-occur--after-change after-change-functions))
+            (should (equal (live-occur-test--rows list)
+                           "visited:1:zero\nvisited:2:one\nvisited:4:too\nvisited:5:o\n")))
+        (delete-file file)))))
+
+(ert-deftest live-occur-follows-indirect-buffers ()
+  (live-occur-test--with '("one\ntwo\n")
+    (let* ((indirect (make-indirect-buffer a "indirect"))
+           (list (live-occur "o" (list indirect)))
+           (other (live-occur "o" (list a))))
+      (should (equal (live-occur-test--rows list) "indirect:1:one\nindirect:2:two\n"))
+      (insert "o\n")
+      (should (equal (live-occur-test--rows other) "a:1:one\na:2:two\na:3:o\n"))
+      (with-current-buffer indirect
+        (goto-char (point-min))
+        (insert "o\n"))
+      (should (equal (live-occur-test--rows list)
+                     "indirect:1:o\nindirect:2:one\nindirect:3:two\nindirect:4:o\n"))
+      (should (equal (live-occur-test--rows other) "a:1:o\na:2:one\na:3:two\na:4:o\n"))
+      (with-current-buffer (make-indirect-buffer a "later")
+        (goto-char (point-min))
+        (delete-char 2))
+      (should (equal (live-occur-test--rows other) "a:1:one\na:2:two\na:3:o\n"))
+      (kill-buffer indirect)
+      (should (equal (live-occur-test--rows list) ""))
+      (insert "o\n")
+      (should (equal (live-occur-test--rows other) "a:1:one\na:2:two\na:3:o\na:4:o\n")))))
+
+(ert-deftest live-occur-notices-edits-that-are-not-told ()
+  (live-occur-test--with '("one\ntwo\n")
+    (let ((list (live-occur "o")))
+      (live-occur-test--rows list)
+      (let ((inhibit-modification-hooks t))
+        (goto-char (point-min))
+        (insert "o\n"))
+      (should (equal (live-occur-test--rows list) "a:1:o\na:2:one\na:3:two\n"))
+      (let ((inhibit-modification-hooks t))
+        (delete-region 1 3))
+      (goto-char (point-max))
+      (insert "no\n")
+      (should (equal (live-occur-test--rows list) "a:1:one\na:2:two\na:3:no\n")))))
+
+(ert-deftest live-occur-leaves-buffers-as-they-are ()
+  (live-occur-test--with '("one\ntwo\nthree\n")
+    (goto-char 6)
+    (let ((undo buffer-undo-list)
+          (hooks (list before-change-functions after-change-functions kill-buffer-hook))
+          (list (progn (setq buffer-read-only t) (live-occur "o"))))
+      (live-occur-test--mark list)
+      (with-current-buffer list
+        (live-occur-toggle-case)
+        (live-occur-toggle-parts))
+      (live-occur-test--rows list)
+      (live-occur-test--at list 1)
+      (with-current-buffer list
+        (live-occur-display))
+      (kill-buffer list)
+      (should (equal (buffer-string) "one\ntwo\nthree\n"))
+      (should-not (buffer-modified-p))
+      (should (eq buffer-undo-list undo))
+      (should-not (local-variable-p 'live-occur--sources-here))
+      (should (equal hooks
+                     (list before-change-functions after-change-functions kill-buffer-hook)))
+      (should-not (overlays-in (point-min) (point-max))))))
+
+(ert-deftest live-occur-follows-a-buffer-that-is-read-only ()
+  (live-occur-test--with '("one\n")
+    (setq buffer-read-only t)
+    (let ((list (live-occur "o")))
+      (should (equal (live-occur-test--rows list) "a:1:one\n"))
+      (let ((inhibit-read-only t))
+        (insert "o\n"))
+      (should (equal (live-occur-test--rows list) "a:1:one\na:2:o\n")))))
+
+(ert-deftest live-occur-joins-edits ()
+  "What is gathered of edits says what they did to the lines."
+  (random "live-occur edits")
+  (dotimes (_ 300)
+    (let* ((held (number-sequence 0 (random 400)))
+           (now (copy-sequence held))
+           edits)
+      (dotimes (_ (1+ (random 40)))
+        (let* ((start (random (1+ (length now))))
+               (old (min (random 4) (- (length now) start)))
+               (new (random 4)))
+          (setq now (append (seq-take now start) (make-list new 'new)
+                            (seq-drop now (+ start old)))
+                edits (live-occur--changed edits start old new))))
+      (should (length< edits (1+ live-occur--most-edits)))
+      (let ((shift (cl-loop for (_ was is) in edits sum (- is was))))
+        (should (= (length now) (+ (length held) shift)))
+        (pcase-dolist (`(,at ,was ,is) (reverse edits))
+          (cl-decf shift (- is was))
+          (setq held (append (seq-take held (- at shift))
+                             (seq-subseq now at (+ at is))
+                             (seq-drop held (+ (- at shift) was)))))
+        (should (equal held now))))))
+
+;;;; What goes out
+
+(ert-deftest live-occur-sends-characters-as-bytes ()
+  (live-occur-test--with '("é\n€\nx\n\x3fffff\n")
+    (let ((list (live-occur "^..$")))
+      (should (equal (live-occur-test--rows list) "a:1:é\n"))
+      (should (equal (live-occur-test--mark list) '((4 "é")))))
+    (let ((list (live-occur "^.$")))
+      (should (equal (live-occur-test--rows list) (string-to-multibyte "a:3:x\na:4:\377\n"))))
+    (let ((list (live-occur "€\né")))
+      (should (equal (live-occur-test--rows list) "a:1:é\na:2:€\n")))))
+
+(ert-deftest live-occur-takes-unibyte-buffers ()
+  (live-occur-test--with '("")
+    (set-buffer-multibyte nil)
+    (insert "\351t\351\nx\303\251\n")
+    (let ((list (live-occur "t")))
+      (should (equal (live-occur-test--rows list) (string-to-multibyte "a:1:\351t\351\n"))))
+    (let ((list (live-occur "é")))
+      (should (equal (live-occur-test--rows list) "a:2:xé\n")))))
+
+(ert-deftest live-occur-takes-long-lines ()
+  (live-occur-test--with (list (concat "x\n" (make-string 300000 ?a) "needle" "\nx needle\n"))
+    (let ((list (live-occur "needle")))
+      (should (equal (live-occur-test--rows list)
+                     (concat "a:2:" (make-string 1000 ?a) "…\na:3:x needle\n")))
+      (should (equal (live-occur-test--mark list) '(nil (6 "needle")))))))
+
+(ert-deftest live-occur-sends-long-texts ()
+  (live-occur-test--with (list (concat (mapconcat #'number-to-string
+                                                  (number-sequence 1 60000) "\n")))
+    (let ((list (live-occur "7777$")))
+      (should (equal (live-occur-test--rows list)
+                     "a:7777:7777\na:17777:17777\na:27777:27777\na:37777:37777\na:47777:47777\na:57777:57777\n"))
+      (replace-regexp-in-region "7$" "8" (point-min))
+      (should (equal (live-occur-test--rows list) ""))
+      (replace-regexp-in-region "8$" "7" (point-min))
+      (should (equal (length (split-string (live-occur-test--rows list) "\n" t)) 12)))))
+
+;;;; Refusals
+
+(ert-deftest live-occur-refuses-a-pattern ()
+  (live-occur-test--with '("a(\n")
+    (let ((buffers (buffer-list))
+          (processes (process-list)))
+      (should-error (live-occur "a\\(") :type 'user-error)
+      (should (equal (buffer-list) buffers))
+      (should (equal (process-list) processes)))))
+
+(ert-deftest live-occur-shows-where-a-pattern-is-refused ()
+  (live-occur-test--with '("a(\nb\n")
+    (let ((list (live-occur "a"))
+          (asked nil))
+      (should (equal (live-occur-test--rows list) "a:1:a(\n"))
+      (with-current-buffer list
+        (cl-letf* ((answers '("é\\(" "b"))
+                   ((symbol-function 'read-from-minibuffer)
+                    (lambda (prompt &optional initial &rest _)
+                      (push (cons prompt initial) asked)
+                      (pop answers))))
+          (live-occur-add-pattern))
+        (should (equal (nreverse asked)
+                       '(("Add pattern: ")
+                         ("UnclosedGroup at 1; Add pattern: " "é\\(" . 2))))
+        (should (equal live-occur--patterns '("a" "b")))
+        (should (equal (live-occur-test--rows list) "a:1:a(\na:2:b\n"))))))
+
+(ert-deftest live-occur-underlines-the-fault ()
+  (should (equal-including-properties
+           (live-occur--underlined "a(b" 1)
+           #("a(b" 1 2 (face live-occur-fault))))
+  (should (equal-including-properties
+           (live-occur--underlined "ab" 2)
+           #("ab " 2 3 (face live-occur-fault))))
+  (should (equal (live-occur--fault-in "refused Pattern 1 BadRange 3" '("" "é[z-a]"))
+                 '(1 "BadRange" 2)))
+  (should-not (live-occur--fault-in "refused Memory" '("a"))))
+
+(ert-deftest live-occur-keeps-a-syntax-that-another-cannot-replace ()
+  (live-occur-test--with '("a(\n")
+    (let ((list (live-occur "a(")))
+      (with-current-buffer list
+        (live-occur-test--wait)
+        (let ((told nil))
+          (cl-letf (((symbol-function 'message)
+                     (lambda (&rest words) (setq told (apply #'format words)))))
+            (live-occur-extended))
+          (should (equal told "UnclosedGroup at 1: a(")))
+        (should (eq live-occur--the-syntax 'basic))
+        (should (equal (live-occur-test--rows list) "a:1:a(\n"))))))
+
+(ert-deftest live-occur-tells-of-a-program-that-is-not-there ()
+  (live-occur-test--with '("a\n")
+    (let ((live-occur-program "/nonexistent/occur")
+          (buffers (buffer-list))
+          (processes (process-list)))
+      (should-error (live-occur "a") :type 'user-error)
+      (should (equal (buffer-list) buffers))
+      (should (equal (process-list) processes)))))
+
+(ert-deftest live-occur-tells-of-words-that-are-refused ()
+  (live-occur-test--with '("a\n")
+    (let ((live-occur-states 0))
+      (should (string-match-p "ended with status 2 (.*0.*--states.*)\\'"
+                              (cadr (should-error (live-occur "a") :type 'user-error)))))))
+
+;;;; The program
+
+(ert-deftest live-occur-tells-that-its-program-was-killed ()
+  (live-occur-test--with '("a\nb\n")
+    (let ((list (live-occur "a")) told)
+      (should (equal (live-occur-test--rows list) "a:1:a\n"))
+      (with-current-buffer list
+        (cl-letf (((symbol-function 'message)
+                   (lambda (&rest words) (setq told (apply #'format words)))))
+          (signal-process (live-occur--session-process live-occur--session) 'KILL)
+          (with-timeout (10) (while (not told) (accept-process-output nil 0.05))))
+        (should (string-match-p
+                 "\\`\\*Live Occur\\*: .*occur was killed by signal 9; r in the list starts it again\\'"
+                 told))
+        (should (string-search "was killed by signal 9" (live-occur--header)))
+        (should-error (live-occur-refresh) :type 'user-error)
+        (should-error (live-occur-toggle-case) :type 'user-error))
+      (insert "aa\n")
+      (should (equal (live-occur-test--rows list) "a:1:a\n"))
+      (with-current-buffer list
+        (call-interactively (key-binding "r")))
+      (should (equal (live-occur-test--rows list) "a:1:a\na:3:aa\n"))
+      (with-current-buffer list
+        (should (string-suffix-p "2 rows, 1 buffer" (live-occur--header)))))))
+
+(ert-deftest live-occur-starts-again-with-all-that-was-set ()
+  (live-occur-test--with '("A\nb\nab\n" "c\n")
+    (let ((list (live-occur "a\nc" buffers)))
+      (with-current-buffer list
+        (live-occur-toggle-case)
+        (live-occur-toggle-whole-lines)
+        (live-occur-extended)
+        (live-occur-restart)
+        (should (equal (live-occur-test--rows list) "a:1:A\nb:1:c\n"))))))
+
+(ert-deftest live-occur-ends-its-programs-with-the-list ()
+  (live-occur-test--with '("a\n")
+    (let* ((processes (process-list))
+           (buffers (buffer-list))
+           (timers (length timer-idle-list))
+           (list (live-occur "a")))
+      (live-occur-test--mark list)
+      (should (length> (process-list) (length processes)))
+      (kill-buffer list)
+      (should (equal (process-list) processes))
+      (should (equal (buffer-list) buffers))
+      (should (= (length timer-idle-list) timers)))))
+
+(ert-deftest live-occur-closes-the-file-of-a-killed-buffer ()
+  (live-occur-test--with '("a\n" "a\n" "a\n")
+    (let ((list (live-occur "a" buffers)))
+      (should (equal (live-occur-test--rows list) "a:1:a\nb:1:a\nc:1:a\n"))
+      (kill-buffer (nth 1 buffers))
+      (live-occur-test--at list 2)
+      (with-current-buffer list
+        (should-error (live-occur-visit) :type 'user-error))
+      (with-current-buffer (nth 2 buffers)
+        (insert "a"))
+      (should (equal (live-occur-test--rows list) "a:1:a\nc:1:a\nc:2:a\n"))
+      (kill-buffer (nth 2 buffers))
+      (should (equal (live-occur-test--rows list) "a:1:a\n"))
+      (with-temp-buffer
+        (rename-buffer "temporary")
+        (insert "aa")
+        (with-current-buffer list
+          (live-occur-add-buffer "temporary"))
+        (should (equal (live-occur-test--rows list) "a:1:a\ntemporary:1:aa\n"))
+        (with-current-buffer list
+          (live-occur-remove-buffer "temporary"))
+        (insert "a")
+        (should (equal (live-occur-test--rows list) "a:1:a\n"))))))
+
+(ert-deftest live-occur-closes-the-file-of-a-buffer-that-is-gone ()
+  (live-occur-test--with '("a\n")
+    (let (list)
+      (with-temp-buffer
+        (rename-buffer "temporary")
+        (insert "a\n")
+        (setq list (live-occur "a" (list (current-buffer) a)))
+        (should (equal (live-occur-test--rows list) "temporary:1:a\na:1:a\n")))
+      (insert "a\n")
+      (should (equal (live-occur-test--rows list) "a:1:a\na:2:a\n")))))
+
+(ert-deftest live-occur-is-not-told-of-edits-of-a-copy ()
+  (live-occur-test--with '("a\n")
+    (let ((list (live-occur "a")))
+      (live-occur-test--rows list)
+      (with-current-buffer (clone-buffer "copy")
+        (should live-occur--sources-here)
+        (insert "a\na\n"))
+      (should (equal (live-occur-test--rows list) "a:1:a\n"))
+      (insert "a\n")
+      (should (equal (live-occur-test--rows list) "a:1:a\na:2:a\n"))
+      (with-current-buffer list
+        (should-not (live-occur--source-lost (car live-occur--sources)))))))
+
+(ert-deftest live-occur-offers-the-symbol-at-point ()
+  (live-occur-test--with '("")
+    (emacs-lisp-mode)
+    (insert "a*b+c")
+    (should (equal (live-occur--symbol-at-point 'basic) "a\\*b+c"))
+    (should (equal (live-occur--symbol-at-point 'extended) "a\\*b\\+c"))
+    (should (equal (live-occur--symbol-at-point 'fixed) "a*b+c"))))
+
+(ert-deftest live-occur-searches-no-list ()
+  (live-occur-test--with '("a\n")
+    (with-current-buffer (live-occur "a")
+      (should-error (live-occur "a") :type 'user-error))))
+
+;;;; Matched parts
+
+(ert-deftest live-occur-finds-the-places-of-parts ()
+  (pcase-dolist (`(,line ,parts ,more ,places)
+                 '(("abab" ("b" "b") ("b" "b") ((1 . 2) (3 . 4)))
+                   ("abab" ("b") () ((3 . 4)))
+                   ("aba" ("a") ("a") ((0 . 1)))
+                   ("aba" ("a") () ((2 . 3)))
+                   ("xabxab" ("ab" "xab") ("ab") ((1 . 3) (3 . 6)))
+                   ("aaaa" ("aa" "aa") ("aa" "aa") ((0 . 2) (2 . 4)))
+                   ("aaa" ("aa") ("aa") ((0 . 2)))
+                   ("aaa" ("aa") () ((1 . 3)))
+                   ("" () () ())))
+    (should (equal (live-occur--places line parts more) places)))
+  (should (equal (live-occur--in-characters "a\303\251b" '((1 . 2) (2 . 3) (3 . 4)))
+                 '((1 . 2) (1 . 2) (2 . 3)))))
+
+(ert-deftest live-occur-highlights-parts ()
+  (live-occur-test--with '("abab\nb é b\nx\nbc\n")
+    (let ((list (live-occur "b")))
+      (should (equal (live-occur-test--mark list)
+                     '((5 "b" 7 "b") (4 "b" 8 "b") (4 "b")))))
+    (let ((list (live-occur "b$")))
+      (should (equal (live-occur-test--mark list) '((7 "b") (8 "b")))))
+    (let ((list (live-occur "^b\nc")))
+      (should (equal (live-occur-test--mark list) '((4 "b") (4 "bc"))))))
+  (live-occur-test--with '("aaa\n")
+    (should (equal (live-occur-test--mark (live-occur "aa")) '((4 "aa"))))
+    (should (equal (live-occur-test--mark (live-occur "aa$")) '((5 "aa"))))))
+
+(ert-deftest live-occur-highlights-again-what-changed ()
+  (live-occur-test--with '("ab\nba\n")
+    (let ((list (live-occur "a")))
+      (should (equal (live-occur-test--mark list) '((4 "a") (5 "a"))))
+      (insert "caa\n")
+      (should (equal (live-occur-test--mark list) '((4 "a") (5 "a") (5 "aa"))))
+      (with-current-buffer list
+        (live-occur-toggle-inverse))
+      (should (equal (live-occur-test--mark list) nil))
+      (with-current-buffer list
+        (live-occur-toggle-inverse)
+        (live-occur-toggle-parts))
+      (should (equal (live-occur-test--mark list) '((4 "a") (4 "a") (4 "a") (4 "a")))))))
+
+(ert-deftest live-occur-highlights-by-a-new-program-where-one-was-killed ()
+  (live-occur-test--with '("ab\n")
+    (let ((list (live-occur "b")))
+      (should (equal (live-occur-test--mark list) '((5 "b"))))
+      (with-current-buffer list
+        (signal-process (live-occur--session-process live-occur--parts) 'KILL))
+      (insert "cb\n")
+      (live-occur-test--mark list)
+      (should (equal (live-occur-test--mark list) '((5 "b") (5 "b")))))))
+
+(ert-deftest live-occur-ends-a-program-that-is-stopped ()
+  (live-occur-test--with '("a\n")
+    (let ((list (live-occur "a")))
+      (should (equal (live-occur-test--rows list) "a:1:a\n"))
+      (with-current-buffer list
+        (let ((process (live-occur--session-process live-occur--session)))
+          (signal-process process 'STOP)
+          (with-timeout (10)
+            (while (eq (process-status process) 'run)
+              (accept-process-output nil 0.02)))
+          (should (eq (process-status process) 'stop))))
+      (insert "a\n")
+      (should (equal (live-occur-test--rows list) "a:1:a\n"))
+      (with-current-buffer list
+        (should (string-search "killed by signal 9" (live-occur--header)))
+        (live-occur-restart))
+      (should (equal (live-occur-test--rows list) "a:1:a\na:2:a\n")))))
+
+;;;; Going to lines
+
+(defmacro live-occur-test--in-windows (&rest body)
+  "Run BODY in a frame of one window."
+  (declare (indent 0) (debug t))
+  `(save-window-excursion
+     (delete-other-windows)
+     ,@body))
+
+(ert-deftest live-occur-visits-lines ()
+  (live-occur-test--with '("one\ntwo\nxtwo\n" "two\n")
+    (live-occur-test--in-windows
+      (let ((list (live-occur "tw" buffers)))
+        (live-occur-test--mark list)
+        (live-occur-test--at list 2)
+        (with-current-buffer list
+          (live-occur-visit))
+        (should (eq (window-buffer) a))
+        (should (= (line-number-at-pos) 3))
+        (should (= (current-column) 1))
+        (next-error)
+        (should (eq (window-buffer) (nth 1 buffers)))
+        (should-error (next-error) :type 'user-error)
+        (previous-error 2)
+        (should (eq (window-buffer) a))
+        (should (= (line-number-at-pos) 2))
+        (first-error)
+        (should (= (line-number-at-pos) 2))
+        (with-current-buffer list
+          (live-occur-visit-by-mouse
+           (list 'mouse-2 (list (display-buffer list)
+                                (progn (live-occur--go-to-row 2) (point))
+                                '(0 . 0) 0))))
+        (should (eq (window-buffer) (nth 1 buffers)))))))
+
+(ert-deftest live-occur-visits-parts ()
+  (live-occur-test--with '("é ab é ab\n")
+    (live-occur-test--in-windows
+      (let ((list (live-occur "ab")))
+        (with-current-buffer list
+          (live-occur-toggle-parts))
+        (live-occur-test--rows list)
+        (live-occur-test--at list 2)
+        (with-current-buffer list
+          (live-occur-visit))
+        (should (= (current-column) 7))))))
+
+(ert-deftest live-occur-visits-lines-that-have-moved ()
+  (live-occur-test--with (list (concat "o1\n" (apply #'concat (make-list 200 "x\n")) "o2\n"))
+    (live-occur-test--in-windows
+      (let ((list (live-occur "o")))
+        (should (equal (live-occur-test--rows list) "a:1:o1\na:202:o2\n"))
+        (goto-char (point-min))
+        (insert "x\nx\n")
+        (goto-char (point-max))
+        (insert "x\n")
+        (with-current-buffer list
+          (live-occur--flush (car live-occur--sources) live-occur--session 0))
+        (goto-char 100)
+        (insert "\n\n\n")
+        (goto-char (point-min))
+        (insert "x\nx\ny")
+        (dolist (row '(1 2))
+          (live-occur-test--at list row)
+          (with-current-buffer list
+            (live-occur-visit))
+          (should (looking-at (format "y?o%d$" row))))))))
+
+(ert-deftest live-occur-shows-lines-as-point-moves ()
+  (live-occur-test--with '("x1\nx2\nx3\n")
+    (live-occur-test--in-windows
+      (let* ((live-occur-follow t)
+             (list (live-occur "x")))
+        (live-occur-test--rows list)
+        (with-selected-window (get-buffer-window list)
+          (goto-char (point-min))
+          (live-occur-next 2)
+          (run-hooks 'post-command-hook)
+          (should (eq (current-buffer) list)))
+        (should (= (line-number-at-pos (window-point (get-buffer-window a))) 3))
+        (with-current-buffer list
+          (live-occur-toggle-follow)
+          (live-occur-previous 2)
+          (run-hooks 'post-command-hook))
+        (should (= (line-number-at-pos (window-point (get-buffer-window a))) 3))))))
+
+(ert-deftest live-occur-stays-at-its-row ()
+  (live-occur-test--with '("x1\nx2\nx3\nx4\n")
+    (let ((list (live-occur "x")))
+      (live-occur-test--rows list)
+      (live-occur-test--at list 3)
+      (goto-char (point-min))
+      (insert "x0\nx0\n")
+      (live-occur-test--rows list)
+      (with-current-buffer list
+        (should (looking-at "a:5:x3"))))))
+
+;;;; Random edits
+
+(defconst live-occur-test--words
+  '("a" "b" "ab" "ba" "aab" "B" "." "é" "x y" "" "" "\n" "\n" "\n\n" "a\n" "\nb" "b\na\nab" "\x3fff80")
+  "What random texts are made of.")
+
+(defun live-occur-test--text (most)
+  "A random text of at most MOST words."
+  (mapconcat (lambda (_) (nth (random (length live-occur-test--words)) live-occur-test--words))
+             (make-list (random (1+ most)) nil) ""))
+
+(defun live-occur-test--position ()
+  "A random position in this buffer, and often one of its ends."
+  (pcase (random 8)
+    (0 (point-min))
+    (1 (point-max))
+    (_ (+ (point-min) (random (1+ (- (point-max) (point-min))))))))
+
+(defun live-occur-test--region ()
+  "A random region of this buffer, most often a small one."
+  (let* ((start (live-occur-test--position))
+         (end (if (= (random 10) 0)
+                  (live-occur-test--position)
+                (min (point-max) (+ start (random 25))))))
+    (list (min start end) (max start end))))
+
+(defun live-occur-test--edit ()
+  "Make a random edit of this buffer."
+  (pcase-let ((`(,start ,end) (live-occur-test--region)))
+    (pcase (random 16)
+      ((or 0 1 2) (goto-char start) (insert (live-occur-test--text 6)))
+      ((or 3 4) (delete-region start end))
+      ((or 5 6 7) (goto-char start) (delete-region start end) (insert (live-occur-test--text 6)))
+      ((or 8 9) (ignore-errors (undo (1+ (random 3)))))
+      (10 (upcase-region start end))
+      (11 (subst-char-in-region start end ?a ?b))
+      (12 (goto-char start) (ignore-errors (transpose-lines 1)))
+      (13 (sort-lines nil start end))
+      (14 (ignore-errors
+            (replace-regexp-in-region "a+b" (live-occur-test--text 2) start end)))
+      (15 (if (= (random 4) 0)
+              (let ((text (concat (buffer-substring start end) (live-occur-test--text 20))))
+                (erase-buffer)
+                (insert text))
+            (goto-char start)
+            (insert (make-string (random 60) ?\n))))))
+  (undo-boundary))
+
+(defun live-occur-test--change (list)
+  "Change at random a flag, the syntax or the patterns of LIST."
+  (with-current-buffer list
+    (pcase (random 8)
+      ((or 0 1 2 3) (live-occur--toggle (nth (random 5) live-occur--flag-letters)))
+      (4 (live-occur--choose-syntax (nth (random 3) '(basic extended fixed))))
+      (5 (live-occur--add (nth (random 6) '("a" "b$" "^" "a*b" "\\(a" "[ab]B"))))
+      (6 (when live-occur--patterns
+           (live-occur--drop (random (length live-occur--patterns)))))
+      (7 (live-occur--add (concat (live-occur-test--text 1) "\nb"))))
+    (unless live-occur--patterns
+      (live-occur--add "a"))))
+
+(defun live-occur-test--searched (list folder)
+  "What grep writes for all that LIST has, with files in FOLDER."
+  (with-current-buffer list
+    (let ((default-directory (file-name-as-directory folder))
+          (coding-system-for-write 'utf-8-emacs-unix)
+          (coding-system-for-read 'utf-8-emacs-unix)
+          names)
+      (dolist (source live-occur--sources)
+        (with-current-buffer (live-occur--source-buffer source)
+          (push (buffer-name) names)
+          (save-restriction
+            (widen)
+            (write-region nil nil (expand-file-name (buffer-name) folder) nil 'quiet))))
+      (write-region (concat (string-join live-occur--patterns "\n") "\n") nil "patterns" nil 'quiet)
+      (with-temp-buffer
+        (apply #'call-process live-occur-test--grep nil t nil
+               (concat "-n" (with-current-buffer list
+                              (concat (apply #'string live-occur--the-flags)
+                                      (pcase live-occur--the-syntax
+                                        ('basic "") ('extended "E") ('fixed "F")))))
+               "-f" "patterns" "--" (nreverse names))
+        (buffer-string)))))
+
+(defvar live-occur-test--edits
+  (string-to-number (or (getenv "EDITS") "4000"))
+  "How many random edits are made.")
+
+(ert-deftest live-occur-shows-what-grep-writes ()
+  "After random edits in several buffers the rows are those of grep."
+  (random (or (getenv "SEED") "live-occur"))
+  (live-occur-test--with (cl-loop for most in '(0 10 200 900)
+                                  collect (live-occur-test--text most))
+    (let* ((folder (make-temp-file "live-occur" t))
+           (live-occur-max-rows nil)
+           (indirect (make-indirect-buffer (nth 3 buffers) "indirect"))
+           (list (live-occur "ab" buffers))
+           (compared 0) (rows 0) (lost 0))
+      (unwind-protect
+          (progn
+            (live-occur-test--rows list)
+            (advice-add 'live-occur--lose :before
+                        (lambda (_) (cl-incf lost)) '((name . live-occur-test)))
+            (dotimes (_ live-occur-test--edits)
+              (with-current-buffer (or (nth (random 5) buffers) indirect)
+                (pcase (random 60)
+                  (0 (let ((inhibit-modification-hooks t))
+                       (live-occur-test--edit)))
+                  ((pred (> 7))
+                   (save-restriction
+                     (apply #'narrow-to-region (live-occur-test--region))
+                     (live-occur-test--edit)))
+                  (_ (live-occur-test--edit))))
+              (when (= (random 12) 0)
+                (live-occur-test--change list))
+              (when (= (random 3) 0)
+                (let ((shown (live-occur-test--rows list)))
+                  (cl-incf compared)
+                  (cl-incf rows (length (buffer-local-value 'live-occur--rows list)))
+                  (unless (equal shown (live-occur-test--searched list folder))
+                    (ert-fail (list "differs" compared shown
+                                    (live-occur-test--searched list folder))))))))
+        (advice-remove 'live-occur--lose 'live-occur-test)
+        (delete-directory folder t))
+      (live-occur-test--tell "%d edits, %d comparisons of %d rows, none differ; %d texts sent anew"
+               live-occur-test--edits compared rows lost)
+      (should (> compared (/ live-occur-test--edits 5))))))
+
+;;;; Time
+
+(defun live-occur-test--median (numbers)
+  "The median of NUMBERS."
+  (nth (/ (length numbers) 2) (sort (copy-sequence numbers) #'<)))
+
+(ert-deftest live-occur-is-quick-in-a-large-buffer ()
+  "An edit of 200,000 lines and its report take less than a tenth of a second."
+  (live-occur-test--with
+      (list (with-temp-buffer
+              (dotimes (line 200000)
+                (insert (format "%06d the quick brown fox jumps over the lazy dog\n" line)))
+              (buffer-string)))
+    (let* ((began (float-time))
+           (list (live-occur "999 the.*fox"))
+           (opened (progn (live-occur-test--rows list) (- (float-time) began)))
+           times)
+      (should (= 200 (length (buffer-local-value 'live-occur--rows list))))
+      (dotimes (turn 30)
+        (goto-char (nth (mod turn 3) (list (point-min) (/ (point-max) 2) (point-max))))
+        (forward-line 0)
+        (garbage-collect)
+        (let ((start (float-time)))
+          (insert (format "%d999 the new fox\n" turn))
+          (live-occur-test--rows list)
+          (push (- (float-time) start) times)))
+      (should (= 230 (length (buffer-local-value 'live-occur--rows list))))
+      (live-occur-test--tell "200,000 lines: opened in %.2f s; an edit and its report: median %.1f ms, at most %.1f ms"
+               opened (* 1000 (live-occur-test--median times)) (* 1000 (apply #'max times)))
+      (should (< (live-occur-test--median times) 0.1)))))
+
+;;;; The file
+
+(defun live-occur-test--file ()
+  "The file that is tested."
+  (expand-file-name "../live-occur.el" (file-name-directory (symbol-file 'live-occur-test--file))))
+
+(ert-deftest live-occur-compiles-without-a-warning ()
+  (let* ((folder (make-temp-file "live-occur" t))
+         (byte-compile-error-on-warn t)
+         (byte-compile-dest-file-function
+          (lambda (_) (expand-file-name "live-occur.elc" folder))))
+    (unwind-protect
+        (should (eq (byte-compile-file (live-occur-test--file)) t))
+      (delete-directory folder t))))
+
+(ert-deftest live-occur-passes-checkdoc ()
+  (let* ((told nil)
+         (checkdoc-spellcheck-documentation-flag nil)
+         (checkdoc-create-error-function
+          (lambda (text start &rest _)
+            (push (format "%d: %s" (line-number-at-pos start) text) told)
+            nil)))
+    (with-current-buffer (find-file-noselect (live-occur-test--file))
+      (checkdoc-current-buffer t)
+      (kill-buffer))
+    (should-not told)))
+
+(provide 'live-occur-test)
+
+;;; live-occur-test.el ends here
