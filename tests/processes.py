@@ -161,17 +161,3 @@ occur_case("A terminal that goes away is a write error of occur.")(
     lambda bench: Verdict(
         Answer(b"status 1\n", b"occur: write error\n", 2),
         gone_terminal(bench, b"show\n", b"show\n", len(b"status 1\n"))))
-
-
-@grep_case("A terminal as input that goes away is a read error, behind the lines before.")
-def gone_input(bench: Bench) -> Verdict:
-    ours, theirs = pty.openpty()
-    tty.setraw(theirs)
-    process = bench.start("-n", "b", stdin=theirs)
-    os.close(theirs)
-    os.write(ours, b"b\nab\nb")
-    seen = seen_within(process.stdout.fileno(), len(b"1:b\n2:ab\n"))
-    os.close(ours)
-    rest = finish(process)
-    wanted = Answer(b"1:b\n2:ab\n", INPUT_READ_ERROR, 2)
-    return Verdict(wanted, Answer(seen + rest.out, rest.err, rest.status))
