@@ -8,10 +8,10 @@ import os
 import pty
 import resource
 import tty
-from collections.abc import Iterator
 from functools import partial
 
-from program import Answer, Bench, Case, Cases, Skipped, Verdict, finish
+from program import Answer, Bench, Cases, Skipped, Verdict, all_of, finish
+from samples import CANNOT_OPEN, INPUT_READ_ERROR, TWO_LINES, WRITE_ERROR
 from streams import (
     failing_input,
     feed_named_pipe,
@@ -23,18 +23,9 @@ from streams import (
     with_room,
 )
 
-CANNOT_OPEN = b"grep: nofile: cannot open\n"
-WRITE_ERROR = b"grep: write error\n"
-INPUT_READ_ERROR = b"grep: (standard input): read error\n"
-TWO_LINES = b"a\nba\n"
-"""The content of the file f of many cases: pattern `a` selects both lines."""
-
 case = Cases("grep", "devices.py")
-
-
-def cases() -> Iterator[Case]:
-    """All cases of this file."""
-    yield from case.added
+cases = all_of(case)
+"""All cases of this file."""
 
 
 # Folders and files that can't be read
@@ -46,6 +37,14 @@ def folder_between_files(bench: Bench) -> Verdict:
     (bench.folder / "d").mkdir()
     wanted = Answer(b"f:2\nd:0\nf:2\n", b"grep: d: read error\n", 2)
     return Verdict(wanted, bench.ask("-c", "a", "f", "d", "f"))
+
+
+@case("A folder that can't be read stands between two groups of lines around, and adds nothing.")
+def folder_between_groups(bench: Bench) -> Verdict:
+    bench.write("f", b"a\nb\nc\n")
+    (bench.folder / "d").mkdir()
+    wanted = Answer(b"f:a\nf-b\n--\nf:a\nf-b\n", b"grep: d: read error\n", 2)
+    return Verdict(wanted, bench.ask("-A", "1", "a", "f", "d", "f"))
 
 
 @case("A folder has no selected line under `-v` either.")

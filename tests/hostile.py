@@ -1,31 +1,39 @@
-"""Cases of grep on hostile texts: long patterns, many patterns, each of the bytes, many lines and
-long ones.
+"""Cases on hostile texts: long patterns, many patterns, long words and names, each of the bytes as
+a pattern, a line and an option, many lines and long ones.
 """
 
 from __future__ import annotations
 
-from collections.abc import Iterator
+import os
+from pathlib import Path
 
-from program import Answer, Bench, Case, Cases, Verdict
+from program import Answer, Bench, Cases, Skipped, Verdict, all_of
 
 MEBIBYTE = 1 << 20
+GIBIBYTE = 1 << 30
+
+LONGEST_WORD = 131_071
+"""The most bytes that Linux lets a word of a command have."""
+
+USAGE = (
+    b"usage: grep [-E|-F] [-cilnoqsvx] [-A NUM] [-B NUM] [-C NUM] "
+    b"[-e LIST]... [-f FILE]... [LIST] [FILE...]\n")
 
 case = Cases("grep", "hostile.py")
+occur_case = Cases("occur", "hostile.py")
+cases = all_of(case, occur_case)
+"""All cases of this file."""
 
 
-def cases() -> Iterator[Case]:
-    """All cases of this file."""
-    yield from case.added
-
-
-def refused(syntax: str, text: bytes, fault: str) -> None:
-    """A case of a pattern file that has one text, and of how it is refused."""
+def refused(syntax: str, byte: bytes, count: int, fault: str) -> None:
+    """A case of a pattern file that has a byte so many times, and of how it is refused."""
 
     read_as = "extended" if syntax else "basic"
 
-    @case(f"{len(text)} bytes of {text[:1].decode()} in a pattern file, {read_as}: {fault}.")
+    @case(f"{count:,} bytes of {byte.decode()} in a pattern file, {read_as}: {fault}.")
     def judge(bench: Bench) -> Verdict:
-        bench.write("p", text + b"\n")
+        want_memory(4 * count)
+        bench.write("p", byte * count + b"\n")
         wanted = Answer(b"", f"grep: pattern 1: {fault}\n".encode(), 2)
         return Verdict(wanted, bench.ask(*([syntax] if syntax else []), "-f", "p", stdin=b"a\n"))
 
@@ -38,8 +46,17 @@ for one_byte, basic, extended in (
     (b"*", "TooDeep at 257", "NothingToRepeat at 0"),
     (b"a", "TooLarge at 0", "TooLarge at 0"),
 ):
-    refused("", one_byte * MEBIBYTE, basic)
-    refused("-E", one_byte * MEBIBYTE, extended)
+    refused("", one_byte, MEBIBYTE, basic)
+    refused("-E", one_byte, MEBIBYTE, extended)
+
+for longest_syntax, repeated, told_fault in (
+    ("-E", b"(", "TooDeep at 256"),
+    ("", b"*", "TooDeep at 257"),
+    ("-E", b"*", "NothingToRepeat at 0"),
+    ("", b"[", "UnclosedBracket at 0"),
+    ("", b"a", "TooLarge at 0"),
+):
+    refused(longest_syntax, repeated, 100_000_000, told_fault)
 
 
 @case("A fixed string of a mebibyte is found in a line that has it, and only there.")
@@ -86,6 +103,145 @@ def each_byte_in_brackets(bench: Bench) -> Verdict:
     return Verdict(Answer(wanted), Answer(given))
 
 
+EACH_BYTE = [bytes((byte,)) for byte in range(256) if byte != 10]
+"""Each byte but the newline."""
+
+IN_EACH_LINE = {b"x", b"y", b".", b"^", b"$"}
+"""Bytes that as an expression are matched by each line of which a byte stands between x and y."""
+
+NO_BASIC = {b"[": "UnclosedBracket", b"\\": "TrailingBackslash"}
+"""Bytes that are no basic expression, and why."""
+
+NO_EXTENDED = {
+    **NO_BASIC,
+    b"(": "UnclosedGroup",
+    **dict.fromkeys((b"*", b"+", b"?"), "NothingToRepeat"),
+}
+"""Bytes that are no extended expression, and why."""
+
+
+def joined(answers: list[Answer]) -> Answer:
+    """Many answers as one, with their statuses among the output."""
+    out = b"".join(b"%s(%d)" % (answer.out, answer.status) for answer in answers)
+    return Answer(out, b"".join(answer.err for answer in answers))
+
+
+def answer_alone(byte: bytes, in_each_line: set[bytes], refused_for: dict[bytes, str]) -> Answer:
+    """The count that a byte as an expression gives on these lines, or how it is refused."""
+    if byte in refused_for:
+        return Answer(b"", f"grep: pattern 1: {refused_for[byte]} at 0\n".encode(), 2)
+    return Answer(b"255\n" if byte in in_each_line else b"1\n")
+
+
+def each_byte_alone(
+    read_as: str, words: list[str], in_each_line: set[bytes], refused_for: dict[bytes, str]
+) -> None:
+    """A case of each byte as an expression that is read in this way."""
+
+    @case(f"Each byte but the newline as {read_as} expression is read, or is refused by its name.")
+    def judge(bench: Bench) -> Verdict:
+        bench.write("f", b"".join(b"x" + byte + b"y\n" for byte in EACH_BYTE))
+        given = []
+        for byte in EACH_BYTE:
+            bench.write("p", byte + b"\n")
+            given.append(bench.ask(*words, "-c", "-f", "p", "f"))
+        wanted = [answer_alone(byte, in_each_line, refused_for) for byte in EACH_BYTE]
+        return Verdict(joined(wanted), joined(given))
+
+
+each_byte_alone("a basic", [], IN_EACH_LINE, NO_BASIC)
+each_byte_alone("an extended", ["-E"], IN_EACH_LINE | {b"|"}, NO_EXTENDED)
+
+
+@case("Each byte but the newline is a line, which a period matches but for the byte 0.")
+def each_byte_as_line(bench: Bench) -> Verdict:
+    bench.write("f", b"".join(byte + b"\n" for byte in EACH_BYTE))
+    rows = [b"%d:%s\n" % (number, byte) for number, byte in enumerate(EACH_BYTE, start=1)]
+    all_rows = bench.ask("-n", "", "f")
+    matched = bench.ask("-n", "-x", ".", "f")
+    wanted = [Answer(b"".join(rows)), Answer(b"".join(rows[1:]))]
+    return Verdict(joined(wanted), joined([all_rows, matched]))
+
+
+def answer_to_option(byte: bytes) -> Answer:
+    """What a command of one word gives, a hyphen with this byte behind it."""
+    if byte in b"cilnoqsvxEF-":
+        told = b"grep: no pattern\n"
+    elif byte in b"efABC":
+        told = b"grep: option -%s needs an argument\n" % byte
+    elif byte.isascii():
+        told = b"grep: unknown option -%s\n" % byte
+    else:
+        told = b"grep: words must be UTF-8\n"
+    return Answer(b"", told + USAGE, 2)
+
+
+@case("Each byte but 0 behind a hyphen is an option, or is refused by its name.")
+def each_byte_as_option(bench: Bench) -> Verdict:
+    letters = [bytes((byte,)) for byte in range(1, 256)]
+    given = [bench.ask(b"-" + letter) for letter in letters]
+    return Verdict(joined([answer_to_option(letter) for letter in letters]), joined(given))
+
+
+# Long words and names
+
+
+@case("A word as long as Linux takes is a pattern, and is found where it stands.")
+def longest_pattern(bench: Bench) -> Verdict:
+    word = b"ab" * (LONGEST_WORD // 2) + b"c"
+    given = bench.ask("-n", "-F", word, stdin=word[1:] + b"\nx" + word + b"\n")
+    return Verdict(Answer(b"2:x" + word + b"\n"), given)
+
+
+@case("A word as long as Linux takes is a basic expression of too many positions.")
+def longest_expression(bench: Bench) -> Verdict:
+    told = b"grep: pattern 1: TooLarge at 0\n"
+    return Verdict(Answer(b"", told, 2), bench.ask(b"a" * LONGEST_WORD))
+
+
+@case("A name as long as Linux takes of a word can't be opened, and is told whole.")
+def longest_name(bench: Bench) -> Verdict:
+    name = b"n" * LONGEST_WORD
+    wanted = Answer(b"", b"grep: " + name + b": cannot open\n", 2)
+    return Verdict(wanted, bench.ask("a", name))
+
+
+@case("A pattern file of a name as long as Linux takes of a word can't be opened.")
+def longest_name_of_patterns(bench: Bench) -> Verdict:
+    name = b"n" * (LONGEST_WORD - 2)
+    wanted = Answer(b"", b"grep: " + name + b": cannot open\n", 2)
+    return Verdict(wanted, bench.ask(b"-f" + name, "f"))
+
+
+@case("A word of as many options as Linux takes is as one of them.")
+def longest_options(bench: Bench) -> Verdict:
+    given = bench.ask(b"-" + b"nv" * ((LONGEST_WORD - 1) // 2), "a", stdin=b"a\nb\n")
+    return Verdict(Answer(b"2:b\n"), given)
+
+
+@occur_case("A name of 1 MiB stands before each row where there are two files.")
+def long_name_in_script(bench: Bench) -> Verdict:
+    name = b"n" * MEBIBYTE
+    script = b"file %s 2\nab\nb\nfile g 1\na\npatterns 1\na\nmissing %s\nshow\n" % (name, name)
+    shown = b"o %s:ab\no g:a\ne grep: %s: cannot open\nstatus 2\n" % (name, name)
+    return Verdict(Answer(b"ok\n" * 4 + shown), bench.ask(stdin=script))
+
+
+@occur_case("A command whose word has 1 MiB is none.")
+def long_word_in_script(bench: Bench) -> Verdict:
+    script = b"s" * MEBIBYTE + b"\nflag " + b"n" * MEBIBYTE + b" on\nshow\n"
+    wanted = Answer(b"refused BadCommand\n" * 2 + b"status 1\n", b"", 1)
+    return Verdict(wanted, bench.ask(stdin=script))
+
+
+@occur_case("A count of 1 MiB of digits is none, and one of so many zeros before it is.")
+def long_count_in_script(bench: Bench) -> Verdict:
+    zeros = b"0" * MEBIBYTE
+    script = b"file f 1%s\nfile f %s1\nab\npatterns 1\na\nshow\n" % (zeros, zeros)
+    wanted = Answer(b"refused BadCommand\n" + b"ok\n" * 2 + b"o ab\nstatus 0\n", b"", 1)
+    return Verdict(wanted, bench.ask(stdin=script))
+
+
 @case("A million empty lines are counted, and numbered.")
 def empty_lines(bench: Bench) -> Verdict:
     bench.write("f", b"\n" * 1_000_000)
@@ -102,6 +258,25 @@ def long_line(bench: Bench) -> Verdict:
     parts = bench.ask("-o", "b*c", "f")
     wanted = b"1:" + line + b"c\n" + b"bc\nc\n"
     return Verdict(Answer(wanted), Answer(given.out + parts.out, given.err, given.status))
+
+
+def want_memory(size: int) -> None:
+    """Gives a case up where so many bytes of memory are not there."""
+    told = Path("/proc/meminfo").read_text(encoding="ascii")
+    free = next(line for line in told.splitlines() if line.startswith("MemAvailable:"))
+    if int(free.split()[1]) * 1024 < size:
+        raise Skipped(f"less than {size >> 20} MiB of memory are there")
+
+
+@case("A line of 1 GiB without a newline is counted, and is found under `-q`.")
+def longest_line(bench: Bench) -> Verdict:
+    want_memory(6 * GIBIBYTE)
+    bench.write("f", b"ab\n")
+    os.truncate(bench.folder / "f", GIBIBYTE)
+    with (bench.folder / "f").open("ab") as file:
+        file.write(b"b")
+    given = [bench.ask("-c", "b", "f"), bench.ask("-q", "-v", "a", "f")]
+    return Verdict(joined([Answer(b"2\n"), Answer()]), joined(given))
 
 
 @case("Stars around stars on a long line take no time.")

@@ -7,20 +7,16 @@ from __future__ import annotations
 import os
 import pty
 import tty
-from collections.abc import Iterator
 
-from program import Answer, Bench, Case, Cases, Verdict, finish
+from program import Answer, Bench, Cases, Verdict, all_of, finish
 from streams import opened, seen_within
 
 BLOCK = 65_536
 """How many bytes the program reads and writes at a time."""
 
 case = Cases("grep", "live.py")
-
-
-def cases() -> Iterator[Case]:
-    """All cases of this file."""
-    yield from case.added
+cases = all_of(case)
+"""All cases of this file."""
 
 
 # When rows go out

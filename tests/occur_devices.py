@@ -8,11 +8,17 @@ import os
 import pty
 import resource
 import tty
-from collections.abc import Iterator
 from functools import partial
 
 from dialogue import Step, exchange, hold
-from program import Answer, Bench, Case, Cases, Verdict, Word, finish
+from program import Answer, Bench, Cases, Verdict, Word, all_of, finish
+from samples import (
+    REPLIES,
+    REPLY_WRITE_ERROR,
+    SCRIPT,
+    SCRIPT_CANNOT_OPEN,
+    SCRIPT_READ_ERROR,
+)
 from streams import (
     failing_input,
     feed_named_pipe,
@@ -24,23 +30,11 @@ from streams import (
     with_room,
 )
 
-CANNOT_OPEN = b"occur: nofile: cannot open\n"
-READ_ERROR = b"occur: read error\n"
-WRITE_ERROR = b"occur: write error\n"
 OUT_OF_MEMORY = b"occur: out of memory\n"
 
-SCRIPT = b"file f 1\nab\npatterns 1\na\nshow\n"
-"""The script of many cases. Its commands end after 12, 25 and 30 bytes."""
-
-REPLIES = b"ok\nok\no ab\nstatus 0\n"
-"""The replies to it, 20 bytes."""
-
 case = Cases("occur", "occur_devices.py")
-
-
-def cases() -> Iterator[Case]:
-    """All cases of this file."""
-    yield from case.added
+cases = all_of(case)
+"""All cases of this file."""
 
 
 # Help
@@ -222,13 +216,13 @@ def input_not_read(bench: Bench) -> Verdict:
 @case("A folder as a script is a read error.")
 def folder_as_script(bench: Bench) -> Verdict:
     (bench.folder / "d").mkdir()
-    return Verdict(Answer(b"", READ_ERROR, 2), bench.ask("d"))
+    return Verdict(Answer(b"", SCRIPT_READ_ERROR, 2), bench.ask("d"))
 
 
 @case("A folder as standard input of a script is a read error.")
 def folder_as_input(bench: Bench) -> Verdict:
     with opened(bench.folder) as folder:
-        return Verdict(Answer(b"", READ_ERROR, 2), bench.ask(stdin=folder))
+        return Verdict(Answer(b"", SCRIPT_READ_ERROR, 2), bench.ask(stdin=folder))
 
 
 def broken_script(name: str, content: bytes, out: bytes) -> None:
@@ -237,7 +231,7 @@ def broken_script(name: str, content: bytes, out: bytes) -> None:
     @case(name)
     def judge(bench: Bench) -> Verdict:
         with failing_input(content) as handle:
-            return Verdict(Answer(out, READ_ERROR, 2), bench.ask(stdin=handle))
+            return Verdict(Answer(out, SCRIPT_READ_ERROR, 2), bench.ask(stdin=handle))
 
 
 def replies_behind(read: int) -> bytes:
@@ -276,28 +270,30 @@ def full_output(name: str, words: list[Word], content: bytes, wanted: Answer) ->
 
 full_output(
     "Replies that can't be written are told with status 2.",
-    [], SCRIPT, Answer(b"", WRITE_ERROR, 2))
+    [], SCRIPT, Answer(b"", REPLY_WRITE_ERROR, 2))
 full_output(
     "Replies to a script that is named and can't be written are told with status 2.",
-    ["s"], b"", Answer(b"", WRITE_ERROR, 2))
+    ["s"], b"", Answer(b"", REPLY_WRITE_ERROR, 2))
 full_output(
     "A refusal that can't be written is told with status 2.",
-    [], b"close 0\n", Answer(b"", WRITE_ERROR, 2))
+    [], b"close 0\n", Answer(b"", REPLY_WRITE_ERROR, 2))
 full_output(
     "Where a script has no reply nothing is written, and no write fails.",
     [], b"", Answer())
 full_output(
     "A write fails in the midst of many replies.",
-    [], b"flag n on\nflag n off\n" * 50_000, Answer(b"", WRITE_ERROR, 2))
+    [], b"flag n on\nflag n off\n" * 50_000, Answer(b"", REPLY_WRITE_ERROR, 2))
 full_output(
     "A script that can't be opened is told, whether replies can be written or not.",
-    ["nofile"], b"", Answer(b"", CANNOT_OPEN, 2))
-full_output("Help that can't be written gives 2.", ["--help"], b"", Answer(b"", WRITE_ERROR, 2))
+    ["nofile"], b"", Answer(b"", SCRIPT_CANNOT_OPEN, 2))
+full_output(
+    "Help that can't be written gives 2.", ["--help"], b"", Answer(b"", REPLY_WRITE_ERROR, 2))
 
 
 def small_output(room: int) -> None:
     """A case of standard output that takes so many bytes."""
-    wanted = Answer(REPLIES) if room == len(REPLIES) else Answer(REPLIES[:room], WRITE_ERROR, 2)
+    cut_off = Answer(REPLIES[:room], REPLY_WRITE_ERROR, 2)
+    wanted = Answer(REPLIES) if room == len(REPLIES) else cut_off
 
     @case(f"Standard output takes {room} bytes of the replies: a beginning of them stands there.")
     def judge(bench: Bench) -> Verdict:
@@ -315,7 +311,7 @@ for room_of_output in range(len(REPLIES) + 1):
 def reader_gone(bench: Bench) -> Verdict:
     with pipe_without_reader() as pipe:
         given = bench.ask(stdin=SCRIPT, stdout=pipe)
-    return Verdict(Answer(b"", WRITE_ERROR, 2), given)
+    return Verdict(Answer(b"", REPLY_WRITE_ERROR, 2), given)
 
 
 @case("An editor that goes away ends occur at the next reply, though the input stays open.")
@@ -324,9 +320,9 @@ def editor_gone(bench: Bench) -> Verdict:
     heard = exchange(process, [Step(b"show\n", b"status 1\n")], process.stdin.fileno())
     process.stdout.close()
     os.write(process.stdin.fileno(), b"show\n")
-    messages = seen_within(process.stderr.fileno(), len(WRITE_ERROR))
+    messages = seen_within(process.stderr.fileno(), len(REPLY_WRITE_ERROR))
     given = Answer(heard, messages, finish(process).status)
-    return Verdict(Answer(b"status 1\n", WRITE_ERROR, 2), given)
+    return Verdict(Answer(b"status 1\n", REPLY_WRITE_ERROR, 2), given)
 
 
 # Messages that can't be written
@@ -426,4 +422,4 @@ def no_variables(bench: Bench) -> Verdict:
 
 @case("Messages begin with `occur:` by whatever name the program is called.")
 def other_name(bench: Bench) -> Verdict:
-    return Verdict(Answer(b"", CANNOT_OPEN, 2), bench.ask("nofile", called="editor"))
+    return Verdict(Answer(b"", SCRIPT_CANNOT_OPEN, 2), bench.ask("nofile", called="editor"))

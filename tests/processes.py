@@ -9,28 +9,23 @@ import pty
 import signal
 import time
 import tty
-from collections.abc import Iterator
 
-from program import Answer, Bench, Case, Cases, Verdict, finish
+from program import Answer, Bench, Cases, Verdict, all_of, finish
+from samples import (
+    INPUT_READ_ERROR,
+    REPLIES,
+    REPLY_WRITE_ERROR,
+    SCRIPT,
+    SCRIPT_READ_ERROR,
+    TWO_LINES,
+    WRITE_ERROR,
+)
 from streams import seen_within
-
-TWO_LINES = b"a\nba\n"
-"""The content of the file f: pattern `a` selects both lines."""
-
-SCRIPT = b"file f 1\nab\npatterns 1\na\nshow\n"
-REPLIES = b"ok\nok\no ab\nstatus 0\n"
-
-WRITE_ERROR = b"grep: write error\n"
-INPUT_READ_ERROR = b"grep: (standard input): read error\n"
 
 grep_case = Cases("grep", "processes.py")
 occur_case = Cases("occur", "processes.py")
-
-
-def cases() -> Iterator[Case]:
-    """All cases of this file."""
-    yield from grep_case.added
-    yield from occur_case.added
+cases = all_of(grep_case, occur_case)
+"""All cases of this file."""
 
 
 # Streams that are closed
@@ -82,13 +77,13 @@ closed_streams(
     grep_case, "With all streams closed the status is 2.", (0, 1, 2), ["a"], Answer(b"", b"", 2))
 closed_streams(
     occur_case, "Replies to closed standard output are a write error.",
-    (1,), [], Answer(b"", b"occur: write error\n", 2))
+    (1,), [], Answer(b"", REPLY_WRITE_ERROR, 2))
 closed_streams(
     occur_case, "A script is not taken for standard output that is closed.",
-    (1,), ["script"], Answer(b"", b"occur: write error\n", 2))
+    (1,), ["script"], Answer(b"", REPLY_WRITE_ERROR, 2))
 closed_streams(
     occur_case, "A script on closed standard input is a read error.",
-    (0,), [], Answer(b"", b"occur: read error\n", 2))
+    (0,), [], Answer(b"", SCRIPT_READ_ERROR, 2))
 closed_streams(
     occur_case, "Closed standard input is not noticed where a script is named.",
     (0,), ["script"], Answer(REPLIES))
@@ -159,5 +154,5 @@ grep_case("A terminal that goes away is a write error.")(
         Answer(b"ab\n", WRITE_ERROR, 2), gone_terminal(bench, b"ab\n", b"b\n", len(b"ab\n"))))
 occur_case("A terminal that goes away is a write error of occur.")(
     lambda bench: Verdict(
-        Answer(b"status 1\n", b"occur: write error\n", 2),
+        Answer(b"status 1\n", REPLY_WRITE_ERROR, 2),
         gone_terminal(bench, b"show\n", b"show\n", len(b"status 1\n"))))

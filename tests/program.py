@@ -4,8 +4,9 @@ from __future__ import annotations
 
 import os
 import subprocess
-from collections.abc import Callable
+from collections.abc import Callable, Iterator
 from dataclasses import dataclass, field
+from itertools import chain
 from pathlib import Path
 from typing import Any
 
@@ -97,6 +98,11 @@ class Cases:
             return judge
 
         return add
+
+
+def all_of(*groups: Cases) -> Callable[[], Iterator[Case]]:
+    """What gives the cases of these collections, one after the other."""
+    return lambda: chain.from_iterable(group.added for group in groups)
 
 
 def finish(process: subprocess.Popen[bytes], stdin: bytes | None = None) -> Answer:

@@ -50,6 +50,7 @@ class Session:
     patterns: list[bytes] = field(default_factory=list)
     flags: set[str] = field(default_factory=set)
     syntax: str = "basic"
+    context: tuple[int, int] | None = None
     named: int = 0
 
 
@@ -133,6 +134,15 @@ class Edits:
 
         return Edit(f"syntax {syntax}\n".encode(), choose)
 
+    def choose_context(self) -> Edit:
+        sizes = (self.dice.randrange(4), self.dice.randrange(4)) if self.dice.random() < 0.7 else None
+        words = "off" if sizes is None else f"{sizes[0]} {sizes[1]}"
+
+        def choose() -> None:
+            self.session.context = sizes
+
+        return Edit(f"context {words}\n".encode(), choose)
+
     def next(self) -> Edit:
         """The next edit; of few files and patterns more come, of many more go."""
         files, patterns = len(self.session.files), len(self.session.patterns)
@@ -145,6 +155,7 @@ class Edits:
             self.drop: 1 if patterns < 6 else 4,
             self.flag: 6,
             self.choose_syntax: 1,
+            self.choose_context: 2,
         }
         return self.dice.choices(list(kinds), list(kinds.values()))[0]()
 
@@ -188,6 +199,9 @@ def searched(grep: Path, folder: Path, session: Session) -> Answer:
     (folder / "patterns").write_bytes(b"".join(text + b"\n" for text in session.patterns))
     letters = "".join(sorted(session.flags)) + {"basic": "", "extended": "E", "fixed": "F"}[session.syntax]
     options = [f"-{letters}"] if letters else []
+    if session.context is not None:
+        before, after = session.context
+        options += ["-B", str(before), "-A", str(after)]
     names = [file.name.decode() for file in session.files]
     words = [grep, *options, "-f", "patterns", "--", *names]
     ran = subprocess.run(words, cwd=folder, capture_output=True, check=False)

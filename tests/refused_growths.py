@@ -26,9 +26,9 @@ from pathlib import Path
 
 import script
 from dialogue import Step
+from preload import build_library
 from program import SECONDS, Answer
 
-LIBRARY = Path(__file__).parent.parent / "tools" / "refuse_allocation.c"
 ENDED = b"occur: out of memory\n"
 NOT_MADE = b"refused Memory\n"
 LONGEST = 2000
@@ -256,21 +256,12 @@ def passed_mutants(program: Path, library: Path) -> list[str]:
     return passed
 
 
-def build_library(folder: Path) -> Path:
-    """Compiles the library that refuses a request."""
-    library = folder / "refuse.so"
-    compiler = os.environ.get("CC", "cc")
-    subprocess.run(
-        [compiler, "-shared", "-fPIC", "-O1", "-o", library, LIBRARY, "-ldl"], check=True)
-    return library
-
-
 def main() -> int:
     parser = argparse.ArgumentParser(description="Refuses each request for memory of occur in turn.")
     parser.add_argument("occur", metavar="OCCUR", type=Path, help="the built occur")
     program = parser.parse_args().occur.resolve()
     with tempfile.TemporaryDirectory() as folder:
-        library = build_library(Path(folder))
+        library = build_library("refuse_allocation.c", Path(folder))
         try:
             ends = try_all(program, library)
         except Wrong as wrong:

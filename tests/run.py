@@ -1,8 +1,8 @@
 #!/usr/bin/env python3
 """Runs built programs on the rows of tests/rows, the scripts of tests/scripts, the devices of
 tests/devices.py and tests/occur_devices.py, the inputs that are the output of tests/same_file.py,
-the processes of tests/processes.py, the live and long inputs of tests/live.py and the hostile texts
-of tests/hostile.py.
+the processes of tests/processes.py, the live and long inputs of tests/live.py, the hostile texts of
+tests/hostile.py and the failing calls of tests/failed_calls.py.
 
     tests/run.py GREP [OCCUR] [--only TEXT]
 
@@ -24,6 +24,7 @@ from collections.abc import Iterable
 from pathlib import Path
 
 import devices
+import failed_calls
 import hostile
 import live
 import occur_devices
@@ -86,6 +87,7 @@ def all_cases() -> list[Case]:
     """The cases of all programs. No two have one name."""
     cases = [*row.cases(), *script.cases(), *devices.cases(), *live.cases(), *hostile.cases()]
     cases += [*same_file.cases(), *occur_devices.cases(), *processes.cases()]
+    cases += failed_calls.cases()
     names = Counter(case.name for case in cases)
     if twice := [name for name, count in names.items() if count > 1]:
         raise row.BadRow(f"names that stand twice: {twice}")

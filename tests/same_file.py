@@ -3,22 +3,15 @@
 from __future__ import annotations
 
 import os
-from collections.abc import Iterator
 
-from program import Answer, Bench, Case, Cases, Verdict
+from program import Answer, Bench, Cases, Verdict, all_of
+from samples import SCRIPT, SCRIPT_READ_ERROR, TWO_LINES
 from streams import opened
-
-CONTENT = b"a\nba\n"
-"""What stands in the file `both` at first: pattern `a` selects both lines."""
 
 grep_case = Cases("grep", "same_file.py")
 occur_case = Cases("occur", "same_file.py")
-
-
-def cases() -> Iterator[Case]:
-    """All cases of this file."""
-    yield from grep_case.added
-    yield from occur_case.added
+cases = all_of(grep_case, occur_case)
+"""All cases of this file."""
 
 
 def appended(bench: Bench, words: list[str], content: bytes, as_input: bool = False) -> Answer:
@@ -48,7 +41,7 @@ def grep_of_both(
     def judge(bench: Bench) -> Verdict:
         bench.write("f", b"a\n")
         (bench.folder / "link").symlink_to("both")
-        return Verdict(wanted, appended(bench, words, CONTENT, as_input))
+        return Verdict(wanted, appended(bench, words, TWO_LINES, as_input))
 
     grep_case(name)(judge)
 
@@ -91,6 +84,11 @@ grep_of_both(
     ["-f", "both", "f", "both"], Answer(b"f:a\n", read_error("both"), 2))
 
 
+grep_of_both(
+    "Standard input that is two pattern files is two, and a file behind them is not searched.",
+    ["-f", "-", "-f", "-", "both"], Answer(b"", read_error("both"), 2))
+
+
 @grep_case("A device may be input and output at once.")
 def device_is_both(bench: Bench) -> Verdict:
     with opened(os.devnull, os.O_RDWR) as device:
@@ -100,20 +98,19 @@ def device_is_both(bench: Bench) -> Verdict:
 
 @grep_case("Of two files with the same content the one that is not standard output is searched.")
 def equal_content(bench: Bench) -> Verdict:
-    bench.write("f", CONTENT)
-    return Verdict(Answer(b"a\nba\n"), appended(bench, ["a", "f"], CONTENT))
+    bench.write("f", TWO_LINES)
+    return Verdict(Answer(b"a\nba\n"), appended(bench, ["a", "f"], TWO_LINES))
 
 
-SCRIPT = b"file f 1\nab\npatterns 1\na\nshow\n"
-"""A script whose replies, as commands, would be refused for ever."""
+# Scripts of occur: the replies, read as commands, would be refused for ever
 
 
 @occur_case("A script that is standard output too is a read error, and none of it is read.")
 def script_is_output(bench: Bench) -> Verdict:
-    return Verdict(Answer(b"", b"occur: read error\n", 2), appended(bench, ["both"], SCRIPT))
+    return Verdict(Answer(b"", SCRIPT_READ_ERROR, 2), appended(bench, ["both"], SCRIPT))
 
 
 @occur_case("A script on standard input that is standard output too is a read error.")
 def input_is_output(bench: Bench) -> Verdict:
-    wanted = Answer(b"", b"occur: read error\n", 2)
+    wanted = Answer(b"", SCRIPT_READ_ERROR, 2)
     return Verdict(wanted, appended(bench, [], SCRIPT, as_input=True))

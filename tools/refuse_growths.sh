@@ -1,41 +1,67 @@
 #!/usr/bin/env bash
-# Runs three tests in which requests for memory between two marks are refused. In crates/re_auto none is made: folding
-# and stepping take no memory. In crates/re_search each request of a matcher's searches is refused in turn, one a run,
-# and they go on without the cache. In crates/grep_cmd so is each request of the edits of sessions: one that is refused
-# for that leaves the session as it was, and made again answers as its row says. Edits that need no memory, reports,
-# messages and the status make no request. It wants a C compiler.
+# Runs tests in which requests for memory between two marks are refused. In crates/re_auto none is made: folding and
+# stepping take no memory. In the others each request is refused in turn, one a run, until none is left to refuse: in
+# crates/re_search of a matcher's searches, which go on without the cache; in crates/grep_core of lines, which are
+# handed out whole by the next call; in crates/grep_cmd of words and of whole searches, which tell so, with the output up
+# to there, and of the edits of sessions: one that is refused for that leaves the session as it was, and made again
+# answers as its row says. Edits that need no memory, reports, messages and the status make no request.
+# At first programs are run in the place of tests that are wrong on purpose: each has to be found. It wants a C compiler.
 set -euo pipefail
 cd "$(dirname "${BASH_SOURCE[0]}")/.."
 folder=$(mktemp -d)
 trap 'rm -rf "$folder"' EXIT
 "${CC:-cc}" -shared -fPIC -O1 -o "$folder/refuse.so" tools/refuse_marked_request.c -ldl
 
-# Runs a test, given by its crate and its full name, and counts the requests that were refused, and the marks behind
-# which none was.
-run() {
-    (cd "crates/$1" && rt test -- "${2##*::}")
+# Runs a command, and counts the requests that were refused, and the marks behind which none was.
+count() {
     : > "$folder/log"
-    REFUSE_LOG=$folder/log LD_PRELOAD=$folder/refuse.so "crates/$1/out/$1_tests" "$2"
+    REFUSE_LOG=$folder/log LD_PRELOAD=$folder/refuse.so "$@" > "$folder/told" 2>&1 || return 1
     refused=$(tr -cd r < "$folder/log" | wc -c)
     granted=$(($(tr -cd c < "$folder/log" | wc -c) - refused))
 }
 
-run re_auto tests::memory::stepping_takes_no_memory
-if [ "$refused" -ne 0 ] || [ "$granted" -eq 0 ]; then
-    echo "folding or stepping asked for memory"
-    exit 1
-fi
-echo "folding and stepping make no request"
+# Whether a command ends well, and between its marks makes no request; or makes some, and ends behind marks between
+# which none was left to refuse.
+asks_for_none() { count "$@" && [ "$refused" -eq 0 ] && [ "$granted" -gt 0 ]; }
+goes_on() { count "$@" && [ "$refused" -gt 0 ] && [ "$granted" -gt 0 ]; }
 
-# The same for a test that has to meet refusals; what its runs are.
-try() {
-    run "$1" "$2"
-    if [ "$refused" -eq 0 ]; then
-        echo "no request was refused"
+# What has to be said of the stand-in of a kind.
+expect() {
+    local wanted=$1 judge=$2 kind=$3 told=wrong
+    "${CC:-cc}" "-DKIND=$kind" -o "$folder/marked" tools/marked_program.c
+    if "$judge" "$folder/marked"; then told=right; fi
+    if [ "$told" != "$wanted" ]; then
+        echo "tools/marked_program.c of kind $kind: $judge says it is $told"
         exit 1
     fi
-    echo "$refused runs of $3 with a request refused, $granted with none left to refuse: each as it has to be"
 }
 
-try re_search cached::tests::searches_without_memory "a matcher"
-try grep_cmd tests::sessions::memory::edits_without_memory "a session"
+# one that asks for nothing, sets no mark, stops at the first refusal, fails, and goes through
+expect right asks_for_none 0
+for kind in 1 2 3 4; do expect wrong asks_for_none "$kind"; done
+for kind in 0 1 2 3; do expect wrong goes_on "$kind"; done
+expect right goes_on 4
+echo "8 tests that are wrong on purpose were found, and two that are right go through"
+
+# Judges a test, given by its crate and its full name; what it makes.
+try() {
+    local judge=$1 crate=$2 test=$3
+    (cd "crates/$crate" && rt test --jobs 1 -- "${test##*::}")
+    if ! "$judge" "crates/$crate/out/${crate}_tests" "$test"; then
+        cat "$folder/told"
+        echo "$crate, $test: ${refused:-no} requests refused, and ${granted:-no} marks without one"
+        exit 1
+    fi
+    if [ "$judge" = asks_for_none ]; then
+        echo "$4: no request is made"
+    else
+        echo "$4: $refused runs with a request refused, $granted with none left to refuse: each as it has to be"
+    fi
+}
+
+try asks_for_none re_auto tests::memory::stepping_takes_no_memory "folding and stepping"
+try goes_on re_search cached::tests::searches_without_memory "searches of a matcher"
+try goes_on grep_core tests::memory::lines_without_memory "lines"
+try goes_on grep_cmd tests::memory::words_without_memory "words"
+try goes_on grep_cmd tests::memory::searches_without_memory "searches of sources"
+try goes_on grep_cmd tests::sessions::memory::edits_without_memory "edits of sessions"

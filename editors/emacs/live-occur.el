@@ -68,6 +68,11 @@ next start of the program on."
               (const :tag "o: list the matched parts alone" ?o)
               (const :tag "c: list the number of lines of each buffer" ?c)))
 
+(defcustom live-occur-context nil
+  "How many lines a list shows around each line that matches, when it begins."
+  :type '(choice (const :tag "None" nil)
+                 (cons :tag "So many" (natnum :tag "Before") (natnum :tag "Behind"))))
+
 (defcustom live-occur-follow nil
   "Whether the line of a row is shown as soon as point moves to the row."
   :type 'boolean)
@@ -93,6 +98,9 @@ The whole line is searched."
 
 (defface live-occur-line '((t :inherit shadow))
   "Face for the number of the line in a row.")
+
+(defface live-occur-around '((t :inherit shadow))
+  "Face for the rows of lines around those that match.")
 
 (defface live-occur-match '((t :inherit match))
   "Face for the matched parts of a row.")
@@ -545,6 +553,8 @@ SOURCE is number FILE of SESSION."
 (defvar-local live-occur--patterns nil "The patterns, in their order.")
 (defvar-local live-occur--the-syntax 'basic "The syntax of the patterns.")
 (defvar-local live-occur--the-flags nil "The flags that are on.")
+(defvar-local live-occur--the-context nil
+  "How many lines are shown before and behind each that matches, as a pair, or nil.")
 (defvar-local live-occur--asked nil "Whether a report is on its way.")
 (defvar-local live-occur--again nil "Whether another report is wanted after it.")
 (defvar-local live-occur--idle-timer nil "The timer that looks for edits.")
@@ -560,7 +570,7 @@ SOURCE is number FILE of SESSION."
 
 (cl-defstruct (live-occur--key (:copier nil))
   "All that the look of rows depends on beside their bytes."
-  ids names patterns syntax flags)
+  ids names patterns syntax flags context)
 
 (defun live-occur--make-key ()
   "What the rows of a report depend on that is asked for now."
@@ -570,16 +580,25 @@ SOURCE is number FILE of SESSION."
                   live-occur--sources)
    :patterns live-occur--patterns
    :syntax live-occur--the-syntax
-   :flags live-occur--the-flags))
+   :flags live-occur--the-flags
+   :context live-occur--the-context))
 
 (defun live-occur--words (key)
   "The commands that put flags and patterns of KEY into a new session."
   `("flag n on\n"
+    ,@(when-let ((context (live-occur--key-context key)))
+        (list (live-occur--context-command context)))
     ,(format "syntax %s\n" (live-occur--key-syntax key))
     ,@(mapcar (lambda (letter) (format "flag %c on\n" letter))
               (live-occur--key-flags key))
     ,@(when-let ((patterns (live-occur--key-patterns key)))
         (list (live-occur--patterns-command patterns)))))
+
+(defun live-occur--context-command (context)
+  "The command for CONTEXT: a pair of numbers of lines, or nil."
+  (if context
+      (format "context %d %d\n" (car context) (cdr context))
+    "context off\n"))
 
 (defun live-occur--patterns-command (patterns)
   "A command with PATTERNS."
@@ -743,24 +762,36 @@ be killed without a word, as temporary ones are."
   "What a row says."
   id name
   line                                  ; from 1, or nil in a row that counts
+  around                                ; whether it is of a line that doesn't match, or of none
   text)                                 ; bytes
 
 (defun live-occur--parse (bytes key)
-  "The row that BYTES say in a report under KEY."
+  "The row that BYTES say in a report under KEY.
+Behind the head of a line that doesn't match itself stand hyphens, and
+between lines that do not follow one another stands a row of none."
   (let* ((ids (live-occur--key-ids key))
          (several (cdr ids))
-         (start 0)
-         (id (if several
-                 (prog1 (string-to-number bytes)
-                   (setq start (1+ (string-search ":" bytes))))
-               (car ids)))
-         (name (nth (cl-position id ids) (live-occur--key-names key))))
-    (if (memq ?c (live-occur--key-flags key))
-        (make-live-occur--row :id id :name name :text (substring bytes start))
-      (let ((colon (string-search ":" bytes start)))
-        (make-live-occur--row :id id :name name
-                              :line (string-to-number (substring bytes start colon))
-                              :text (substring bytes (1+ colon)))))))
+         (start 0))
+    (if (equal bytes "--")
+        (make-live-occur--row :around t :text bytes)
+      (let* ((id (if several
+                     (prog1 (string-to-number bytes)
+                       (setq start (live-occur--behind-number bytes 0)))
+                   (car ids)))
+             (name (nth (cl-position id ids) (live-occur--key-names key))))
+        (if (memq ?c (live-occur--key-flags key))
+            (make-live-occur--row :id id :name name :text (substring bytes start))
+          (let ((end (live-occur--behind-number bytes start)))
+            (make-live-occur--row :id id :name name
+                                  :line (string-to-number (substring bytes start end))
+                                  :around (eq (aref bytes (1- end)) ?-)
+                                  :text (substring bytes end))))))))
+
+(defun live-occur--behind-number (bytes start)
+  "The place in BYTES behind the number at START and the byte that ends it."
+  (while (<= ?0 (aref bytes start) ?9)
+    (cl-incf start))
+  (1+ start))
 
 (defun live-occur--shortened (bytes)
   "The text of BYTES, or the beginning of one that is long."
@@ -775,16 +806,22 @@ be killed without a word, as temporary ones are."
   "Insert the row that BYTES say under KEY."
   (let* ((row (live-occur--parse bytes key))
          (text (live-occur--shortened (live-occur--row-text row)))
+         (around (live-occur--row-around row))
+         (end (if around "-" ":"))
          (from (point)))
-    (insert (propertize (live-occur--row-name row) 'face 'live-occur-name) ":")
+    (when (live-occur--row-id row)
+      (insert (propertize (live-occur--row-name row) 'face 'live-occur-name) end))
     (when (live-occur--row-line row)
       (insert (propertize (number-to-string (live-occur--row-line row))
                           'face 'live-occur-line)
-              ":"))
+              end))
     (put-text-property from (point) 'live-occur-head t)
-    (when (memq ?o (live-occur--key-flags key))
-      (setq text (propertize text 'face 'live-occur-match)))
-    (insert text)
+    (insert (cond (around (propertize text 'face 'live-occur-around))
+                  ((memq ?o (live-occur--key-flags key))
+                   (propertize text 'face 'live-occur-match))
+                  (t text)))
+    (when around
+      (put-text-property from (1+ from) 'live-occur-marked t))
     (put-text-property from (point) 'mouse-face 'highlight)
     (insert "\n")))
 
@@ -872,7 +909,7 @@ the same text is taken, or else the same number."
     (if (or (< row first) (>= row (length old)) (= count 0))
         (min row count)
       (let* ((tail (lambda (bytes)
-                     (substring bytes (or (string-search ":" bytes) 0))))
+                     (substring bytes (or (string-match "[:-]" bytes) 0))))
              (text (funcall tail (aref old row))))
         (or (cl-loop for away from 0 to 50
                      thereis (cl-loop for near in (list (- row away) (+ row away))
@@ -1065,6 +1102,8 @@ A character of which only some bytes are in a place is in it."
 
 (defun live-occur--source-of (row)
   "The source that ROW is from."
+  (unless (live-occur--row-id row)
+    (user-error "There is no line here"))
   (or (cl-find (live-occur--row-id row) live-occur--sources :key #'live-occur--source-id)
       (user-error "The buffer of this row is gone")))
 
@@ -1163,12 +1202,26 @@ The list keeps its window."
   (interactive "p")
   (live-occur-next (- (or count 1))))
 
+(defun live-occur--own-row (row step)
+  "The number of the row from ROW on, by STEP, whose line matches itself."
+  (while (and (< -1 row (length live-occur--rows))
+              (live-occur--row-around (live-occur--row row)))
+    (cl-incf row step))
+  row)
+
 (defun live-occur--next-error (&optional count reset)
   "Move COUNT rows on, or with RESET from the first row, and go to the line.
+Rows of lines around others are passed.
 This is the `next-error-function' of lists."
   (when reset
     (goto-char (point-min)))
-  (live-occur-next (if reset 0 (or count 1)))
+  (let* ((here (live-occur--row-at (point)))
+         (count (if reset 0 (or count 1)))
+         (step (if (< count 0) -1 1))
+         (row (if (= count 0) (live-occur--own-row here step) here)))
+    (dotimes (_ (abs count))
+      (setq row (live-occur--own-row (+ row step) step)))
+    (live-occur-next (- row here)))
   (when-let ((window (get-buffer-window nil 0)))
     (set-window-point window (point)))
   (live-occur-visit))
@@ -1390,6 +1443,20 @@ FAULT is nil, or the kind and the place at which INITIAL was refused."
   (interactive)
   (live-occur--toggle ?c))
 
+(defun live-occur-set-context (before after)
+  "Show BEFORE lines before each that matches, and AFTER lines behind it.
+Where both numbers are 0 no other lines are shown."
+  (interactive
+   (list (read-number "Lines before: " (or (car live-occur--the-context) 0))
+         (read-number "Lines behind: " (or (cdr live-occur--the-context) 0))))
+  (unless (and (natnump before) (natnump after))
+    (user-error "A number of lines is 0 or more"))
+  (let* ((context (unless (= 0 before after) (cons before after)))
+         (reply (live-occur--ask (live-occur--context-command context)
+                                 (lambda () (setq live-occur--the-context context)))))
+    (unless (equal reply "ok")
+      (live-occur--tell-refusal reply live-occur--patterns))))
+
 ;;;; The list as a whole
 
 (defun live-occur--header ()
@@ -1400,6 +1467,9 @@ FAULT is nil, or the kind and the place at which INITIAL was refused."
     " " (symbol-name live-occur--the-syntax)
     (and live-occur--the-flags
          (concat " -" (apply #'string live-occur--the-flags)))
+    (and live-occur--the-context
+         (format " -B %d -A %d"
+                 (car live-occur--the-context) (cdr live-occur--the-context)))
     "  "
     (mapconcat (lambda (pattern) (propertize pattern 'face 'live-occur-pattern))
                live-occur--patterns "  ")
@@ -1518,6 +1588,7 @@ FAULT is nil, or the kind and the place at which INITIAL was refused."
                      ("x" . live-occur-toggle-whole-lines)
                      ("o" . live-occur-toggle-parts)
                      ("c" . live-occur-toggle-counts)
+                     ("C" . live-occur-set-context)
                      ("+" . live-occur-add-buffer)
                      ("-" . live-occur-remove-buffer)
                      ("r" . live-occur-restart)))
@@ -1539,6 +1610,7 @@ FAULT is nil, or the kind and the place at which INITIAL was refused."
   (setq live-occur--the-syntax live-occur-syntax
         live-occur--the-flags (seq-filter (lambda (letter) (memq letter live-occur-flags))
                                           live-occur--flag-letters)
+        live-occur--the-context live-occur-context
         live-occur--idle-timer (run-with-idle-timer live-occur-delay t
                                                     #'live-occur--look (current-buffer)))
   (add-hook 'kill-buffer-hook #'live-occur--discard nil t)

@@ -73,11 +73,12 @@ impl Files for DiskFiles<'_> {
     ghost failures = { λ d. d.failed };
 
     fn standard(&mut self) -> Tally<Stream<Stdin, File>> {
+        let is_output = self.guard.is_standard_input(self.rt);
         if self.input_used {
             return Tally::new(Stream::Empty);
         }
         self.input_used = true;
-        if self.guard.is_standard_input(self.rt) {
+        if is_output {
             return Tally::new(Stream::Output);
         }
         Tally::new(Stream::StandardInput(self.rt.stdin()))

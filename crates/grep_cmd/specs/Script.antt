@@ -13,7 +13,7 @@ use Rattle.re_syntax.specs.Lines.{put_before, joined}
 use Rattle.grep_core.specs.declared.options.Flag.{Flag}
 use Rattle.grep_core.specs.Files.{Ending, whole}
 use Rattle.grep_session.specs.Edits.{Edit, AddFile, AddMissing, DropFile, Splice, AddPatterns}
-use Rattle.grep_session.specs.Edits.{DropPattern, SetFlag, SetSyntax}
+use Rattle.grep_session.specs.Edits.{DropPattern, SetFlag, SetSyntax, SetContext}
 use Rattle.grep_cmd.specs.declared.words.pieces.Meaning.{Meaning}
 use Rattle.grep_cmd.specs.declared.words.pieces.Meaning.TheVariants as meaning
 use Rattle.grep_cmd.specs.Words.{meaning_of}
@@ -127,6 +127,20 @@ abbrev pub syntax_command : List Text → Option Command
 syntax_command (name ∷ []) = option_map (λ syntax. edits (SetSyntax syntax)) (syntax_of name)
 syntax_command _ = None
 
+abbrev pub context_from : Option ℕ → Option ℕ → Option Command
+context_from (Some before) (Some after) =
+    Some (edits (SetContext (Some (record { before = before; after = after }))))
+context_from _ _ = None
+
+abbrev pub no_context : Text → Option Command
+no_context word = if bytes_eq word (codes "off") then Some (edits (SetContext None)) else None
+
+-- `context BEFORE AFTER` or `context off`
+abbrev pub context_command : List Text → Option Command
+context_command (word ∷ []) = no_context word
+context_command (before ∷ after ∷ []) = context_from (number_of before) (number_of after)
+context_command _ = None
+
 -- `show`
 abbrev pub show_command : List Text → Option Command
 show_command [] = Some shows
@@ -140,7 +154,8 @@ unnamed_command word given =
     if bytes_eq word (codes "patterns") then patterns_command given else
     if bytes_eq word (codes "drop") then drop_command given else
     if bytes_eq word (codes "flag") then flag_command given else
-    if bytes_eq word (codes "syntax") then syntax_command given else None
+    if bytes_eq word (codes "syntax") then syntax_command given else
+    if bytes_eq word (codes "context") then context_command given else None
 
 -- the command of these words, where they are one
 unfoldable pub command_of : List Text → Option Command

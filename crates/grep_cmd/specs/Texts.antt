@@ -7,7 +7,8 @@ use Rattle.re_syntax.specs.declared.fault.PatternFault.{PatternFault}
 use Rattle.re_syntax.specs.Bytes.{Text}
 use Rattle.grep_cmd.specs.declared.words.UsageFault.{UsageFault}
 use Rattle.grep_cmd.specs.declared.words.UsageFault.TheVariants.{UnknownOption, MissingArgument}
-use Rattle.grep_cmd.specs.declared.words.UsageFault.TheVariants.{TwoSyntaxes, NoPattern, Memory}
+use Rattle.grep_cmd.specs.declared.words.UsageFault.TheVariants.{BadNumber, TwoSyntaxes, NoPattern}
+use Rattle.grep_cmd.specs.declared.words.UsageFault.TheVariants.{Memory}
 
 abbrev pub out_of_memory : Text
 out_of_memory = codes "grep: out of memory"
@@ -46,12 +47,15 @@ unfoldable pub fault_text : UsageFault → Text
 fault_text (UnknownOption c) = codes "grep: unknown option -" ++ encode_utf8 c
 fault_text (MissingArgument c) =
     codes "grep: option -" ++ encode_utf8 c ++ codes " needs an argument"
+fault_text (BadNumber c) = codes "grep: option -" ++ encode_utf8 c ++ codes " needs a number"
 fault_text TwoSyntaxes = codes "grep: -E and -F together"
 fault_text NoPattern = codes "grep: no pattern"
 fault_text Memory = out_of_memory
 
 unfoldable pub usage : Text
-usage = codes "usage: grep [-E|-F] [-cilnoqsvx] [-e LIST]... [-f FILE]... [LIST] [FILE...]"
+usage =
+    codes "usage: grep [-E|-F] [-cilnoqsvx] [-A NUM] [-B NUM] [-C NUM] " ++
+    codes "[-e LIST]... [-f FILE]... [LIST] [FILE...]"
 
 -- how the command is used (XCU grep, SYNOPSIS), behind a fault of the words themselves
 abbrev pub usage_behind : UsageFault → List Text

@@ -1,13 +1,18 @@
 -- The words of a command (XBD 12.2, Guidelines 3 to 7, 10, 11 and 13; XCU grep, OPTIONS and
 -- OPERANDS). An option behind an operand is still an option, as GNU grep has it; Guideline 9 has
 -- all options before the operands.
-use Rattle.std.specs.Prelude.{◌≡◌, ℕ, nat_eq, Bool, true, false, if◌then◌else◌, List, [], ◌∷◌, ◌++◌}
-use Rattle.std.specs.Prelude.{map, codes, bytes_eq, Option, Some, None, Result, Ok, Err, String}
+use Rattle.std.specs.Prelude.{◌≡◌, ℕ, ◌-◌, ◌^◌, nat_eq, min, Bool, true, false, if◌then◌else◌}
+use Rattle.std.specs.Prelude.{List, [], ◌∷◌, ◌++◌, map, codes, bytes_eq, Option, Some, None}
+use Rattle.std.specs.Prelude.{Result, Ok, Err, String}
+use Rattle.std.specs.List.{list_all}
 use Rattle.std.specs.Str.{byte, chars, encode_utf8_all}
 use Rattle.std.specs.String.{string_bytes}
-use Rattle.re_syntax.specs.Bytes.{Text}
+use Rattle.re_syntax.specs.declared.class.Class.TheVariants.{Digit}
+use Rattle.re_syntax.specs.Bytes.{Text, in_class}
+use Rattle.re_syntax.specs.Intervals.{value}
 use Rattle.re_syntax.specs.declared.syntax.Syntax.{Syntax}
 use Rattle.re_syntax.specs.declared.syntax.Syntax.TheVariants.{Basic, Extended, Fixed}
+use Rattle.grep_core.specs.declared.options.Context.{Context}
 use Rattle.grep_core.specs.declared.options.Options.{Options}
 use Rattle.grep_core.specs.declared.options.Flag.{Flag}
 use Rattle.grep_core.specs.declared.options.Flag.TheVariants.{Count, IgnoreCase, FilesWithMatches}
@@ -15,10 +20,14 @@ use Rattle.grep_core.specs.declared.options.Flag.TheVariants.{LineNumber, OnlyMa
 use Rattle.grep_core.specs.declared.options.Flag.TheVariants.{NoMessages, InvertMatch, LineRegexp}
 use Rattle.grep_cmd.specs.declared.words.UsageFault.{UsageFault}
 use Rattle.grep_cmd.specs.declared.words.UsageFault.TheVariants.{UnknownOption, MissingArgument}
-use Rattle.grep_cmd.specs.declared.words.UsageFault.TheVariants.{TwoSyntaxes, NoPattern, Memory}
+use Rattle.grep_cmd.specs.declared.words.UsageFault.TheVariants.{BadNumber, TwoSyntaxes, NoPattern}
+use Rattle.grep_cmd.specs.declared.words.UsageFault.TheVariants.{Memory}
 use Rattle.grep_cmd.specs.declared.words.PatternSource.{PatternSource}
 use Rattle.grep_cmd.specs.declared.words.PatternSource.TheVariants as given
 use Rattle.grep_cmd.specs.declared.words.Request.{Request}
+use Rattle.grep_cmd.specs.declared.words.around.Side.{Side}
+use Rattle.grep_cmd.specs.declared.words.around.Side.TheVariants.{After, Before, Both}
+use Rattle.grep_cmd.specs.declared.words.around.Around.{Around}
 use Rattle.grep_cmd.specs.declared.words.pieces.Argument.{Argument}
 use Rattle.grep_cmd.specs.declared.words.pieces.Argument.TheVariants as argument
 use Rattle.grep_cmd.specs.declared.words.pieces.Meaning.{Meaning}
@@ -41,17 +50,38 @@ pub data Piece : Type 0 where
   flag : Flag → Piece
   reads_as : Syntax → Piece
   source : PatternsFrom → Piece
+  -- so many lines are shown on a side of selected ones
+  around : Side → ℕ → Piece
   operand : Text → Piece
   fault : UsageFault → Piece
 
--- an option's argument as a source of patterns
-abbrev pub source_of : Argument → Text → PatternsFrom
-source_of argument.List text = list text
-source_of argument.File text = file text
+-- the greatest number of lines that can be asked for
+abbrev pub most_around : ℕ
+most_around = 2 ^ 64 - 1
 
--- what a character means as an option (XCU grep, OPTIONS; `o` after the GNU manual)
+-- a number of lines is one decimal digit or more; a greater one than the greatest stands for that
+abbrev pub lines_of : Text → Option ℕ
+lines_of [] = None
+lines_of (b ∷ rest) =
+    if list_all (in_class Digit) (b ∷ rest) then Some (min (value (b ∷ rest)) most_around) else None
+
+abbrev pub around_from : ℕ → Side → Option ℕ → Piece
+around_from letter side (Some count) = around side count
+around_from letter side None = fault (BadNumber letter)
+
+-- the option of this letter with its argument
+abbrev pub with_argument : ℕ → Argument → Text → Piece
+with_argument letter argument.List text = source (list text)
+with_argument letter argument.File text = source (file text)
+with_argument letter (argument.Lines side) text = around_from letter side (lines_of text)
+
+-- what a character means as an option (XCU grep, OPTIONS; `A`, `B`, `C` and `o` after the GNU
+-- manual)
 unfoldable pub meaning_of : ℕ → Option Meaning
 meaning_of c =
+    if nat_eq c (byte "A") then Some (meaning.Takes (argument.Lines After)) else
+    if nat_eq c (byte "B") then Some (meaning.Takes (argument.Lines Before)) else
+    if nat_eq c (byte "C") then Some (meaning.Takes (argument.Lines Both)) else
     if nat_eq c (byte "E") then Some (meaning.Syntax Extended) else
     if nat_eq c (byte "F") then Some (meaning.Syntax Fixed) else
     if nat_eq c (byte "c") then Some (meaning.Flag Count) else
@@ -96,7 +126,7 @@ module _ (behind : Option Wanting → List Piece) where
     | Some (meaning.Syntax s) ↦ reads_as s ∷ group cs
     | Some (meaning.Takes a) ↦ elim cs [
       | [] ↦ behind (Some (record { letter = c; argument = a }))
-      | d ∷ ds ↦ source (source_of a (encode_utf8_all (d ∷ ds))) ∷ behind None
+      | d ∷ ds ↦ with_argument c a (encode_utf8_all (d ∷ ds)) ∷ behind None
     ]
     | None ↦ fault (UnknownOption c) ∷ group cs
   ]
@@ -105,7 +135,7 @@ module _ (behind : Option Wanting → List Piece) where
 abbrev pub pieces : List Text → Option Wanting → List Piece
 pieces [] None = []
 pieces [] (Some w) = fault (MissingArgument w.letter) ∷ []
-pieces (word ∷ words) (Some w) = source (source_of w.argument word) ∷ pieces words None
+pieces (word ∷ words) (Some w) = with_argument w.letter w.argument word ∷ pieces words None
 pieces (word ∷ words) None = elim (word_of word) [
   | an_operand ↦ operand word ∷ pieces words None
   | ends_options ↦ map operand words
@@ -149,6 +179,36 @@ options_behind before [] = before
 options_behind before (flag f ∷ ps) = options_behind (with_flag f before) ps
 options_behind before (_ ∷ ps) = options_behind before ps
 
+abbrev pub with_lines : Side → ℕ → Around → Around
+with_lines After count before = record before { after = Some count }
+with_lines Before count before = record before { before = Some count }
+with_lines Both count before = record before { both = Some count }
+
+-- the numbers that `-A`, `-B` and `-C` have behind pieces: of each the last one counts
+abbrev pub around_behind : Around → List Piece → Around
+around_behind before [] = before
+around_behind before (around side count ∷ ps) = around_behind (with_lines side count before) ps
+around_behind before (_ ∷ ps) = around_behind before ps
+
+abbrev pub either : Option ℕ → Option ℕ → Option ℕ
+either (Some count) _ = Some count
+either None other = other
+
+abbrev pub or_none : Option ℕ → ℕ
+or_none (Some count) = count
+or_none None = 0
+
+abbrev pub context_from : Option ℕ → Option ℕ → Option Context
+context_from None None = None
+context_from None (Some after) = Some (record { before = 0; after = after })
+context_from (Some before) after = Some (record { before = before; after = or_none after })
+
+-- on each side its own option goes before `-C`, and no lines are shown on a side without a number
+-- where the other has one
+abbrev pub context_of : Around → Option Context
+context_of numbers =
+    context_from (either numbers.before numbers.both) (either numbers.after numbers.both)
+
 abbrev pub sources_of : List Piece → List PatternsFrom
 sources_of [] = []
 sources_of (source s ∷ ps) = s ∷ sources_of ps
@@ -177,11 +237,15 @@ with_patterns a [] [] = Err NoPattern
 abbrev pub completed : Asked → Result Asked UsageFault
 completed a = with_patterns a a.sources a.files
 
--- the first fault of the pieces, or what the request and they ask for
-abbrev pub reads_on : Asked → List Piece → Result Asked UsageFault
-reads_on before ps =
-    elim (first_fault before.syntax ps)
-    [ Some f ↦ Err f | None ↦ completed (with_pieces before ps) ]
+abbrev pub with_context : Option Context → Asked → Asked
+with_context context a = record a { options = record a.options { context = context } }
+
+-- the first fault of the pieces, or what they ask for behind this request and these numbers
+abbrev pub reads_on : Around → Asked → List Piece → Result Asked UsageFault
+reads_on numbers before ps = elim (first_fault before.syntax ps) [
+  | Some f ↦ Err f
+  | None ↦ completed (with_context (context_of (around_behind numbers ps)) (with_pieces before ps))
+]
 
 abbrev pub nothing_asked : Asked
 nothing_asked = record {
@@ -196,14 +260,18 @@ nothing_asked = record {
     no_messages = false;
     invert_match = false;
     line_regexp = false;
+    context = None;
   };
   sources = [];
   files = [];
 }
 
+abbrev pub no_numbers : Around
+no_numbers = record { after = None; before = None; both = None }
+
 -- what words ask for, or their first fault
 abbrev pub read : List Text → Result Asked UsageFault
-read words = reads_on nothing_asked (pieces words None)
+read words = reads_on no_numbers nothing_asked (pieces words None)
 
 abbrev pub given_source : PatternSource → PatternsFrom
 given_source (given.List text) = list (string_bytes text)

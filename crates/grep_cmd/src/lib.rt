@@ -5,6 +5,7 @@ mod command;
 mod files;
 mod matchers;
 mod memory;
+mod number;
 mod operands;
 mod patterns;
 mod refusal;

@@ -11,7 +11,6 @@ mod answer;
 mod command;
 mod counted;
 mod line_words;
-mod number;
 mod reply;
 #[cfg(test)]
 mod tests;

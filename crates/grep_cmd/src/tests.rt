@@ -1,8 +1,11 @@
 //! Searches and commands over files in memory, and devices that move few bytes or stop.
+mod around;
 mod commands;
 mod faults;
 mod harness;
 mod many;
+mod marks;
+mod memory;
 mod options;
 mod rows;
 mod sessions;

@@ -5,7 +5,8 @@ pub const FAILED: u8 = 2;
 
 /// How the command is used (XCU grep, SYNOPSIS).
 pub const USAGE: &[u8] =
-    b"usage: grep [-E|-F] [-cilnoqsvx] [-e LIST]... [-f FILE]... [LIST] [FILE...]";
+    b"usage: grep [-E|-F] [-cilnoqsvx] [-A NUM] [-B NUM] [-C NUM] [-e LIST]... [-f FILE]... [LIST] \
+    [FILE...]";
 
 /// Memory was refused.
 pub const OUT_OF_MEMORY: &[u8] = b"grep: out of memory";

@@ -23,6 +23,17 @@ fn write_missing_argument<M: CountedWrite>(messages: &mut M, letter: char) -> Re
     write_line_behind(messages, letter, b" needs an argument")
 }
 
+/// Writes the line on an option whose argument is no number.
+fn write_bad_number<M: CountedWrite>(messages: &mut M, letter: char) -> Result<(), WriteFault>
+    ensures { Writes M.contents M.failures messages.old messages.new
+        (output_line [] (fault_text (UsageFault.BadNumber letter))) result }
+{
+    let mut bytes = [0; 4];
+    let letter = letter.encode_utf8(&mut bytes).as_bytes();
+    push_all(messages, b"grep: option -")?;
+    write_line_behind(messages, letter, b" needs a number")
+}
+
 /// Writes the line on a character that is no option.
 fn write_unknown_option<M: CountedWrite>(messages: &mut M, letter: char) -> Result<(), WriteFault>
     ensures { Writes M.contents M.failures messages.old messages.new
@@ -42,6 +53,7 @@ fn write_fault<M: CountedWrite>(messages: &mut M, fault: UsageFault) -> Result<(
     match fault {
         UsageFault::UnknownOption(letter) => write_unknown_option(messages, letter),
         UsageFault::MissingArgument(letter) => write_missing_argument(messages, letter),
+        UsageFault::BadNumber(letter) => write_bad_number(messages, letter),
         UsageFault::TwoSyntaxes => write_line(messages, b"grep: -E and -F together"),
         UsageFault::NoPattern => write_line(messages, b"grep: no pattern"),
         UsageFault::Memory => write_line(messages, OUT_OF_MEMORY),

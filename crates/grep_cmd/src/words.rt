@@ -1,15 +1,17 @@
 //! The words of grep, and what they ask for (XBD 12.2; XCU grep, SYNOPSIS, OPTIONS, OPERANDS).
 ghost use Rattle.std.specs.Prelude.{◌≡◌, ◌∷◌, [], IfOk, MatchResult};
-ghost use Rattle.grep_cmd.specs.Words.{AreRead, OrMemory, asked, completed, first_fault};
-ghost use Rattle.grep_cmd.specs.Words.{may_follow, operand, source, source_of, texts_of, with_flag};
-ghost use Rattle.grep_cmd.specs.Words.{with_pieces};
+ghost use Rattle.grep_cmd.specs.Words.{AreRead, OrMemory, around_behind, asked, completed};
+ghost use Rattle.grep_cmd.specs.Words.{context_of, first_fault, given_source, may_follow, operand};
+ghost use Rattle.grep_cmd.specs.Words.{source, texts_of, with_context, with_flag, with_pieces};
 ghost use Rattle.grep_cmd.specs.Working.Pieces.{piece_of};
 
+pub mod around;
 pub mod pieces;
 #[cfg(test)]
 mod tests;
 
-use crate::words::pieces::{Argument, Piece, pieces_of};
+use crate::words::around::Around;
+use crate::words::pieces::{Piece, pieces_of};
 use grep_core::{Flag, Options};
 use re_syntax::Syntax;
 use std::alloc::{AllocError, Global};
@@ -19,8 +21,10 @@ use std::alloc::{AllocError, Global};
 pub enum UsageFault {
     /// This character is no option of grep.
     UnknownOption(char),
-    /// No argument follows this option, which is `e` or `f`.
+    /// No argument follows this option, which is `A`, `B`, `C`, `e` or `f`.
     MissingArgument(char),
+    /// The argument of this option, which is `A`, `B` or `C`, is no number.
+    BadNumber(char),
     /// Both of `-E` and `-F` were given.
     TwoSyntaxes,
     /// There is no `-e`, no `-f` and no operand.
@@ -93,20 +97,11 @@ fn goes_with(before: Syntax, syntax: Syntax) -> bool
 
 impl Request {
     /// Adds an argument of `-e` or `-f`.
-    fn add_source(
-        &mut self,
-        alloc: Global,
-        argument: Argument,
-        text: &str,
-    ) -> Result<(), AllocError>
+    fn add_source(&mut self, given: PatternSource) -> Result<(), AllocError>
         ensures { IfOk result (λ _. asked self.new
-            ≡ with_pieces (asked self.old) (source (source_of argument text.now) ∷ [])) }
+            ≡ with_pieces (asked self.old) (source (given_source given) ∷ [])) }
     {
-        let text = String::from_str(alloc, text)?;
-        self.sources.push(match argument {
-            Argument::List => PatternSource::List(text),
-            Argument::File => PatternSource::File(text),
-        })?;
+        self.sources.push(given)?;
         Ok(())
     }
 
@@ -116,27 +111,6 @@ impl Request {
             ≡ with_pieces (asked self.old) (operand text.now ∷ [])) }
     {
         self.files.push(String::from_str(alloc, text)?)?;
-        Ok(())
-    }
-
-    /// Adds what an option or an operand asks for.
-    ///
-    /// `TwoSyntaxes` comes where one of `-E` and `-F` follows the other, `Memory` where a growth is
-    /// refused.
-    fn add(&mut self, alloc: Global, piece: Piece) -> Result<(), UsageFault>
-        ensures { MatchResult result
-            (λ _. (first_fault self.old.syntax (piece_of (Ok piece.entry) ∷ []) ≡ None)
-            × (asked self.new ≡ with_pieces (asked self.old) (piece_of (Ok piece.entry) ∷ [])))
-            (λ fault. OrMemory fault
-            (first_fault self.old.syntax (piece_of (Ok piece.entry) ∷ []) ≡ Some fault)) }
-    {
-        match piece {
-            Piece::Flag(flag) => set(&mut self.options, flag),
-            Piece::Syntax(syntax) if goes_with(self.syntax, syntax) => self.syntax = syntax,
-            Piece::Syntax(_) => return Err(UsageFault::TwoSyntaxes),
-            Piece::Source(argument, text) => self.add_source(alloc, argument, text)?,
-            Piece::Operand(text) => self.add_operand(alloc, text)?,
-        }
         Ok(())
     }
 
@@ -161,23 +135,81 @@ impl Request {
     }
 }
 
+/// What words ask for, as far as they were read.
+#[derive(Drop)]
+struct Draft {
+    request: Request,
+    around: Around,
+}
+
+impl Draft {
+    /// Adds what an option or an operand asks for.
+    ///
+    /// `TwoSyntaxes` comes where one of `-E` and `-F` follows the other, `Memory` where a growth is
+    /// refused.
+    fn add(&mut self, alloc: Global, piece: Piece) -> Result<(), UsageFault>
+        ensures { MatchResult result
+            (λ _. (first_fault self.old.request.syntax (piece_of (Ok piece.entry) ∷ []) ≡ None)
+            × (asked self.new.request
+            ≡ with_pieces (asked self.old.request) (piece_of (Ok piece.entry) ∷ []))
+            × (self.new.around ≡ around_behind self.old.around (piece_of (Ok piece.entry) ∷ [])))
+            (λ fault. OrMemory fault
+            (first_fault self.old.request.syntax (piece_of (Ok piece.entry) ∷ []) ≡ Some fault)) }
+    {
+        let request = &mut self.request;
+        match piece {
+            Piece::Flag(flag) => set(&mut request.options, flag),
+            Piece::Syntax(syntax) if goes_with(request.syntax, syntax) => request.syntax = syntax,
+            Piece::Syntax(_) => return Err(UsageFault::TwoSyntaxes),
+            Piece::List(text) => {
+                request.add_source(PatternSource::List(String::from_str(alloc, text)?))?;
+            }
+            Piece::File(name) => {
+                request.add_source(PatternSource::File(String::from_str(alloc, name)?))?;
+            }
+            Piece::Around(side, count) => self.around.set(side, count),
+            Piece::Operand(text) => request.add_operand(alloc, text)?,
+        }
+        Ok(())
+    }
+
+    /// What all words ask for.
+    ///
+    /// `NoPattern` comes where there is no pattern, `Memory` where a growth is refused.
+    fn complete(mut self) -> Result<Request, UsageFault>
+        ensures { MatchResult result
+            (λ request. completed (with_context (context_of self.around) (asked self.request))
+            ≡ Ok (asked request))
+            (λ fault. OrMemory fault
+            (completed (with_context (context_of self.around) (asked self.request)) ≡ Err fault)) }
+    {
+        self.request.options.context = self.around.context();
+        self.request.complete()
+    }
+}
+
 /// Reads the words that follow the name of the command.
 ///
 /// The first fault from the left is told: `UnknownOption` where a character of a group of options
-/// is none, `MissingArgument` where nothing follows `-e` or `-f`, `TwoSyntaxes` where one of `-E`
-/// and `-F` follows the other; else `NoPattern` where there is no `-e`, no `-f` and no operand.
-/// `Memory` comes where a growth is refused.
+/// is none, `MissingArgument` where nothing follows an option that has an argument, `BadNumber`
+/// where that of `-A`, `-B` or `-C` is no number, `TwoSyntaxes` where one of `-E` and `-F` follows
+/// the other; else `NoPattern` where there is no `-e`, no `-f` and no operand. `Memory` comes where
+/// a growth is refused.
 pub fn read_words(alloc: Global, words: &[String]) -> Result<Request, UsageFault>
     ensures { AreRead (texts_of words.now) result }
 {
-    let mut request = Request {
+    let request = Request {
         syntax: Syntax::Basic,
         options: Options::default(),
         sources: Vec::new(alloc),
         files: Vec::new(alloc),
     };
+    let mut draft = Draft {
+        request,
+        around: Around::default(),
+    };
     for piece in pieces_of(words) {
-        request.add(alloc, piece?)?;
+        draft.add(alloc, piece?)?;
     }
-    request.complete()
+    draft.complete()
 }

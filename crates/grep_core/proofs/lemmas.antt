@@ -9,12 +9,18 @@ pub mod MessageLemmas
 pub mod ChooseLaws
 pub mod AnyLaws
 pub mod Decided
+pub mod AroundLaws
 pub mod Determined
 pub mod Exist
 pub mod Verdicts
 pub mod LawsHold
+pub mod ContextLaws
 pub mod MoreLines
+pub mod ShownLemmas
+pub mod GroupLemmas
+pub mod AroundLemmas
 pub mod MoreFiles
+pub mod GroupLaws
 pub mod MessageLaws
 pub mod StatusLaws
 pub mod SourceLaws
@@ -30,6 +36,8 @@ pub mod OneFile
 pub mod OneLineLemmas
 pub mod FileOutput
 pub mod LinesLemmas
+pub mod WaitingRows
+pub mod AroundSearch
 pub mod OpenedLemmas
 pub mod SummaryLemmas
 pub mod RunLaws
@@ -40,3 +48,5 @@ pub mod WrittenLemmas
 pub mod MatcherLemmas
 pub mod SameChoice
 pub mod FilterLemmas
+pub mod BlockLines
+pub mod BehindLemmas

@@ -1,11 +1,12 @@
 -- What the definitions promise of themselves.
-use Rattle.std.specs.Prelude.{◌≡◌, ℕ, List}
+use Rattle.std.specs.Prelude.{◌≡◌, ℕ, ◌||◌, IsTrue, ◌↔◌, List, Option, None}
 use Rattle.re_syntax.specs.declared.syntax.Syntax.{Syntax}
 use Rattle.re_syntax.specs.Bytes.{Text}
 use Rattle.re_syntax.specs.Expression.{Expression}
+use Rattle.grep_core.specs.declared.options.Context.{Context}
 use Rattle.grep_core.specs.declared.options.Options.{Options}
 use Rattle.grep_core.specs.Files.{File, AreMeant}
-use Rattle.grep_core.specs.Output.{Out}
+use Rattle.grep_core.specs.Output.{around, form, Out}
 use Rattle.grep_core.specs.Messages.{Messages, StatusOf}
 use Rattle.grep_core.specs.Cost.{FilesCost}
 
@@ -28,3 +29,12 @@ abbrev pub MeansOne : Syntax → Options → Type 0
 MeansOne syntax options =
     (patterns : List Text) (ds es : List Expression) → AreMeant syntax options patterns ds →
     AreMeant syntax options patterns es → ds ≡ es
+
+-- under `-q`, `-l`, `-c` and `-o` the output is the same whatever context is given, and where none
+-- is given no lines are shown around selected ones
+pub record ContextIsForLines (options : Options) : Type 0 where
+  pub ignored : IsTrue
+      (options.quiet || (options.files_with_matches || (options.count || options.only_matching))) →
+      (context : Option Context) (es : List Expression) (files : List File) (out : List Text) →
+      Out es (record options { context = context }) files out ↔ Out es options files out
+  pub none_around : options.context ≡ None → (context : Context) → ¬ (form options ≡ around context)

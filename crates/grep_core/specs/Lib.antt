@@ -13,6 +13,7 @@ pub mod Counted
 pub mod Row
 pub mod Choose
 pub mod Files
+pub mod Around
 pub mod Output
 pub mod Messages
 pub mod Reading

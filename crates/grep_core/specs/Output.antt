@@ -1,16 +1,18 @@
 -- The lines that grep writes to standard output (XCU grep, STDOUT), and under `-o` the parts (GNU
 -- grep, -o).
 use Rattle.std.specs.Prelude.{◌≡◌, ℕ, nat_le, Bool, ◌&&◌, if◌then◌else◌, List, [], ◌∷◌, ◌++◌}
-use Rattle.std.specs.Prelude.{length, map, Option, None, Some, slice_range}
+use Rattle.std.specs.Prelude.{length, map, drop, Option, None, Some, slice_range}
 use Rattle.std.specs.List.{enumerate_from, flat_map}
 use Rattle.std.specs.Fmt.{decimal}
 use Rattle.re_syntax.specs.Bytes.{Text}
 use Rattle.re_syntax.specs.Expression.{Expression}
 use Rattle.re_syntax.specs.Parts.{AreParts}
+use Rattle.grep_core.specs.declared.options.Context.{Context}
 use Rattle.grep_core.specs.declared.options.Options.{Options}
 use Rattle.grep_core.specs.Row.{colon, prefix, head, output_line}
 use Rattle.grep_core.specs.Choose.{EachGives, Chosen}
 use Rattle.grep_core.specs.Files.{File, Ending, missing, Selected, HasSelected}
+use Rattle.grep_core.specs.Around.{Groups}
 
 -- there are two files or more
 abbrev pub are_many : List File → Bool
@@ -28,13 +30,19 @@ shown_number options number = if options.line_number then Some number else None
 abbrev pub numbered : List Text → List (ℕ × Text)
 numbered lines = enumerate_from 1 lines
 
--- what the options ask for: `-q` goes before `-l`, `-l` before `-c`, and these before `-o`
+-- what the options ask for: `-q` goes before `-l`, `-l` before `-c`, and these before `-o`, which
+-- goes before lines around selected ones
 pub data Form : Type 0 where
   nothing : Form
   names : Form
   counts : Form
   parts : Form
   lines : Form
+  around : Context → Form
+
+abbrev pub lines_with : Option Context → Form
+lines_with None = lines
+lines_with (Some context) = around context
 
 abbrev pub form : Options → Form
 form options =
@@ -42,7 +50,7 @@ form options =
     if options.files_with_matches then names else
     if options.count then counts else
     if options.only_matching && options.invert_match then nothing else
-    if options.only_matching then parts else lines
+    if options.only_matching then parts else lines_with options.context
 
 module _ (es : List Expression) (options : Options) (many : Bool) where
   -- the selected lines of a file, with their numbers
@@ -79,6 +87,11 @@ module _ (es : List Expression) (options : Options) (many : Bool) where
       (selected : List (ℕ × Text)) × SelectedLines file selected ×
       EachGives (PartsOfLine file) selected out
 
+  -- the lines around the selected ones of a file with these, each group behind a separator
+  abbrev pub GroupsOf : Context → File → List Text → Type 0
+  GroupsOf context file out =
+      Groups es options context (shown_name many file) (shown_number options) file.lines out
+
   abbrev pub OutAs : Form → List File → List Text → Type 0
   OutAs nothing files out = out ≡ []
   OutAs names files out =
@@ -87,6 +100,8 @@ module _ (es : List Expression) (options : Options) (many : Bool) where
   OutAs counts files out = EachGives (λ file rows. CountOf file.ending file rows) files out
   OutAs parts files out = EachGives PartRowsOf files out
   OutAs lines files out = EachGives RowsOf files out
+  OutAs (around context) files out =
+      (groups : List Text) × EachGives (GroupsOf context) files groups × (out ≡ drop 1 groups)
 
 -- the lines that grep writes
 abbrev pub Out : List Expression → Options → List File → List Text → Type 0

@@ -8,6 +8,10 @@ use Rattle.re_syntax.specs.Lines.{newline}
 abbrev pub colon : ℕ
 colon = 58
 
+-- and for a line that is shown around selected ones
+abbrev pub hyphen : ℕ
+hyphen = 45
+
 -- the name and the separator, where a name is shown
 abbrev pub prefix : ℕ → Option Text → Text
 prefix separator None = []

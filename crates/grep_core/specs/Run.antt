@@ -1,5 +1,5 @@
 -- What a run over sources writes, each source read once from front to back.
-use Rattle.std.specs.Prelude.{◌≡◌, ℕ, zero, suc, ◌+◌, ◌<◌, ◌≤◌, Bool, IsTrue, List, [], ◌∷◌, ◌++◌}
+use Rattle.std.specs.Prelude.{◌≡◌, ℕ, zero, suc, ◌+◌, ◌<◌, ◌≤◌, IsTrue, List, [], ◌∷◌, ◌++◌}
 use Rattle.std.specs.Prelude.{length, take, get_or, Option, Result, Ok, Err}
 use Rattle.std.specs.List.{AllZip}
 use Rattle.std.specs.Io.KnownBytes.{Appends}
@@ -14,7 +14,7 @@ use Rattle.grep_core.specs.declared.status.RunFault.TheVariants.{Write, MessageW
 use Rattle.grep_core.specs.Counted.{one_more}
 use Rattle.grep_core.specs.Choose.{IfHolds}
 use Rattle.grep_core.specs.Files.{File, whole, missing, HasSelected, AreMeant}
-use Rattle.grep_core.specs.Output.{Form, parts, lines, form, OutAs, Out, are_many, written}
+use Rattle.grep_core.specs.Output.{Form, parts, lines, around, form, OutAs, Out, are_many, written}
 use Rattle.grep_core.specs.Messages.{FaultMet, Messages, StatusOf}
 use Rattle.grep_core.specs.Reading.{Source, Reading, IsReadingOf, file_of, failures_of, AreLeft}
 use Rattle.grep_core.specs.Cost.{SearchesFiles}
@@ -93,15 +93,17 @@ module _ (es : List Expression) (options : Options) where
       (LeftMet sources readings rest)
       × (left ≡ own ++ rest)
 
-  -- the rows of a file's first lines; there are none yet under `-c`, `-l` and `-q`
-  abbrev pub RowsAs : Form → Bool → File → List Text → Type 0
-  RowsAs lines many file rows = OutAs es options many lines (file ∷ []) rows
-  RowsAs parts many file rows = OutAs es options many parts (file ∷ []) rows
-  RowsAs _ many file rows = rows ≡ []
-
 -- the file's first lines and nothing more
 abbrev pub first_lines : ℕ → File → File
 first_lines n file = record { name = file.name; lines = take n file.lines; ending = whole }
+
+-- the file of which the first n lines were searched, as far as rows tell of it; there are none yet
+-- under `-c`, `-l` and `-q`
+abbrev pub begun : Form → ℕ → File → List File
+begun lines n file = first_lines n file ∷ []
+begun parts n file = first_lines n file ∷ []
+begun (around context) n file = first_lines n file ∷ []
+begun _ n file = []
 
 -- file k, which is there
 abbrev pub file_at : List File → ℕ → File
@@ -151,22 +153,20 @@ module _ (es : List Expression) (options : Options) (sources : List Source)
     pub gave_back : given left
     pub steps : SearchesFiles es options (length es) (files_of sources readings) old.steps new.steps
 
-  -- a run that want of memory ended behind the first n lines of source k: output and messages are
-  -- those of the sources before it, and the rows of these lines follow
+  -- a run that want of memory ended behind the first n lines of source k: the output is that of the
+  -- sources before it and of a source of these lines, the messages those of the sources before it
   pub record StopsBehind (k n : ℕ) : Type 0 where
     pub readings : List Reading
     pub are_readings : AreReadings sources readings
     pub in_sources : k < length sources
     pub in_file : n ≤ length (file_at (files_of sources readings) k).lines
-    pub before : List Text
-    pub is_before : OutAs es options (are_many (files_of sources readings)) (form options)
-        (take k (files_of sources readings)) before
-    pub rows : List Text
-    pub are_rows : RowsAs es options (form options) (are_many (files_of sources readings))
-        (first_lines n (file_at (files_of sources readings) k)) rows
+    pub output : List Text
+    pub is_output : OutAs es options (are_many (files_of sources readings)) (form options)
+        (take k (files_of sources readings)
+        ++ begun (form options) n (file_at (files_of sources readings) k)) output
     pub messages : List Text
     pub are_messages : Messages es options (take k (files_of sources readings)) messages
-    pub wrote : TakesAll old.out new.out (before ++ rows)
+    pub wrote : TakesAll old.out new.out output
     pub told : TakesAll old.messages new.messages messages
     pub failures : ℕ
     pub are_failures : FailuresMet es options (take k sources) readings failures

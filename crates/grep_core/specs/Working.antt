@@ -8,6 +8,9 @@ pub mod Numbered
 pub mod Passed
 pub mod Wanted
 pub mod OneLine
+pub mod Groups
+pub mod Progress
+pub mod LastLines
 pub mod Searched
 pub mod SameChoice
 pub mod MatcherLists

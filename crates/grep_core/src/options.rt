@@ -1,10 +1,19 @@
 //! The options of a run, and what they ask for.
-ghost use Rattle.std.specs.Prelude.{◌≡◌, ◌||◌};
-ghost use Rattle.grep_core.specs.Output.{form};
+ghost use Rattle.std.specs.Prelude.{◌≡◌, ◌||◌, MatchOption};
+ghost use Rattle.grep_core.specs.Output.{form, around};
+ghost use Rattle.grep_core.specs.Working.OneLine.{IsPlain};
 ghost use Rattle.grep_core.specs.Working.Wanted.{form_of, selects};
 
-/// The options of grep that are set or not (XCU grep, OPTIONS; `only_matching` after the GNU
-/// manual).
+/// How many lines are shown around each selected one (GNU grep, `-A`, `-B` and `-C`).
+#[derive(Clone, Copy, PartialEq, Eq, Debug, Drop)]
+pub struct Context {
+    /// `-B`: so many before it.
+    pub before: u64,
+    /// `-A`: so many behind it.
+    pub after: u64,
+}
+
+/// The options of grep (XCU grep, OPTIONS; `only_matching` and `context` after the GNU manual).
 #[derive(Clone, Copy, PartialEq, Eq, Debug, Default, Drop)]
 pub struct Options {
     /// `-c`: only the number of selected lines is written.
@@ -25,9 +34,11 @@ pub struct Options {
     pub invert_match: bool,
     /// `-x`: a line is matched only as a whole.
     pub line_regexp: bool,
+    /// `-A`, `-B` and `-C`: lines around the selected ones are shown, where one of these is given.
+    pub context: Option<Context>,
 }
 
-/// One of the options of `Options`.
+/// One of the options of `Options` that are set or not.
 #[derive(Clone, Copy, PartialEq, Eq, Debug, Drop)]
 pub enum Flag {
     /// `-c`
@@ -51,7 +62,7 @@ pub enum Flag {
 }
 
 /// What the options ask for (XCU grep, STDOUT): `-q` goes before `-l`, `-l` before `-c`, and these
-/// before `-o`.
+/// before `-o`, which goes before lines around.
 #[derive(Clone, Copy, PartialEq, Eq, Debug, Drop)]
 pub enum Form {
     /// Nothing is written.
@@ -64,6 +75,8 @@ pub enum Form {
     Parts,
     /// The selected lines.
     Lines,
+    /// The selected lines and those around them.
+    Around(Context),
 }
 
 impl Options {
@@ -86,7 +99,25 @@ impl Options {
             }
             return Form::Parts;
         }
-        Form::Lines
+        match self.context {
+            None => Form::Lines,
+            Some(context) => Form::Around(context),
+        }
+    }
+
+    /// How many lines are shown around each selected one, where the options ask for such output.
+    pub fn shown_around(self) -> Option<Context>
+        ensures { MatchOption result (IsPlain (form self))
+            (λ context. form self ≡ around context) }
+    {
+        match self.form() {
+            Form::Around(context) => Some(context),
+            Form::Nothing => None,
+            Form::Names => None,
+            Form::Counts => None,
+            Form::Parts => None,
+            Form::Lines => None,
+        }
     }
 
     /// Whether a line is selected that is matched, or is not (XCU grep, DESCRIPTION and option

@@ -1,5 +1,6 @@
 //! The output: rows, counts, names and messages.
 
+pub mod around;
 pub mod counts;
 pub mod messages;
 pub mod push;

@@ -1,5 +1,7 @@
 //! The search: of a line, of a source, of all sources.
 
+pub mod around;
+pub mod behind;
 pub mod file;
 pub mod line;
 pub mod matching;

@@ -1,30 +1,26 @@
+mod memory;
+
 use super::*;
 use std::io::{Error, ErrorKind, Write};
 use std::test::Fail;
 
-// The length of the next line. A growth that is refused is asked for once more.
-fn next_length<R: CountedRead>(lines: &mut Lines<R>) -> Option<usize> {
-    let answer = match lines.next_line() {
-        Err(ReadFault::Memory) => lines.next_line(),
-        answer => answer,
-    };
-    match answer {
-        Ok(true) => Some(lines.line().len()),
-        _ => None,
-    }
-}
-
-// To be run with each allocation failing in turn.
+// The file `ab` and `cd`, of which reads fail once so many bytes went.
 #[test]
-fn a_refused_growth_loses_nothing(rt: HostRuntime) -> Result<(), Fail> {
-    let text = vec![in rt.alloc(); b'a'; 200_000]?;
-    let Ok(mut lines) = Lines::new(rt.alloc(), Tally::new(text.as_slice())) else {
-        return Ok(());
-    };
-    assert_eq!(rt; next_length(&mut lines), Some(200_000));
-    assert_eq!(rt; lines.held(), 0);
-    assert_eq!(rt; next_length(&mut lines), None);
-    assert_eq!(rt; lines.into_reader().into_inner().len(), 0);
+fn a_failed_read_is_answered_from_then_on(rt: HostRuntime) -> Result<(), Fail> {
+    for (left, whole) in [(0, 0), (1, 0), (2, 0), (3, 1), (4, 1), (5, 1)] {
+        let reader = Tally::new(Limited::new(b"ab\ncd".as_slice(), usize::MAX, left));
+        let Ok(mut lines) = Lines::new(rt.alloc(), reader) else {
+            return Err(Fail::from("no memory"));
+        };
+        for _ in 0..whole {
+            assert_eq!(rt; lines.next_line(), Ok(true), "{left}");
+            assert_eq!(rt; lines.line(), b"ab".as_slice(), "{left}");
+        }
+        for _ in 0..3 {
+            assert_eq!(rt; lines.next_line(), Err(ReadFault::Device), "{left}");
+            assert_eq!(rt; lines.line().len(), 0, "{left}");
+        }
+    }
     Ok(())
 }
 

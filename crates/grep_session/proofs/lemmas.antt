@@ -15,6 +15,9 @@ pub mod PatternLemmas
 pub mod NewPatternLemmas
 pub mod Writing
 pub mod LineSteps
+pub mod AroundSteps
 pub mod FileSteps
 pub mod KeptLaws
+pub mod AroundKept
+pub mod KeptOutput
 pub mod HeadlineLaws

@@ -1,6 +1,6 @@
 -- The edits of a session, and what each makes of its inputs.
 use Rattle.std.specs.Prelude.{◌≡◌, ◌≢◌, ℕ, ◌+◌, ◌<◌, ◌≤◌, Bool, false, List, [], ◌∷◌, ◌++◌, length}
-use Rattle.std.specs.Prelude.{Result, Ok, Err, All, slice_set}
+use Rattle.std.specs.Prelude.{Option, None, Result, Ok, Err, All, slice_set}
 use Rattle.std.specs.List.{splice, remove}
 use Rattle.re_syntax.specs.declared.fault.PatternFault.{PatternFault}
 use Rattle.re_syntax.specs.declared.syntax.Syntax.{Syntax}
@@ -12,6 +12,7 @@ use Rattle.grep_core.specs.declared.options.Flag.{Flag}
 use Rattle.grep_core.specs.declared.options.Flag.TheVariants.{Count, IgnoreCase, FilesWithMatches}
 use Rattle.grep_core.specs.declared.options.Flag.TheVariants.{LineNumber, OnlyMatching, Quiet}
 use Rattle.grep_core.specs.declared.options.Flag.TheVariants.{NoMessages, InvertMatch, LineRegexp}
+use Rattle.grep_core.specs.declared.options.Context.{Context}
 use Rattle.grep_core.specs.declared.options.Options.{Options}
 use Rattle.grep_core.specs.Choose.{IfHolds}
 use Rattle.grep_core.specs.Files.{File, Inputs, whole, missing}
@@ -38,6 +39,8 @@ pub data Edit : Type 0 where
   DropPattern : ℕ → Edit
   SetFlag : Flag → Bool → Edit
   SetSyntax : Syntax → Edit
+  -- so many lines are shown around selected ones, or none
+  SetContext : Option Context → Edit
 
 -- an option's value
 abbrev pub option_of : Flag → Options → Bool
@@ -74,8 +77,8 @@ no_options =
       quiet = false;
       no_messages = false;
       invert_match = false;
-      line_regexp =
-          false;
+      line_regexp = false;
+      context = None;
     }
 
 -- the inputs of a new session: no file, no pattern, basic syntax, and no option
@@ -94,6 +97,9 @@ with_files files old = record old { files = files }
 
 abbrev pub with_patterns : List Text → Inputs → Inputs
 with_patterns patterns old = record old { patterns = patterns }
+
+abbrev pub with_context : Option Context → Inputs → Inputs
+with_context context old = record old { options = record old.options { context = context } }
 
 -- the file of this number has so many lines from a first on
 pub record HasPlace (files : List File) (k start count : ℕ) : Type 0 where
@@ -147,6 +153,7 @@ Applies (SetFlag flag on) old outcome =
     (record old { options = with_option flag on old.options }) outcome
 Applies (SetSyntax syntax) old outcome =
     Reads syntax old.options.ignore_case old.patterns (record old { syntax = syntax }) outcome
+Applies (SetContext context) old outcome = outcome ≡ Ok (with_context context old)
 
 -- what an edit answers and leaves: the new inputs, or the old ones and why it was refused; want of
 -- memory may stand for any other answer

@@ -19,7 +19,8 @@ use Rattle.grep_core.specs.Files.{Inputs, AreMeant, Matched}
 use Rattle.re_syntax.specs.Profile.{most_patterns}
 use Rattle.grep_session.specs.declared.fault.EditFault.{EditFault}
 use Rattle.grep_session.specs.Edits.{Edit, AddFile, AddMissing, DropFile, Splice, AddPatterns}
-use Rattle.grep_session.specs.Edits.{DropPattern, SetFlag, SetSyntax, option_of, HasPlace, Applies}
+use Rattle.grep_session.specs.Edits.{DropPattern, SetFlag, SetSyntax, SetContext, option_of}
+use Rattle.grep_session.specs.Edits.{HasPlace, Applies}
 
 -- what an edit has searched: each of some lines by so many patterns, and the parts of some lines
 pub record Touched : Type 0 where
@@ -69,6 +70,7 @@ Touches (SetSyntax syntax) old touched =
     (touched ≡ searched_by (length old.patterns) (all_lines old))
 Touches (AddMissing name) old touched = touched ≡ nothing_touched
 Touches (DropFile k) old touched = touched ≡ nothing_touched
+Touches (SetContext context) old touched = touched ≡ nothing_touched
 
 -- each of the lines searched once by each of so many patterns
 abbrev pub pairs_cost : ℕ → List Text → ℕ
@@ -135,3 +137,4 @@ NeedsNoMemory (DropPattern p) old = (old.options.only_matching ≡ false) ⊎ (l
 NeedsNoMemory (SetFlag flag on) old =
     is_of_output flag ⊎ ((option_of flag old.options ≡ on) ⊎ ((flag ≡ OnlyMatching) × (on ≡ false)))
 NeedsNoMemory (SetSyntax syntax) old = syntax ≡ old.syntax
+NeedsNoMemory (SetContext context) old = ⊤

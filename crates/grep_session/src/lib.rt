@@ -3,6 +3,7 @@
 #![tactic(auto)]
 
 mod adding;
+mod around;
 mod change;
 mod changing;
 mod choosing;

@@ -4,8 +4,9 @@ ghost use Rattle.grep_core.specs.Output.{form, parts, written};
 ghost use Rattle.grep_core.specs.Written.{Writes};
 ghost use Rattle.grep_session.specs.Working.Report.{line_rows, part_rows, rows_from};
 ghost use Rattle.grep_session.specs.Working.Report.{selected_count, is_selected, OnLine, PartsFit};
-ghost use Rattle.grep_session.specs.Working.Report.{selected_rows};
+ghost use Rattle.grep_session.specs.Working.Report.{selected_rows, text_rows};
 
+use crate::around::write_lines_around;
 use crate::kept::KeptLine;
 use grep_core::{CountedWrite, Form, Wanted, WriteFault, count_found};
 
@@ -47,6 +48,7 @@ fn write_selected<W: CountedWrite>(
         Form::Nothing => Ok(()),
         Form::Names => Ok(()),
         Form::Counts => Ok(()),
+        Form::Around(_) => Ok(()),
     }
 }
 
@@ -70,8 +72,8 @@ fn write_line<W: CountedWrite>(
     Ok(true)
 }
 
-/// Writes the rows of a file's lines, and answers how many of these are selected.
-pub fn write_lines<W: CountedWrite>(
+/// Writes the rows of a file's selected lines, and answers how many these are.
+fn write_found<W: CountedWrite>(
     wanted: &Wanted,
     lines: &[KeptLine],
     out: &mut W,
@@ -91,4 +93,26 @@ pub fn write_lines<W: CountedWrite>(
         selected = count_found(selected, found);
     }
     Ok(selected)
+}
+
+/// Writes the rows of a file's lines, behind files of which a line is selected or none is, and
+/// answers how many of its lines are selected.
+pub fn write_lines<W: CountedWrite>(
+    wanted: &Wanted,
+    some: bool,
+    lines: &[KeptLine],
+    out: &mut W,
+    margin: &[u8],
+) -> Result<u64, WriteFault>
+    requires { All (PartsFit wanted.now.options) lines.now }
+    ensures rows { Writes W.contents W.failures out.old out.new (written margin.now
+        (text_rows wanted.now.options wanted.now.many wanted.now.name.now
+        (form wanted.now.options) some lines.now)) result }
+    ensures told { IfOk result
+        (λ selected. selected ≡ selected_count wanted.now.options lines.now) }
+{
+    match wanted.options.form() {
+        Form::Around(context) => write_lines_around(wanted, context, some, lines, out, margin),
+        _ => write_found(wanted, lines, out, margin),
+    }
 }

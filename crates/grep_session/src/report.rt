@@ -1,6 +1,6 @@
 //! What grep writes of files that are kept, and its status. No line is searched and no memory is
 //! taken: all comes from what is kept.
-ghost use Rattle.std.specs.Prelude.{◌≡◌, All, List, map, length, nat_le};
+ghost use Rattle.std.specs.Prelude.{◌≡◌, All, List, map, length, nat_le, IfOk};
 ghost use Rattle.re_syntax.specs.Expression.{Expression};
 ghost use Rattle.grep_core.specs.Messages.{StatusOf};
 ghost use Rattle.grep_core.specs.Output.{written};
@@ -8,6 +8,7 @@ ghost use Rattle.grep_core.specs.Written.{Writes};
 ghost use Rattle.grep_session.specs.Working.Kept.{kept_lines, kept_file, IsFileKept};
 ghost use Rattle.grep_session.specs.Working.Report.{FileFits, rows_with, report_rows, told_from};
 ghost use Rattle.grep_session.specs.Working.Report.{any_selected, any_missing, status_by_files};
+ghost use Rattle.grep_session.specs.Working.Report.{has_selected_in};
 ghost use Rattle.grep_session.specs.Working.Report.{Reports, TellsMessages};
 
 use crate::kept::KeptFile;
@@ -17,25 +18,31 @@ use grep_core::{
     write_summary,
 };
 
-/// Writes the output for one file.
+/// Writes the output for one file, behind files of which a line is selected or none is, and
+/// answers whether a line of it is selected.
 fn write_file<W: CountedWrite>(
     wanted: &Wanted,
+    some: bool,
     file: &KeptFile,
     out: &mut W,
     margin: &[u8],
-) -> Result<(), WriteFault>
+) -> Result<bool, WriteFault>
     requires { FileFits wanted.now.options file.now }
-    ensures { Writes W.contents W.failures out.old out.new (written margin.now
-        (rows_with wanted.now.options wanted.now.many wanted.now.name.now (kept_lines file.now)))
-        result }
+    ensures rows { Writes W.contents W.failures out.old out.new (written margin.now
+        (rows_with wanted.now.options wanted.now.many wanted.now.name.now some
+        (kept_lines file.now))) result }
+    ensures told { IfOk result
+        (λ found. found ≡ has_selected_in wanted.now.options (kept_lines file.now)) }
 {
     let Some(lines) = &file.lines else {
         let end = FileEnd::Missing;
-        return write_summary(wanted, FileFound { end, selected: 0 }, out, margin);
+        write_summary(wanted, FileFound { end, selected: 0 }, out, margin)?;
+        return Ok(false);
     };
-    let selected = write_lines(wanted, lines, out, margin)?;
+    let selected = write_lines(wanted, some, lines, out, margin)?;
     let end = FileEnd::Whole;
-    write_summary(wanted, FileFound { end, selected }, out, margin)
+    write_summary(wanted, FileFound { end, selected }, out, margin)?;
+    Ok(selected > 0)
 }
 
 /// Writes the output for all files.
@@ -50,13 +57,15 @@ fn write_files<W: CountedWrite>(
         (report_rows options.now (nat_le 2 (length files.now)) files.now)) result }
 {
     let many = files.len() >= 2;
+    let mut some = false;
     for file in files {
         let wanted = Wanted {
             options: *options,
             many,
             name: &file.name,
         };
-        write_file(&wanted, file, out, margin)?;
+        let found = write_file(&wanted, some, file, out, margin)?;
+        some |= found;
     }
     Ok(())
 }

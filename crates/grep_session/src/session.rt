@@ -3,8 +3,9 @@ ghost use Rattle.std.specs.Prelude.{◌≡◌, ◌≢◌, ◌≤◌, ◌<◌, Ok
 ghost use Rattle.std.specs.Prelude.{IsTrue, IfOk, IfErr, OnErr};
 ghost use Rattle.grep_session.specs.declared.fault.EditFault.TheVariants.{Memory};
 ghost use Rattle.grep_session.specs.Edits.{Edit, AddFile, AddMissing, DropFile, Splice};
-ghost use Rattle.grep_session.specs.Edits.{AddPatterns, DropPattern, SetFlag, SetSyntax, EditGives};
-ghost use Rattle.grep_session.specs.Edits.{Applies, no_inputs, with_patterns};
+ghost use Rattle.grep_session.specs.Edits.{AddPatterns, DropPattern, SetFlag, SetSyntax};
+ghost use Rattle.grep_session.specs.Edits.{SetContext, EditGives, Applies, no_inputs};
+ghost use Rattle.grep_session.specs.Edits.{with_patterns};
 ghost use Rattle.std.specs.List.{remove};
 ghost use Rattle.re_syntax.specs.Profile.{most_states};
 ghost use Rattle.grep_session.specs.Touched.{TakesSteps, NeedsNoMemory, Touches, searched_by};
@@ -25,7 +26,7 @@ use crate::kept::KeptFile;
 use crate::patterns::{add_matchers, add_texts, reserve_texts, texts_of, too_many};
 use crate::reading::read_matchers;
 use crate::splicing::{any_newline, find_place, put_in};
-use grep_core::{Flag, Options};
+use grep_core::{Context, Flag, Options};
 use re_search::{Matcher, Meter, Syntax};
 use std::alloc::{AllocError, Global};
 use std::marker::Model;
@@ -308,6 +309,18 @@ impl Session {
                 Ok(())
             }
         }
+    }
+
+    /// Sets how many lines are shown around selected ones, or that none are. Nothing is searched,
+    /// and no memory is asked for.
+    pub fn set_context(&mut self, context: Option<Context>)
+        ensures { EditGives {T = Unit {0}} (SetContext context) self.old self.new (Ok tt) }
+    {
+        let options = Options {
+            context,
+            ..self.options
+        };
+        self.put_options(options);
     }
 
     /// Adds the patterns of a list behind the others. The new patterns alone are searched for, and

@@ -3,6 +3,7 @@ ghost use Rattle.std.specs.Prelude.{◌≡◌, ◌+◌, ◌-◌, ◌≤◌, ◌�
 ghost use Rattle.std.specs.Prelude.{IfOk, IfErr, IfSome, length};
 ghost use Rattle.re_syntax.specs.Expression.{expression_of};
 ghost use Rattle.re_syntax.specs.Holds.{Matches, positions};
+ghost use Rattle.re_syntax.specs.Working.Counted.{HasPositions};
 ghost use Rattle.re_syntax.specs.Profile.{most_positions, most_states};
 ghost use Rattle.re_syntax.specs.Spelled.{IsSpelled, IsMeant, has_limit};
 ghost use Rattle.re_search.specs.Working.Needles.{IsNeeded};
@@ -20,7 +21,10 @@ use crate::line_match::LineMatch;
 use crate::simulated::Simulated;
 use crate::span::Span;
 use re_auto::{BuildFault, Meter};
-use re_syntax::{FaultKind, PatternFault, Syntax, Tree, read_basic, read_extended, read_fixed};
+use re_syntax::{
+    FaultKind, MOST_POSITIONS, PatternFault, Syntax, Tree, basic_positions, extended_positions,
+    read_basic, read_extended, read_fixed,
+};
 use std::alloc::Global;
 use std::num::NonZeroUsize;
 
@@ -240,12 +244,21 @@ fn with_cache(alloc: Global, simulated: Simulated, states: usize) -> Matcher
     }
 }
 
-// The tree of what the text means.
+// The tree of what the text means. Where that has too many positions no tree is built: it could be
+// far greater than the text.
 fn meant_tree(alloc: Global, text: &[u8], syntax: Syntax, fold: bool) -> Result<Tree, PatternFault>
+    requires limited { IsTrue (has_limit syntax fold) }
     ensures meant { IfOk result (λ tree. IsMeant syntax fold text.now (expression_of tree)) }
     ensures refused { IfErr result
-        (λ fault. IsOutOfMemory fault ⊎ IsNotSpelled syntax text.now fault) }
+        (λ fault. IsOutOfMemory fault ⊎ IsRefusedFor syntax fold text.now fault) }
 {
+    let count = match spelled_positions(text, syntax) {
+        Ok(count) => count,
+        Err(fault) => return Err(fault),
+    };
+    if count > MOST_POSITIONS {
+        return Err(fault_at_first(FaultKind::TooLarge));
+    }
     let tree = match spelled_tree(alloc, text, syntax) {
         Ok(tree) => tree,
         Err(fault) => return Err(fault),
@@ -254,6 +267,19 @@ fn meant_tree(alloc: Global, text: &[u8], syntax: Syntax, fold: bool) -> Result<
         return Ok(re_syntax::fold(tree));
     }
     Ok(tree)
+}
+
+// How many positions the text has, as a pattern.
+fn spelled_positions(text: &[u8], syntax: Syntax) -> Result<usize, PatternFault>
+    ensures counted { IfOk result (HasPositions syntax text.now) }
+    ensures refused { IfErr result
+        (λ fault. IsOutOfMemory fault ⊎ IsNotSpelled syntax text.now fault) }
+{
+    match syntax {
+        Syntax::Basic => basic_positions(text),
+        Syntax::Extended => extended_positions(text),
+        Syntax::Fixed => Ok(text.len()),
+    }
 }
 
 // The tree of what the text spells.

@@ -12,7 +12,7 @@ mod outline;
 mod run_finder;
 mod set_finder;
 
-use choice::{sets_start, text_start};
+use choice::{RunOf, run_start};
 use few::Few;
 use memchr::memmem::Finder;
 use outline::{Mark, add_outline};
@@ -43,11 +43,12 @@ impl Needle {
     {
         let mut marks = Vec::new(alloc);
         add_outline(tree, &mut marks)?;
-        let start = text_start(&marks);
+        let start = run_start(&marks, RunOf::Bytes);
         if let Some(needle) = text_needle(alloc, &marks, start, 2)? {
             return Ok(Some(needle));
         }
-        if let Some(needle) = set_needle(alloc, &marks, sets_start(&marks), 2)? {
+        let sets = run_start(&marks, RunOf::Sets);
+        if let Some(needle) = set_needle(alloc, &marks, sets)? {
             return Ok(Some(needle));
         }
         text_needle(alloc, &marks, start, 1)
@@ -78,20 +79,14 @@ fn text_needle(
     }))
 }
 
-// The needle of the small sets from a mark on, where they are so many.
-fn set_needle(
-    alloc: Global,
-    marks: &[Mark],
-    start: usize,
-    least: usize,
-) -> Result<Option<Needle>, AllocError>
-    requires start { start ≤ length marks.now }
-    requires some { 1 ≤ least }
+// The needle of the small sets from a mark on, where they are two or more.
+fn set_needle(alloc: Global, marks: &[Mark], start: usize) -> Result<Option<Needle>, AllocError>
+    requires { start ≤ length marks.now }
     ensures { IfOk result
         (λ found. (e : Expression) → IsOutline (map shown marks.now) e → IsNeedleFor e found) }
 {
     let sets = leading_sets(alloc, &marks[start..])?;
-    if sets.len() < least {
+    if sets.len() < 2 {
         return Ok(None);
     }
     let is_all = sets.len() == marks.len();

@@ -7,6 +7,7 @@ pub mod UnionsLaws
 pub mod RangeWords
 pub mod SplittingLaws
 pub mod SpelledUnique
+pub mod PiecesLaws
 pub mod Decisions
 pub mod HoldsDecided
 pub mod PartsExist

@@ -4,6 +4,7 @@ pub mod Ahead
 pub mod IntervalSteps
 pub mod BracketSteps
 pub mod EscapeSteps
+pub mod Counted
 pub mod PieceSteps
 pub mod DuplicationSteps
 pub mod BasicSteps

@@ -3,14 +3,14 @@
 ghost use Rattle.std.specs.Prelude.{◌≡◌, ℕ, ◌≤◌, ◌⊎◌, IfOk, IfErr, MatchOption, MatchBool, codes};
 ghost use Rattle.std.specs.Prelude.{length, take, drop};
 ghost use Rattle.re_syntax.specs.Bytes.{Begins};
-ghost use Rattle.re_syntax.specs.Expression.{expression_of};
+ghost use Rattle.re_syntax.specs.Expression.{Expression, expression_of};
 ghost use Rattle.re_syntax.specs.Basic.{ItemPlace, First, IsAtEnd};
 ghost use Rattle.re_syntax.specs.declared.syntax.Syntax.TheVariants.{Basic};
 ghost use Rattle.re_syntax.specs.Profile.{most_levels};
 ghost use Rattle.re_syntax.specs.Spelled.{IsSpelled, SpellsNoOther};
 ghost use Rattle.re_syntax.specs.BasicFaults.{NeedsItem, IsStart, HasNothingToRepeat, IsShownIn};
 ghost use Rattle.re_syntax.specs.BasicFaults.{IsNoBasic};
-ghost use Rattle.re_syntax.specs.Working.PieceSteps.{IsRefused};
+ghost use Rattle.re_syntax.specs.Working.PieceSteps.{IsTold, IsRefused};
 ghost use Rattle.re_syntax.specs.Working.BasicSteps.{AtomStands, HasNoAtom, HasItem, HasNoItem};
 ghost use Rattle.re_syntax.specs.Working.BasicSteps.{HasNoTail, IsBehindTail, SoFar, IsEnded};
 ghost use Rattle.re_syntax.specs.Working.BasicSteps.{MayBegin, ItemStands, HasNoItems};
@@ -21,8 +21,9 @@ use crate::ahead::after;
 use crate::bytes::ByteSet;
 use crate::escape::read_escape;
 use crate::fault::{FaultKind, PatternFault};
-use crate::fixed::{out_of_memory, sequence_of};
-use crate::pieces::{Piece, Pieces, choice_of, joined, meant_by, read_bracket_atom, repeated};
+use crate::pieces::{
+    Piece, Pieces, all_of, any_of, joined, leaf, meant_by, no_pieces, read_bracket_atom, repeated,
+};
 use crate::profile::{BASIC_REFUSED, MOST_LEVELS};
 use crate::tree::Tree;
 use std::alloc::Global;
@@ -56,47 +57,29 @@ fn after_tail(text: &[u8], at: usize) -> Option<usize>
 }
 
 /// The anchor that a branch begins with, where one does.
-fn read_lead(alloc: Global, text: &[u8], from: usize) -> Result<Pieces, PatternFault>
+fn read_lead(alloc: Option<Global>, text: &[u8], from: usize) -> Result<Pieces, PatternFault>
     requires within { from ≤ length text.now }
     requires starts { IsStart (take from text.now) }
-    ensures read { IfOk result (λ items. (levels : ℕ) → SoFar levels text.now from items) }
+    ensures read { IfOk result (λ items. (levels : ℕ) → SoFar alloc levels text.now from items) }
     ensures refused { IfErr result (λ fault. fault ≡ record { kind = FaultKind.Memory; at = 0 }) }
 {
-    let items = Pieces {
-        trees: Vec::new(alloc),
-        height: 0,
-        behind: from,
-    };
+    let items = no_pieces(alloc, from);
     match after(text, from, b"^") {
         None => Ok(items),
-        Some(behind) => joined(
-            items,
-            Piece {
-                tree: Tree::Begin,
-                height: 0,
-                behind,
-            },
-        ),
+        Some(behind) => joined(items, leaf(alloc, Tree::Begin, 0, behind)),
     }
 }
 
 /// The items with the anchor that their branch ends with, where it does.
-fn read_tail(text: &[u8], items: Pieces) -> Result<Pieces, PatternFault>
+fn read_tail(alloc: Option<Global>, text: &[u8], items: Pieces) -> Result<Pieces, PatternFault>
     requires within { items.behind ≤ length text.now }
     requires ends { HasNoItem (drop items.behind text.now) }
-    ensures read { IfOk result (IsEnded text.now items) }
+    ensures read { IfOk result (IsEnded alloc text.now items) }
     ensures refused { IfErr result (λ fault. fault ≡ record { kind = FaultKind.Memory; at = 0 }) }
 {
     match after_tail(text, items.behind) {
         None => Ok(items),
-        Some(behind) => joined(
-            items,
-            Piece {
-                tree: Tree::End,
-                height: 0,
-                behind,
-            },
-        ),
+        Some(behind) => joined(items, leaf(alloc, Tree::End, 0, behind)),
     }
 }
 
@@ -113,10 +96,15 @@ fn has_item(text: &[u8], at: usize) -> bool
 
 /// The group whose `\(` stands at a place, at most so many levels high.
 #[cycle(read_branches)]
-fn read_group(alloc: Global, text: &[u8], at: usize, levels: usize) -> Result<Piece, PatternFault>
+fn read_group(
+    alloc: Option<Global>,
+    text: &[u8],
+    at: usize,
+    levels: usize,
+) -> Result<Piece, PatternFault>
     requires opens { Begins (codes "\\(") (drop at text.now) }
     requires few { levels ≤ most_levels }
-    ensures read { IfOk result (λ piece. (p : ItemPlace) → AtomStands p levels text.now at piece) }
+    ensures read { IfOk result (λ piece. (p : ItemPlace) → AtomStands alloc p levels text.now at piece) }
     ensures refused { IfErr result
         (λ fault. (p : ItemPlace) →
         IsRefused (HasNoAtom p levels (drop at text.now)) (IsShownIn text.now fault) fault) }
@@ -133,22 +121,31 @@ fn read_group(alloc: Global, text: &[u8], at: usize, levels: usize) -> Result<Pi
             kind: FaultKind::UnclosedGroup,
             at,
         }),
-        Some(behind) => Ok(Piece {
-            tree: choice_of(branches.trees),
-            height: branches.height + 1,
-            behind,
-        }),
+        Some(behind) => {
+            let inside = any_of(branches);
+            Ok(Piece {
+                tree: inside.tree,
+                positions: inside.positions,
+                height: inside.height + 1,
+                behind,
+            })
+        }
     }
 }
 
 /// The group or the escaped byte whose backslash stands at a place.
 #[cycle(read_branches)]
-fn read_escaped(alloc: Global, text: &[u8], at: usize, levels: usize) -> Result<Piece, PatternFault>
+fn read_escaped(
+    alloc: Option<Global>,
+    text: &[u8],
+    at: usize,
+    levels: usize,
+) -> Result<Piece, PatternFault>
     requires escapes { Begins (codes "\\") (drop at text.now) }
     requires not_end { ¬ IsAtEnd (drop at text.now) }
     requires opens { NeedsItem (drop at text.now) → HasNothingToRepeat (take at text.now) }
     requires few { levels ≤ most_levels }
-    ensures read { IfOk result (λ piece. (p : ItemPlace) → AtomStands p levels text.now at piece) }
+    ensures read { IfOk result (λ piece. (p : ItemPlace) → AtomStands alloc p levels text.now at piece) }
     ensures refused { IfErr result
         (λ fault. (p : ItemPlace) →
         IsRefused (HasNoAtom p levels (drop at text.now)) (IsShownIn text.now fault) fault) }
@@ -163,48 +160,50 @@ fn read_escaped(alloc: Global, text: &[u8], at: usize, levels: usize) -> Result<
         });
     }
     let byte = read_escape(text, at, BASIC_REFUSED)?;
-    Ok(Piece {
-        tree: Tree::Set(ByteSet::only(byte)),
-        height: 0,
-        behind: at + 2,
-    })
+    Ok(leaf(alloc, Tree::Set(ByteSet::only(byte)), 1, at + 2))
 }
 
 /// The atom that stands at a place, where neither an anchor nor a duplication does.
 #[cycle(read_branches)]
-fn read_atom(alloc: Global, text: &[u8], at: usize, levels: usize) -> Result<Piece, PatternFault>
+fn read_atom(
+    alloc: Option<Global>,
+    text: &[u8],
+    at: usize,
+    levels: usize,
+) -> Result<Piece, PatternFault>
     requires within { at ≤ length text.now }
     requires item { HasItem (drop at text.now) }
     requires opens { NeedsItem (drop at text.now) → HasNothingToRepeat (take at text.now) }
     requires few { levels ≤ most_levels }
     ensures read { IfOk result
         (λ piece. (p : ItemPlace) → MayBegin p (drop at text.now) →
-        AtomStands p levels text.now at piece) }
+        AtomStands alloc p levels text.now at piece) }
     ensures refused { IfErr result
         (λ fault. (p : ItemPlace) →
         IsRefused (HasNoAtom p levels (drop at text.now)) (IsShownIn text.now fault) fault) }
 {
     match text[at] {
-        b'[' => read_bracket_atom(text, at),
+        b'[' => read_bracket_atom(alloc, text, at),
         b'\\' => read_escaped(alloc, text, at, levels),
-        byte => Ok(Piece {
-            tree: Tree::Set(meant_by(byte)),
-            height: 0,
-            behind: at + 1,
-        }),
+        byte => Ok(leaf(alloc, Tree::Set(meant_by(byte)), 1, at + 1)),
     }
 }
 
 /// The atom that stands at a place, and the duplications after it.
 #[cycle(read_branches)]
-fn read_item(alloc: Global, text: &[u8], at: usize, levels: usize) -> Result<Piece, PatternFault>
+fn read_item(
+    alloc: Option<Global>,
+    text: &[u8],
+    at: usize,
+    levels: usize,
+) -> Result<Piece, PatternFault>
     requires within { at ≤ length text.now }
     requires item { HasItem (drop at text.now) }
     requires opens { NeedsItem (drop at text.now) → HasNothingToRepeat (take at text.now) }
     requires few { levels ≤ most_levels }
     ensures read { IfOk result
         (λ piece. (p : ItemPlace) → MayBegin p (drop at text.now) →
-        ItemStands p levels text.now at piece) }
+        ItemStands alloc p levels text.now at piece) }
     ensures refused { IfErr result
         (λ fault. (p : ItemPlace) → MayBegin p (drop at text.now) →
         IsRefused (HasNoItems p levels (drop at text.now)) (IsShownIn text.now fault) fault) }
@@ -225,7 +224,7 @@ fn read_item(alloc: Global, text: &[u8], at: usize, levels: usize) -> Result<Pie
 /// The branch that begins at a place, up to where it ends.
 #[cycle(read_branches)]
 fn read_branch(
-    alloc: Global,
+    alloc: Option<Global>,
     text: &[u8],
     from: usize,
     levels: usize,
@@ -233,7 +232,7 @@ fn read_branch(
     requires within { from ≤ length text.now }
     requires starts { IsStart (take from text.now) }
     requires few { levels ≤ most_levels }
-    ensures read { IfOk result (BranchStands levels text.now from) }
+    ensures read { IfOk result (BranchStands alloc levels text.now from) }
     ensures refused { IfErr result
         (λ fault.
         IsRefused (HasNoItems First levels (drop from text.now)) (IsShownIn text.now fault) fault) }
@@ -243,18 +242,14 @@ fn read_branch(
         let piece = read_item(alloc, text, items.behind, levels)?;
         items = joined(items, piece)?;
     }
-    let all = read_tail(text, items)?;
-    Ok(Piece {
-        tree: sequence_of(all.trees),
-        height: all.height,
-        behind: all.behind,
-    })
+    let all = read_tail(alloc, text, items)?;
+    Ok(all_of(all))
 }
 
 /// The branches of the expression that begins at a place, up to where it ends.
 #[cycle(read_branches)]
 fn read_branches(
-    alloc: Global,
+    alloc: Option<Global>,
     text: &[u8],
     from: usize,
     levels: usize,
@@ -262,15 +257,11 @@ fn read_branches(
     requires within { from ≤ length text.now }
     requires starts { IsStart (take from text.now) }
     requires few { levels ≤ most_levels }
-    ensures read { IfOk result (BranchesStand levels text.now from) }
+    ensures read { IfOk result (BranchesStand alloc levels text.now from) }
     ensures refused { IfErr result (λ fault. IsRefused (HasNoBranches levels (drop from text.now))
         (IsShownIn text.now fault) fault) }
 {
-    let none = Pieces {
-        trees: Vec::new(alloc),
-        height: 0,
-        behind: from,
-    };
+    let none = no_pieces(alloc, from);
     let first = read_branch(alloc, text, from, levels)?;
     let mut branches = joined(none, first)?;
     'branches: while let Some(behind) = after(text, branches.behind, b"\\|") {
@@ -278,6 +269,23 @@ fn read_branches(
         branches = joined(branches, branch)?;
     }
     Ok(branches)
+}
+
+/// The basic regular expression that the whole text is.
+pub(crate) fn read_whole(alloc: Option<Global>, text: &[u8]) -> Result<Piece, PatternFault>
+    ensures read { IfOk result
+        (λ piece. (e : Expression) × IsSpelled Basic text.now e × IsTold alloc piece e) }
+    ensures refused { IfErr result
+        (λ fault. (fault ≡ record { kind = FaultKind.Memory; at = 0 }) ⊎ IsNoBasic text.now fault) }
+{
+    let branches = read_branches(alloc, text, 0, MOST_LEVELS)?;
+    if branches.behind < text.len() {
+        return Err(PatternFault {
+            kind: FaultKind::UnopenedGroup,
+            at: branches.behind,
+        });
+    }
+    Ok(any_of(branches))
 }
 
 /// The tree of a basic regular expression (XBD 9.3, with GNU grep's `\+`, `\?` and `\|`): `Set`,
@@ -294,14 +302,11 @@ pub fn read_basic(alloc: Global, text: &[u8]) -> Result<Tree, PatternFault>
     ensures refused { IfErr result
         (λ fault. (fault ≡ record { kind = FaultKind.Memory; at = 0 }) ⊎ IsNoBasic text.now fault) }
 {
-    let branches = read_branches(alloc, text, 0, MOST_LEVELS)?;
-    if branches.behind < text.len() {
-        return Err(PatternFault {
-            kind: FaultKind::UnopenedGroup,
-            at: branches.behind,
-        });
+    let whole = read_whole(Some(alloc), text)?;
+    match whole.tree {
+        Some(tree) => Ok(tree),
+        None => unreachable!(),
     }
-    Ok(choice_of(branches.trees))
 }
 
 mod duplications;

@@ -2,14 +2,14 @@
 ghost use Rattle.std.specs.Prelude.{◌≡◌, ◌≤◌, ◌<◌, ◌⊎◌, ◌∷◌, [], false, IfOk, IfErr, MatchOption};
 ghost use Rattle.std.specs.Prelude.{MatchBool, codes, length, take, drop, map};
 ghost use Rattle.re_syntax.specs.Bytes.{Begins};
-ghost use Rattle.re_syntax.specs.Expression.{expression_of};
+ghost use Rattle.re_syntax.specs.Expression.{Expression, expression_of};
 ghost use Rattle.re_syntax.specs.Extended.{Duplication};
 ghost use Rattle.re_syntax.specs.declared.syntax.Syntax.TheVariants.{Extended};
 ghost use Rattle.re_syntax.specs.Profile.{most_levels};
 ghost use Rattle.re_syntax.specs.Spelled.{IsSpelled, SpellsNoOther};
 ghost use Rattle.re_syntax.specs.ExtendedFaults.{OpensDuplication, IsStart, HasNothingToRepeat};
 ghost use Rattle.re_syntax.specs.ExtendedFaults.{IsShownIn, IsNoExtended};
-ghost use Rattle.re_syntax.specs.Working.PieceSteps.{IsRefused};
+ghost use Rattle.re_syntax.specs.Working.PieceSteps.{IsTold, IsRefused};
 ghost use Rattle.re_syntax.specs.Working.ExtendedSteps.{stops, IsNoSign, DuplicationStands};
 ghost use Rattle.re_syntax.specs.Working.ExtendedSteps.{HasBadInterval, MayBegin, AtomStands};
 ghost use Rattle.re_syntax.specs.Working.ExtendedSteps.{HasNoAtom, ItemStands, HasNoItems, IsNext};
@@ -19,9 +19,10 @@ use crate::ahead::{after, byte_at};
 use crate::bytes::ByteSet;
 use crate::escape::read_escape;
 use crate::fault::{FaultKind, PatternFault};
-use crate::fixed::sequence_of;
 use crate::interval::{Counts, counts_fault, read_interval};
-use crate::pieces::{Piece, Pieces, choice_of, joined, meant_by, read_bracket_atom, repeated};
+use crate::pieces::{
+    Piece, Pieces, all_of, any_of, joined, leaf, meant_by, no_pieces, read_bracket_atom, repeated,
+};
 use crate::profile::{EXTENDED_REFUSED, MOST_LEVELS};
 use crate::tree::Tree;
 use std::alloc::Global;
@@ -102,7 +103,7 @@ fn stops_at(text: &[u8], at: usize, in_group: bool) -> bool
 /// The group whose `(` stands at a place, at most so many levels high.
 #[cycle(read_branches)]
 fn read_group(
-    alloc: Global,
+    alloc: Option<Global>,
     text: &[u8],
     at: usize,
     in_group: bool,
@@ -110,7 +111,7 @@ fn read_group(
 ) -> Result<Piece, PatternFault>
     requires opens { Begins (codes "(") (drop at text.now) }
     requires few { levels ≤ most_levels }
-    ensures read { IfOk result (AtomStands in_group levels text.now at) }
+    ensures read { IfOk result (AtomStands alloc in_group levels text.now at) }
     ensures refused { IfErr result
         (λ fault.
         IsRefused (HasNoAtom in_group levels (drop at text.now)) (IsShownIn text.now fault) fault) }
@@ -127,11 +128,15 @@ fn read_group(
             kind: FaultKind::UnclosedGroup,
             at,
         }),
-        Some(behind) => Ok(Piece {
-            tree: choice_of(branches.trees),
-            height: branches.height + 1,
-            behind,
-        }),
+        Some(behind) => {
+            let inside = any_of(branches);
+            Ok(Piece {
+                tree: inside.tree,
+                positions: inside.positions,
+                height: inside.height + 1,
+                behind,
+            })
+        }
     }
 }
 
@@ -139,7 +144,7 @@ fn read_group(
 /// duplication comes first.
 #[cycle(read_branches)]
 fn read_atom(
-    alloc: Global,
+    alloc: Option<Global>,
     text: &[u8],
     at: usize,
     in_group: bool,
@@ -148,39 +153,27 @@ fn read_atom(
     requires within { at < length text.now }
     requires begins { MayBegin in_group (drop at text.now) }
     requires few { levels ≤ most_levels }
-    ensures read { IfOk result (AtomStands in_group levels text.now at) }
+    ensures read { IfOk result (AtomStands alloc in_group levels text.now at) }
     ensures refused { IfErr result
         (λ fault.
         IsRefused (HasNoAtom in_group levels (drop at text.now)) (IsShownIn text.now fault) fault) }
 {
     match text[at] {
-        b'[' => read_bracket_atom(text, at),
+        b'[' => read_bracket_atom(alloc, text, at),
         b'(' => read_group(alloc, text, at, in_group, levels),
         b'\\' => {
             let byte = read_escape(text, at, EXTENDED_REFUSED)?;
-            Ok(Piece {
-                tree: Tree::Set(ByteSet::only(byte)),
-                height: 0,
-                behind: at + 2,
-            })
+            Ok(leaf(alloc, Tree::Set(ByteSet::only(byte)), 1, at + 2))
         }
-        b'$' => Ok(Piece {
-            tree: Tree::End,
-            height: 0,
-            behind: at + 1,
-        }),
-        byte => Ok(Piece {
-            tree: Tree::Set(meant_by(byte)),
-            height: 0,
-            behind: at + 1,
-        }),
+        b'$' => Ok(leaf(alloc, Tree::End, 0, at + 1)),
+        byte => Ok(leaf(alloc, Tree::Set(meant_by(byte)), 1, at + 1)),
     }
 }
 
 /// The atom that stands at a place, and the duplications after it.
 #[cycle(read_branches)]
 fn read_item(
-    alloc: Global,
+    alloc: Option<Global>,
     text: &[u8],
     at: usize,
     in_group: bool,
@@ -189,7 +182,7 @@ fn read_item(
     requires within { at < length text.now }
     requires begins { MayBegin in_group (drop at text.now) }
     requires few { levels ≤ most_levels }
-    ensures read { IfOk result (ItemStands in_group levels text.now at) }
+    ensures read { IfOk result (ItemStands alloc in_group levels text.now at) }
     ensures refused { IfErr result
         (λ fault.
         IsRefused (HasNoItems in_group levels (drop at text.now)) (IsShownIn text.now fault)
@@ -211,7 +204,7 @@ fn read_item(
 /// The anchor or the item that stands at a place, where the branch goes on.
 #[cycle(read_branches)]
 fn read_next(
-    alloc: Global,
+    alloc: Option<Global>,
     text: &[u8],
     at: usize,
     in_group: bool,
@@ -221,18 +214,14 @@ fn read_next(
     requires goes_on { stops in_group (drop at text.now) ≡ false }
     requires opens { OpensDuplication (drop at text.now) → HasNothingToRepeat (take at text.now) }
     requires few { levels ≤ most_levels }
-    ensures read { IfOk result (IsNext in_group levels text.now at) }
+    ensures read { IfOk result (IsNext alloc in_group levels text.now at) }
     ensures refused { IfErr result
         (λ fault.
         IsRefused (HasNoItems in_group levels (drop at text.now)) (IsShownIn text.now fault)
         fault) }
 {
     if let Some(behind) = after(text, at, b"^") {
-        return Ok(Piece {
-            tree: Tree::Begin,
-            height: 0,
-            behind,
-        });
+        return Ok(leaf(alloc, Tree::Begin, 0, behind));
     }
     if opens_duplication(text, at) {
         return Err(PatternFault {
@@ -246,7 +235,7 @@ fn read_next(
 /// The branch that begins at a place, up to where it ends.
 #[cycle(read_branches)]
 fn read_branch(
-    alloc: Global,
+    alloc: Option<Global>,
     text: &[u8],
     from: usize,
     in_group: bool,
@@ -255,32 +244,24 @@ fn read_branch(
     requires within { from ≤ length text.now }
     requires starts { IsStart (take from text.now) }
     requires few { levels ≤ most_levels }
-    ensures read { IfOk result (BranchStands in_group levels text.now from) }
+    ensures read { IfOk result (BranchStands alloc in_group levels text.now from) }
     ensures refused { IfErr result
         (λ fault.
         IsRefused (HasNoItems in_group levels (drop from text.now)) (IsShownIn text.now fault)
         fault) }
 {
-    let mut items = Pieces {
-        trees: Vec::new(alloc),
-        height: 0,
-        behind: from,
-    };
+    let mut items = no_pieces(alloc, from);
     'items: while !stops_at(text, items.behind, in_group) {
         let piece = read_next(alloc, text, items.behind, in_group, levels)?;
         items = joined(items, piece)?;
     }
-    Ok(Piece {
-        tree: sequence_of(items.trees),
-        height: items.height,
-        behind: items.behind,
-    })
+    Ok(all_of(items))
 }
 
 /// The branches of the expression that begins at a place, up to where it ends.
 #[cycle(read_branches)]
 fn read_branches(
-    alloc: Global,
+    alloc: Option<Global>,
     text: &[u8],
     from: usize,
     in_group: bool,
@@ -289,17 +270,13 @@ fn read_branches(
     requires within { from ≤ length text.now }
     requires starts { IsStart (take from text.now) }
     requires few { levels ≤ most_levels }
-    ensures read { IfOk result (BranchesStand in_group levels text.now from) }
+    ensures read { IfOk result (BranchesStand alloc in_group levels text.now from) }
     ensures refused { IfErr result
         (λ fault.
         IsRefused (HasNoBranches in_group levels (drop from text.now)) (IsShownIn text.now fault)
         fault) }
 {
-    let none = Pieces {
-        trees: Vec::new(alloc),
-        height: 0,
-        behind: from,
-    };
+    let none = no_pieces(alloc, from);
     let first = read_branch(alloc, text, from, in_group, levels)?;
     let mut branches = joined(none, first)?;
     'branches: while let Some(behind) = after(text, branches.behind, b"|") {
@@ -307,6 +284,18 @@ fn read_branches(
         branches = joined(branches, branch)?;
     }
     Ok(branches)
+}
+
+/// The extended regular expression that the whole text is.
+pub(crate) fn read_whole(alloc: Option<Global>, text: &[u8]) -> Result<Piece, PatternFault>
+    ensures read { IfOk result
+        (λ piece. (e : Expression) × IsSpelled Extended text.now e × IsTold alloc piece e) }
+    ensures refused { IfErr result
+        (λ fault. (fault ≡ record { kind = FaultKind.Memory; at = 0 }) ⊎
+        IsNoExtended text.now fault) }
+{
+    let branches = read_branches(alloc, text, 0, false, MOST_LEVELS)?;
+    Ok(any_of(branches))
 }
 
 /// The tree of an extended regular expression (XBD 9.4): `Set`, `Not`, `Begin`, `End` and `Repeat`
@@ -324,8 +313,11 @@ pub fn read_extended(alloc: Global, text: &[u8]) -> Result<Tree, PatternFault>
         (λ fault. (fault ≡ record { kind = FaultKind.Memory; at = 0 }) ⊎
         IsNoExtended text.now fault) }
 {
-    let branches = read_branches(alloc, text, 0, false, MOST_LEVELS)?;
-    Ok(choice_of(branches.trees))
+    let whole = read_whole(Some(alloc), text)?;
+    match whole.tree {
+        Some(tree) => Ok(tree),
+        None => unreachable!(),
+    }
 }
 
 #[cfg(test)]

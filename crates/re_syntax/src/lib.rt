@@ -15,6 +15,7 @@ mod folding;
 mod interval;
 mod laws;
 mod pieces;
+mod positions;
 mod profile;
 #[cfg(test)]
 mod shapes;
@@ -35,6 +36,7 @@ pub use folding::fold;
 pub use laws::{
     brackets_are_unique, has_one_split, parts_are_unique, spells_one, standard_is_kept,
 };
+pub use positions::{basic_positions, extended_positions};
 pub use profile::{MOST_PATTERNS, MOST_POSITIONS};
 pub use split::{FilePatterns, Patterns, split_file, split_list};
 pub use syntax::Syntax;

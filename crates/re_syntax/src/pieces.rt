@@ -1,17 +1,21 @@
-//! Parts of an expression that were read, in basic and in extended expressions.
-ghost use Rattle.std.specs.Prelude.{◌≡◌, ◌<◌, Some, IfOk, IfErr, map, slice_get};
-ghost use Rattle.re_syntax.specs.Expression.{expression_of, choice};
+//! Parts of an expression that were read, in basic and in extended expressions: with the trees of
+//! what they mean, or with the number of their positions alone.
+ghost use Rattle.std.specs.Prelude.{◌≡◌, ◌<◌, ◌++◌, ◌∷◌, [], List, Option, Some, IfOk, IfErr, map};
+ghost use Rattle.std.specs.Prelude.{slice_get};
+ghost use Rattle.std.specs.Global.{Global};
+ghost use Rattle.re_syntax.specs.Expression.{Expression, expression_of, choice, sequence, repeat};
+ghost use Rattle.re_syntax.specs.Holds.{copies, positions};
 ghost use Rattle.re_syntax.specs.Sets.{members};
 ghost use Rattle.re_syntax.specs.declared.fault.FaultKind.{FaultKind};
 ghost use Rattle.re_syntax.specs.Faults.{IsNoBracket};
 ghost use Rattle.re_syntax.specs.Profile.{most_levels};
-ghost use Rattle.re_syntax.specs.Working.PieceSteps.{meant_bytes, IsBracketPiece, IsRepeated};
-ghost use Rattle.re_syntax.specs.Working.PieceSteps.{IsJoined};
+ghost use Rattle.re_syntax.specs.Working.PieceSteps.{meant_bytes, Keeps, KeepsAll, IsTold, AreTold};
+ghost use Rattle.re_syntax.specs.Working.PieceSteps.{IsBracketPiece, IsRepeated, IsJoined};
 
 use crate::bracket::read_bracket;
 use crate::bytes::ByteSet;
 use crate::fault::PatternFault;
-use crate::fixed::out_of_memory;
+use crate::fixed::{out_of_memory, sequence_of};
 use crate::interval::Counts;
 use crate::tree::Tree;
 use std::alloc::Global;
@@ -19,8 +23,11 @@ use std::alloc::Global;
 /// An atom, an item or a branch that was read.
 #[derive(Drop)]
 pub struct Piece {
-    /// What it means.
-    pub tree: Tree,
+    /// What it means, where trees are kept.
+    pub tree: Option<Tree>,
+    /// How many positions it has, its intervals written out, or the greatest number where there are
+    /// more.
+    pub positions: usize,
     /// How deep groups and duplications stand in one another in it.
     pub height: usize,
     /// The place behind it.
@@ -30,8 +37,10 @@ pub struct Piece {
 /// Items or branches that were read.
 #[derive(Drop)]
 pub struct Pieces {
-    /// What they mean, in order.
-    pub trees: Vec<Tree>,
+    /// What they mean, in order, where trees are kept.
+    pub trees: Option<Vec<Tree>>,
+    /// How many positions they have together, counted as those of a `Piece`.
+    pub positions: usize,
     /// The greatest height of one of them.
     pub height: usize,
     /// The place behind the last of them.
@@ -50,56 +59,141 @@ pub fn meant_by(byte: u8) -> ByteSet
     }
 }
 
+/// The piece of a tree without parts that has so many positions, up to a place.
+pub fn leaf(alloc: Option<Global>, tree: Tree, count: usize, behind: usize) -> Piece
+    requires { count ≡ positions (expression_of tree) }
+    ensures told { (e : Expression) → expression_of tree ≡ e → IsTold alloc result e }
+    ensures height { result.height ≡ 0 }
+    ensures place { result.behind ≡ behind }
+{
+    Piece {
+        tree: alloc.map(|_| tree),
+        positions: count,
+        height: 0,
+        behind,
+    }
+}
+
+/// No pieces yet, at a place.
+pub fn no_pieces(alloc: Option<Global>, at: usize) -> Pieces
+    ensures told { AreTold alloc result [] }
+    ensures height { result.height ≡ 0 }
+    ensures place { result.behind ≡ at }
+{
+    Pieces {
+        trees: alloc.map(Vec::new),
+        positions: 0,
+        height: 0,
+        behind: at,
+    }
+}
+
 /// The bracket expression that stands at a place.
-pub fn read_bracket_atom(text: &[u8], at: usize) -> Result<Piece, PatternFault>
+pub fn read_bracket_atom(
+    alloc: Option<Global>,
+    text: &[u8],
+    at: usize,
+) -> Result<Piece, PatternFault>
     requires { slice_get text.now at ≡ Some 91 }
-    ensures read { IfOk result (IsBracketPiece text.now at) }
+    ensures read { IfOk result (IsBracketPiece alloc text.now at) }
     ensures refused { IfErr result (IsNoBracket text.now at) }
 {
     let (tree, behind) = read_bracket(text, at)?;
-    Ok(Piece {
-        tree,
-        height: 0,
-        behind,
-    })
+    Ok(leaf(alloc, tree, 1, behind))
+}
+
+/// How often a repeated part is written out: as often as it may stand at most, or, where it may
+/// stand any number of times, as often as it has to, and once at least.
+fn copies_of(counts: Counts) -> usize
+    ensures { result ≡ copies counts.least counts.most }
+{
+    match counts.most {
+        Some(most) => most as usize,
+        None => counts.least.max(1) as usize,
+    }
+}
+
+/// The tree of an item with a duplication behind it, where trees are kept.
+fn repeated_tree(
+    alloc: Option<Global>,
+    tree: Option<Tree>,
+    counts: Counts,
+) -> Result<Option<Tree>, PatternFault>
+    ensures made { IfOk result
+        (λ new. (e : Expression) → Keeps alloc tree e →
+        Keeps alloc new (repeat e counts.least counts.most)) }
+    ensures refused { IfErr result (λ fault. fault ≡ record { kind = FaultKind.Memory; at = 0 }) }
+{
+    let Some(alloc) = alloc else {
+        return Ok(None);
+    };
+    let Some(tree) = tree else {
+        return Ok(None);
+    };
+    match Box::new(alloc, tree) {
+        Ok(part) => Ok(Some(Tree::Repeat(part, counts.least, counts.most))),
+        Err(_) => Err(out_of_memory()),
+    }
 }
 
 /// A piece that a duplication repeats, and the place behind that.
 pub fn repeated(
-    alloc: Global,
+    alloc: Option<Global>,
     piece: Piece,
     counts: Counts,
     behind: usize,
 ) -> Result<Piece, PatternFault>
     requires { piece.height < most_levels }
-    ensures made { IfOk result (IsRepeated piece counts behind) }
+    ensures made { IfOk result (IsRepeated alloc piece counts behind) }
     ensures refused { IfErr result (λ fault. fault ≡ record { kind = FaultKind.Memory; at = 0 }) }
 {
-    match Box::new(alloc, piece.tree) {
-        Ok(part) => Ok(Piece {
-            tree: Tree::Repeat(part, counts.least, counts.most),
-            height: piece.height + 1,
-            behind,
-        }),
-        Err(_) => Err(out_of_memory()),
+    let tree = repeated_tree(alloc, piece.tree, counts)?;
+    Ok(Piece {
+        tree,
+        positions: copies_of(counts).saturating_mul(piece.positions),
+        height: piece.height + 1,
+        behind,
+    })
+}
+
+/// The trees with one more behind them, where they are kept.
+fn with_tree(
+    trees: Option<Vec<Tree>>,
+    tree: Option<Tree>,
+) -> Result<Option<Vec<Tree>>, PatternFault>
+    ensures made { IfOk result
+        (λ new. (alloc : Option Global) (es : List Expression) (e : Expression) →
+        KeepsAll alloc trees es → Keeps alloc tree e → KeepsAll alloc new (es ++ e ∷ [])) }
+    ensures refused { IfErr result (λ fault. fault ≡ record { kind = FaultKind.Memory; at = 0 }) }
+{
+    let Some(mut trees) = trees else {
+        return Ok(None);
+    };
+    let Some(tree) = tree else {
+        return Ok(None);
+    };
+    if trees.push(tree).is_err() {
+        return Err(out_of_memory());
     }
+    Ok(Some(trees))
 }
 
 /// The pieces with one more behind them.
-pub fn joined(mut pieces: Pieces, piece: Piece) -> Result<Pieces, PatternFault>
+pub fn joined(pieces: Pieces, piece: Piece) -> Result<Pieces, PatternFault>
     ensures made { IfOk result (IsJoined pieces piece) }
     ensures refused { IfErr result (λ fault. fault ≡ record { kind = FaultKind.Memory; at = 0 }) }
 {
-    if pieces.trees.push(piece.tree).is_err() {
-        return Err(out_of_memory());
-    }
-    pieces.height = pieces.height.max(piece.height);
-    pieces.behind = piece.behind;
-    Ok(pieces)
+    let trees = with_tree(pieces.trees, piece.tree)?;
+    Ok(Pieces {
+        trees,
+        positions: pieces.positions.saturating_add(piece.positions),
+        height: pieces.height.max(piece.height),
+        behind: piece.behind,
+    })
 }
 
 /// One tree for the trees of an expression's branches, in order.
-pub fn choice_of(mut branches: Vec<Tree>) -> Tree
+fn choice_of(mut branches: Vec<Tree>) -> Tree
     ensures { expression_of result ≡ choice (map expression_of branches.items) }
 {
     if branches.len() < 2 {
@@ -109,5 +203,35 @@ pub fn choice_of(mut branches: Vec<Tree>) -> Tree
         }
     } else {
         Tree::Alt(branches)
+    }
+}
+
+/// The branches of an expression as one piece.
+pub fn any_of(branches: Pieces) -> Piece
+    ensures told { (alloc : Option Global) (es : List Expression) → AreTold alloc branches es →
+        IsTold alloc result (choice es) }
+    ensures height { result.height ≡ branches.height }
+    ensures place { result.behind ≡ branches.behind }
+{
+    Piece {
+        tree: branches.trees.map(choice_of),
+        positions: branches.positions,
+        height: branches.height,
+        behind: branches.behind,
+    }
+}
+
+/// The items of a branch as one piece.
+pub fn all_of(items: Pieces) -> Piece
+    ensures told { (alloc : Option Global) (es : List Expression) → AreTold alloc items es →
+        IsTold alloc result (sequence es) }
+    ensures height { result.height ≡ items.height }
+    ensures place { result.behind ≡ items.behind }
+{
+    Piece {
+        tree: items.trees.map(sequence_of),
+        positions: items.positions,
+        height: items.height,
+        behind: items.behind,
     }
 }

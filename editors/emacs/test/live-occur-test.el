@@ -77,6 +77,7 @@ All buffers and processes that it makes are taken away after it."
           (a (car buffers))
           (live-occur-syntax 'basic)
           (live-occur-flags nil)
+          (live-occur-context nil)
           (inhibit-message t))
      (ignore a)
      (unwind-protect
@@ -190,6 +191,32 @@ All buffers and processes that it makes are taken away after it."
       (should (equal (live-occur-test--rows list) "a:1:AB\na:2:b\n"))
       (with-current-buffer list
         (should (string-prefix-p " extended -ix  (a|b)+" (live-occur--header)))))))
+
+(ert-deftest live-occur-shows-lines-around ()
+  (live-occur-test--with '("a\nb-1:c\nc\nd\na\n" "a\n\n")
+    (let ((list (live-occur "a")))
+      (with-current-buffer list
+        (live-occur-set-context 0 1)
+        (should (equal (live-occur-test--rows list) "a:1:a\na-2-b-1:c\n--\na:5:a\n"))
+        (should (string-prefix-p " basic -B 0 -A 1  a  4 rows" (live-occur--header)))
+        (live-occur-set-context 2 0)
+        (should (equal (live-occur-test--rows list) "a:1:a\n--\na-3-c\na-4-d\na:5:a\n"))
+        (live-occur-add-buffer (nth 1 buffers))
+        (live-occur-set-context 0 1)
+        (should (equal (live-occur-test--rows list)
+                       "a:1:a\na-2-b-1:c\n--\na:5:a\n--\nb:1:a\nb-2-\n"))
+        (live-occur-restart)
+        (should (equal (live-occur-test--rows list)
+                       "a:1:a\na-2-b-1:c\n--\na:5:a\n--\nb:1:a\nb-2-\n"))
+        (live-occur-set-context 0 0)
+        (should (equal (live-occur-test--rows list) "a:1:a\na:5:a\nb:1:a\n"))
+        (should-error (live-occur-set-context -1 0) :type 'user-error)))))
+
+(ert-deftest live-occur-begins-with-lines-around ()
+  (live-occur-test--with '("b\na\nb\n")
+    (let* ((live-occur-context '(1 . 0))
+           (list (live-occur "a")))
+      (should (equal (live-occur-test--rows list) "a-1-b\na:2:a\n")))))
 
 (ert-deftest live-occur-shows-no-more-rows-than-it-may ()
   (live-occur-test--with (list (apply #'concat (make-list 50 "a\n")))
@@ -745,6 +772,36 @@ All buffers and processes that it makes are taken away after it."
                                 '(0 . 0) 0))))
         (should (eq (window-buffer) (nth 1 buffers)))))))
 
+(ert-deftest live-occur-visits-lines-around ()
+  (live-occur-test--with '("a\nb\nc\nd\na\n")
+    (let ((list (live-occur "a")))
+      (with-current-buffer list
+        (live-occur-set-context 0 1))
+      (live-occur-test--mark list)
+      (live-occur-test--at list 2)
+      (with-current-buffer list
+        (live-occur-visit))
+      (should (equal (line-number-at-pos) 2))
+      (live-occur-test--at list 3)
+      (with-current-buffer list
+        (should-error (live-occur-visit) :type 'user-error))
+      (live-occur-test--at list 1)
+      (with-current-buffer list
+        (live-occur--next-error 1))
+      (with-current-buffer a
+        (should (equal (line-number-at-pos) 5)))
+      (with-current-buffer list
+        (live-occur--next-error -1))
+      (with-current-buffer a
+        (should (equal (line-number-at-pos) 1))))))
+
+(ert-deftest live-occur-highlights-no-lines-around ()
+  (live-occur-test--with '("a\nb\nc\na\n")
+    (let ((list (live-occur "a")))
+      (with-current-buffer list
+        (live-occur-set-context 0 1))
+      (should (equal (live-occur-test--mark list) '((4 "a") nil nil (4 "a")))))))
+
 (ert-deftest live-occur-visits-parts ()
   (live-occur-test--with '("é ab é ab\n")
     (live-occur-test--in-windows
@@ -858,7 +915,8 @@ All buffers and processes that it makes are taken away after it."
 (defun live-occur-test--change (list)
   "Change at random a flag, the syntax or the patterns of LIST."
   (with-current-buffer list
-    (pcase (random 8)
+    (pcase (random 9)
+      (8 (live-occur-set-context (random 3) (random 3)))
       ((or 0 1 2 3) (live-occur--toggle (nth (random 5) live-occur--flag-letters)))
       (4 (live-occur--choose-syntax (nth (random 3) '(basic extended fixed))))
       (5 (live-occur--add (nth (random 6) '("a" "b$" "^" "a*b" "\\(a" "[ab]B"))))
@@ -888,7 +946,11 @@ All buffers and processes that it makes are taken away after it."
                               (concat (apply #'string live-occur--the-flags)
                                       (pcase live-occur--the-syntax
                                         ('basic "") ('extended "E") ('fixed "F")))))
-               "-f" "patterns" "--" (nreverse names))
+               "-f" "patterns"
+               (append (pcase (buffer-local-value 'live-occur--the-context list)
+                         (`(,before . ,after)
+                          (list (format "-B%d" before) (format "-A%d" after))))
+                       '("--") (nreverse names)))
         (buffer-string)))))
 
 (defvar live-occur-test--edits

@@ -140,5 +140,6 @@ module _ (folder : Folder) (given : List (Option Text) → Type 0) (words : List
   words_refused usage.Memory old new status is h = inr h
   words_refused (usage.UnknownOption c) old new status is h = words_fault _ old new status is h
   words_refused (usage.MissingArgument c) old new status is h = words_fault _ old new status is h
+  words_refused (usage.BadNumber c) old new status is h = words_fault _ old new status is h
   words_refused usage.TwoSyntaxes old new status is h = words_fault _ old new status is h
   words_refused usage.NoPattern old new status is h = words_fault _ old new status is h

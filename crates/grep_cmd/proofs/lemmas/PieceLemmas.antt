@@ -7,7 +7,7 @@ use Rattle.re_syntax.specs.Bytes.{Text}
 use Rattle.grep_cmd.specs.declared.words.UsageFault.TheVariants.{MissingArgument}
 use Rattle.grep_cmd.specs.declared.words.pieces.Argument.{Argument}
 use Rattle.grep_cmd.specs.declared.words.pieces.Meaning.TheVariants.{Takes}
-use Rattle.grep_cmd.specs.Words.{Piece, source, fault, source_of, Wanting, meaning_of, group, pieces, an_operand, ends_options, by_characters, a_group, word_of}
+use Rattle.grep_cmd.specs.Words.{Piece, fault, with_argument, Wanting, meaning_of, group, pieces, an_operand, ends_options, by_characters, a_group, word_of}
 use Rattle.grep_cmd.specs.Working.Pieces.{pieces_from}
 
 -- an empty text has no characters
@@ -21,12 +21,12 @@ group-end behind t e = ap (group behind) (no_chars t e)
 
 module _ (behind : Option Wanting → List Piece) (c : ℕ) (a : Argument) (takes : meaning_of c ≡ Some (Takes a)) where
   -- the rest of the group is the argument
-  pub group-argument : (t : Text) → IsUtf8 t → length t ≢ 0 → group behind (c ∷ chars t) ≡ source (source_of a t) ∷ behind None
+  pub group-argument : (t : Text) → IsUtf8 t → length t ≢ 0 → group behind (c ∷ chars t) ≡ with_argument c a t ∷ behind None
   group-argument t utf8 more = by (chars t) (encodes-chars t utf8)
     where
-      by : (cs : List ℕ) → encode_utf8_all cs ≡ t → group behind (c ∷ cs) ≡ source (source_of a t) ∷ behind None
+      by : (cs : List ℕ) → encode_utf8_all cs ≡ t → group behind (c ∷ cs) ≡ with_argument c a t ∷ behind None
       by [] e = absurd (more (sym (ap length e)))
-      by (d ∷ ds) e = rw (takes, group) (ap (λ u. source (source_of a u) ∷ behind None) e)
+      by (d ∷ ds) e = rw (takes, group) (ap (λ u. with_argument c a u ∷ behind None) e)
 
   -- the argument is behind the group
   pub group-wants : (t : Text) → length t ≡ 0 → group behind (c ∷ chars t) ≡ behind (Some (record { letter = c; argument = a }))
@@ -38,8 +38,8 @@ module _ (words : List Text) (w : Wanting) (letters : Option (Bor Text)) (rest :
   behind_group = ap (λ l. pieces_from l words) are ∙ group-end (pieces words) rest.now none
 
   -- the next word is the argument
-  pub pieces-argument : (word : Text) (before : List Text) → before ≡ word ∷ words → pieces before (Some w) ≡ source (source_of w.argument word) ∷ pieces_from letters words
-  pieces-argument word before e = ap (λ ws. pieces ws (Some w)) e ∙ ap (λ ps. source (source_of w.argument word) ∷ ps) (sym behind_group)
+  pub pieces-argument : (word : Text) (before : List Text) → before ≡ word ∷ words → pieces before (Some w) ≡ with_argument w.letter w.argument word ∷ pieces_from letters words
+  pieces-argument word before e = ap (λ ws. pieces ws (Some w)) e ∙ ap (λ ps. with_argument w.letter w.argument word ∷ ps) (sym behind_group)
 
   -- there is no next word
   pub pieces-no_argument : (before : List Text) → before ≡ [] → words ≡ [] → pieces before (Some w) ≡ fault (MissingArgument w.letter) ∷ pieces_from letters words

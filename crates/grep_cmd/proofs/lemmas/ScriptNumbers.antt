@@ -1,5 +1,5 @@
--- The number that a word is, one digit after the other.
-use Rattle.std.proofs.Common.{◌≡◌, ℕ, zero, suc, ◌+◌, ◌-◌, ◌*◌, ◌^◌, ◌<◌, ◌≤◌, [], ◌∷◌, ◌++◌, length, take, drop, get_or, IsTrue, Some, None, refl, sym, ap, ◌∙◌, arith, take-append-drop, nat_lt, nat_le, ◌&&◌, Bool, true, false, subst}
+-- The number that a word is, one digit after the other; and the number of lines, of which none is above the greatest.
+use Rattle.std.proofs.Common.{◌≡◌, ℕ, zero, suc, ◌+◌, ◌-◌, ◌*◌, ◌^◌, ◌<◌, ◌≤◌, min, [], ◌∷◌, ◌++◌, length, take, drop, get_or, IsTrue, Some, None, refl, sym, ap, ◌∙◌, arith, take-append-drop, nat_lt, nat_le, ◌&&◌, Bool, true, false, subst}
 use Rattle.std.proofs.lemmas.Bool.{and_parts, and_from, cond-true, cond-false, false_from_ne_true, ltb-true, ltb-false, lt-ltb}
 use Rattle.std.specs.List.{list_all}
 use Rattle.re_syntax.specs.declared.class.Class.TheVariants.{Digit}
@@ -7,6 +7,7 @@ use Rattle.re_syntax.specs.Bytes.{Text, in_class}
 use Rattle.re_syntax.specs.Intervals.{value_after, value}
 use Rattle.re_syntax.proofs.lemmas.DigitsLaws.{value_after-take}
 use Rattle.grep_cmd.specs.Script.{number_of}
+use Rattle.grep_cmd.specs.Words.{lines_of, most_around}
 use Rattle.grep_cmd.specs.Working.ScriptWords.{digit_of}
 
 value_grows : (n : ℕ) (t : Text) → n ≤ value_after n t
@@ -90,3 +91,30 @@ number_of-larger t i v d h is digit many =
     let front = front_value t (i + 1) in
     let last = (digit_some (get_or t i 0) d digit).1 in
     none_since t (λ all few. absurd (omega (arith, step, front, few, is, many, last)))
+
+-- what is kept of a number is enough to go on
+capped_next : (most n v d w u : ℕ) → v ≡ min n most → w ≡ min (min (v * 10) most + d) most → n * 10 + d ≡ u → w ≡ min u most
+capped_next most n v d w u is sum next = omega (arith, is, sum, next)
+
+-- one digit more
+pub lines_next : (t : Text) (i v d w : ℕ) → i < length t → AreDigitsTo t i → v ≡ min (value (take i t)) most_around → digit_of (get_or t i 0) ≡ Some d → w ≡ min (min (v * 10) most_around + d) most_around
+    → AreDigitsTo t (i + 1) × (w ≡ min (value (take (i + 1) t)) most_around)
+lines_next t i v d w h f is digit sum =
+    let n = value (take i t) in
+    let next = digits_next t i n d (n * 10 + d) h f refl digit refl in
+    (next.0, capped_next most_around n v d w (value (take (i + 1) t)) is sum next.1)
+
+-- no word is no number of lines
+pub lines_of-empty : (t : Text) → length t ≡ 0 → lines_of t ≡ None
+lines_of-empty [] h = refl
+lines_of-empty (b ∷ t) h = absurd (omega arith)
+
+-- all bytes are digits
+pub lines_of-digits : (t : Text) (v : ℕ) → 0 < length t → AreDigitsTo t (length t) → v ≡ min (value t) most_around → lines_of t ≡ Some v
+lines_of-digits [] v h f is = absurd (omega arith)
+lines_of-digits (b ∷ t) v h f is = cond-true _ _ _ (all_digits (b ∷ t) f) ∙ ap Some (sym is)
+
+-- some byte is no digit
+pub lines_of-stray : (t : Text) (i : ℕ) → i < length t → (IsTrue (in_class Digit (get_or t i 0)) → ⊥) → lines_of t ≡ None
+lines_of-stray [] i h stray = refl
+lines_of-stray (b ∷ t) i h stray = cond-false _ _ _ (false_from_ne_true _ (not_all (b ∷ t) i h stray))

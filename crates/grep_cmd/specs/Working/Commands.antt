@@ -3,7 +3,7 @@ use Rattle.std.specs.Prelude.{List}
 use Rattle.re_syntax.specs.Bytes.{Text}
 use Rattle.re_syntax.specs.Lines.{joined}
 use Rattle.grep_session.specs.Edits.{Edit, AddFile, AddMissing, DropFile, Splice, AddPatterns}
-use Rattle.grep_session.specs.Edits.{DropPattern, SetFlag, SetSyntax}
+use Rattle.grep_session.specs.Edits.{DropPattern, SetFlag, SetSyntax, SetContext}
 use Rattle.grep_cmd.specs.declared.script.command.LineEdit.{LineEdit}
 use Rattle.grep_cmd.specs.declared.script.command.LineEdit.TheVariants as line_edit
 use Rattle.grep_cmd.specs.declared.script.command.CountedEdit.{CountedEdit}
@@ -18,6 +18,7 @@ line_meant (line_edit.DropFile file) = DropFile file
 line_meant (line_edit.DropPattern pattern) = DropPattern pattern
 line_meant (line_edit.SetFlag flag on) = SetFlag flag on
 line_meant (line_edit.SetSyntax syntax) = SetSyntax syntax
+line_meant (line_edit.SetContext context) = SetContext context
 
 abbrev pub counted_meant : CountedEdit → List Text → Edit
 counted_meant (counted.AddFile name) lines = AddFile name.items lines

@@ -3,7 +3,7 @@ use Rattle.std.specs.Prelude.{◌≡◌, List, ◌∷◌, map, Option, Some, Non
 use Rattle.std.specs.Borrow.{Bor}
 use Rattle.std.specs.Str.{chars}
 use Rattle.re_syntax.specs.Bytes.{Text}
-use Rattle.grep_cmd.specs.Words.{Piece, flag, reads_as, source, operand, fault, source_of}
+use Rattle.grep_cmd.specs.Words.{Piece, flag, reads_as, source, list, file, around, operand, fault}
 use Rattle.grep_cmd.specs.Words.{an_operand, ends_options, a_group, word_of, group, pieces}
 use Rattle.grep_cmd.specs.Words.{texts_of}
 use Rattle.grep_cmd.specs.declared.words.UsageFault.{UsageFault}
@@ -16,7 +16,9 @@ use Rattle.grep_cmd.specs.declared.words.pieces.WordPieces.{WordPieces}
 abbrev pub piece_of : Result code.Piece UsageFault → Piece
 piece_of (Ok (piece.Flag f)) = flag f
 piece_of (Ok (piece.Syntax s)) = reads_as s
-piece_of (Ok (piece.Source a text)) = source (source_of a text.now)
+piece_of (Ok (piece.List text)) = source (list text.now)
+piece_of (Ok (piece.File name)) = source (file name.now)
+piece_of (Ok (piece.Around side count)) = around side count
 piece_of (Ok (piece.Operand text)) = operand text.now
 piece_of (Err f) = fault f
 

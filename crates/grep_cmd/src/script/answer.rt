@@ -34,6 +34,10 @@ fn make_edit(session: &mut Session, edit: LineEdit, meter: &mut Meter) -> Result
         LineEdit::DropPattern(pattern) => session.drop_pattern(pattern, meter),
         LineEdit::SetFlag(flag, on) => session.set_flag(flag, on, meter),
         LineEdit::SetSyntax(syntax) => session.set_syntax(syntax, meter),
+        LineEdit::SetContext(context) => {
+            session.set_context(context);
+            Ok(())
+        }
     }
 }
 

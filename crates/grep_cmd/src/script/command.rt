@@ -3,14 +3,15 @@ ghost use Rattle.std.specs.Prelude.{◌≡◌, IfOk, option_map};
 ghost use Rattle.grep_cmd.specs.Script.{name_of, flag_of, switch_of, syntax_of, file_command};
 ghost use Rattle.grep_cmd.specs.Script.{missing_command, close_command, splice_command};
 ghost use Rattle.grep_cmd.specs.Script.{patterns_command, drop_command, flag_command};
-ghost use Rattle.grep_cmd.specs.Script.{syntax_command, show_command, unnamed_command};
-ghost use Rattle.grep_cmd.specs.Script.{line_command};
+ghost use Rattle.grep_cmd.specs.Script.{syntax_command, no_context, context_from};
+ghost use Rattle.grep_cmd.specs.Script.{context_command, show_command, unnamed_command};
+ghost use Rattle.grep_cmd.specs.Script.{line_command, number_of};
 ghost use Rattle.grep_cmd.specs.Working.Commands.{meant};
 
+use crate::number::read_number;
 use crate::script::line_words::{LineWords, words_of};
-use crate::script::number::read_number;
 use crate::words::pieces::{Meaning, meaning_of_option};
-use grep_core::Flag;
+use grep_core::{Context, Flag};
 use re_syntax::Syntax;
 use std::alloc::{AllocError, Global};
 
@@ -25,6 +26,7 @@ pub enum LineEdit {
     DropPattern(usize),
     SetFlag(Flag, bool),
     SetSyntax(Syntax),
+    SetContext(Option<Context>),
 }
 
 /// An edit that takes lines of the script.
@@ -196,6 +198,41 @@ fn read_syntax_command(words: LineWords<'_>) -> Option<Command>
     Some(Command::Edit(LineEdit::SetSyntax(syntax)))
 }
 
+/// `off`, behind `context`
+fn read_no_context(word: &[u8]) -> Option<Command>
+    ensures { option_map meant result ≡ no_context word.now }
+{
+    if word == b"off".as_slice() {
+        return Some(Command::Edit(LineEdit::SetContext(None)));
+    }
+    None
+}
+
+/// `BEFORE AFTER`, behind `context`
+fn read_numbers_of_lines(before: &[u8], after: &[u8]) -> Option<Command>
+    ensures { option_map meant result ≡ context_from (number_of before.now) (number_of after.now) }
+{
+    let before = read_number(before)? as u64;
+    let after = read_number(after)? as u64;
+    let context = Context { before, after };
+    Some(Command::Edit(LineEdit::SetContext(Some(context))))
+}
+
+/// `context BEFORE AFTER` or `context off`
+fn read_context(words: LineWords<'_>) -> Option<Command>
+    ensures { option_map meant result ≡ context_command words.entry }
+{
+    let mut words = words;
+    let first = words.next()?;
+    let Some(second) = words.next() else {
+        return read_no_context(first);
+    };
+    match words.next() {
+        Some(_) => None,
+        None => read_numbers_of_lines(first, second),
+    }
+}
+
 /// `show`
 fn read_show(words: LineWords<'_>) -> Option<Command>
     ensures { option_map meant result ≡ show_command words.entry }
@@ -231,6 +268,9 @@ fn read_unnamed(word: &[u8], words: LineWords<'_>) -> Option<Command>
     }
     if word == b"syntax".as_slice() {
         return read_syntax_command(words);
+    }
+    if word == b"context".as_slice() {
+        return read_context(words);
     }
     None
 }

@@ -7,7 +7,8 @@ use crate::tests::harness::{
 use re_auto::fresh_meter;
 use std::test::Fail;
 
-const USAGE: &str = "usage: grep [-E|-F] [-cilnoqsvx] [-e LIST]... [-f FILE]... [LIST] [FILE...]\n";
+const USAGE: &str =
+    "usage: grep [-E|-F] [-cilnoqsvx] [-A NUM] [-B NUM] [-C NUM] [-e LIST]... [-f FILE]... [LIST] [FILE...]\n";
 
 static WITH_PATTERN_FILES: [Row<'static>; 21] = [
     ("-f empty", b"x\n", b"", "", 1),

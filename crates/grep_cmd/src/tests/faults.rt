@@ -2,7 +2,7 @@
 use crate::memory::{Content, MemoryFile};
 use crate::tests::harness::{
     Limits, UNLIMITED, assert_command, assert_search, assert_written, commanded, file, folder,
-    searched, status_of,
+    read_by, searched, status_of,
 };
 use grep_core::RunFault;
 use std::alloc::Global;
@@ -142,6 +142,42 @@ fn failed_writes_end_the_run(rt: HostRuntime) -> Result<(), Fail> {
     Ok(())
 }
 
+/// Compares what the row's search and command write where no device moves more than so many bytes
+/// a call.
+fn assert_moved(rt: &impl Abort, alloc: Global, row: WrittenRow, step: usize) -> Result<(), Fail> {
+    let (line, output, _, message) = row;
+    let folder = folder().map(|file| read_by(file, step));
+    let files = folder.as_slice();
+    let input = Content {
+        step,
+        ..Content::new(b"b\nab\nB\n")
+    };
+    let limits = Limits { step, ..UNLIMITED };
+    let search = searched(alloc, line, files, input, limits)?;
+    assert_written(rt, &search, output, message, line, step);
+    let command = commanded(alloc, line, files, input, limits)?;
+    assert_written(rt, &command, output, message, line, step);
+    Ok(())
+}
+
+#[test]
+fn few_bytes_at_a_time_are_as_many_at_once(rt: HostRuntime) -> Result<(), Fail> {
+    for row in written_rows() {
+        for step in [1, 2, 3, usize::MAX] {
+            assert_moved(&rt, rt.alloc(), *row, step)?;
+        }
+    }
+    let stuck = Limits {
+        step: 0,
+        ..UNLIMITED
+    };
+    let input = Content::new(b"ab\nb");
+    let command = commanded(rt.alloc(), "b", &[], input, stuck)?;
+    assert_eq!(rt; command.answer, 2);
+    assert_written(&rt, &command, b"", b"", "b", 0);
+    Ok(())
+}
+
 /// A command; its message; its output before the message; its output; its exit status.
 type ToldRow = (
     &'static str,
@@ -224,11 +260,11 @@ static GIVEN_UP: [(&str, &[u8]); 6] = [
     ("-f g f", b"grep: g: read error\n"),
     (
         "-E -F a",
-        b"grep: -E and -F together\nusage: grep [-E|-F] [-cilnoqsvx] [-e LIST]... [-f FILE]... [LIST] [FILE...]\n",
+        b"grep: -E and -F together\nusage: grep [-E|-F] [-cilnoqsvx] [-A NUM] [-B NUM] [-C NUM] [-e LIST]... [-f FILE]... [LIST] [FILE...]\n",
     ),
     (
         "-ne",
-        b"grep: option -e needs an argument\nusage: grep [-E|-F] [-cilnoqsvx] [-e LIST]... [-f FILE]... [LIST] [FILE...]\n",
+        b"grep: option -e needs an argument\nusage: grep [-E|-F] [-cilnoqsvx] [-A NUM] [-B NUM] [-C NUM] [-e LIST]... [-f FILE]... [LIST] [FILE...]\n",
     ),
     ("a f", b"grep: write error\n"),
 ];

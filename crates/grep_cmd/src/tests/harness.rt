@@ -1,6 +1,7 @@
 //! Files, devices and runs for the tests of searches and commands.
 use crate::matchers::matchers_of;
 use crate::memory::{Content, MemoryFile, MemoryFiles};
+use crate::tests::marks::{refuse, was_refused};
 use crate::{PatternSource, Request, read_words, run_grep};
 use grep_core::{CountedWrite, Limited, RunFault, Status, Tally, search_all};
 use re_auto::fresh_meter;
@@ -49,6 +50,16 @@ impl Devices {
             out: Tally::new(Limited::new(Vec::new(alloc), limits.step, limits.output)),
             messages: Tally::new(Limited::new(Vec::new(alloc), limits.step, limits.messages)),
         }
+    }
+
+    /// Devices that ask for no memory for the first bytes that are written on each.
+    pub fn roomy(alloc: Global) -> Result<Devices, AllocError> {
+        let out = Vec::with_capacity(alloc, 4_096)?;
+        let messages = Vec::with_capacity(alloc, 4_096)?;
+        Ok(Devices {
+            out: Tally::new(Limited::new(out, UNLIMITED.step, UNLIMITED.output)),
+            messages: Tally::new(Limited::new(messages, UNLIMITED.step, UNLIMITED.messages)),
+        })
     }
 
     /// What was written on them in a run with this answer.
@@ -185,13 +196,29 @@ pub fn searched<'a>(
     input: Content<'a>,
     limits: Limits,
 ) -> Result<Outcome<Result<Status, RunFault>>, Fail> {
+    let devices = Devices::new(alloc, limits);
+    let (outcome, _) = searched_without(alloc, line, files, input, devices, 0)?;
+    Ok(outcome)
+}
+
+/// Searches while the N-th request for memory of the search is refused, none where N is 0; whether
+/// one was.
+pub fn searched_without<'a>(
+    alloc: Global,
+    line: &str,
+    files: &'a [MemoryFile<'a>],
+    input: Content<'a>,
+    devices: Devices,
+    n: usize,
+) -> Result<(Outcome<Result<Status, RunFault>>, bool), Fail> {
+    let mut devices = devices;
     let words = words_of(alloc, line)?;
     let request = read_words(alloc, &words)?;
     let texts = pattern_lines(alloc, &request)?;
     let mut matchers = matchers_of(alloc, &texts, request.syntax, &request.options)?;
     let sources = named(alloc, &request.files, files, input)?;
     let mut memory = MemoryFiles::new(&sources, Content::new(b""));
-    let mut devices = Devices::new(alloc, limits);
+    refuse(alloc, n)?;
     let answer = search_all(
         alloc,
         &mut memory,
@@ -201,7 +228,8 @@ pub fn searched<'a>(
         &mut devices.messages,
         &mut fresh_meter(),
     );
-    Ok(devices.outcome(answer))
+    let refused = was_refused(alloc);
+    Ok((devices.outcome(answer), refused))
 }
 
 /// The exit status for the answer of a search.

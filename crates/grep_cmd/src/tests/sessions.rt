@@ -1,4 +1,5 @@
 //! Sessions under edits: what they answer, report and tell, and in how many steps.
+mod around;
 mod edits;
 mod flags;
 mod game;
@@ -27,6 +28,9 @@ fn sessions_give_their_rows(rt: HostRuntime) -> Result<(), Fail> {
         assert_session(&rt, rt.alloc(), rows)?;
     }
     for rows in numbered::sessions() {
+        assert_session(&rt, rt.alloc(), rows)?;
+    }
+    for rows in around::sessions() {
         assert_session(&rt, rt.alloc(), rows)?;
     }
     Ok(())

@@ -2,7 +2,8 @@
 use crate::{UsageFault, write_usage_fault};
 use grep_core::{Limited, Tally, WriteFault};
 
-const USAGE: &str = "usage: grep [-E|-F] [-cilnoqsvx] [-e LIST]... [-f FILE]... [LIST] [FILE...]\n";
+const USAGE: &str =
+    "usage: grep [-E|-F] [-cilnoqsvx] [-A NUM] [-B NUM] [-C NUM] [-e LIST]... [-f FILE]... [LIST] [FILE...]\n";
 
 #[test]
 fn faults_have_their_lines(rt: HostRuntime) {
@@ -20,6 +21,11 @@ fn faults_have_their_lines(rt: HostRuntime) {
         (
             UsageFault::MissingArgument('e'),
             "grep: option -e needs an argument\n",
+            USAGE,
+        ),
+        (
+            UsageFault::BadNumber('A'),
+            "grep: option -A needs a number\n",
             USAGE,
         ),
         (UsageFault::TwoSyntaxes, "grep: -E and -F together\n", USAGE),

@@ -2,10 +2,12 @@
 ghost use Rattle.std.specs.Prelude.{◌≡◌, ◌∷◌, [], MatchOption, None};
 ghost use Rattle.std.specs.Str.{chars};
 ghost use Rattle.std.specs.Iterator.{YieldsFirstBy, YieldsFirstRef, item_count};
-ghost use Rattle.grep_cmd.specs.Words.{group, meaning_of, pieces, texts_of};
+ghost use Rattle.grep_cmd.specs.Words.{group, meaning_of, pieces, texts_of, with_argument};
 ghost use Rattle.grep_cmd.specs.Working.Pieces.{IsWord, piece_of, pieces_left, words_left};
 
+use crate::number::read_lines;
 use crate::words::UsageFault;
+use crate::words::around::Side;
 use grep_core::Flag;
 use re_syntax::Syntax;
 
@@ -16,6 +18,8 @@ pub enum Argument {
     List,
     /// Of `-f`: the name of a pattern file.
     File,
+    /// Of `-A`, `-B` and `-C`: how many lines are shown on a side of selected ones.
+    Lines(Side),
 }
 
 /// What a character means as an option.
@@ -31,7 +35,12 @@ pub enum Meaning {
 pub enum Piece<'a> {
     Flag(Flag),
     Syntax(Syntax),
-    Source(Argument, &'a str),
+    /// A pattern list.
+    List(&'a str),
+    /// The name of a pattern file.
+    File(&'a str),
+    /// So many lines are shown on a side of selected ones.
+    Around(Side, u64),
     Operand(&'a str),
 }
 
@@ -45,12 +54,16 @@ enum Word<'a> {
     Group(char, &'a str),
 }
 
-/// What the character means as an option (XCU grep, OPTIONS; `o` after the GNU manual).
+/// What the character means as an option (XCU grep, OPTIONS; `A`, `B`, `C` and `o` after the GNU
+/// manual).
 #[tactic(auto, unfolding(crate::specs::Words::meaning_of))]
 pub fn meaning_of_option(letter: char) -> Option<Meaning>
     ensures { result ≡ meaning_of letter }
 {
     Some(match letter {
+        'A' => Meaning::Takes(Argument::Lines(Side::After)),
+        'B' => Meaning::Takes(Argument::Lines(Side::Before)),
+        'C' => Meaning::Takes(Argument::Lines(Side::Both)),
         'E' => Meaning::Syntax(Syntax::Extended),
         'F' => Meaning::Syntax(Syntax::Fixed),
         'c' => Meaning::Flag(Flag::Count),
@@ -66,6 +79,23 @@ pub fn meaning_of_option(letter: char) -> Option<Meaning>
         'x' => Meaning::Flag(Flag::LineRegexp),
         _ => return None,
     })
+}
+
+/// The option of this letter with its argument. `BadNumber` comes where the argument of `-A`, `-B`
+/// or `-C` is no number.
+fn with_argument(letter: char, argument: Argument, text: &str) -> Result<Piece<'_>, UsageFault>
+    ensures { piece_of result ≡ with_argument letter argument text.now }
+{
+    match argument {
+        Argument::List => Ok(Piece::List(text)),
+        Argument::File => Ok(Piece::File(text)),
+        Argument::Lines(side) => {
+            let Some(count) = read_lines(text.as_bytes()) else {
+                return Err(UsageFault::BadNumber(letter));
+            };
+            Ok(Piece::Around(side, count))
+        }
+    }
 }
 
 /// The first character of the text and what follows it.
@@ -140,10 +170,10 @@ impl<'a> WordPieces<'a> {
         };
         self.letters = Some("");
         if !rest.is_empty() {
-            return Ok(Piece::Source(argument, rest));
+            return with_argument(letter, argument, rest);
         }
         match self.next_word() {
-            Some(word) => Ok(Piece::Source(argument, word)),
+            Some(word) => with_argument(letter, argument, word),
             None => Err(UsageFault::MissingArgument(letter)),
         }
     }

@@ -20,13 +20,17 @@ fn letters(options: &Options) -> [(char, bool); 9] {
     ]
 }
 
-/// The syntax, the letters of the options, the sources and the files.
+/// The syntax, the letters of the options, the numbers of lines before and behind selected ones, the
+/// sources and the files.
 fn shown(alloc: Global, request: &Request) -> Result<String, AllocError> {
     let mut text = format!(in alloc; "{:?} ", request.syntax)?;
     for (letter, is_set) in letters(&request.options) {
         if is_set {
             text.push(letter)?;
         }
+    }
+    if let Some(context) = request.options.context {
+        write!(text, " {}-{}", context.before, context.after)?;
     }
     for source in &request.sources {
         match source {
@@ -102,6 +106,75 @@ fn arguments_begin_with_anything(rt: HostRuntime) -> Result<(), Fail> {
     ];
     for (line, asked) in rows {
         assert_eq!(rt; told_of_line(rt.alloc(), line)?.as_str(), asked, "{line}");
+    }
+    Ok(())
+}
+
+/// Words that ask for lines around selected ones, and what they ask for.
+static AROUND: [(&str, &str); 19] = [
+    ("-A 1 a", "Basic  0-1 list 'a'"),
+    ("-B 2 a", "Basic  2-0 list 'a'"),
+    ("-C 3 a", "Basic  3-3 list 'a'"),
+    ("-A0 a", "Basic  0-0 list 'a'"),
+    ("-nA1 a -B 2", "Basic n 2-1 list 'a'"),
+    ("-A1 -A0 a", "Basic  0-0 list 'a'"),
+    ("-B 1 -B 2 a", "Basic  2-0 list 'a'"),
+    ("-C1 -C 2 a", "Basic  2-2 list 'a'"),
+    ("-C 2 -A 0 a", "Basic  2-0 list 'a'"),
+    ("-A 0 -C 2 a", "Basic  2-0 list 'a'"),
+    ("-C 2 -B 0 a", "Basic  0-2 list 'a'"),
+    ("-B 0 -C 2 a", "Basic  0-2 list 'a'"),
+    ("-A 1 -C 2 -B 3 a", "Basic  3-1 list 'a'"),
+    ("-A 007 a", "Basic  0-7 list 'a'"),
+    (
+        "-A 18446744073709551615 -B 18446744073709551616 a",
+        "Basic  18446744073709551615-18446744073709551615 list 'a'",
+    ),
+    (
+        "-C 99999999999999999999999999999999999999999999 a",
+        "Basic  18446744073709551615-18446744073709551615 list 'a'",
+    ),
+    ("-e -A1 -A 1 f", "Basic  0-1 list '-A1' 'f'"),
+    ("-A 1 -- -B 2", "Basic  0-1 list '-B' '2'"),
+    ("-e a -A", "MissingArgument('A')"),
+];
+
+/// The same of words that are refused.
+static NO_NUMBERS: [(&str, &str); 10] = [
+    ("-A x a", "BadNumber('A')"),
+    ("-A  a", "BadNumber('A')"),
+    ("-B -1 a", "BadNumber('B')"),
+    ("-C +1 a", "BadNumber('C')"),
+    ("-A 1x a", "BadNumber('A')"),
+    ("-A1B a", "BadNumber('A')"),
+    ("-C ٣ a", "BadNumber('C')"),
+    ("-A x -A 1 -z", "BadNumber('A')"),
+    ("-z -A x", "UnknownOption('z')"),
+    ("-E -B -e -F a", "BadNumber('B')"),
+];
+
+/// The rows.
+fn around() -> &'static [(&'static str, &'static str)] {
+    &AROUND
+}
+
+/// The rows.
+fn no_numbers() -> &'static [(&'static str, &'static str)] {
+    &NO_NUMBERS
+}
+
+#[test]
+fn lines_around_are_asked_for(rt: HostRuntime) -> Result<(), Fail> {
+    for (line, asked) in around() {
+        assert_eq!(rt; told_of_line(rt.alloc(), line)?.as_str(), *asked, "{line}");
+    }
+    Ok(())
+}
+
+#[test]
+fn numbers_are_digits(rt: HostRuntime) -> Result<(), Fail> {
+    for (line, fault) in no_numbers() {
+        assert_eq!(rt; told_of_line(rt.alloc(), line)?.as_str(), *fault, "{line}");
     }
     Ok(())
 }

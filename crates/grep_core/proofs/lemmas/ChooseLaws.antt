@@ -65,3 +65,8 @@ Chosen-end P xs x ys c p = EachGives-end _ xs x ys (x ∷ []) c (inl (p, refl))
 pub Chosen-passed : {A : Type 0} (P : A → Type 0) (xs : List A) (x : A) (ys : List A) → Chosen P xs ys → (P x → ⊥) → Chosen P (xs ++ x ∷ []) ys
 Chosen-passed P xs x ys c n =
     subst (λ zs. Chosen P (xs ++ x ∷ []) zs) (append-nil ys) (EachGives-end _ xs x ys [] c (inr (n, refl)))
+
+-- where no element gives anything, all together give nothing
+pub EachGives-nothing : {A B : Type 0} (R : A → List B → Type 0) → ((x : A) (ys : List B) → R x ys → ys ≡ []) → (xs : List A) (ys : List B) → EachGives R xs ys → ys ≡ []
+EachGives-nothing R none [] ys h = h
+EachGives-nothing R none (x ∷ xs) ys h = let front = none x h.0 h.2 in let rest = EachGives-nothing R none xs h.1 h.3 in h.4 ∙ (λ i. front i ++ rest i)

@@ -10,7 +10,7 @@ use Rattle.re_search.specs.Meters.{Steps}
 use Rattle.re_search.specs.Searching.{AddsAtMost}
 use Rattle.grep_core.specs.declared.options.Options.{Options}
 use Rattle.grep_core.specs.Files.{File}
-use Rattle.grep_core.specs.Output.{Form, nothing, names, counts, parts, lines, form}
+use Rattle.grep_core.specs.Output.{Form, nothing, names, counts, parts, lines, around, form}
 use Rattle.grep_core.specs.Cost.{search_cost, PartsAsked, SearchesLine, LinesCost, FilesCost, SearchesLines, SearchesFiles}
 
 -- steps after steps
@@ -56,6 +56,7 @@ module _ (es : List Expression) (options : Options) (line : Text) where
   parts_exist counts = (0, refl)
   parts_exist parts = let ps = AreParts-exist es line options.line_regexp in (length ps.0 + 1, (ps.0, ps.1, refl))
   parts_exist lines = (0, refl)
+  parts_exist (around context) = (0, refl)
 
   -- and in one way
   asked_once : (shape : Form) (a b : ℕ) → PartsAsked es options shape line a → PartsAsked es options shape line b → a ≡ b
@@ -64,6 +65,7 @@ module _ (es : List Expression) (options : Options) (line : Text) where
   asked_once counts a b p q = p ∙ sym q
   asked_once parts a b p q = p.2 ∙ ap (λ ps. length ps + 1) (ArePartsFrom-unique es line options.line_regexp p.0 q.0 0 p.1 q.1) ∙ sym q.2
   asked_once lines a b p q = p ∙ sym q
+  asked_once (around context) a b p q = p ∙ sym q
 
   -- a line whose parts were not asked for
   pub searched_once : (matchers : ℕ) (old new : Steps) → AddsAtMost (search_cost matchers line) old new → SearchesLine es options matchers line old new

@@ -1,5 +1,5 @@
 -- The output, the messages and the status are determined by the expressions, the options and the files.
-use Rattle.std.proofs.Common.{◌≡◌, ℕ, Bool, true, false, List, [], ◌∷◌, ◌++◌, sym, subst, ap, ◌∙◌, length, map, slice_range, MatchBool}
+use Rattle.std.proofs.Common.{◌≡◌, ℕ, Bool, true, false, List, [], ◌∷◌, ◌++◌, sym, subst, ap, ◌∙◌, length, map, drop, slice_range, MatchBool}
 use Rattle.std.specs.Fmt.{decimal}
 use Rattle.re_syntax.specs.Bytes.{Text}
 use Rattle.re_syntax.specs.Expression.{Expression}
@@ -9,9 +9,10 @@ use Rattle.grep_core.specs.declared.status.Status.{Status}
 use Rattle.grep_core.specs.Row.{colon, prefix}
 use Rattle.grep_core.specs.Choose.{EachGives}
 use Rattle.grep_core.specs.Files.{File, Ending, whole, missing, broken}
-use Rattle.grep_core.specs.Output.{Form, nothing, names, counts, parts, lines, form, shown_name, head_of, CountOf, RowsOf, PartRowsOf, PartsOfLine, OutAs, Out, are_many}
+use Rattle.grep_core.specs.Output.{Form, nothing, names, counts, parts, lines, around, form, shown_name, shown_number, head_of, CountOf, RowsOf, PartRowsOf, PartsOfLine, GroupsOf, OutAs, Out, are_many}
 use Rattle.grep_core.specs.Messages.{Reached, Message, Messages, StatusOf}
 use Rattle.grep_core.proofs.lemmas.ChooseLaws.{same_value, IfHolds-both, EachGives-determined, Chosen-determined}
+use Rattle.grep_core.proofs.lemmas.AroundLaws.{Groups-determined}
 
 module _ (es : List Expression) (options : Options) (many : Bool) where
   -- a file has at most one count
@@ -43,6 +44,9 @@ module _ (es : List Expression) (options : Options) (many : Bool) where
   OutAs-determined counts files out more a b = EachGives-determined _ (λ file. CountOf-determined file file.ending) files out more a b
   OutAs-determined parts files out more a b = EachGives-determined _ PartRowsOf-determined files out more a b
   OutAs-determined lines files out more a b = EachGives-determined _ RowsOf-determined files out more a b
+  OutAs-determined (around context) files out more a b =
+      let groups : a.0 ≡ b.0 = EachGives-determined (GroupsOf es options many context) (λ file. Groups-determined es options context (shown_name many file) (shown_number options) file.lines) files a.0 b.0 a.1 b.1 in
+      a.2 ∙ ap (drop 1) groups ∙ sym b.2
 
 module _ (es : List Expression) (options : Options) where
   -- files have at most one output

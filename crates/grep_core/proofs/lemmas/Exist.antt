@@ -1,18 +1,20 @@
 -- All expressions, options and files have their output, their messages and their status.
-use Rattle.std.proofs.Common.{◌≡◌, ℕ, Bool, true, false, IsTrue, List, [], ◌∷◌, ◌++◌, inl, inr, refl, length, map, slice_range, MatchBool, Any}
+use Rattle.std.proofs.Common.{◌≡◌, ℕ, Bool, true, false, IsTrue, List, [], ◌∷◌, ◌++◌, inl, inr, refl, length, map, drop, slice_range, MatchBool, Any}
 use Rattle.std.specs.Fmt.{decimal}
 use Rattle.re_syntax.specs.Bytes.{Text}
 use Rattle.re_syntax.specs.Expression.{Expression}
 use Rattle.re_syntax.proofs.lemmas.Decisions.{dec_any, dec_both, dec_IsTrue}
 use Rattle.re_syntax.proofs.lemmas.PartsExist.{AreParts-exist}
+use Rattle.grep_core.specs.declared.options.Context.{Context}
 use Rattle.grep_core.specs.declared.options.Options.{Options}
 use Rattle.grep_core.specs.declared.status.Status.{Status}
 use Rattle.grep_core.specs.declared.status.Status.TheVariants.{Selected as selected, NoneSelected, Error}
 use Rattle.grep_core.specs.Row.{colon, prefix}
 use Rattle.grep_core.specs.Choose.{EachGives}
 use Rattle.grep_core.specs.Files.{File, Ending, whole, missing, broken, Selected, HasSelected}
-use Rattle.grep_core.specs.Output.{Form, nothing, names, counts, parts, lines, form, shown_name, head_of, numbered, SelectedLines, CountOf, RowsOf, PartRowsOf, PartsOfLine, OutAs, Out, are_many}
+use Rattle.grep_core.specs.Output.{Form, nothing, names, counts, parts, lines, around, form, shown_name, shown_number, head_of, numbered, SelectedLines, CountOf, RowsOf, PartRowsOf, PartsOfLine, GroupsOf, OutAs, Out, are_many}
 use Rattle.grep_core.specs.Messages.{message, FaultMet, Reached, Message, Messages, AnySelected, StatusOf}
+use Rattle.grep_core.proofs.lemmas.AroundLaws.{Groups-exist}
 use Rattle.grep_core.proofs.lemmas.ChooseLaws.{IfHolds-exist, EachGives-exist, Chosen-exist}
 use Rattle.grep_core.proofs.lemmas.Decided.{dec_selected, dec_has_selected, dec_any_selected, dec_stops, dec_fault_met}
 
@@ -44,6 +46,10 @@ module _ (es : List Expression) (options : Options) (many : Bool) where
       let rows = EachGives-exist _ (PartsOfLine-exist file) ls.0 in
       (rows.0, (ls.0, ls.1, rows.1))
 
+  -- files have their groups of lines around selected ones
+  pub groups_exist : (context : Context) (files : List File) → (groups : List Text) × EachGives (GroupsOf es options many context) files groups
+  groups_exist context files = EachGives-exist (GroupsOf es options many context) (λ file. Groups-exist es options context (shown_name many file) (shown_number options) file.lines) files
+
   -- files have an output in each form
   pub OutAs-exist : (shape : Form) (files : List File) → (out : List Text) × OutAs es options many shape files out
   OutAs-exist nothing files = ([], refl)
@@ -51,6 +57,7 @@ module _ (es : List Expression) (options : Options) (many : Bool) where
   OutAs-exist counts files = EachGives-exist _ (λ file. CountOf-exist file.ending file) files
   OutAs-exist parts files = EachGives-exist _ PartRowsOf-exist files
   OutAs-exist lines files = EachGives-exist _ RowsOf-exist files
+  OutAs-exist (around context) files = let groups = groups_exist context files in (drop 1 groups.0, (groups.0, groups.1, refl))
 
 module _ (es : List Expression) (options : Options) where
   -- files have an output

@@ -11,10 +11,11 @@ use Rattle.grep_core.specs.declared.search.file.FileEnd.{FileEnd}
 use Rattle.grep_core.specs.declared.search.file.FileEnd.TheVariants.{Missing, Whole, Broken, Left}
 use Rattle.grep_core.specs.Choose.{IfHolds, Chosen}
 use Rattle.grep_core.specs.Files.{File, whole, Selected, HasSelected}
-use Rattle.grep_core.specs.Output.{Form, nothing, names, counts, parts, lines, OutAs, CountOf, RowsOf, PartRowsOf, SelectedLines}
-use Rattle.grep_core.specs.Run.{RowsAs}
+use Rattle.grep_core.specs.Output.{Form, nothing, names, counts, parts, lines, around, OutAs, CountOf, RowsOf, PartRowsOf, GroupsOf, SelectedLines}
+use Rattle.grep_core.specs.Run.{begun, first_lines}
 use Rattle.grep_core.specs.Working.Handed.{file_so_far}
-use Rattle.grep_core.specs.Working.OneLine.{LineRowsOf, RowsOfSelected}
+use Rattle.grep_core.specs.Working.Groups.{GroupedAs, behind_rows}
+use Rattle.grep_core.specs.Working.OneLine.{IsPlain, LineRowsOf, RowsOfSelected}
 use Rattle.grep_core.specs.Working.Searched.{ending_of, count_line, summary_as}
 use Rattle.grep_core.proofs.lemmas.ChooseLaws.{EachGives-one}
 use Rattle.grep_core.proofs.lemmas.Exist.{OutAs-exist}
@@ -74,24 +75,26 @@ module _ (es : List Expression) (options : Options) (many : Bool) where
   rows_none name counts = refl
   rows_none name parts = ([], refl, refl)
   rows_none name lines = ([], refl, refl)
+  rows_none name (around context) = refl
 
   none_written : (rows out : List Text) {P : Type 0} → rows ≡ [] → IfHolds P (out ≡ []) (out ≡ []) → rows ++ out ≡ []
   none_written rows out h (inl (p, e)) = λ i. h i ++ e i
   none_written rows out h (inr (p, e)) = λ i. h i ++ e i
 
   -- the rows of one more line come behind those of the lines before it
-  pub rows_line : (name : Text) (shape : Form) (xs : List Text) (line : Text) (rows out : List Text) → LineRowsOf es options many shape (file_so_far name xs) rows
+  pub rows_line : (name : Text) (shape : Form) → IsPlain shape → (xs : List Text) (line : Text) (rows out : List Text) → LineRowsOf es options many shape (file_so_far name xs) rows
       → IfHolds (Selected es options line) (RowsOfSelected es options many shape name (length xs + 1) line out) (out ≡ []) → LineRowsOf es options many shape (file_so_far name (xs ++ line ∷ [])) (rows ++ out)
-  rows_line name nothing xs line rows out h k = none_written rows out h k
-  rows_line name names xs line rows out h k = none_written rows out h k
-  rows_line name counts xs line rows out h k = none_written rows out h k
-  rows_line name parts xs line rows out h (inl (s, e)) = PartRowsOf-end es options many name whole xs line rows out h s e
-  rows_line name parts xs line rows out h (inr (n, e)) =
+  rows_line name nothing plain xs line rows out h k = none_written rows out h k
+  rows_line name names plain xs line rows out h k = none_written rows out h k
+  rows_line name counts plain xs line rows out h k = none_written rows out h k
+  rows_line name parts plain xs line rows out h (inl (s, e)) = PartRowsOf-end es options many name whole xs line rows out h s e
+  rows_line name parts plain xs line rows out h (inr (n, e)) =
       subst (PartRowsOf es options many (file_so_far name (xs ++ line ∷ []))) (sym (ap (λ o. rows ++ o) e ∙ append-nil rows)) (PartRowsOf-passed es options many name whole xs line rows h n)
-  rows_line name lines xs line rows out h (inl (s, e)) =
+  rows_line name lines plain xs line rows out h (inl (s, e)) =
       subst (λ o. RowsOf es options many (file_so_far name (xs ++ line ∷ [])) (rows ++ o)) (sym e) (RowsOf-end es options many name whole xs line rows h s)
-  rows_line name lines xs line rows out h (inr (n, e)) =
+  rows_line name lines plain xs line rows out h (inr (n, e)) =
       subst (RowsOf es options many (file_so_far name (xs ++ line ∷ []))) (sym (ap (λ o. rows ++ o) e ∙ append-nil rows)) (RowsOf-passed es options many name whole xs line rows h n)
+  rows_line name (around context) plain xs line rows out h k = absurd plain
 
   -- the selected lines of one more line, with its verdict
   pub chosen_line : (name : Text) (xs : List Text) (line : Text) (chosen : List (ℕ × Text)) (found : Bool) → SelectedLines es options many (file_so_far name xs) chosen → Decides found (Selected es options line)
@@ -117,7 +120,7 @@ module _ (es : List Expression) (options : Options) (many : Bool) where
 
   -- behind the rows of all lines the summary completes the output
   pub output_all : (name : Text) (ls : List Text) (end : FileEnd) (shape : Form) (rows : List Text) (chosen : List (ℕ × Text)) → LineRowsOf es options many shape (file_so_far name ls) rows → SelectedLines es options many (file_so_far name ls) chosen
-      → OutAs es options many shape (file_with name ls (ending_of end) ∷ []) (rows ++ summary_as shape many name end (length chosen))
+      → GroupedAs es options many shape (file_with name ls (ending_of end) ∷ []) (rows ++ summary_as shape many name end (length chosen))
   output_all name ls end nothing rows chosen h c = λ i. h i ++ []
   output_all name ls end names rows chosen h c =
       let file = file_with name ls (ending_of end) in
@@ -129,10 +132,12 @@ module _ (es : List Expression) (options : Options) (many : Bool) where
       subst (OutAs es options many parts (file_with name ls (ending_of end) ∷ [])) (sym (append-nil rows)) (EachGives-one (PartRowsOf es options many) (file_with name ls (ending_of end)) rows h)
   output_all name ls end lines rows chosen h c =
       subst (OutAs es options many lines (file_with name ls (ending_of end) ∷ [])) (sym (append-nil rows)) (EachGives-one (RowsOf es options many) (file_with name ls (ending_of end)) rows h)
+  output_all name ls end (around context) rows chosen h c =
+      subst (GroupedAs es options many (around context) (file_with name ls (ending_of end) ∷ [])) (sym (append-nil rows)) (EachGives-one (GroupsOf es options many context) (file_with name ls (ending_of end)) rows h)
 
   -- of a file that was left at a selected line only its name is written, if that
   pub output_left : (file : File) (name : Text) (ls : List Text) (shape : Form) (rows : List Text) (selected : ℕ) → file.name ≡ name → (shape ≡ nothing) ⊎ (shape ≡ names) → LineRowsOf es options many shape (file_so_far name ls) rows
-      → Decides (nat_lt 0 selected) (HasSelected es options file) → OutAs es options many shape (file ∷ []) (rows ++ summary_as shape many name Left selected)
+      → Decides (nat_lt 0 selected) (HasSelected es options file) → GroupedAs es options many shape (file ∷ []) (rows ++ summary_as shape many name Left selected)
   output_left file name ls nothing rows selected named early h d = λ i. h i ++ []
   output_left file name ls names rows selected named early h d =
       subst (λ r. OutAs es options many names (file ∷ []) (r ++ summary_as names many name Left selected)) (sym h)
@@ -140,24 +145,46 @@ module _ (es : List Expression) (options : Options) (many : Bool) where
   output_left file name ls counts rows selected named early h d = absurd (elim early [ inl e ↦ (let no : ⊥ = cc in no) | inr e ↦ (let no : ⊥ = cc in no) ])
   output_left file name ls parts rows selected named early h d = absurd (elim early [ inl e ↦ (let no : ⊥ = cc in no) | inr e ↦ (let no : ⊥ = cc in no) ])
   output_left file name ls lines rows selected named early h d = absurd (elim early [ inl e ↦ (let no : ⊥ = cc in no) | inr e ↦ (let no : ⊥ = cc in no) ])
+  output_left file name ls (around context) rows selected named early h d = absurd (elim early [ inl e ↦ (let no : ⊥ = cc in no) | inr e ↦ (let no : ⊥ = cc in no) ])
 
   -- the rows of a file's first lines are a beginning of its output
-  pub output_front : (file : File) (name : Text) (ls more : List Text) (shape : Form) (rows : List Text) → file.name ≡ name → file.lines ≡ ls ++ more → LineRowsOf es options many shape (file_so_far name ls) rows
-      → (rest : List Text) × OutAs es options many shape (file ∷ []) (rows ++ rest)
-  output_front file name ls more nothing rows named has h = let all = OutAs-exist es options many nothing (file ∷ []) in (all.0, subst (λ r. OutAs es options many nothing (file ∷ []) (r ++ all.0)) (sym h) all.1)
-  output_front file name ls more names rows named has h = let all = OutAs-exist es options many names (file ∷ []) in (all.0, subst (λ r. OutAs es options many names (file ∷ []) (r ++ all.0)) (sym h) all.1)
-  output_front file name ls more counts rows named has h = let all = OutAs-exist es options many counts (file ∷ []) in (all.0, subst (λ r. OutAs es options many counts (file ∷ []) (r ++ all.0)) (sym h) all.1)
-  output_front file name ls more parts rows named has h =
+  pub output_front : (file : File) (name : Text) (ls more : List Text) (shape : Form) → IsPlain shape → (rows : List Text) → file.name ≡ name → file.lines ≡ ls ++ more → LineRowsOf es options many shape (file_so_far name ls) rows
+      → (rest : List Text) × GroupedAs es options many shape (file ∷ []) (rows ++ rest)
+  output_front file name ls more nothing plain rows named has h = let all = OutAs-exist es options many nothing (file ∷ []) in (all.0, subst (λ r. OutAs es options many nothing (file ∷ []) (r ++ all.0)) (sym h) all.1)
+  output_front file name ls more names plain rows named has h = let all = OutAs-exist es options many names (file ∷ []) in (all.0, subst (λ r. OutAs es options many names (file ∷ []) (r ++ all.0)) (sym h) all.1)
+  output_front file name ls more counts plain rows named has h = let all = OutAs-exist es options many counts (file ∷ []) in (all.0, subst (λ r. OutAs es options many counts (file ∷ []) (r ++ all.0)) (sym h) all.1)
+  output_front file name ls more parts plain rows named has h =
       let all = PartRowsOf-front es options many name whole ls more rows h in
       (all.0, subst (λ f. OutAs es options many parts (f ∷ []) (rows ++ all.0)) (sym (file_is file name (ls ++ more) named has)) (EachGives-one (PartRowsOf es options many) (file_with name (ls ++ more) file.ending) (rows ++ all.0) all.1))
-  output_front file name ls more lines rows named has h =
+  output_front file name ls more lines plain rows named has h =
       let all = RowsOf-front es options many name whole ls more rows h in
       (all.0, subst (λ f. OutAs es options many lines (f ∷ []) (rows ++ all.0)) (sym (file_is file name (ls ++ more) named has)) (EachGives-one (RowsOf es options many) (file_with name (ls ++ more) file.ending) (rows ++ all.0) all.1))
+  output_front file name ls more (around context) plain rows named has h = absurd plain
 
-  -- the rows of a file that has these lines and no more
-  pub rows_as : (shape : Form) (file : File) (rows : List Text) → LineRowsOf es options many shape file rows → RowsAs es options shape many file rows
-  rows_as nothing file rows h = h
-  rows_as names file rows h = h
-  rows_as counts file rows h = h
-  rows_as parts file rows h = EachGives-one (PartRowsOf es options many) file rows h
-  rows_as lines file rows h = EachGives-one (RowsOf es options many) file rows h
+  -- the rows of a file's first lines are what is begun with them
+  pub rows_begun : (shape : Form) (n : ℕ) (file : File) (rows : List Text) → LineRowsOf es options many shape (first_lines n file) rows → GroupedAs es options many shape (begun shape n file) rows
+  rows_begun nothing n file rows h = h
+  rows_begun names n file rows h = ([], refl, h)
+  rows_begun counts n file rows h = h
+  rows_begun parts n file rows h = EachGives-one (PartRowsOf es options many) (first_lines n file) rows h
+  rows_begun lines n file rows h = EachGives-one (RowsOf es options many) (first_lines n file) rows h
+  rows_begun (around context) n file rows h = EachGives-one (GroupsOf es options many context) (first_lines n file) rows h
+
+-- where no lines are shown around selected ones, no separator is left out
+pub plain_rows : (shape : Form) → IsPlain shape → (shown : Bool) (rows : List Text) → behind_rows shape shown rows ≡ rows
+plain_rows nothing plain shown rows = refl
+plain_rows names plain shown rows = refl
+plain_rows counts plain shown rows = refl
+plain_rows parts plain shown rows = refl
+plain_rows lines plain shown rows = refl
+plain_rows (around context) plain shown rows = absurd plain
+
+-- of no rows none is left out
+pub behind_rows-none : (shape : Form) (shown : Bool) → behind_rows shape shown [] ≡ []
+behind_rows-none nothing shown = refl
+behind_rows-none names shown = refl
+behind_rows-none counts shown = refl
+behind_rows-none parts shown = refl
+behind_rows-none lines shown = refl
+behind_rows-none (around context) true = refl
+behind_rows-none (around context) false = refl

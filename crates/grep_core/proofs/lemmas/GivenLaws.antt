@@ -56,10 +56,8 @@ module _ (es : List Expression) (options : Options) (sources : List Source) (giv
     are_readings = s.are_readings;
     in_sources = s.in_sources;
     in_file = s.in_file;
-    before = s.before;
-    is_before = s.is_before;
-    rows = s.rows;
-    are_rows = s.are_rows;
+    output = s.output;
+    is_output = s.is_output;
     messages = s.messages;
     are_messages = s.are_messages;
     wrote = s.wrote;

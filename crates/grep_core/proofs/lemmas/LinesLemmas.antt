@@ -13,14 +13,15 @@ use Rattle.grep_core.specs.declared.search.file.FileEnd.TheVariants.{Whole, Brok
 use Rattle.grep_core.specs.Counted.{one_more}
 use Rattle.grep_core.specs.Working.Numbered.{Numbered, HasHanded, StandsAs}
 use Rattle.grep_core.specs.Files.{File, whole, broken, Selected, HasSelected}
-use Rattle.grep_core.specs.Output.{nothing, names, form, OutAs, SelectedLines}
+use Rattle.grep_core.specs.Output.{Form, nothing, names, form, SelectedLines}
 use Rattle.grep_core.specs.Messages.{FaultMet}
 use Rattle.grep_core.specs.Reading.{open_source, file_of, failures_of, most_lines, OneLeft}
-use Rattle.grep_core.specs.Run.{Writer, TakesAll, TakesFront, RowsAs, first_lines}
+use Rattle.grep_core.specs.Run.{Writer, TakesAll, TakesFront, first_lines}
+use Rattle.grep_core.specs.Working.Groups.{GroupedAs, behind_rows}
 use Rattle.grep_core.specs.Working.Handed.{StandsFor, BeginsWith, file_so_far}
 use Rattle.grep_core.specs.Cost.{SearchesLine, SearchesLines}
 use Rattle.grep_core.specs.Working.Passed.{PassesUnselected}
-use Rattle.grep_core.specs.Working.OneLine.{LineRowsOf, TakesLine, BreaksLine}
+use Rattle.grep_core.specs.Working.OneLine.{IsPlain, LineRowsOf, TakesLine, BreaksLine}
 use Rattle.grep_core.specs.Working.Searched.{leaves_early, summary_as, BreaksSource, StopsSource, SearchesSource}
 use Rattle.grep_core.proofs.lemmas.AnyLaws.{Any-left}
 use Rattle.grep_core.proofs.lemmas.Verdicts.{decided_yes, decided_no, picked}
@@ -30,56 +31,94 @@ use Rattle.grep_core.proofs.lemmas.WriterLaws.{TakesAll-nothing, TakesAll-more, 
 use Rattle.grep_core.proofs.lemmas.OneLineLemmas.{line_passed}
 use Rattle.grep_core.proofs.lemmas.OneFile.{whole-failures}
 use Rattle.grep_core.proofs.lemmas.FileLaws.{FaultMet-left}
+use Rattle.grep_core.proofs.lemmas.MoreLines.{SelectedLines-passed}
 use Rattle.grep_core.proofs.lemmas.HandedLemmas.{begins_with}
 use Rattle.grep_core.proofs.lemmas.NumberedLemmas.{has_handed_none}
-use Rattle.grep_core.proofs.lemmas.FileOutput.{positive, chosen_tells, rows_none, rows_line, chosen_line, chosen_count, output_all, output_left, output_front, rows_as}
+use Rattle.grep_core.proofs.lemmas.FileOutput.{positive, chosen_tells, rows_line, chosen_line, chosen_count, output_all, output_left, output_front, rows_begun, plain_rows}
 
 -- where a file is left early, only its name is written, if that
-early_form : (options : Options) → IsTrue (leaves_early options) → (form options ≡ nothing) ⊎ (form options ≡ names)
+pub early_form : (options : Options) → IsTrue (leaves_early options) → (form options ≡ nothing) ⊎ (form options ≡ names)
 early_form options early =
     elim (cases_Bool options.quiet) [
       | inl q ↦ inl (cond-true _ _ _ q)
       | inr q ↦ elim (cases_Bool options.files_with_matches) [ inl l ↦ inr (cond-false _ _ _ q ∙ cond-true _ _ _ l) | inr l ↦ absurd (let no : ⊥ = cc (early, q, l) in no) ]
     ]
 
-module _ (es : List Expression) (options : Options) (many : Bool) (name : Text) where
+module _ (es : List Expression) (options : Options) (many shown : Bool) (name : Text) where
+  -- these rows are written of these lines, whatever comes behind them
+  pub record WrittenOf (shape : Form) (lines rows : List Text) : Type 0 where
+    pub groups : List Text
+    pub are_groups : LineRowsOf es options many shape (file_so_far name lines) groups
+    pub are_rows : rows ≡ behind_rows shape shown groups
+    pub further : (file : File) (more : List Text) → file.name ≡ name → file.lines ≡ lines ++ more
+        → (all : List Text) × (rest : List Text) × GroupedAs es options many shape (file ∷ []) all × (behind_rows shape shown all ≡ rows ++ rest)
+
+  -- where no lines are shown around selected ones, they are the rows of the lines
+  pub written_plain : (shape : Form) → IsPlain shape → (lines rows : List Text) → LineRowsOf es options many shape (file_so_far name lines) rows → WrittenOf shape lines rows
+  written_plain shape plain lines rows h = record {
+    groups = rows;
+    are_groups = h;
+    are_rows = sym (plain_rows shape plain shown rows);
+    further = λ file more named has.
+        let all = output_front es options many file name lines more shape plain rows named has h in
+        (rows ++ all.0, all.0, all.1, plain_rows shape plain shown (rows ++ all.0));
+  }
+
+  plain_written : (shape : Form) → IsPlain shape → (lines rows : List Text) → WrittenOf shape lines rows → LineRowsOf es options many shape (file_so_far name lines) rows
+  plain_written shape plain lines rows w = subst (LineRowsOf es options many shape (file_so_far name lines)) (sym (w.are_rows ∙ plain_rows shape plain shown w.groups)) w.are_groups
+
   -- the rows of the lines were written, and so many of them are selected
   pub record WritesLines (lines : List Text) (old new : Writer) (selected : ℕ) : Type 0 where
     pub rows : List Text
-    pub are_rows : LineRowsOf es options many (form options) (file_so_far name lines) rows
+    pub of : WrittenOf (form options) lines rows
     pub wrote : TakesAll old new rows
     pub chosen : List (ℕ × Text)
     pub are_chosen : SelectedLines es options many (file_so_far name lines) chosen
     pub counted : length chosen ≡ selected
 
-  pub writes_none : (w : Writer) → WritesLines [] w w 0
-  writes_none w = record { rows = []; are_rows = rows_none es options many name (form options); wrote = TakesAll-nothing w; chosen = []; are_chosen = refl; counted = refl }
+  -- of no line
+  pub writes_none : WrittenOf (form options) [] [] → (w : Writer) → WritesLines [] w w 0
+  writes_none of w = record { rows = []; of = of; wrote = TakesAll-nothing w; chosen = []; are_chosen = refl; counted = refl }
 
-  -- one more line
-  writes_line : (lines : List Text) (line : Text) (old mid new : Writer) (selected : ℕ) (found : Bool) → WritesLines lines old mid selected → TakesLine es options many name (length lines + 1) line mid new found
-      → WritesLines (lines ++ line ∷ []) old new (if found then selected + 1 else selected)
-  writes_line lines line old mid new selected found w t = record {
-    rows = w.rows ++ t.rows;
-    are_rows = rows_line es options many name (form options) lines line w.rows t.rows w.are_rows t.are_rows;
-    wrote = TakesAll-more old mid new w.rows t.rows w.wrote t.wrote;
+  -- one more line, by the rows that it adds
+  pub writes_more : (lines : List Text) (line : Text) (added : List Text) (old mid new : Writer) (selected more : ℕ) (found : Bool) (w : WritesLines lines old mid selected)
+      → WrittenOf (form options) (lines ++ line ∷ []) (w.rows ++ added) → TakesAll mid new added → Decides found (Selected es options line) → more ≡ (if found then selected + 1 else selected) → WritesLines (lines ++ line ∷ []) old new more
+  writes_more lines line added old mid new selected more found w of took told e = record {
+    rows = w.rows ++ added;
+    of = of;
+    wrote = TakesAll-more old mid new w.rows added w.wrote took;
     chosen = w.chosen ++ picked found (length lines + 1, line);
-    are_chosen = chosen_line es options many name lines line w.chosen found w.are_chosen t.told;
-    counted = chosen_count w.chosen (length lines + 1, line) selected found w.counted;
+    are_chosen = chosen_line es options many name lines line w.chosen found w.are_chosen told;
+    counted = chosen_count w.chosen (length lines + 1, line) selected found w.counted ∙ sym e;
   }
 
+  -- lines of which none is selected add none
+  pub chosen_on : (ls ps : List Text) (chosen : List (ℕ × Text)) → All (λ line. ¬ Selected es options line) ps → SelectedLines es options many (file_so_far name ls) chosen → SelectedLines es options many (file_so_far name (ls ++ ps)) chosen
+  chosen_on ls [] chosen none h = subst (λ xs. SelectedLines es options many (file_so_far name xs) chosen) (sym (append-nil ls)) h
+  chosen_on ls (line ∷ ps) chosen none h =
+      subst (λ xs. SelectedLines es options many (file_so_far name xs) chosen) (append_assoc ls (line ∷ []) ps)
+      (chosen_on (ls ++ line ∷ []) ps chosen (All-tail (λ l. ¬ Selected es options l) line ps none) (SelectedLines-passed es options many name whole ls line chosen h (All-head (λ l. ¬ Selected es options l) line ps none)))
+
+  -- where no lines are shown around selected ones, by what is written of the line alone
+  writes_line : IsPlain (form options) → (lines : List Text) (line : Text) (old mid new : Writer) (selected : ℕ) (found : Bool) → WritesLines lines old mid selected → TakesLine es options many name (length lines + 1) line mid new found
+      → WritesLines (lines ++ line ∷ []) old new (if found then selected + 1 else selected)
+  writes_line plain lines line old mid new selected found w t =
+      let rows = rows_line es options many name (form options) plain lines line w.rows t.rows (plain_written (form options) plain lines w.rows w.of) t.are_rows in
+      writes_more lines line t.rows old mid new selected _ found w (written_plain (form options) plain (lines ++ line ∷ []) (w.rows ++ t.rows) rows) t.wrote t.told refl
+
   -- lines of which none is selected were passed
-  writes_passed : (passed lines : List Text) (old new : Writer) (selected : ℕ) → WritesLines lines old new selected → All (λ line. ¬ Selected es options line) passed → WritesLines (lines ++ passed) old new selected
-  writes_passed [] lines old new selected w none = subst (λ ls. WritesLines ls old new selected) (sym (append-nil lines)) w
-  writes_passed (line ∷ passed) lines old new selected w none =
+  writes_passed : IsPlain (form options) → (passed lines : List Text) (old new : Writer) (selected : ℕ) → WritesLines lines old new selected → All (λ line. ¬ Selected es options line) passed → WritesLines (lines ++ passed) old new selected
+  writes_passed plain [] lines old new selected w none = subst (λ ls. WritesLines ls old new selected) (sym (append-nil lines)) w
+  writes_passed plain (line ∷ passed) lines old new selected w none =
       let skipped = line_passed es options many name (length lines + 1) line new false refl (decided_no (All-head (λ l. ¬ Selected es options l) line passed none)) in
       subst (λ ls. WritesLines ls old new selected) (append_assoc lines (line ∷ []) passed)
-      (writes_passed passed (lines ++ line ∷ []) old new selected (writes_line lines line old new new selected false w skipped) (All-tail (λ l. ¬ Selected es options l) line passed none))
+      (writes_passed plain passed (lines ++ line ∷ []) old new selected (writes_line plain lines line old new new selected false w skipped) (All-tail (λ l. ¬ Selected es options l) line passed none))
 
   -- what was gathered was sent
   writes_sent : (lines : List Text) (old mid new : Writer) (selected : ℕ) → WritesLines lines old mid selected → TakesAll mid new [] → WritesLines lines old new selected
   writes_sent lines old mid new selected w sent =
       let wrote = subst (TakesAll old new) (append-nil w.rows) (TakesAll-more old mid new w.rows [] w.wrote sent) in
-      record { rows = w.rows; are_rows = w.are_rows; wrote = wrote; chosen = w.chosen; are_chosen = w.are_chosen; counted = w.counted }
+      record { rows = w.rows; of = w.of; wrote = wrote; chosen = w.chosen; are_chosen = w.are_chosen; counted = w.counted }
 
   -- the number tells whether a line is selected
   some_tells : (lines : List Text) (old new : Writer) (selected : ℕ) → WritesLines lines old new selected → Decides (nat_lt 0 selected) (Any (Selected es options) lines)
@@ -88,7 +127,7 @@ module _ (es : List Expression) (options : Options) (many : Bool) (name : Text) 
   module _ (known rest : Option Text) (old new : Writer) (began ended : Steps) where
     module _ (failed_before failed : ℕ) (lines : List Text) (selected : ℕ) (w : WritesLines lines old new selected) (spent : SearchesLines es options (length es) lines began ended) where
       -- all lines were searched
-      pub searches_whole : StandsFor name known rest failed_before failed lines whole → SearchesSource es options many (open_source name known) (OneLeft rest) failed_before failed old new began ended Whole selected
+      pub searches_whole : StandsFor name known rest failed_before failed lines whole → SearchesSource es options many shown (open_source name known) (OneLeft rest) failed_before failed old new began ended Whole selected
       searches_whole s =
           let ends : File = record { name = name; lines = lines; ending = whole } in
           let unmet : FaultMet es options (file_of name s.reading) → ⊥ = subst (λ f. FaultMet es options f → ⊥) (sym s.file) (λ h. h) in
@@ -99,15 +138,15 @@ module _ (es : List Expression) (options : Options) (many : Bool) (name : Text) 
             some = subst (λ f. Decides (nat_lt 0 selected) (HasSelected es options f)) (sym s.file) (some_tells lines old new selected w);
             fault = decided_no unmet;
             ends = λ e. absurd (false≢true e);
-            rows = w.rows;
-            are_rows = subst (λ f. OutAs es options many (form options) (f ∷ []) (w.rows ++ summary_as (form options) many name Whole selected)) (sym s.file)
-                (subst (λ n. OutAs es options many (form options) (ends ∷ []) (w.rows ++ summary_as (form options) many name Whole n)) w.counted (output_all es options many name lines Whole (form options) w.rows w.chosen w.are_rows w.are_chosen));
-            wrote = w.wrote;
+            rows = w.of.groups;
+            are_rows = subst (λ f. GroupedAs es options many (form options) (f ∷ []) (w.of.groups ++ summary_as (form options) many name Whole selected)) (sym s.file)
+                (subst (λ n. GroupedAs es options many (form options) (ends ∷ []) (w.of.groups ++ summary_as (form options) many name Whole n)) w.counted (output_all es options many name lines Whole (form options) w.of.groups w.chosen w.of.are_groups w.are_chosen));
+            wrote = subst (TakesAll old new) w.of.are_rows w.wrote;
             steps = subst (λ f. SearchesLines es options (length es) f.lines began ended) (sym s.file) spent;
           }
 
       -- a read failed behind them
-      pub searches_broken : StandsFor name known rest failed_before failed lines broken → (IsTrue (leaves_early options) → selected ≡ 0) → SearchesSource es options many (open_source name known) (OneLeft rest) failed_before failed old new began ended Broken selected
+      pub searches_broken : StandsFor name known rest failed_before failed lines broken → (IsTrue (leaves_early options) → selected ≡ 0) → SearchesSource es options many shown (open_source name known) (OneLeft rest) failed_before failed old new began ended Broken selected
       searches_broken s none =
           let ends : File = record { name = name; lines = lines; ending = broken } in
           let some = some_tells lines old new selected w in
@@ -120,15 +159,15 @@ module _ (es : List Expression) (options : Options) (many : Bool) (name : Text) 
             some = subst (λ f. Decides (nat_lt 0 selected) (HasSelected es options f)) (sym s.file) some;
             fault = decided_yes met;
             ends = λ _. ap (λ (f : File). f.ending) s.file;
-            rows = w.rows;
-            are_rows = subst (λ f. OutAs es options many (form options) (f ∷ []) (w.rows ++ summary_as (form options) many name Broken selected)) (sym s.file)
-                (subst (λ n. OutAs es options many (form options) (ends ∷ []) (w.rows ++ summary_as (form options) many name Broken n)) w.counted (output_all es options many name lines Broken (form options) w.rows w.chosen w.are_rows w.are_chosen));
-            wrote = w.wrote;
+            rows = w.of.groups;
+            are_rows = subst (λ f. GroupedAs es options many (form options) (f ∷ []) (w.of.groups ++ summary_as (form options) many name Broken selected)) (sym s.file)
+                (subst (λ n. GroupedAs es options many (form options) (ends ∷ []) (w.of.groups ++ summary_as (form options) many name Broken n)) w.counted (output_all es options many name lines Broken (form options) w.of.groups w.chosen w.of.are_groups w.are_chosen));
+            wrote = subst (TakesAll old new) w.of.are_rows w.wrote;
             steps = subst (λ f. SearchesLines es options (length es) f.lines began ended) (sym s.file) spent;
           }
 
       -- the source was left behind them, at a selected line
-      pub searches_left : BeginsWith name known lines → failed ≡ failed_before → IsTrue (leaves_early options) → 0 < selected → SearchesSource es options many (open_source name known) (OneLeft rest) failed_before failed old new began ended Left selected
+      pub searches_left : BeginsWith name known lines → failed ≡ failed_before → IsTrue (leaves_early options) → 0 < selected → SearchesSource es options many shown (open_source name known) (OneLeft rest) failed_before failed old new began ended Left selected
       searches_left b none_failed early found =
           let file = file_of name b.reading in
           let here : nat_lt 0 selected ≡ true = positive selected found in
@@ -142,15 +181,15 @@ module _ (es : List Expression) (options : Options) (many : Bool) (name : Text) 
             some = some;
             fault = decided_no unmet;
             ends = λ e. absurd (false≢true e);
-            rows = w.rows;
-            are_rows = output_left es options many file name lines (form options) w.rows selected b.named (early_form options early) w.are_rows some;
-            wrote = w.wrote;
+            rows = w.of.groups;
+            are_rows = output_left es options many file name lines (form options) w.of.groups selected b.named (early_form options early) w.of.are_groups some;
+            wrote = subst (TakesAll old new) w.of.are_rows w.wrote;
             steps = subst (λ ls. SearchesLines es options (length es) ls began ended) (sym b.has_lines) (searched_first_lines es options (length es) lines b.more began ended spent);
           }
 
     -- want of memory came behind the lines
     pub stops_behind : (lines : List Text) (selected count : ℕ) → WritesLines lines old new selected → SearchesLines es options (length es) lines began ended → BeginsWith name known lines → length lines ≡ count
-        → (failed_before failed : ℕ) → failed ≡ failed_before → StopsSource es options many (open_source name known) (OneLeft rest) count failed_before failed old new began ended
+        → (failed_before failed : ℕ) → failed ≡ failed_before → StopsSource es options many shown (open_source name known) (OneLeft rest) count failed_before failed old new began ended
     stops_behind lines selected count w spent b counted failed_before failed none_failed =
         let file = file_of name b.reading in
         let first : take count file.lines ≡ lines = ap (take count) b.has_lines ∙ ap (λ k. take k (lines ++ b.more)) (sym counted) ∙ take-append_seam lines b.more in
@@ -162,18 +201,18 @@ module _ (es : List Expression) (options : Options) (many : Bool) (name : Text) 
           rest = rest;
           gave_back = refl;
           in_file = omega (arith, counted, length-append lines b.more, ap length b.has_lines);
-          rows = w.rows;
-          are_rows = subst (λ f. RowsAs es options (form options) many f w.rows) same (rows_as es options many (form options) (file_so_far name lines) w.rows w.are_rows);
-          wrote = w.wrote;
+          rows = w.of.groups;
+          are_rows = rows_begun es options many (form options) count file w.of.groups (subst (λ f. LineRowsOf es options many (form options) f w.of.groups) same w.of.are_groups);
+          wrote = subst (TakesAll old new) w.of.are_rows w.wrote;
           steps = subst (λ ls. SearchesLines es options (length es) ls began ended) (sym b.has_lines) (searched_first_lines es options (length es) lines b.more began ended spent);
         }
 
   module _ (known rest : Option Text) (old mid new : Writer) (began ended : Steps) (selected failed_before failed : ℕ) (none_failed : failed ≡ failed_before) where
     -- a write failed within the rows of these lines
-    breaks_in : (lines rows : List Text) → LineRowsOf es options many (form options) (file_so_far name lines) rows → TakesFront old new rows → new.failures ≡ one_more old.failures
-        → SearchesLines es options (length es) lines began ended → BeginsWith name known lines → BreaksSource es options many (open_source name known) (OneLeft rest) failed_before failed old new began ended
-    breaks_in lines rows are_rows front counted spent b =
-        let all = output_front es options many (file_of name b.reading) name lines b.more (form options) rows b.named b.has_lines are_rows in
+    pub breaks_in : (lines rows : List Text) → WrittenOf (form options) lines rows → TakesFront old new rows → new.failures ≡ one_more old.failures
+        → SearchesLines es options (length es) lines began ended → BeginsWith name known lines → BreaksSource es options many shown (open_source name known) (OneLeft rest) failed_before failed old new began ended
+    breaks_in lines rows of front counted spent b =
+        let all = of.further (file_of name b.reading) b.more b.named b.has_lines in
         record {
           reading = b.reading;
           is_reading = b.is_reading;
@@ -185,25 +224,32 @@ module _ (es : List Expression) (options : Options) (many : Bool) (name : Text) 
             are_left = b.is_left rest;
             gave_back = refl;
           };
-          rows = rows ++ all.0;
-          are_rows = all.1;
-          wrote = TakesFront-longer old new rows all.0 front;
+          rows = all.0;
+          are_rows = all.2;
+          wrote = subst (TakesFront old new) (sym all.3) (TakesFront-longer old new rows all.1 front);
           counted = counted;
           steps = subst (λ ls. SearchesLines es options (length es) ls began ended) (sym b.has_lines) (searched_first_lines es options (length es) lines b.more began ended spent);
         }
 
+    -- a write failed within the rows that the next line adds
+    pub breaks_adding : (lines : List Text) (line : Text) (added : List Text) (w : WritesLines lines old mid selected) → WrittenOf (form options) (lines ++ line ∷ []) (w.rows ++ added)
+        → SearchesLines es options (length es) (lines ++ line ∷ []) began ended → BeginsWith name known (lines ++ line ∷ []) → TakesFront mid new added → new.failures ≡ one_more mid.failures
+        → BreaksSource es options many shown (open_source name known) (OneLeft rest) failed_before failed old new began ended
+    breaks_adding lines line added w of spent b front counted =
+        breaks_in (lines ++ line ∷ []) (w.rows ++ added) of (TakesFront-more old mid new w.rows added w.wrote front) (counted ∙ ap one_more w.wrote.none_failed) spent b
+
     -- a write failed within the rows of the next line
-    breaks_within : (lines : List Text) (line : Text) → WritesLines lines old mid selected → SearchesLines es options (length es) (lines ++ line ∷ []) began ended → BeginsWith name known (lines ++ line ∷ [])
-        → BreaksLine es options many name (length lines + 1) line mid new → BreaksSource es options many (open_source name known) (OneLeft rest) failed_before failed old new began ended
-    breaks_within lines line w spent b broke =
-        breaks_in (lines ++ line ∷ []) (w.rows ++ broke.rows) (rows_line es options many name (form options) lines line w.rows broke.rows w.are_rows broke.are_rows)
-        (TakesFront-more old mid new w.rows broke.rows w.wrote broke.wrote) (broke.counted ∙ ap one_more w.wrote.none_failed) spent b
+    breaks_within : IsPlain (form options) → (lines : List Text) (line : Text) → WritesLines lines old mid selected → SearchesLines es options (length es) (lines ++ line ∷ []) began ended → BeginsWith name known (lines ++ line ∷ [])
+        → BreaksLine es options many name (length lines + 1) line mid new → BreaksSource es options many shown (open_source name known) (OneLeft rest) failed_before failed old new began ended
+    breaks_within plain lines line w spent b broke =
+        let rows = rows_line es options many name (form options) plain lines line w.rows broke.rows (plain_written (form options) plain lines w.rows w.of) broke.are_rows in
+        breaks_adding lines line broke.rows w (written_plain (form options) plain (lines ++ line ∷ []) (w.rows ++ broke.rows) rows) spent b broke.wrote broke.counted
 
     -- all rows so far were written, and what was gathered could not be sent
     breaks_behind : (lines : List Text) → WritesLines lines old mid selected → SearchesLines es options (length es) lines began ended → BeginsWith name known lines → TakesFront mid new [] → new.failures ≡ one_more mid.failures
-        → BreaksSource es options many (open_source name known) (OneLeft rest) failed_before failed old new began ended
+        → BreaksSource es options many shown (open_source name known) (OneLeft rest) failed_before failed old new began ended
     breaks_behind lines w spent b front counted =
-        breaks_in lines w.rows w.are_rows (subst (TakesFront old new) (append-nil w.rows) (TakesFront-more old mid new w.rows [] w.wrote front)) (counted ∙ ap one_more w.wrote.none_failed) spent b
+        breaks_in lines w.rows w.of (subst (TakesFront old new) (append-nil w.rows) (TakesFront-more old mid new w.rows [] w.wrote front)) (counted ∙ ap one_more w.wrote.none_failed) spent b
 
 -- ---- the turns of the search
 
@@ -213,37 +259,37 @@ goes_on true true asked is both early = absurd (false≢true (sym both))
 goes_on true false asked is both early = absurd (false≢true (is ∙ early))
 goes_on false b asked is both early = refl
 
-module _ {R : Type 0} (remaining : R → Option Text) (failures : R → ℕ) (es : List Expression) (options : Options) (many : Bool) (name : Text) (reader : R) where
+module _ {R : Type 0} (remaining : R → Option Text) (failures : R → ℕ) (es : List Expression) (options : Options) (many shown : Bool) (name : Text) (reader : R) where
   -- the lines that were handed out were searched, and their rows written; under `-q` and `-l` none of them is selected
   pub record SearchedSoFar (now : Numbered R) (old new : Writer) (began ended : Steps) (selected : ℕ) : Type 0 where
     pub lines : List Text
     pub handed : HasHanded remaining failures reader now lines
-    pub wrote : WritesLines es options many name lines old new selected
+    pub wrote : WritesLines es options many shown name lines old new selected
     pub few : selected ≤ now.number
     pub none_early : IsTrue (leaves_early options) → selected ≡ 0
     pub steps : SearchesLines es options (length es) lines began ended
 
-  pub searched_none : (now : Numbered R) (w : Writer) (steps : Steps) → now.lines.reader ≡ reader → now.lines.ahead ≡ [] → now.lines.stage ≡ Open → now.number ≡ 0 → SearchedSoFar now w w steps steps 0
-  searched_none now w steps same none is_open zero = record {
+  pub searched_none : WrittenOf es options many shown name (form options) [] [] → (now : Numbered R) (w : Writer) (steps : Steps) → now.lines.reader ≡ reader → now.lines.ahead ≡ [] → now.lines.stage ≡ Open → now.number ≡ 0 → SearchedSoFar now w w steps steps 0
+  searched_none of now w steps same none is_open zero = record {
     lines = [];
     handed = subst (λ r. HasHanded remaining failures r now []) same (has_handed_none remaining failures now none is_open zero);
-    wrote = writes_none es options many name w;
+    wrote = writes_none es options many shown name of w;
     few = omega arith;
     none_early = λ _. refl;
     steps = searched_no_line es options (length es) steps;
   }
 
   -- the source begins with the lines that were handed out
-  begins : (now : Numbered R) (lines : List Text) → HasHanded remaining failures reader now lines → BeginsWith name (remaining reader) lines
+  pub begins : (now : Numbered R) (lines : List Text) → HasHanded remaining failures reader now lines → BeginsWith name (remaining reader) lines
   begins now lines h = begins_with remaining failures name reader now.lines lines h.hands h.few
 
   -- some lines were passed
-  pub searched_passed : (before now : Numbered R) (old new : Writer) (began ended : Steps) (selected : ℕ) (s : SearchedSoFar before old new began ended selected) → PassesUnselected remaining failures es options reader s.lines now
+  pub searched_passed : IsPlain (form options) → (before now : Numbered R) (old new : Writer) (began ended : Steps) (selected : ℕ) (s : SearchedSoFar before old new began ended selected) → PassesUnselected remaining failures es options reader s.lines now
       → SearchedSoFar now old new began ended selected
-  searched_passed before now old new began ended selected s p = record {
+  searched_passed plain before now old new began ended selected s p = record {
     lines = s.lines ++ p.passed;
     handed = p.handed_too;
-    wrote = writes_passed es options many name p.passed s.lines old new selected s.wrote p.unselected;
+    wrote = writes_passed es options many shown name plain p.passed s.lines old new selected s.wrote p.unselected;
     few = omega (arith, s.few, s.handed.counted, p.handed_too.counted, length-append s.lines p.passed);
     none_early = s.none_early;
     steps = searched_first_lines es options (length es) s.lines p.passed began ended s.steps;
@@ -256,13 +302,13 @@ module _ {R : Type 0} (remaining : R → Option Text) (failures : R → ℕ) (es
   module _ (now : Numbered R) (old mid new : Writer) (began ended : Steps) (selected : ℕ) (s : SearchedSoFar now old mid began ended selected) where
     -- what was gathered was sent
     pub searched_sent : TakesAll mid new [] → SearchedSoFar now old new began ended selected
-    searched_sent sent = record { lines = s.lines; handed = s.handed; wrote = writes_sent es options many name s.lines old mid new selected s.wrote sent; few = s.few; none_early = s.none_early; steps = s.steps }
+    searched_sent sent = record { lines = s.lines; handed = s.handed; wrote = writes_sent es options many shown name s.lines old mid new selected s.wrote sent; few = s.few; none_early = s.none_early; steps = s.steps }
 
     -- it could not be sent
     pub breaks_sending : TakesFront mid new [] → new.failures ≡ one_more mid.failures
-        → BreaksSource es options many (open_source name (remaining reader)) (OneLeft (remaining now.lines.reader)) (failures reader) (failures now.lines.reader) old new began ended
+        → BreaksSource es options many shown (open_source name (remaining reader)) (OneLeft (remaining now.lines.reader)) (failures reader) (failures now.lines.reader) old new began ended
     breaks_sending front counted =
-        breaks_behind es options many name (remaining reader) (remaining now.lines.reader) old mid new began ended selected (failures reader) (failures now.lines.reader) s.handed.hands.none_failed
+        breaks_behind es options many shown name (remaining reader) (remaining now.lines.reader) old mid new began ended selected (failures reader) (failures now.lines.reader) s.handed.hands.none_failed
         s.lines s.wrote s.steps (begins now s.lines s.handed) front counted
 
   -- one more line was handed out
@@ -280,25 +326,25 @@ module _ {R : Type 0} (remaining : R → Option Text) (failures : R → ℕ) (es
     fewer_left = omega (arith, is_next, next.counted, next.few)
 
     module _ (new : Writer) (ended : Steps) (line : Text) (is : line ≡ now.lines.line) (count : ℕ) (is_number : count ≡ now.number) where
-      handed : HasHanded remaining failures reader now (s.lines ++ line ∷ [])
+      pub handed : HasHanded remaining failures reader now (s.lines ++ line ∷ [])
       handed = subst (λ l. HasHanded remaining failures reader now (s.lines ++ l ∷ [])) (sym is) next
 
-      number : count ≡ length s.lines + 1
+      pub number : count ≡ length s.lines + 1
       number = is_number ∙ is_next ∙ ap (λ n. n + 1) (sym s.handed.counted)
 
-      took : (found : Bool) → TakesLine es options many name count line mid new found → WritesLines es options many name (s.lines ++ line ∷ []) old new (if found then selected + 1 else selected)
-      took found t = writes_line es options many name s.lines line old mid new selected found s.wrote (subst (λ n. TakesLine es options many name n line mid new found) number t)
+      took : IsPlain (form options) → (found : Bool) → TakesLine es options many name count line mid new found → WritesLines es options many shown name (s.lines ++ line ∷ []) old new (if found then selected + 1 else selected)
+      took plain found t = writes_line es options many shown name plain s.lines line old mid new selected found s.wrote (subst (λ n. TakesLine es options many name n line mid new found) number t)
 
-      spent : SearchesLine es options (length es) line amid ended → SearchesLines es options (length es) (s.lines ++ line ∷ []) began ended
+      pub spent : SearchesLine es options (length es) line amid ended → SearchesLines es options (length es) (s.lines ++ line ∷ []) began ended
       spent one = searched_one_line es options (length es) s.lines line began amid ended s.steps one
 
       -- it was searched, and the search goes on
-      pub searched_line : (found : Bool) (more : ℕ) → TakesLine es options many name count line mid new found → SearchesLine es options (length es) line amid ended
+      pub searched_line : IsPlain (form options) → (found : Bool) (more : ℕ) → TakesLine es options many name count line mid new found → SearchesLine es options (length es) line amid ended
           → more ≡ (if found then selected + 1 else selected) → (IsTrue (leaves_early options) → found ≡ false) → SearchedSoFar now old new began ended more
-      searched_line found more t one e goes_on = record {
+      searched_line plain found more t one e goes_on = record {
         lines = s.lines ++ line ∷ [];
         handed = handed;
-        wrote = subst (WritesLines es options many name (s.lines ++ line ∷ []) old new) (sym e) (took found t);
+        wrote = subst (WritesLines es options many shown name (s.lines ++ line ∷ []) old new) (sym e) (took plain found t);
         few = at_most found e;
         none_early = λ early. e ∙ ap (λ b. if b then selected + 1 else selected) (goes_on early) ∙ s.none_early early;
         steps = spent one;
@@ -309,38 +355,38 @@ module _ {R : Type 0} (remaining : R → Option Text) (failures : R → ℕ) (es
           at_most false eq = omega (arith, eq, s.few, is_next)
 
       -- it is selected, and the source is left there
-      leaves_here : (more : ℕ) → TakesLine es options many name count line mid new true → SearchesLine es options (length es) line amid ended → more ≡ selected + 1 → IsTrue (leaves_early options)
-          → SearchesSource es options many (open_source name (remaining reader)) (OneLeft (remaining now.lines.reader)) (failures reader) (failures now.lines.reader) old new began ended Left more
-      leaves_here more t one e early =
-          searches_left es options many name (remaining reader) (remaining now.lines.reader) old new began ended (failures reader) (failures now.lines.reader) (s.lines ++ line ∷ []) more (subst (WritesLines es options many name (s.lines ++ line ∷ []) old new) (sym e) (took true t)) (spent one)
+      leaves_here : IsPlain (form options) → (more : ℕ) → TakesLine es options many name count line mid new true → SearchesLine es options (length es) line amid ended → more ≡ selected + 1 → IsTrue (leaves_early options)
+          → SearchesSource es options many shown (open_source name (remaining reader)) (OneLeft (remaining now.lines.reader)) (failures reader) (failures now.lines.reader) old new began ended Left more
+      leaves_here plain more t one e early =
+          searches_left es options many shown name (remaining reader) (remaining now.lines.reader) old new began ended (failures reader) (failures now.lines.reader) (s.lines ++ line ∷ []) more (subst (WritesLines es options many shown name (s.lines ++ line ∷ []) old new) (sym e) (took plain true t)) (spent one)
           (begins now (s.lines ++ line ∷ []) handed) next.hands.none_failed early (omega (arith, e))
 
-      pub leaves_at : (found early : Bool) (more : ℕ) → TakesLine es options many name count line mid new found → SearchesLine es options (length es) line amid ended
+      pub leaves_at : IsPlain (form options) → (found early : Bool) (more : ℕ) → TakesLine es options many name count line mid new found → SearchesLine es options (length es) line amid ended
           → more ≡ (if found then selected + 1 else selected) → early ≡ leaves_early options → (found && early) ≡ true
-          → SearchesSource es options many (open_source name (remaining reader)) (OneLeft (remaining now.lines.reader)) (failures reader) (failures now.lines.reader) old new began ended Left more
-      leaves_at true true more t one e is_early both = leaves_here more t one e (sym is_early)
-      leaves_at true false more t one e is_early both = absurd (false≢true both)
-      leaves_at false early more t one e is_early both = absurd (false≢true both)
+          → SearchesSource es options many shown (open_source name (remaining reader)) (OneLeft (remaining now.lines.reader)) (failures reader) (failures now.lines.reader) old new began ended Left more
+      leaves_at plain true true more t one e is_early both = leaves_here plain more t one e (sym is_early)
+      leaves_at plain true false more t one e is_early both = absurd (false≢true both)
+      leaves_at plain false early more t one e is_early both = absurd (false≢true both)
 
       -- a write failed in its rows
-      pub breaks_at : BreaksLine es options many name count line mid new → SearchesLine es options (length es) line amid ended
-          → BreaksSource es options many (open_source name (remaining reader)) (OneLeft (remaining now.lines.reader)) (failures reader) (failures now.lines.reader) old new began ended
-      breaks_at broke one =
-          breaks_within es options many name (remaining reader) (remaining now.lines.reader) old mid new began ended selected (failures reader) (failures now.lines.reader) next.hands.none_failed
+      pub breaks_at : IsPlain (form options) → BreaksLine es options many name count line mid new → SearchesLine es options (length es) line amid ended
+          → BreaksSource es options many shown (open_source name (remaining reader)) (OneLeft (remaining now.lines.reader)) (failures reader) (failures now.lines.reader) old new began ended
+      breaks_at plain broke one =
+          breaks_within es options many shown name (remaining reader) (remaining now.lines.reader) old mid new began ended selected (failures reader) (failures now.lines.reader) next.hands.none_failed plain
           s.lines line s.wrote (spent one) (begins now (s.lines ++ line ∷ []) handed) (subst (λ n. BreaksLine es options many name n line mid new) number broke)
 
   module _ (before now : Numbered R) (old new : Writer) (began ended : Steps) (selected : ℕ) (s : SearchedSoFar before old new began ended selected) where
     -- no line is left
-    pub ends_whole : StandsAs remaining failures reader now s.lines whole → SearchesSource es options many (open_source name (remaining reader)) (OneLeft (remaining now.lines.reader)) (failures reader) (failures now.lines.reader) old new began ended Whole selected
-    ends_whole stands = searches_whole es options many name (remaining reader) (remaining now.lines.reader) old new began ended (failures reader) (failures now.lines.reader) s.lines selected s.wrote s.steps (stands name)
+    pub ends_whole : StandsAs remaining failures reader now s.lines whole → SearchesSource es options many shown (open_source name (remaining reader)) (OneLeft (remaining now.lines.reader)) (failures reader) (failures now.lines.reader) old new began ended Whole selected
+    ends_whole stands = searches_whole es options many shown name (remaining reader) (remaining now.lines.reader) old new began ended (failures reader) (failures now.lines.reader) s.lines selected s.wrote s.steps (stands name)
 
     -- a read failed, or there is one line too many
-    pub ends_broken : StandsAs remaining failures reader now s.lines broken → SearchesSource es options many (open_source name (remaining reader)) (OneLeft (remaining now.lines.reader)) (failures reader) (failures now.lines.reader) old new began ended Broken selected
-    ends_broken stands = searches_broken es options many name (remaining reader) (remaining now.lines.reader) old new began ended (failures reader) (failures now.lines.reader) s.lines selected s.wrote s.steps (stands name) s.none_early
+    pub ends_broken : StandsAs remaining failures reader now s.lines broken → SearchesSource es options many shown (open_source name (remaining reader)) (OneLeft (remaining now.lines.reader)) (failures reader) (failures now.lines.reader) old new began ended Broken selected
+    ends_broken stands = searches_broken es options many shown name (remaining reader) (remaining now.lines.reader) old new began ended (failures reader) (failures now.lines.reader) s.lines selected s.wrote s.steps (stands name) s.none_early
 
     -- want of memory
     pub runs_out : HasHanded remaining failures reader now s.lines → (count : ℕ) → now.number ≡ count
-        → StopsSource es options many (open_source name (remaining reader)) (OneLeft (remaining now.lines.reader)) count (failures reader) (failures now.lines.reader) old new began ended
+        → StopsSource es options many shown (open_source name (remaining reader)) (OneLeft (remaining now.lines.reader)) count (failures reader) (failures now.lines.reader) old new began ended
     runs_out handed count is_count =
-        stops_behind es options many name (remaining reader) (remaining now.lines.reader) old new began ended s.lines selected count s.wrote s.steps (begins now s.lines handed) (handed.counted ∙ is_count)
+        stops_behind es options many shown name (remaining reader) (remaining now.lines.reader) old new began ended s.lines selected count s.wrote s.steps (begins now s.lines handed) (handed.counted ∙ is_count)
         (failures reader) (failures now.lines.reader) handed.hands.none_failed

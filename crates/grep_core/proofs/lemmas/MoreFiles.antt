@@ -1,23 +1,43 @@
--- The output for more files begins with that for fewer.
-use Rattle.std.proofs.Common.{Bool, List, ◌++◌, sym, ◌∙◌}
+-- The output for more files begins with that for fewer, where each group of lines stands behind a separator.
+use Rattle.std.proofs.Common.{Bool, false, List, ◌++◌, refl, sym, ◌∙◌}
 use Rattle.std.proofs.lemmas.List.{map-append}
 use Rattle.re_syntax.specs.Bytes.{Text}
 use Rattle.re_syntax.specs.Expression.{Expression}
 use Rattle.grep_core.specs.declared.options.Options.{Options}
 use Rattle.grep_core.specs.Files.{File}
-use Rattle.grep_core.specs.Output.{Form, nothing, names, counts, parts, lines, OutAs}
+use Rattle.grep_core.specs.Output.{Form, nothing, names, counts, parts, lines, around, OutAs}
+use Rattle.grep_core.specs.Working.Groups.{GroupedAs, behind_rows}
 use Rattle.grep_core.proofs.lemmas.ChooseLaws.{EachGives-append}
-use Rattle.grep_core.proofs.lemmas.Exist.{OutAs-exist}
+use Rattle.grep_core.proofs.lemmas.Exist.{OutAs-exist, groups_exist}
 
 module _ (es : List Expression) (options : Options) (many : Bool) where
   -- the output for some files, and that for others behind it
-  pub OutAs-append : (shape : Form) (xs ys : List File) (us vs : List Text) → OutAs es options many shape xs us → OutAs es options many shape ys vs → OutAs es options many shape (xs ++ ys) (us ++ vs)
-  OutAs-append nothing xs ys us vs a b = λ i. a i ++ b i
-  OutAs-append names xs ys us vs a b = (a.0 ++ b.0, EachGives-append _ xs ys a.0 b.0 a.1 b.1, (λ i. a.2 i ++ b.2 i) ∙ sym (map-append (λ file. file.name) a.0 b.0))
-  OutAs-append counts xs ys us vs a b = EachGives-append _ xs ys us vs a b
-  OutAs-append parts xs ys us vs a b = EachGives-append _ xs ys us vs a b
-  OutAs-append lines xs ys us vs a b = EachGives-append _ xs ys us vs a b
+  pub GroupedAs-append : (shape : Form) (xs ys : List File) (us vs : List Text) → GroupedAs es options many shape xs us → GroupedAs es options many shape ys vs → GroupedAs es options many shape (xs ++ ys) (us ++ vs)
+  GroupedAs-append nothing xs ys us vs a b = λ i. a i ++ b i
+  GroupedAs-append names xs ys us vs a b = (a.0 ++ b.0, EachGives-append _ xs ys a.0 b.0 a.1 b.1, (λ i. a.2 i ++ b.2 i) ∙ sym (map-append (λ file. file.name) a.0 b.0))
+  GroupedAs-append counts xs ys us vs a b = EachGives-append _ xs ys us vs a b
+  GroupedAs-append parts xs ys us vs a b = EachGives-append _ xs ys us vs a b
+  GroupedAs-append lines xs ys us vs a b = EachGives-append _ xs ys us vs a b
+  GroupedAs-append (around context) xs ys us vs a b = EachGives-append _ xs ys us vs a b
+
+  -- files have an output of this kind in each form
+  pub GroupedAs-exist : (shape : Form) (files : List File) → (rows : List Text) × GroupedAs es options many shape files rows
+  GroupedAs-exist nothing files = OutAs-exist es options many nothing files
+  GroupedAs-exist names files = OutAs-exist es options many names files
+  GroupedAs-exist counts files = OutAs-exist es options many counts files
+  GroupedAs-exist parts files = OutAs-exist es options many parts files
+  GroupedAs-exist lines files = OutAs-exist es options many lines files
+  GroupedAs-exist (around context) files = groups_exist es options many context files
 
   -- the output for some files is a beginning of the output for them and others
-  pub OutAs-front : (shape : Form) (xs rest : List File) (us : List Text) → OutAs es options many shape xs us → (vs : List Text) × OutAs es options many shape (xs ++ rest) (us ++ vs)
-  OutAs-front shape xs rest us a = let more = OutAs-exist es options many shape rest in (more.0, OutAs-append shape xs rest us more.0 a more.1)
+  pub GroupedAs-front : (shape : Form) (xs rest : List File) (us : List Text) → GroupedAs es options many shape xs us → (vs : List Text) × GroupedAs es options many shape (xs ++ rest) (us ++ vs)
+  GroupedAs-front shape xs rest us a = let more = GroupedAs-exist shape rest in (more.0, GroupedAs-append shape xs rest us more.0 a more.1)
+
+  -- without the first separator it is the output
+  pub grouped_out : (shape : Form) (files : List File) (rows : List Text) → GroupedAs es options many shape files rows → OutAs es options many shape files (behind_rows shape false rows)
+  grouped_out nothing files rows h = h
+  grouped_out names files rows h = h
+  grouped_out counts files rows h = h
+  grouped_out parts files rows h = h
+  grouped_out lines files rows h = h
+  grouped_out (around context) files rows h = (rows, h, refl)

@@ -10,19 +10,21 @@ use Rattle.grep_core.specs.declared.search.file.FileEnd.{FileEnd}
 use Rattle.grep_core.specs.declared.search.file.FileEnd.TheVariants.{Missing}
 use Rattle.grep_core.specs.declared.search.file.FileFound.{FileFound}
 use Rattle.grep_core.specs.Counted.{one_more}
+use Rattle.grep_core.specs.Around.{Groups}
 use Rattle.grep_core.specs.Choose.{Chosen}
 use Rattle.grep_core.specs.Working.LineReader.{LineReader}
 use Rattle.grep_core.specs.Files.{File, Selected}
-use Rattle.grep_core.specs.Output.{Form, nothing, names, counts, parts, lines, form, numbered}
+use Rattle.grep_core.specs.Output.{Form, nothing, names, counts, parts, lines, around, form, shown_name, shown_number, numbered}
 use Rattle.grep_core.specs.Reading.{Source, Reading, not_opened, fails_after, ends_after, open_source, IsReadingOf, file_of, failures_of, AreLeft, OneLeft}
-use Rattle.grep_core.specs.Run.{Writer, first_lines, count_more}
-use Rattle.grep_core.specs.Working.OneLine.{LineRowsOf}
+use Rattle.grep_core.specs.Run.{Writer, TakesAll, TakesFront, first_lines, count_more}
+use Rattle.grep_core.specs.Working.Groups.{behind_rows}
+use Rattle.grep_core.specs.Working.OneLine.{IsPlain, LineRowsOf}
 use Rattle.grep_core.specs.Working.Searched.{CountsSource, BreaksSource, StopsSource, SearchesSource}
 use Rattle.grep_core.proofs.lemmas.Verdicts.{decided_yes, decided_no}
 use Rattle.grep_core.proofs.lemmas.CostLaws.{searched_no_line, searched_first_lines}
 use Rattle.grep_core.proofs.lemmas.WriterLaws.{TakesAll-nothing}
 use Rattle.grep_core.proofs.lemmas.Readings.{IsReadingOf-exists}
-use Rattle.grep_core.proofs.lemmas.FileOutput.{rows_none, output_all, rows_as}
+use Rattle.grep_core.proofs.lemmas.FileOutput.{rows_none, output_all, rows_begun, plain_rows, behind_rows-none}
 
 -- a source that was opened and then read may have done what was read
 pub opened : (source : Source) (r : Reading) → IfSome source.opens (λ b. b ≡ true) → IsReadingOf (open_source source.name source.bytes) r → IsReadingOf source r
@@ -53,10 +55,10 @@ left_of source not_opened left h = h
 left_of source (fails_after bytes) left h = h
 left_of source (ends_after bytes) left h = h
 
-module _ (es : List Expression) (options : Options) (many : Bool) (source : Source) (given : List (Option Text) → Type 0) (rest : Option Text) (gives : given (rest ∷ []))
+module _ (es : List Expression) (options : Options) (many shown : Bool) (source : Source) (given : List (Option Text) → Type 0) (rest : Option Text) (gives : given (rest ∷ []))
     (before after failed : ℕ) (counted : after ≡ count_more before failed) where
   -- what was counted of the reader from nothing on was counted of the source
-  counted_on : (reading : Reading) → CountsSource es options many (open_source source.name source.bytes) (OneLeft rest) reading 0 failed → CountsSource es options many source given reading before after
+  counted_on : (reading : Reading) → CountsSource es options many shown (open_source source.name source.bytes) (OneLeft rest) reading 0 failed → CountsSource es options many shown source given reading before after
   counted_on reading s = record {
     own = s.own;
     are_own = s.are_own;
@@ -69,15 +71,15 @@ module _ (es : List Expression) (options : Options) (many : Bool) (source : Sour
       few : s.own ≤ 1
       few = elim s.are_own [ inl f ↦ omega (arith, f.1, few_failures reading) | inr f ↦ omega (arith, f.1) ]
 
-module _ (es : List Expression) (options : Options) (many : Bool) (source : Source) (given : List (Option Text) → Type 0) (rest : Option Text) (gives : given (rest ∷ []))
+module _ (es : List Expression) (options : Options) (many shown : Bool) (source : Source) (given : List (Option Text) → Type 0) (rest : Option Text) (gives : given (rest ∷ []))
     (opens : IfSome source.opens (λ b. b ≡ true)) (old new : Writer) (began ended : Steps) (before after failed : ℕ) (counted : after ≡ count_more before failed) where
   -- a search of its reader was a search of the source
-  pub source_searched : (end : FileEnd) (selected : ℕ) → SearchesSource es options many (open_source source.name source.bytes) (OneLeft rest) 0 failed old new began ended end selected
-      → SearchesSource es options many source given before after old new began ended end selected
+  pub source_searched : (end : FileEnd) (selected : ℕ) → SearchesSource es options many shown (open_source source.name source.bytes) (OneLeft rest) 0 failed old new began ended end selected
+      → SearchesSource es options many shown source given before after old new began ended end selected
   source_searched end selected s = record {
     reading = s.reading;
     is_reading = opened source s.reading opens s.is_reading;
-    failures = counted_on es options many source given rest gives before after failed counted s.reading s.failures;
+    failures = counted_on es options many shown source given rest gives before after failed counted s.reading s.failures;
     some = s.some;
     fault = s.fault;
     ends = s.ends;
@@ -87,11 +89,11 @@ module _ (es : List Expression) (options : Options) (many : Bool) (source : Sour
     steps = s.steps;
   }
 
-  pub source_broken : BreaksSource es options many (open_source source.name source.bytes) (OneLeft rest) 0 failed old new began ended → BreaksSource es options many source given before after old new began ended
+  pub source_broken : BreaksSource es options many shown (open_source source.name source.bytes) (OneLeft rest) 0 failed old new began ended → BreaksSource es options many shown source given before after old new began ended
   source_broken s = record {
     reading = s.reading;
     is_reading = opened source s.reading opens s.is_reading;
-    failures = counted_on es options many source given rest gives before after failed counted s.reading s.failures;
+    failures = counted_on es options many shown source given rest gives before after failed counted s.reading s.failures;
     rows = s.rows;
     are_rows = s.are_rows;
     wrote = s.wrote;
@@ -99,7 +101,7 @@ module _ (es : List Expression) (options : Options) (many : Bool) (source : Sour
     steps = s.steps;
   }
 
-  pub source_stopped : (n : ℕ) → StopsSource es options many (open_source source.name source.bytes) (OneLeft rest) n 0 failed old new began ended → StopsSource es options many source given n before after old new began ended
+  pub source_stopped : (n : ℕ) → StopsSource es options many shown (open_source source.name source.bytes) (OneLeft rest) n 0 failed old new began ended → StopsSource es options many shown source given n before after old new began ended
   source_stopped n s = record {
     reading = s.reading;
     is_reading = opened source s.reading opens s.is_reading;
@@ -113,9 +115,9 @@ module _ (es : List Expression) (options : Options) (many : Bool) (source : Sour
     steps = s.steps;
   }
 
-module _ (es : List Expression) (options : Options) (many : Bool) (source : Source) (given : List (Option Text) → Type 0) (w : Writer) (steps : Steps) where
+module _ (es : List Expression) (options : Options) (many shown : Bool) (source : Source) (given : List (Option Text) → Type 0) (w : Writer) (steps : Steps) where
   -- want of memory before a source was read
-  pub source_unread : (before after : ℕ) → after ≡ before → (rest : Option Text) → given (rest ∷ []) → StopsSource es options many source given 0 before after w w steps steps
+  pub source_unread : (before after : ℕ) → after ≡ before → (rest : Option Text) → given (rest ∷ []) → StopsSource es options many shown source given 0 before after w w steps steps
   source_unread before after same rest gives =
       let some = IsReadingOf-exists source in
       record {
@@ -126,8 +128,8 @@ module _ (es : List Expression) (options : Options) (many : Bool) (source : Sour
         gave_back = gives;
         in_file = omega arith;
         rows = [];
-        are_rows = rows_as es options many (form options) (first_lines 0 (file_of source.name some.0)) [] (no_rows (form options) (first_lines 0 (file_of source.name some.0)) refl);
-        wrote = TakesAll-nothing w;
+        are_rows = rows_begun es options many (form options) 0 (file_of source.name some.0) [] (no_rows (form options) (first_lines 0 (file_of source.name some.0)) refl);
+        wrote = subst (TakesAll w w) (sym (behind_rows-none (form options) shown)) (TakesAll-nothing w);
         steps = searched_first_lines es options (length es) [] (file_of source.name some.0).lines steps steps (searched_no_line es options (length es) steps);
       }
     where
@@ -137,9 +139,10 @@ module _ (es : List Expression) (options : Options) (many : Bool) (source : Sour
       no_rows counts file e = refl
       no_rows parts file e = ([], subst (λ ls. Chosen (λ l. Selected es options l.1) (numbered ls) []) (sym e) refl, refl)
       no_rows lines file e = ([], subst (λ ls. Chosen (λ l. Selected es options l.1) (numbered ls) []) (sym e) refl, refl)
+      no_rows (around context) file e = subst (λ ls. Groups es options context (shown_name many file) (shown_number options) ls []) (sym e) refl
 
   -- a source that could not be opened
-  pub source_missing : (before after : ℕ) → IfSome source.opens (λ b. b ≡ false) → after ≡ one_more before → given [] → SearchesSource es options many source given before after w w steps steps Missing 0
+  pub source_missing : (before after : ℕ) → IfSome source.opens (λ b. b ≡ false) → after ≡ one_more before → given [] → SearchesSource es options many shown source given before after w w steps steps Missing 0
   source_missing before after closed e gives = record {
     reading = not_opened;
     is_reading = closed;
@@ -149,12 +152,66 @@ module _ (es : List Expression) (options : Options) (many : Bool) (source : Sour
     ends = λ _. refl;
     rows = [];
     are_rows = output_all es options many source.name [] Missing (form options) [] [] (rows_none es options many source.name (form options)) refl;
-    wrote = TakesAll-nothing w;
+    wrote = subst (TakesAll w w) (sym (behind_rows-none (form options) shown)) (TakesAll-nothing w);
     steps = searched_no_line es options (length es) steps;
   }
 
+-- where no lines are shown around selected ones, it is all one whether a source before has a selected line
+module _ (es : List Expression) (options : Options) (many : Bool) (plain : IsPlain (form options)) (first shown : Bool) (source : Source) (given : List (Option Text) → Type 0) where
+  same_rows : (rows : List Text) → behind_rows (form options) first rows ≡ behind_rows (form options) shown rows
+  same_rows rows = plain_rows (form options) plain first rows ∙ sym (plain_rows (form options) plain shown rows)
+
+  counts_anyway : (reading : Reading) (before after : ℕ) → CountsSource es options many first source given reading before after → CountsSource es options many shown source given reading before after
+  counts_anyway reading before after s = record { own = s.own; are_own = s.are_own; counted = s.counted; left = s.left; are_left = s.are_left; gave_back = s.gave_back }
+
+  module _ (failed_before failed : ℕ) (old new : Writer) (began ended : Steps) where
+    searches_anyway : (end : FileEnd) (selected : ℕ) → SearchesSource es options many first source given failed_before failed old new began ended end selected → SearchesSource es options many shown source given failed_before failed old new began ended end selected
+    searches_anyway end selected s = record {
+      reading = s.reading;
+      is_reading = s.is_reading;
+      failures = counts_anyway s.reading failed_before failed s.failures;
+      some = s.some;
+      fault = s.fault;
+      ends = s.ends;
+      rows = s.rows;
+      are_rows = s.are_rows;
+      wrote = subst (TakesAll old new) (same_rows s.rows) s.wrote;
+      steps = s.steps;
+    }
+
+    pub finds_anyway : {E : Type 0} (r : Result FileFound E) → IfOk r (λ found. SearchesSource es options many first source given failed_before failed old new began ended found.end found.selected)
+        → IfOk r (λ found. SearchesSource es options many shown source given failed_before failed old new began ended found.end found.selected)
+    finds_anyway (Err e) s = tt
+    finds_anyway (Ok found) s = searches_anyway found.end found.selected s
+
+    pub breaks_anyway : BreaksSource es options many first source given failed_before failed old new began ended → BreaksSource es options many shown source given failed_before failed old new began ended
+    breaks_anyway s = record {
+      reading = s.reading;
+      is_reading = s.is_reading;
+      failures = counts_anyway s.reading failed_before failed s.failures;
+      rows = s.rows;
+      are_rows = s.are_rows;
+      wrote = subst (TakesFront old new) (same_rows s.rows) s.wrote;
+      counted = s.counted;
+      steps = s.steps;
+    }
+
+    pub stops_anyway : (n : ℕ) → StopsSource es options many first source given n failed_before failed old new began ended → StopsSource es options many shown source given n failed_before failed old new began ended
+    stops_anyway n s = record {
+      reading = s.reading;
+      is_reading = s.is_reading;
+      none_failed = s.none_failed;
+      rest = s.rest;
+      gave_back = s.gave_back;
+      in_file = s.in_file;
+      rows = s.rows;
+      are_rows = s.are_rows;
+      wrote = subst (TakesAll old new) (same_rows s.rows) s.wrote;
+      steps = s.steps;
+    }
+
 -- the reader that a source was opened with, and the lines made of it
-module _ {R : Type 0} (remaining : R → Option Text) (failures : R → ℕ) (es : List Expression) (options : Options) (many : Bool) (source : Source) (given : List (Option Text) → Type 0) (rest : Option Text) (gives : given (rest ∷ [])) (opens : IfSome source.opens (λ b. b ≡ true))
+module _ {R : Type 0} (remaining : R → Option Text) (failures : R → ℕ) (es : List Expression) (options : Options) (many shown : Bool) (source : Source) (given : List (Option Text) → Type 0) (rest : Option Text) (gives : given (rest ∷ [])) (opens : IfSome source.opens (λ b. b ≡ true))
     (reader : R) (bytes : remaining reader ≡ source.bytes) (fresh : failures reader ≡ 0) (start : LineReader R) (holds : start.reader ≡ reader) (name : Text) (named : name ≡ source.name) (old new : Writer) (began ended : Steps) where
   same_source : open_source name (remaining start.reader) ≡ open_source source.name source.bytes
   same_source = λ i. open_source (named i) ((ap remaining holds ∙ bytes) i)
@@ -165,24 +222,24 @@ module _ {R : Type 0} (remaining : R → Option Text) (failures : R → ℕ) (es
   module _ (before after failed : ℕ) (counted : after ≡ count_more before failed) where
     -- the search of the lines found this
     pub found_in : {E : Type 0} (r : Result FileFound E)
-        → IfOk r (λ found. SearchesSource es options many (open_source name (remaining start.reader)) (OneLeft rest) (failures start.reader) failed old new began ended found.end found.selected)
-        → IfOk r (λ found. SearchesSource es options many source given before after old new began ended found.end found.selected)
+        → IfOk r (λ found. SearchesSource es options many shown (open_source name (remaining start.reader)) (OneLeft rest) (failures start.reader) failed old new began ended found.end found.selected)
+        → IfOk r (λ found. SearchesSource es options many shown source given before after old new began ended found.end found.selected)
     found_in (Err e) s = tt
     found_in (Ok found) s =
-        let at_source = subst (λ src. SearchesSource es options many src (OneLeft rest) (failures start.reader) failed old new began ended found.end found.selected) same_source s in
-        let from_none = subst (λ n. SearchesSource es options many (open_source source.name source.bytes) (OneLeft rest) n failed old new began ended found.end found.selected) fresh_start at_source in
-        source_searched es options many source given rest gives opens old new began ended before after failed counted found.end found.selected from_none
+        let at_source = subst (λ src. SearchesSource es options many shown src (OneLeft rest) (failures start.reader) failed old new began ended found.end found.selected) same_source s in
+        let from_none = subst (λ n. SearchesSource es options many shown (open_source source.name source.bytes) (OneLeft rest) n failed old new began ended found.end found.selected) fresh_start at_source in
+        source_searched es options many shown source given rest gives opens old new began ended before after failed counted found.end found.selected from_none
 
     -- a write failed in it
-    pub broken_in : BreaksSource es options many (open_source name (remaining start.reader)) (OneLeft rest) (failures start.reader) failed old new began ended → BreaksSource es options many source given before after old new began ended
+    pub broken_in : BreaksSource es options many shown (open_source name (remaining start.reader)) (OneLeft rest) (failures start.reader) failed old new began ended → BreaksSource es options many shown source given before after old new began ended
     broken_in s =
-        let at_source = subst (λ src. BreaksSource es options many src (OneLeft rest) (failures start.reader) failed old new began ended) same_source s in
-        let from_none = subst (λ n. BreaksSource es options many (open_source source.name source.bytes) (OneLeft rest) n failed old new began ended) fresh_start at_source in
-        source_broken es options many source given rest gives opens old new began ended before after failed counted from_none
+        let at_source = subst (λ src. BreaksSource es options many shown src (OneLeft rest) (failures start.reader) failed old new began ended) same_source s in
+        let from_none = subst (λ n. BreaksSource es options many shown (open_source source.name source.bytes) (OneLeft rest) n failed old new began ended) fresh_start at_source in
+        source_broken es options many shown source given rest gives opens old new began ended before after failed counted from_none
 
     -- want of memory came behind n lines
-    pub stopped_in : (n : ℕ) → StopsSource es options many (open_source name (remaining start.reader)) (OneLeft rest) n (failures start.reader) failed old new began ended → StopsSource es options many source given n before after old new began ended
+    pub stopped_in : (n : ℕ) → StopsSource es options many shown (open_source name (remaining start.reader)) (OneLeft rest) n (failures start.reader) failed old new began ended → StopsSource es options many shown source given n before after old new began ended
     stopped_in n s =
-        let at_source = subst (λ src. StopsSource es options many src (OneLeft rest) n (failures start.reader) failed old new began ended) same_source s in
-        let from_none = subst (λ m. StopsSource es options many (open_source source.name source.bytes) (OneLeft rest) n m failed old new began ended) fresh_start at_source in
-        source_stopped es options many source given rest gives opens old new began ended before after failed counted n from_none
+        let at_source = subst (λ src. StopsSource es options many shown src (OneLeft rest) n (failures start.reader) failed old new began ended) same_source s in
+        let from_none = subst (λ m. StopsSource es options many shown (open_source source.name source.bytes) (OneLeft rest) n m failed old new began ended) fresh_start at_source in
+        source_stopped es options many shown source given rest gives opens old new began ended before after failed counted n from_none

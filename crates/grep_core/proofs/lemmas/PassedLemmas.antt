@@ -1,20 +1,23 @@
 -- Whole lines that are passed in one sweep.
 use Rattle.std.proofs.Common.{◌≡◌, ℕ, zero, suc, ◌+◌, ◌-◌, ◌≤◌, List, [], ◌∷◌, ◌++◌, All, Option, length, take, drop, get_or, refl, sym, ap, ◌∙◌, subst, arith, length-append, append_assoc}
 use Rattle.std.proofs.KnownBytes.{Consumes-trans, Keeps-refl, prepend_known-read}
+use Rattle.std.specs.Prelude.{⊤}
+use Rattle.std.proofs.Math.Seq.{take-append_seam}
 use Rattle.std.proofs.lemmas.Bool.{cond-true, cond-false}
 use Rattle.std.proofs.lemmas.List.{get_or-drop, drop-drop, append-nil, nil_from_length}
 use Rattle.std.proofs.lemmas.List.Elements.{All-append}
 use Rattle.std.specs.Io.KnownBytes.{prepend_known, Consumes, Keeps, IsAtEnd}
 use Rattle.re_syntax.specs.Bytes.{Text}
 use Rattle.re_syntax.specs.Lines.{newline, terminated, lines_of, HasNoNewline}
-use Rattle.re_syntax.proofs.lemmas.LinesLaws.{first_differs, rest_has_none, all_head, all_tail}
+use Rattle.re_syntax.proofs.lemmas.LinesLaws.{lines_of-terminated, first_differs, rest_has_none, all_head, all_tail}
+use Rattle.re_search.specs.Working.Blocks.{IsBlock, PassesAll}
 use Rattle.memchr.specs.Find.{is_byte, places, places_from}
 use Rattle.grep_core.specs.declared.input.lines.Stage.{Stage}
 use Rattle.grep_core.specs.declared.input.lines.Stage.TheVariants.{Open, Ended, Failed}
 use Rattle.grep_core.specs.Reading.{most_lines}
 use Rattle.grep_core.specs.Working.Handed.{AreHanded, HandsLines}
 use Rattle.grep_core.specs.Working.LineReader.{LineReader, to_come, IsStageOf}
-use Rattle.grep_core.specs.Working.Numbered.{Numbered, HasHanded}
+use Rattle.grep_core.specs.Working.Numbered.{Numbered, AreAhead, HasHanded, PassesNext}
 
 -- ---- newlines are counted
 
@@ -64,9 +67,13 @@ module _ (hay : Text) where
 pub count_lines : (bytes : Text) (ts : List Text) → All HasNoNewline ts → bytes ≡ terminated ts → length (places (is_byte newline) bytes) ≡ length ts
 count_lines bytes ts free e = count_from bytes ts 0 (length bytes - 0) free e (omega (arith, ap length e))
 
+-- as many as there are lines in a block
+pub count_block : (block : Text) → IsBlock block → length (places (is_byte newline) block) ≡ length (lines_of block)
+count_block block h = count_lines block h.0 h.1 h.2 ∙ ap length (sym (ap lines_of h.2 ∙ lines_of-terminated h.0 h.1))
+
 -- ---- what was handed out and what is passed
 
-terminated-append : (ts us : List Text) → terminated (ts ++ us) ≡ terminated ts ++ terminated us
+pub terminated-append : (ts us : List Text) → terminated (ts ++ us) ≡ terminated ts ++ terminated us
 terminated-append [] us = refl
 terminated-append (t ∷ ts) us = ap (λ l. t ++ newline ∷ l) (terminated-append ts us) ∙ sym (append_assoc t (newline ∷ terminated ts) (terminated us))
 
@@ -127,3 +134,19 @@ module _ {R : Type 0} (remaining : R → Option Text) (failures : R → ℕ) whe
     counted = length-append handed lines ∙ ap (λ n. n + length lines) s.counted ∙ sym more;
     few = omega (arith, length-append handed lines, s.counted, more, few);
   }
+
+  -- the lines of a block that is ahead
+  pub all_ahead : (now : Numbered R) (block : Text) (bytes count : ℕ) → bytes ≡ length block → AreAhead now block count → PassesAll (λ _. ⊤) now.lines.ahead bytes
+  all_ahead now block bytes count width h =
+      (h.whole.0, h.rest, h.whole.1, λ i d below. tt, h.ahead ∙ ap (λ l. l ++ h.rest) h.whole.2, width ∙ ap length h.whole.2)
+
+  -- they are passed
+  pub passes_block : (old new : Numbered R) (block : Text) (bytes count : ℕ) → bytes ≡ length block → AreAhead old block count → (old.lines.stage ≡ Ended → old.lines.ahead ≡ []) → old.lines.ahead ≡ take bytes old.lines.ahead ++ new.lines.ahead
+      → new.lines.reader ≡ old.lines.reader → new.lines.stage ≡ old.lines.stage → new.number ≡ old.number + count → PassesNext remaining failures old new (lines_of (take bytes old.lines.ahead))
+  passes_block old new block bytes count width h none_ahead cut same still more = λ reader handed s.
+      let lines = h.whole.0 in
+      let is : lines_of block ≡ lines = ap lines_of h.whole.2 ∙ lines_of-terminated lines h.whole.1 in
+      let taken : take bytes old.lines.ahead ≡ block = ap (λ n. take n old.lines.ahead) width ∙ ap (take (length block)) h.ahead ∙ take-append_seam block h.rest in
+      let long : old.number + count ≡ old.number + length lines = ap (λ n. old.number + n) (h.counted ∙ ap length is) in
+      subst (λ ls. HasHanded remaining failures reader new (handed ++ ls)) (sym (ap lines_of taken ∙ is))
+      (HasHanded-pass reader old new handed lines s none_ahead h.whole.1 (cut ∙ ap (λ l. l ++ new.lines.ahead) (taken ∙ h.whole.2)) same still (more ∙ long) (omega (arith, more, h.few)))

@@ -15,18 +15,20 @@ use Rattle.grep_core.specs.declared.search.file.FileEnd.{FileEnd}
 use Rattle.grep_core.specs.Counted.{one_more}
 use Rattle.grep_core.specs.Choose.{IfHolds}
 use Rattle.grep_core.specs.Files.{File, missing, HasSelected}
-use Rattle.grep_core.specs.Output.{Form, nothing, names, counts, parts, lines, form, OutAs, Out, are_many}
+use Rattle.grep_core.specs.Output.{Form, nothing, names, counts, parts, lines, around, form, OutAs, Out, are_many}
 use Rattle.grep_core.specs.Messages.{FaultMet, Stops, Told, Messages, AnySelected, StatusOf}
 use Rattle.grep_core.specs.Reading.{Source, Reading, IsReadingOf, file_of, failures_of, AreLeft}
-use Rattle.grep_core.specs.Run.{Writer, Devices, TakesAll, TakesFront, files_of, AreReadings, FailuresMet, LeftMet, RowsAs, first_lines, file_at, count_more, Finishes, BreaksOff, StopsBehind, RunGives}
+use Rattle.grep_core.specs.Run.{Writer, Devices, TakesAll, TakesFront, files_of, AreReadings, FailuresMet, LeftMet, begun, file_at, count_more, Finishes, BreaksOff, StopsBehind, RunGives}
 use Rattle.grep_core.specs.Sources.{source_at}
 use Rattle.grep_core.specs.Cost.{SearchesLines, SearchesFiles}
+use Rattle.grep_core.specs.Working.Groups.{GroupedAs, behind_rows}
 use Rattle.grep_core.specs.Working.Searched.{is_fault, status_by, SourceGives, CountsSource, FinishesSource, BreaksSource, BreaksMessage, StopsSource}
 use Rattle.grep_core.proofs.lemmas.AnyLaws.{Any-left, Any-right, Any-append-cases, Any-single, none_more}
 use Rattle.grep_core.proofs.lemmas.CostLaws.{searched_without_steps, searched_one_file, searched_up_to}
 use Rattle.grep_core.proofs.lemmas.Decided.{dec_stops}
 use Rattle.grep_core.proofs.lemmas.Verdicts.{decided_no}
-use Rattle.grep_core.proofs.lemmas.MoreFiles.{OutAs-append, OutAs-front}
+use Rattle.grep_core.proofs.lemmas.MoreFiles.{GroupedAs-append, GroupedAs-front, grouped_out}
+use Rattle.grep_core.proofs.lemmas.GroupLaws.{behind_nothing, behind_longer, behind_both}
 use Rattle.grep_core.proofs.lemmas.MessageLaws.{Told-nothing, Told-append, Reached-all, Reached-stopped, Messages-reached, Messages-front}
 use Rattle.grep_core.proofs.lemmas.PassLemmas.{or_tells}
 use Rattle.grep_core.proofs.lemmas.Readings.{AreReadings-exist}
@@ -71,8 +73,8 @@ module _ (es : List Expression) (options : Options) (many : Bool) where
     pub readings : List Reading
     pub are_readings : AreReadings before readings
     pub output : List Text
-    pub is_output : OutAs es options many (form options) (files_of before readings) output
-    pub wrote : TakesAll old.out new.out output
+    pub is_output : GroupedAs es options many (form options) (files_of before readings) output
+    pub wrote : TakesAll old.out new.out (behind_rows (form options) false output)
     pub messages : List Text
     pub are_told : Told es options (files_of before readings) messages
     pub told : TakesAll old.messages new.messages messages
@@ -94,7 +96,7 @@ module _ (es : List Expression) (options : Options) (many : Bool) where
     are_readings = tt;
     output = [];
     is_output = nothing_written (form options);
-    wrote = TakesAll-nothing d.out;
+    wrote = subst (TakesAll d.out d.out) (sym (behind_nothing (form options) false)) (TakesAll-nothing d.out);
     messages = [];
     are_told = Told-nothing es options;
     told = TakesAll-nothing d.messages;
@@ -110,18 +112,27 @@ module _ (es : List Expression) (options : Options) (many : Bool) where
     steps = searched_without_steps es options (length es) [] d.steps;
   }
     where
-      nothing_written : (shape : Form) → OutAs es options many shape [] []
+      nothing_written : (shape : Form) → GroupedAs es options many shape [] []
       nothing_written nothing = refl
       nothing_written names = ([], refl, refl)
       nothing_written counts = refl
       nothing_written parts = refl
       nothing_written lines = refl
+      nothing_written (around context) = refl
 
   -- what was given back before this source, in its search, and up to behind it
   module _ (before : List Source) (source : Source) (given own_given all_given : List (Option Text) → Type 0) (join : (a b : List (Option Text)) → given a → own_given b → all_given (a ++ b))
       (old mid : Devices) (some faulty : Bool) (s : RunSoFar before given old mid some faulty) where
+    -- what was written for the first sources, and for this one
+    wrote_both : (rows : List Text) → behind_rows (form options) false (s.output ++ rows) ≡ behind_rows (form options) false s.output ++ behind_rows (form options) some rows
+    wrote_both rows = behind_both es options many (form options) (files_of before s.readings) s.output rows some s.is_output s.some_told
+
+    takes_both : (new : Writer) (rows : List Text) → TakesAll mid.out new (behind_rows (form options) some rows) → TakesAll old.out new (behind_rows (form options) false (s.output ++ rows))
+    takes_both new rows took =
+        subst (TakesAll old.out new) (sym (wrote_both rows)) (TakesAll-more old.out mid.out new (behind_rows (form options) false s.output) (behind_rows (form options) some rows) s.wrote took)
+
     -- one more source, at which the run does not stop
-    pub run_next : (new : Devices) (end : FileEnd) (found : ℕ) → FinishesSource es options many source own_given mid new end found → (options.quiet && nat_lt 0 found) ≡ false → RunSoFar (before ++ source ∷ []) all_given old new (some || nat_lt 0 found) (faulty || is_fault end)
+    pub run_next : (new : Devices) (end : FileEnd) (found : ℕ) → FinishesSource es options many some source own_given mid new end found → (options.quiet && nat_lt 0 found) ≡ false → RunSoFar (before ++ source ∷ []) all_given old new (some || nat_lt 0 found) (faulty || is_fault end)
     run_next new end found f goes =
         let file = file_of source.name f.reading in
         let files = files_of before s.readings in
@@ -131,8 +142,8 @@ module _ (es : List Expression) (options : Options) (many : Bool) where
           readings = s.readings ++ f.reading ∷ [];
           are_readings = AreReadings-append before (source ∷ []) s.readings (f.reading ∷ []) s.are_readings (f.is_reading, tt);
           output = s.output ++ f.rows;
-          is_output = subst (λ fs. OutAs es options many (form options) fs (s.output ++ f.rows)) (sym all) (OutAs-append es options many (form options) files (file ∷ []) s.output f.rows s.is_output f.are_rows);
-          wrote = TakesAll-more old.out mid.out new.out s.output f.rows s.wrote f.wrote;
+          is_output = subst (λ fs. GroupedAs es options many (form options) fs (s.output ++ f.rows)) (sym all) (GroupedAs-append es options many (form options) files (file ∷ []) s.output f.rows s.is_output f.are_rows);
+          wrote = takes_both new.out f.rows f.wrote;
           messages = s.messages ++ f.messages;
           are_told = subst (λ fs. Told es options fs (s.messages ++ f.messages)) (sym all) (Told-append es options files (file ∷ []) s.messages f.messages s.are_told f.are_messages);
           told = TakesAll-more old.messages mid.messages new.messages s.messages f.messages s.told f.told;
@@ -217,19 +228,22 @@ module _ (es : List Expression) (options : Options) (many : Bool) where
       counted_here new own counted = counted ∙ ap (λ n. count_more n own) s.counted ∙ sym (count_more-add old.source_failures s.failures own)
 
       -- the output for the first sources and this one is a beginning of the output
-      out_front : (rows : List Text) → OutAs es options many (form options) (file ∷ []) rows → (more : List Text) × Out es options (files_of all_sources readings) ((s.output ++ rows) ++ more)
+      out_front : (rows : List Text) → GroupedAs es options many (form options) (file ∷ []) rows → (more : List Text) × Out es options (files_of all_sources readings) (behind_rows (form options) false (s.output ++ rows) ++ more)
       out_front rows is =
-          let both = OutAs-append es options many (form options) first (file ∷ []) s.output rows s.is_output is in
-          let more = OutAs-front es options many (form options) (first ++ file ∷ []) behind (s.output ++ rows) both in
+          let both = GroupedAs-append es options many (form options) first (file ∷ []) s.output rows s.is_output is in
+          let more = GroupedAs-front es options many (form options) (first ++ file ∷ []) behind (s.output ++ rows) both in
+          let all = grouped_out es options many (form options) ((first ++ file ∷ []) ++ behind) ((s.output ++ rows) ++ more.0) more.1 in
+          let longer = behind_longer (form options) false (s.output ++ rows) more.0 in
           let regroup : (first ++ file ∷ []) ++ behind ≡ first ++ file ∷ behind = append_assoc first (file ∷ []) behind in (
-            more.0,
-            subst (λ m. OutAs es options m (form options) (files_of all_sources readings) ((s.output ++ rows) ++ more.0)) all_many
-                (subst (λ fs. OutAs es options many (form options) fs ((s.output ++ rows) ++ more.0)) (regroup ∙ sym all_files) more.1),
+            longer.0,
+            subst (λ m. OutAs es options m (form options) (files_of all_sources readings) (behind_rows (form options) false (s.output ++ rows) ++ longer.0)) all_many
+                (subst (λ fs. OutAs es options many (form options) fs (behind_rows (form options) false (s.output ++ rows) ++ longer.0)) (regroup ∙ sym all_files)
+                (subst (OutAs es options many (form options) ((first ++ file ∷ []) ++ behind)) longer.1 all)),
           )
 
       -- a write failed within the output for this source
-      breaks_out : (new : Devices) (rows : List Text) → OutAs es options many (form options) (file ∷ []) rows → TakesFront mid.out new.out rows → new.messages ≡ mid.messages
-          → CountsSource es options many source own_given r mid.source_failures new.source_failures → SearchesLines es options (length es) file.lines mid.steps new.steps
+      breaks_out : (new : Devices) (rows : List Text) → GroupedAs es options many (form options) (file ∷ []) rows → TakesFront mid.out new.out (behind_rows (form options) some rows) → new.messages ≡ mid.messages
+          → CountsSource es options many some source own_given r mid.source_failures new.source_failures → SearchesLines es options (length es) file.lines mid.steps new.steps
           → BreaksOff es options all_sources all_given old new
       breaks_out new rows is front same failed steps =
           let out = out_front rows is in
@@ -237,11 +251,12 @@ module _ (es : List Expression) (options : Options) (many : Bool) where
           record {
             readings = readings;
             are_readings = are_all;
-            output = (s.output ++ rows) ++ out.0;
+            output = behind_rows (form options) false (s.output ++ rows) ++ out.0;
             is_output = out.1;
             messages = s.messages ++ told.0;
             are_messages = subst (λ fs. Messages es options fs (s.messages ++ told.0)) (sym all_files) told.1;
-            wrote = TakesFront-longer old.out new.out (s.output ++ rows) out.0 (TakesFront-more old.out mid.out new.out s.output rows s.wrote front);
+            wrote = TakesFront-longer old.out new.out (behind_rows (form options) false (s.output ++ rows)) out.0
+                (subst (TakesFront old.out new.out) (sym (wrote_both rows)) (TakesFront-more old.out mid.out new.out (behind_rows (form options) false s.output) (behind_rows (form options) some rows) s.wrote front));
             told = subst (λ w. TakesFront old.messages w (s.messages ++ told.0)) (sym same) (TakesFront-all old.messages mid.messages s.messages told.0 s.told);
             met = length (before ++ source ∷ []);
             failures = s.failures + failed.own;
@@ -270,20 +285,20 @@ module _ (es : List Expression) (options : Options) (many : Bool) where
           both = Told-append es options first (file ∷ []) s.messages messages s.are_told tells
 
       -- a write failed within its message
-      breaks_told : (new : Devices) (rows messages : List Text) → OutAs es options many (form options) (file ∷ []) rows → TakesAll mid.out new.out rows
+      breaks_told : (new : Devices) (rows messages : List Text) → GroupedAs es options many (form options) (file ∷ []) rows → TakesAll mid.out new.out (behind_rows (form options) some rows)
           → Told es options (file ∷ []) messages → TakesFront mid.messages new.messages messages
-          → CountsSource es options many source own_given r mid.source_failures new.source_failures → SearchesLines es options (length es) file.lines mid.steps new.steps → BreaksOff es options all_sources all_given old new
+          → CountsSource es options many some source own_given r mid.source_failures new.source_failures → SearchesLines es options (length es) file.lines mid.steps new.steps → BreaksOff es options all_sources all_given old new
       breaks_told new rows messages is took tells front failed steps =
           let out = out_front rows is in
           let told = told_front messages tells in
           record {
             readings = readings;
             are_readings = are_all;
-            output = (s.output ++ rows) ++ out.0;
+            output = behind_rows (form options) false (s.output ++ rows) ++ out.0;
             is_output = out.1;
             messages = (s.messages ++ messages) ++ told.0;
             are_messages = told.1;
-            wrote = TakesFront-all old.out new.out (s.output ++ rows) out.0 (TakesAll-more old.out mid.out new.out s.output rows s.wrote took);
+            wrote = TakesFront-all old.out new.out (behind_rows (form options) false (s.output ++ rows)) out.0 (takes_both new.out rows took);
             told = TakesFront-longer old.messages new.messages (s.messages ++ messages) told.0 (TakesFront-more old.messages mid.messages new.messages s.messages messages s.told front);
             met = length (before ++ source ∷ []);
             failures = s.failures + failed.own;
@@ -296,12 +311,13 @@ module _ (es : List Expression) (options : Options) (many : Bool) where
           }
 
       -- want of memory came behind n of its lines
-      stops : (new : Devices) (n : ℕ) (rows : List Text) → n ≤ length file.lines → RowsAs es options (form options) many (first_lines n file) rows → TakesAll mid.out new.out rows → new.messages ≡ mid.messages
+      stops : (new : Devices) (n : ℕ) (rows : List Text) → n ≤ length file.lines → GroupedAs es options many (form options) (begun (form options) n file) rows → TakesAll mid.out new.out (behind_rows (form options) some rows) → new.messages ≡ mid.messages
           → new.source_failures ≡ mid.source_failures → (last : Option Text) → own_given (last ∷ []) → SearchesLines es options (length es) file.lines mid.steps new.steps → StopsBehind es options all_sources all_given old new (length before) n
       stops new n rows within are took same none_failed last gives steps =
           let place : length first ≡ length before = length-files_of before s.readings s.are_readings in
           let front : take (length before) (files_of all_sources readings) ≡ first =
           ap (λ k. take k (files_of all_sources readings)) (sym place) ∙ ap (take (length first)) all_files ∙ take-append_seam first (file ∷ behind) in
+          let first_rows = GroupedAs-append es options many (form options) first (begun (form options) n file) s.output rows s.is_output are in
           let here : file_at (files_of all_sources readings) (length before) ≡ file =
           ap (file_at (files_of all_sources readings)) (sym place) ∙ ap (λ fs. file_at fs (length first)) all_files ∙ get_or-append_seam first file behind (record { name = []; lines = []; ending = missing }) in
           record {
@@ -309,13 +325,14 @@ module _ (es : List Expression) (options : Options) (many : Bool) where
             are_readings = are_all;
             in_sources = omega (arith, length-append before (source ∷ after));
             in_file = subst (λ f. n ≤ length f.lines) (sym here) within;
-            before = s.output;
-            is_before = subst (λ m. OutAs es options m (form options) (take (length before) (files_of all_sources readings)) s.output) all_many (subst (λ fs. OutAs es options many (form options) fs s.output) (sym front) s.is_output);
-            rows = rows;
-            are_rows = subst (λ m. RowsAs es options (form options) m (first_lines n (file_at (files_of all_sources readings) (length before))) rows) all_many (subst (λ f. RowsAs es options (form options) many (first_lines n f) rows) (sym here) are);
+            output = behind_rows (form options) false (s.output ++ rows);
+            is_output = subst (λ m. OutAs es options m (form options) (take (length before) (files_of all_sources readings) ++ begun (form options) n (file_at (files_of all_sources readings) (length before))) (behind_rows (form options) false (s.output ++ rows))) all_many
+                (subst (λ fs. OutAs es options many (form options) (fs ++ begun (form options) n (file_at (files_of all_sources readings) (length before))) (behind_rows (form options) false (s.output ++ rows))) (sym front)
+                (subst (λ f. OutAs es options many (form options) (first ++ begun (form options) n f) (behind_rows (form options) false (s.output ++ rows))) (sym here)
+                (grouped_out es options many (form options) (first ++ begun (form options) n file) (s.output ++ rows) first_rows)));
             messages = s.messages;
             are_messages = subst (λ fs. Messages es options fs s.messages) (sym front) (Messages-reached es options first first s.messages (Reached-all es options first s.goes_on) s.are_told);
-            wrote = TakesAll-more old.out mid.out new.out s.output rows s.wrote took;
+            wrote = takes_both new.out rows took;
             told = subst (λ w. TakesAll old.messages w s.messages) (sym same) s.told;
             failures = s.failures;
             are_failures = met_before;
@@ -328,26 +345,27 @@ module _ (es : List Expression) (options : Options) (many : Bool) where
           }
 
       -- under `-q` a line of this source is selected
-      finishes_here : (new : Devices) (end : FileEnd) (found : ℕ) (rows messages : List Text) (own : ℕ) → Stops es options file → OutAs es options many (form options) (file ∷ []) rows → TakesAll mid.out new.out rows
+      finishes_here : (new : Devices) (end : FileEnd) (found : ℕ) (rows messages : List Text) (own : ℕ) → Stops es options file → GroupedAs es options many (form options) (file ∷ []) rows → TakesAll mid.out new.out (behind_rows (form options) some rows)
           → Told es options (file ∷ []) messages → TakesAll mid.messages new.messages messages → IfHolds (FaultMet es options file) (own ≡ failures_of r) (own ≡ 0)
           → new.source_failures ≡ count_more mid.source_failures own → (own_left : List (Option Text)) → AreLeft source r own_left → own_given own_left → SearchesLines es options (length es) file.lines mid.steps new.steps → Finishes es options all_sources all_given old new selected
       finishes_here new end found rows messages own here is took tells told are_own counted own_left is_left gives steps =
           let quiet_form : form options ≡ nothing = cond-true _ _ _ here.0 in
-          let none_out : (xs : List File) → OutAs es options many (form options) xs [] = λ xs. subst (λ shape. OutAs es options many shape xs []) (sym quiet_form) refl in
-          let output = OutAs-append es options many (form options) (first ++ file ∷ []) behind (s.output ++ rows) [] (OutAs-append es options many (form options) first (file ∷ []) s.output rows s.is_output is) (none_out behind) in
+          let none_out : (xs : List File) → GroupedAs es options many (form options) xs [] = λ xs. subst (λ shape. GroupedAs es options many shape xs []) (sym quiet_form) refl in
+          let grouped = GroupedAs-append es options many (form options) (first ++ file ∷ []) behind (s.output ++ rows) [] (GroupedAs-append es options many (form options) first (file ∷ []) s.output rows s.is_output is) (none_out behind) in
+          let output = grouped_out es options many (form options) ((first ++ file ∷ []) ++ behind) (s.output ++ rows) (subst (GroupedAs es options many (form options) ((first ++ file ∷ []) ++ behind)) (append-nil (s.output ++ rows)) grouped) in
           let regroup : (first ++ file ∷ []) ++ behind ≡ first ++ file ∷ behind = append_assoc first (file ∷ []) behind in
           let reached = Reached-stopped es options first behind file s.goes_on here in
           let all_told = Messages-reached es options (first ++ file ∷ behind) (first ++ file ∷ []) (s.messages ++ messages) reached (Told-append es options first (file ∷ []) s.messages messages s.are_told tells) in
           record {
             readings = readings;
             are_readings = are_all;
-            output = s.output ++ rows;
-            is_output = subst (λ m. OutAs es options m (form options) (files_of all_sources readings) (s.output ++ rows)) all_many
-                (subst (λ fs. OutAs es options many (form options) fs (s.output ++ rows)) (regroup ∙ sym all_files) (subst (OutAs es options many (form options) ((first ++ file ∷ []) ++ behind)) (append-nil (s.output ++ rows)) output));
+            output = behind_rows (form options) false (s.output ++ rows);
+            is_output = subst (λ m. OutAs es options m (form options) (files_of all_sources readings) (behind_rows (form options) false (s.output ++ rows))) all_many
+                (subst (λ fs. OutAs es options many (form options) fs (behind_rows (form options) false (s.output ++ rows))) (regroup ∙ sym all_files) output);
             messages = s.messages ++ messages;
             are_messages = subst (λ fs. Messages es options fs (s.messages ++ messages)) (sym all_files) all_told;
             is_status = subst (λ fs. StatusOf es options fs selected) (sym all_files) (StatusOf-stopped es options first behind file here.0 here.1);
-            wrote = TakesAll-more old.out mid.out new.out s.output rows s.wrote took;
+            wrote = takes_both new.out rows took;
             told = TakesAll-more old.messages mid.messages new.messages s.messages messages s.told told;
             failures = s.failures + own;
             are_failures = FailuresMet-append es options before (source ∷ after) s.readings (r ∷ rest.0) s.failures own s.are_readings s.goes_on s.are_failures (FailuresMet-stopped es options source after r rest.0 own here are_own);
@@ -364,32 +382,32 @@ module _ (es : List Expression) (options : Options) (many : Bool) where
       many_here : many ≡ nat_le 2 (length (before ++ source ∷ after))
       many_here = is_many ∙ ap (λ l. nat_le 2 (length l)) cut
 
-      pub run_unwritten : BreaksSource es options many source own_given mid.source_failures new.source_failures mid.out new.out mid.steps new.steps → new.messages ≡ mid.messages → BreaksOff es options sources all_given old new × (new.out.failures ≡ one_more old.out.failures) × (new.messages.failures ≡ old.messages.failures)
+      pub run_unwritten : BreaksSource es options many some source own_given mid.source_failures new.source_failures mid.out new.out mid.steps new.steps → new.messages ≡ mid.messages → BreaksOff es options sources all_given old new × (new.out.failures ≡ one_more old.out.failures) × (new.messages.failures ≡ old.messages.failures)
       run_unwritten b same = (
         subst (λ l. BreaksOff es options l all_given old new) (sym cut) (breaks_out after many_here b.reading b.is_reading new b.rows b.are_rows b.wrote same b.failures b.steps),
         b.counted ∙ ap one_more s.wrote.none_failed,
         ap (λ (w : Writer). w.failures) same ∙ s.told.none_failed,
       )
 
-      pub run_untold : BreaksMessage es options many source own_given mid new → BreaksOff es options sources all_given old new × (new.out.failures ≡ old.out.failures) × (new.messages.failures ≡ one_more old.messages.failures)
+      pub run_untold : BreaksMessage es options many some source own_given mid new → BreaksOff es options sources all_given old new × (new.out.failures ≡ old.out.failures) × (new.messages.failures ≡ one_more old.messages.failures)
       run_untold b = (
         subst (λ l. BreaksOff es options l all_given old new) (sym cut) (breaks_told after many_here b.reading b.is_reading new b.rows b.messages b.are_rows b.wrote b.are_messages b.told b.failures b.steps),
         b.wrote.none_failed ∙ s.wrote.none_failed,
         b.counted ∙ ap one_more s.told.none_failed,
       )
 
-      pub run_out_of_memory : (k n : ℕ) → k ≡ length before → StopsSource es options many source own_given n mid.source_failures new.source_failures mid.out new.out mid.steps new.steps → new.messages ≡ mid.messages → StopsBehind es options sources all_given old new k n
+      pub run_out_of_memory : (k n : ℕ) → k ≡ length before → StopsSource es options many some source own_given n mid.source_failures new.source_failures mid.out new.out mid.steps new.steps → new.messages ≡ mid.messages → StopsBehind es options sources all_given old new k n
       run_out_of_memory k n place b same =
           subst (λ j. StopsBehind es options sources all_given old new j n) (sym place)
           (subst (λ l. StopsBehind es options l all_given old new (length before) n) (sym cut) (stops after many_here b.reading b.is_reading new n b.rows b.in_file b.are_rows b.wrote same b.none_failed b.rest b.gave_back b.steps))
 
-      pub run_stopped : (end : FileEnd) (found : ℕ) → FinishesSource es options many source own_given mid new end found → (options.quiet && nat_lt 0 found) ≡ true → Finishes es options sources all_given old new selected
+      pub run_stopped : (end : FileEnd) (found : ℕ) → FinishesSource es options many some source own_given mid new end found → (options.quiet && nat_lt 0 found) ≡ true → Finishes es options sources all_given old new selected
       run_stopped end found f both =
           subst (λ l. Finishes es options l all_given old new selected) (sym cut)
           (finishes_here after many_here f.reading f.is_reading new end found f.rows f.messages f.failures.own (both_hold options.quiet (nat_lt 0 found) both f.some) f.are_rows f.wrote f.are_messages f.told f.failures.are_own f.failures.counted f.failures.left f.failures.are_left f.failures.gave_back f.steps)
 
       -- the search of the source was given up
-      pub run_fault : (k : ℕ) (fault : RunFault) → k ≡ length before → SourceGives es options many source own_given k mid new (Err fault) → RunGives es options sources all_given old new (Err fault)
+      pub run_fault : (k : ℕ) (fault : RunFault) → k ≡ length before → SourceGives es options many some source own_given k mid new (Err fault) → RunGives es options sources all_given old new (Err fault)
       run_fault k Write place h = run_unwritten h.0 h.1
       run_fault k MessageWrite place h = run_untold h
       run_fault k (Memory at n) place h = run_out_of_memory at n (h.0 ∙ place) h.1 h.2
@@ -401,8 +419,8 @@ module _ (es : List Expression) (options : Options) (many : Bool) where
       record {
         readings = s.readings;
         are_readings = s.are_readings;
-        output = s.output;
-        is_output = subst (λ m. OutAs es options m (form options) files s.output) (is_many ∙ ap (nat_le 2) (sym (length-files_of sources s.readings s.are_readings))) s.is_output;
+        output = behind_rows (form options) false s.output;
+        is_output = subst (λ m. OutAs es options m (form options) files (behind_rows (form options) false s.output)) (is_many ∙ ap (nat_le 2) (sym (length-files_of sources s.readings s.are_readings))) (grouped_out es options many (form options) files s.output s.is_output);
         messages = s.messages;
         are_messages = Messages-reached es options files files s.messages (Reached-all es options files s.goes_on) s.are_told;
         is_status = status some faulty s.some_told s.faulty_told;
@@ -434,7 +452,7 @@ module _ (es : List Expression) (options : Options) (many : Bool) where
     place = sym (length-take-le k sources (omega (arith, inside)))
 
     -- source k was searched, and the run goes on
-    pub run_further : (end : FileEnd) (found : ℕ) (here told fault : Bool) → FinishesSource es options many (source_at sources k) own_given mid new end found → here ≡ nat_lt 0 found → (options.quiet && here) ≡ false → told ≡ nat_lt 0 found → fault ≡ is_fault end
+    pub run_further : (end : FileEnd) (found : ℕ) (here told fault : Bool) → FinishesSource es options many some (source_at sources k) own_given mid new end found → here ≡ nat_lt 0 found → (options.quiet && here) ≡ false → told ≡ nat_lt 0 found → fault ≡ is_fault end
         → RunSoFar (take (k + 1) sources) all_given old new (some || told) (faulty || fault)
     run_further end found here told fault f here_is goes told_is fault_is =
         let next = run_next (take k sources) (source_at sources k) given own_given all_given join old mid some faulty s new end found f (ap (λ b. options.quiet && b) (sym here_is) ∙ goes) in
@@ -446,14 +464,14 @@ module _ (es : List Expression) (options : Options) (many : Bool) where
 
     module _ (is_many : many ≡ nat_le 2 (length sources)) where
       -- under `-q` a line of it is selected
-      pub run_ends_at : (end : FileEnd) (found : ℕ) (here : Bool) → FinishesSource es options many (source_at sources k) own_given mid new end found → here ≡ nat_lt 0 found → (options.quiet && here) ≡ true → RunGives es options sources all_given old new (Ok selected)
+      pub run_ends_at : (end : FileEnd) (found : ℕ) (here : Bool) → FinishesSource es options many some (source_at sources k) own_given mid new end found → here ≡ nat_lt 0 found → (options.quiet && here) ≡ true → RunGives es options sources all_given old new (Ok selected)
       run_ends_at end found here f here_is both =
           run_stopped (take k sources) (source_at sources k) given own_given all_given join old mid some faulty s sources (drop (suc k) sources) (cut_at sources k _ inside) is_many new end found f (ap (λ b. options.quiet && b) (sym here_is) ∙ both)
 
       -- its search was given up
-      pub run_given_up : (fault : RunFault) (ds : List Expression) (listed : List Source) → ds ≡ es → listed ≡ sources → SourceGives ds options many (source_at listed k) own_given k mid new (Err fault) → RunGives es options sources all_given old new (Err fault)
+      pub run_given_up : (fault : RunFault) (ds : List Expression) (listed : List Source) → ds ≡ es → listed ≡ sources → SourceGives ds options many some (source_at listed k) own_given k mid new (Err fault) → RunGives es options sources all_given old new (Err fault)
       run_given_up fault ds listed same_expressions same_sources h =
-          let searched = subst (λ l. SourceGives es options many (source_at l k) own_given k mid new (Err fault)) same_sources (subst (λ xs. SourceGives xs options many (source_at listed k) own_given k mid new (Err fault)) same_expressions h) in
+          let searched = subst (λ l. SourceGives es options many some (source_at l k) own_given k mid new (Err fault)) same_sources (subst (λ xs. SourceGives xs options many some (source_at listed k) own_given k mid new (Err fault)) same_expressions h) in
           run_fault (take k sources) (source_at sources k) given own_given all_given join old mid some faulty s sources (drop (suc k) sources) (cut_at sources k _ inside) is_many new k fault place searched
 
   -- all sources were searched

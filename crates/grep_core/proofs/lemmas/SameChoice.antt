@@ -1,5 +1,6 @@
 -- Expressions that hold on the same stretches give the same output, messages and status, and fewer of them cost no more.
-use Rattle.std.proofs.Common.{◌≡◌, ℕ, ◌+◌, ◌*◌, ◌≤◌, ◌↔◌, Bool, true, false, List, [], ◌∷◌, inl, inr, length, Any, MatchBool, Option, Result, Ok, Err, refl, arith, take}
+use Rattle.std.proofs.Common.{◌≡◌, ℕ, zero, suc, ◌+◌, ◌*◌, ◌≤◌, ◌↔◌, Bool, true, false, List, [], ◌∷◌, inl, inr, length, Any, MatchBool, Option, Result, Ok, Err, refl, arith, take, get_or}
+use Rattle.std.specs.List.{enumerate_from}
 use Rattle.std.proofs.Math.Nat.{mul-le-mul_left, mul-le-mul_right}
 use Rattle.re_syntax.specs.Bytes.{Text}
 use Rattle.re_syntax.specs.Expression.{Expression, alt}
@@ -7,17 +8,19 @@ use Rattle.re_syntax.specs.Holds.{Holds, Matches}
 use Rattle.re_syntax.specs.Parts.{IsFound, IsPart, ArePartsFrom}
 use Rattle.re_syntax.proofs.lemmas.Decisions.{Any-first, Any-later, Any-cases, Any-none}
 use Rattle.re_search.specs.Meters.{Steps}
+use Rattle.grep_core.specs.declared.options.Context.{Context}
 use Rattle.grep_core.specs.declared.options.Options.{Options}
 use Rattle.grep_core.specs.declared.status.Status.{Status}
 use Rattle.grep_core.specs.declared.status.RunFault.{RunFault}
 use Rattle.grep_core.specs.declared.status.RunFault.TheVariants.{Write, MessageWrite, Memory}
+use Rattle.grep_core.specs.Around.{IsShown, BeginsGroup, Groups}
 use Rattle.grep_core.specs.Choose.{IfHolds, EachGives}
 use Rattle.grep_core.specs.Cost.{search_cost, PartsAsked, LinesCost, FilesCost, SearchesFiles}
 use Rattle.grep_core.specs.Files.{File, Ending, whole, missing, broken, Matched, Selected, HasSelected}
 use Rattle.grep_core.specs.Messages.{FaultMetBy, FaultMet, Stops, Reached, Message, Messages, AnySelected, StatusOf}
-use Rattle.grep_core.specs.Output.{Form, nothing, names, counts, parts, lines, form, SelectedLines, CountOf, RowsOf, PartsOfLine, PartRowsOf, OutAs}
+use Rattle.grep_core.specs.Output.{Form, nothing, names, counts, parts, lines, around, form, shown_name, shown_number, GroupsOf, SelectedLines, CountOf, RowsOf, PartsOfLine, PartRowsOf, OutAs}
 use Rattle.grep_core.specs.Reading.{Source, Reading, file_of}
-use Rattle.grep_core.specs.Run.{Devices, FailuresMet, LeftMet, RowsAs, Finishes, BreaksOff, StopsBehind, RunGives}
+use Rattle.grep_core.specs.Run.{Devices, FailuresMet, LeftMet, Finishes, BreaksOff, StopsBehind, RunGives}
 use Rattle.grep_core.specs.Working.SameChoice.{IsSameChoice, ServesForOthers}
 
 -- ---- what holds of some element
@@ -89,6 +92,25 @@ EachGives-map : {A B : Type 0} (R S : A → List B → Type 0) → ((x : A) (ys 
 EachGives-map R S f [] ys h = h
 EachGives-map R S f (x ∷ xs) ys h = (h.0, h.1, f x h.0 h.2, EachGives-map R S f xs h.1 h.3, h.4)
 
+-- ---- lines around selected ones
+
+module _ (options : Options) (context : Context) where
+  IsShown-same : (ds es : List Expression) → IsSameChoice ds es → (text : List Text) (k : ℕ) → IsShown ds options context text k → IsShown es options context text k
+  IsShown-same ds es same text k s = record { place = s.place; on = s.on; selected = Selected-same ds es options same (get_or text s.place []) s.selected; before = s.before; behind = s.behind }
+
+  BeginsGroup-same : (ds es : List Expression) → IsSameChoice ds es → (text : List Text) (k : ℕ) → BeginsGroup ds options context text k → BeginsGroup es options context text k
+  BeginsGroup-same ds es same text zero begins = begins
+  BeginsGroup-same ds es same text (suc k) hidden = λ shown. hidden (IsShown-same es ds (other_way ds es same) text k shown)
+
+  Groups-same : (ds es : List Expression) → IsSameChoice ds es → (name : Option Text) (shown_number : ℕ → Option ℕ) (text groups : List Text) → Groups ds options context name shown_number text groups → Groups es options context name shown_number text groups
+  Groups-same ds es same name shown_number text groups h =
+      let back = other_way ds es same in
+      EachGives-map _ _
+      (λ line out. IfHolds-map (IsShown-same ds es same text line.0) (IsShown-same es ds back text line.0)
+      (λ shown. (shown.0, IfHolds-map (Selected-same ds es options same line.1) (Selected-same es ds options back line.1) (λ a. a) (λ b. b) shown.1, IfHolds-map (BeginsGroup-same ds es same text line.0) (BeginsGroup-same es ds back text line.0) (λ a. a) (λ b. b) shown.2))
+      (λ b. b))
+      (enumerate_from 0 text) groups h
+
 module _ (options : Options) where
   HasSelected-same : (ds es : List Expression) → IsSameChoice ds es → (file : File) → HasSelected ds options file → HasSelected es options file
   HasSelected-same ds es same file h = Any-map (Selected ds options) (Selected es options) (Selected-same ds es options same) file.lines h
@@ -142,13 +164,8 @@ module _ (options : Options) where
         files out h
     OutAs-same many lines files out h =
         EachGives-map (RowsOf ds options many) (RowsOf es options many) (λ file rows r. (r.0, SelectedLines-same many file r.0 r.1, r.2)) files out h
-
-    RowsAs-same : (shape : Form) (many : Bool) (file : File) (rows : List Text) → RowsAs ds options shape many file rows → RowsAs es options shape many file rows
-    RowsAs-same lines many file rows h = OutAs-same many lines (file ∷ []) rows h
-    RowsAs-same parts many file rows h = OutAs-same many parts (file ∷ []) rows h
-    RowsAs-same nothing many file rows h = h
-    RowsAs-same names many file rows h = h
-    RowsAs-same counts many file rows h = h
+    OutAs-same many (around context) files out h =
+        (h.0, EachGives-map (GroupsOf ds options many context) (GroupsOf es options many context) (λ file rows r. Groups-same options context ds es same (shown_name many file) (shown_number options) file.lines rows r) files h.0 h.1, h.2)
 
     -- ---- messages and status
 
@@ -193,6 +210,7 @@ module _ (options : Options) where
     PartsAsked-same names line times h = h
     PartsAsked-same counts line times h = h
     PartsAsked-same lines line times h = h
+    PartsAsked-same (around context) line times h = h
 
     -- fewer matchers cost no more
     module _ (few most : ℕ) (fewer : few ≤ most) where
@@ -267,10 +285,8 @@ module _ (options : Options) where
         are_readings = s.are_readings;
         in_sources = s.in_sources;
         in_file = s.in_file;
-        before = s.before;
-        is_before = OutAs-same _ (form options) _ s.before s.is_before;
-        rows = s.rows;
-        are_rows = RowsAs-same (form options) _ _ s.rows s.are_rows;
+        output = s.output;
+        is_output = OutAs-same _ (form options) _ s.output s.is_output;
         messages = s.messages;
         are_messages = Messages-same _ s.messages s.are_messages;
         wrote = s.wrote;

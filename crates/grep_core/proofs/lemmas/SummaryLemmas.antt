@@ -15,8 +15,10 @@ use Rattle.grep_core.specs.Output.{form}
 use Rattle.grep_core.specs.Messages.{message, FaultMet, Message, Told}
 use Rattle.grep_core.specs.Reading.{Source, Reading, not_opened, fails_after, ends_after, most_lines, up_to_limit, file_of}
 use Rattle.grep_core.specs.Run.{Devices, Writer, TakesAll, TakesFront}
+use Rattle.grep_core.specs.Working.Groups.{behind_rows}
 use Rattle.grep_core.specs.Working.Searched.{is_fault, ending_of, summary_as, told_of, SearchesSource, FinishesSource, BreaksSource, BreaksMessage}
 use Rattle.grep_core.proofs.lemmas.ChooseLaws.{EachGives-one}
+use Rattle.grep_core.proofs.lemmas.GroupLaws.{behind_summary}
 use Rattle.grep_core.proofs.lemmas.WriterLaws.{TakesAll-more, TakesFront-more}
 
 limit_named : (name : Text) (ls : List Text) (ending : Ending) → (up_to_limit name ls ending).name ≡ name
@@ -45,10 +47,10 @@ module _ (es : List Expression) (options : Options) where
       by_flag true = refl
       by_flag false = EachGives-one (Message es options) file (message (ending_of end) name) m
 
-  module _ (many : Bool) (source : Source) (given : List (Option Text) → Type 0) (name : Text) (named : name ≡ source.name) (end : FileEnd) (found : ℕ) where
+  module _ (many shown : Bool) (source : Source) (given : List (Option Text) → Type 0) (name : Text) (named : name ≡ source.name) (end : FileEnd) (found : ℕ) where
     -- the summary could not be written
-    pub source_unwritten : (before after : ℕ) (old mid new : Writer) (began ended : Steps) → SearchesSource es options many source given before after old mid began ended end found → TakesFront mid new (summary_as (form options) many name end found) → new.failures ≡ one_more mid.failures
-        → BreaksSource es options many source given before after old new began ended
+    pub source_unwritten : (before after : ℕ) (old mid new : Writer) (began ended : Steps) → SearchesSource es options many shown source given before after old mid began ended end found → TakesFront mid new (summary_as (form options) many name end found) → new.failures ≡ one_more mid.failures
+        → BreaksSource es options many shown source given before after old new began ended
     source_unwritten before after old mid new began ended s front failed =
         let summary = summary_as (form options) many source.name end found in
         let front_here = subst (λ n. TakesFront mid new (summary_as (form options) many n end found)) named front in
@@ -58,24 +60,26 @@ module _ (es : List Expression) (options : Options) where
           failures = s.failures;
           rows = s.rows ++ summary;
           are_rows = s.are_rows;
-          wrote = TakesFront-more old mid new s.rows summary s.wrote front_here;
+          wrote = subst (TakesFront old new) (sym (behind_summary (form options) shown many source.name end found s.rows)) (TakesFront-more old mid new (behind_rows (form options) shown s.rows) summary s.wrote front_here);
           counted = failed ∙ ap one_more s.wrote.none_failed;
           steps = s.steps;
         }
 
-    module _ (old new : Devices) (mid : Writer) (s : SearchesSource es options many source given old.source_failures new.source_failures old.out mid old.steps new.steps end found)
+    module _ (old new : Devices) (mid : Writer) (s : SearchesSource es options many shown source given old.source_failures new.source_failures old.out mid old.steps new.steps end found)
         (took : TakesAll mid new.out (summary_as (form options) many name end found)) where
       abbrev summary : List Text
       summary = summary_as (form options) many source.name end found
 
-      all_out : TakesAll old.out new.out (s.rows ++ summary)
-      all_out = TakesAll-more old.out mid new.out s.rows summary s.wrote (subst (λ n. TakesAll mid new.out (summary_as (form options) many n end found)) named took)
+      all_out : TakesAll old.out new.out (behind_rows (form options) shown (s.rows ++ summary))
+      all_out =
+          subst (TakesAll old.out new.out) (sym (behind_summary (form options) shown many source.name end found s.rows))
+          (TakesAll-more old.out mid new.out (behind_rows (form options) shown s.rows) summary s.wrote (subst (λ n. TakesAll mid new.out (summary_as (form options) many n end found)) named took))
 
       tells : Told es options (file_of source.name s.reading ∷ []) (told_of options.no_messages end source.name)
       tells = file_told end (file_of source.name s.reading) source.name (one_told end (file_of source.name s.reading) source.name s.fault s.ends (file_named source.name s.reading))
 
       -- all was written
-      pub source_done : TakesAll old.messages new.messages (told_of options.no_messages end name) → FinishesSource es options many source given old new end found
+      pub source_done : TakesAll old.messages new.messages (told_of options.no_messages end name) → FinishesSource es options many shown source given old new end found
       source_done told = record {
         reading = s.reading;
         is_reading = s.is_reading;
@@ -92,7 +96,7 @@ module _ (es : List Expression) (options : Options) where
       }
 
       -- the message could not be written
-      pub source_untold : TakesFront old.messages new.messages (told_of options.no_messages end name) → new.messages.failures ≡ one_more old.messages.failures → BreaksMessage es options many source given old new
+      pub source_untold : TakesFront old.messages new.messages (told_of options.no_messages end name) → new.messages.failures ≡ one_more old.messages.failures → BreaksMessage es options many shown source given old new
       source_untold told failed = record {
         reading = s.reading;
         is_reading = s.is_reading;

@@ -112,7 +112,7 @@ fresh_cut_off buffer last count within free =
 -- ---- lines that are passed
 
 -- whole lines end in a newline
-ends_in_newline : (lines : List Text) → 0 < length (terminated lines) → get_or (terminated lines) (length (terminated lines) - 1) 0 ≡ newline
+pub ends_in_newline : (lines : List Text) → 0 < length (terminated lines) → get_or (terminated lines) (length (terminated lines) - 1) 0 ≡ newline
 ends_in_newline [] some = absurd (omega (arith, some))
 ends_in_newline (t ∷ []) some =
     ap (λ n. get_or (t ++ newline ∷ []) n 0) (omega (arith, length-append t (newline ∷ []))) ∙ get_or-append-add t (newline ∷ []) 0 0
@@ -122,7 +122,7 @@ ends_in_newline (t ∷ u ∷ us) some =
     ap (λ n. get_or (t ++ newline ∷ later) n 0) (omega (arith, long, length-append t (newline ∷ later))) ∙ get_or-append-add t (newline ∷ later) (suc (length later - 1)) 0
     ∙ ends_in_newline (u ∷ us) long
 
-drop_past : (xs ys : Text) (n : ℕ) → drop (length xs + n) (xs ++ ys) ≡ drop n ys
+pub drop_past : {A : Type 0} (xs ys : List A) (n : ℕ) → drop (length xs + n) (xs ++ ys) ≡ drop n ys
 drop_past [] ys n = let place : 0 + n ≡ n = omega arith in ap (λ m. drop m ys) place
 drop_past (x ∷ xs) ys n =
     let place : suc (length xs) + n ≡ suc (length xs + n) = omega arith in

@@ -1,8 +1,9 @@
 -- What a reader of numbered lines has handed out, and what a call for the next line does.
-use Rattle.std.specs.Prelude.{◌≡◌, ℕ, ◌≤◌, ◌⊎◌, All, Bool, true, false, List, [], ◌∷◌, ◌++◌, length}
+use Rattle.std.specs.Prelude.{◌≡◌, ℕ, ◌+◌, ◌≤◌, Bool, true, false, List, [], ◌∷◌, ◌++◌, length}
 use Rattle.std.specs.Prelude.{Option, Result, Ok, Err}
 use Rattle.re_syntax.specs.Bytes.{Text}
-use Rattle.re_syntax.specs.Lines.{terminated, HasNoNewline}
+use Rattle.re_syntax.specs.Lines.{lines_of}
+use Rattle.re_search.specs.Working.Blocks.{IsBlock}
 use Rattle.grep_core.specs.declared.input.lines.ReadFault.{ReadFault}
 use Rattle.grep_core.specs.declared.input.lines.ReadFault.TheVariants.{Device, Memory}
 use Rattle.grep_core.specs.Files.{Ending, whole, broken}
@@ -14,6 +15,14 @@ pub record Numbered (R : Type 0) : Type 0 where
   pub lines : LineReader R
   -- how many were handed out
   pub number : ℕ
+
+-- so many whole lines, in these bytes, are ahead, and all of them can be numbered
+pub record AreAhead {R : Type 0} (now : Numbered R) (block : Text) (count : ℕ) : Type 0 where
+  pub rest : Text
+  pub ahead : now.lines.ahead ≡ block ++ rest
+  pub whole : IsBlock block
+  pub counted : count ≡ length (lines_of block)
+  pub few : now.number + count ≤ most_lines
 
 module _ {R : Type 0} (remaining : R → Option Text) (failures : R → ℕ) where
   -- these lines of a reader were handed out, which was not read before
@@ -42,10 +51,8 @@ module _ {R : Type 0} (remaining : R → Option Text) (failures : R → ℕ) whe
       (reader : R) (handed : List Text) → HasHanded reader old handed →
       NextIs reader handed new result
 
-  -- whole lines of so many bytes were passed, as if they had been handed out; or none was
-  abbrev pub PassesNext : Numbered R → Numbered R → ℕ → Type 0
-  PassesNext old new count =
-      (lines : List Text) (rest : Text) → All HasNoNewline lines →
-      old.lines.ahead ≡ terminated lines ++ rest → count ≡ length (terminated lines)
-      → (reader : R) (handed : List Text) → HasHanded reader old handed →
-      HasHanded reader new handed ⊎ HasHanded reader new (handed ++ lines)
+  -- these lines were passed, as if they had been handed out
+  abbrev pub PassesNext : Numbered R → Numbered R → List Text → Type 0
+  PassesNext old new lines =
+      (reader : R) (handed : List Text) → HasHanded reader old handed →
+      HasHanded reader new (handed ++ lines)

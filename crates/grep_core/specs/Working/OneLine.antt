@@ -1,21 +1,28 @@
 -- What is written for one line of a file, and for a file's first lines.
-use Rattle.std.specs.Prelude.{◌≡◌, ℕ, Bool, IsTrue, ◌↔◌, List, [], ◌∷◌, ◌++◌}
+use Rattle.std.specs.Prelude.{◌≡◌, ℕ, Bool, IsTrue, ◌↔◌, List, [], ◌∷◌, ◌++◌, ⊤}
 use Rattle.re_syntax.specs.Bytes.{Text}
 use Rattle.re_syntax.specs.Expression.{Expression}
 use Rattle.grep_core.specs.declared.options.Options.{Options}
 use Rattle.grep_core.specs.Counted.{one_more}
 use Rattle.grep_core.specs.Choose.{IfHolds}
 use Rattle.grep_core.specs.Files.{File, Selected}
-use Rattle.grep_core.specs.Output.{Form, parts, lines, form, head_of, RowsOf, PartsOfLine}
-use Rattle.grep_core.specs.Output.{PartRowsOf}
+use Rattle.grep_core.specs.Output.{Form, parts, lines, around, form, head_of, RowsOf, PartsOfLine}
+use Rattle.grep_core.specs.Output.{PartRowsOf, GroupsOf}
 use Rattle.grep_core.specs.Run.{Writer, TakesAll, TakesFront}
 use Rattle.grep_core.specs.Working.Handed.{file_so_far}
 
+-- no lines are shown around selected ones
+abbrev pub IsPlain : Form → Type 0
+IsPlain (around context) = ⊥
+IsPlain _ = ⊤
+
 module _ (es : List Expression) (options : Options) (many : Bool) where
-  -- the rows of a file's lines; there are none under `-c`, `-l` and `-q`
+  -- the rows of a file's lines, each group of them behind a separator where lines around are shown;
+  -- there are none under `-c`, `-l` and `-q`
   abbrev pub LineRowsOf : Form → File → List Text → Type 0
   LineRowsOf lines file rows = RowsOf es options many file rows
   LineRowsOf parts file rows = PartRowsOf es options many file rows
+  LineRowsOf (around context) file rows = GroupsOf es options many context file rows
   LineRowsOf _ file rows = rows ≡ []
 
   -- the rows of a selected line

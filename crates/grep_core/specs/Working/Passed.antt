@@ -1,10 +1,17 @@
 -- Lines of a reader that are passed without being handed out.
-use Rattle.std.specs.Prelude.{List, ◌++◌, All, Option, ℕ}
+use Rattle.std.specs.Prelude.{◌≡◌, ◌⊎◌, List, [], ◌++◌, All, Option, ℕ, length}
 use Rattle.re_syntax.specs.Bytes.{Text}
 use Rattle.re_syntax.specs.Expression.{Expression}
 use Rattle.grep_core.specs.declared.options.Options.{Options}
+use Rattle.grep_core.specs.declared.output.around.Progress.{Progress}
 use Rattle.grep_core.specs.Files.{Selected}
 use Rattle.grep_core.specs.Working.Numbered.{Numbered, HasHanded}
+use Rattle.grep_core.specs.Working.LastLines.{LastLines, with_lines}
+use Rattle.grep_core.specs.Working.Progress.{with_waiting}
+
+-- no line is selected
+abbrev pub AreUnselected : List Expression → Options → List Text → Type 0
+AreUnselected es options lines = All (λ line. ¬ Selected es options line) lines
 
 module _ {R : Type 0} (remaining : R → Option Text) (failures : R → ℕ) (es : List Expression)
     (options : Options) where
@@ -12,5 +19,14 @@ module _ {R : Type 0} (remaining : R → Option Text) (failures : R → ℕ) (es
   -- which is selected
   pub record PassesUnselected (reader : R) (handed : List Text) (now : Numbered R) : Type 0 where
     pub passed : List Text
-    pub unselected : All (λ line. ¬ Selected es options line) passed
+    pub unselected : AreUnselected es options passed
     pub handed_too : HasHanded remaining failures reader now (handed ++ passed)
+
+  -- they were passed where none is shown behind the last selected one, and the last of them are
+  -- held
+  pub record PassesWaiting (reader : R) (handed : List Text) (now : Numbered R)
+      (old new : Progress) (behind held : LastLines) : Type 0 where
+    pub passes : PassesUnselected reader handed now
+    pub waits : ((passes.passed ≡ []) × (new ≡ old) × (held ≡ behind)) ⊎
+        ((old.left ≡ 0) × (new ≡ with_waiting (length passes.passed) old)
+        × (held ≡ with_lines behind passes.passed))

@@ -17,11 +17,11 @@ use Rattle.grep_core.specs.Counted.{one_more}
 use Rattle.grep_core.specs.Choose.{IfHolds}
 use Rattle.grep_core.specs.Row.{colon, prefix}
 use Rattle.grep_core.specs.Files.{Ending, whole, missing, broken, HasSelected}
-use Rattle.grep_core.specs.Output.{Form, names, counts, form, OutAs}
+use Rattle.grep_core.specs.Output.{Form, names, counts, form}
 use Rattle.grep_core.specs.Messages.{message, FaultMet, Told}
 use Rattle.grep_core.specs.Reading.{Source, Reading, IsReadingOf, file_of, failures_of, AreLeft}
-use Rattle.grep_core.specs.Run.{Writer, Devices, TakesAll, TakesFront, RowsAs, first_lines}
-use Rattle.grep_core.specs.Run.{count_more}
+use Rattle.grep_core.specs.Run.{Writer, Devices, TakesAll, TakesFront, begun, count_more}
+use Rattle.grep_core.specs.Working.Groups.{GroupedAs, behind_rows}
 use Rattle.grep_core.specs.Working.Wanted.{name_shown}
 use Rattle.grep_core.specs.Cost.{SearchesLines}
 
@@ -69,9 +69,10 @@ status_by some faulty = if faulty then Error else if some then Selected else Non
 
 -- `began` and `ended` are the steps that were counted before and after the search; there are no
 -- more than that of the file's lines costs.
+-- `shown` tells whether a source before has a selected line.
 -- `given` says of what readers may have left that readers were given back that had this left, in
 -- the search of the source
-module _ (es : List Expression) (options : Options) (many : Bool) (source : Source)
+module _ (es : List Expression) (options : Options) (many shown : Bool) (source : Source)
     (given : List (Option Text) → Type 0) where
   -- how often the devices failed in the source, where a fault is met in it, and what its reader had
   -- left
@@ -91,8 +92,8 @@ module _ (es : List Expression) (options : Options) (many : Bool) (source : Sour
     pub is_reading : IsReadingOf source reading
     pub failures : CountsSource reading failed_before failed
     pub rows : List Text
-    pub are_rows : OutAs es options many (form options) (file_of source.name reading ∷ []) rows
-    pub wrote : TakesFront old new rows
+    pub are_rows : GroupedAs es options many (form options) (file_of source.name reading ∷ []) rows
+    pub wrote : TakesFront old new (behind_rows (form options) shown rows)
     pub counted : new.failures ≡ one_more old.failures
     pub steps : SearchesLines es options (length es) (file_of source.name reading).lines began ended
 
@@ -106,9 +107,9 @@ module _ (es : List Expression) (options : Options) (many : Bool) (source : Sour
     pub gave_back : given (rest ∷ [])
     pub in_file : n ≤ length (file_of source.name reading).lines
     pub rows : List Text
-    pub are_rows : RowsAs es options (form options) many
-        (first_lines n (file_of source.name reading)) rows
-    pub wrote : TakesAll old new rows
+    pub are_rows : GroupedAs es options many (form options)
+        (begun (form options) n (file_of source.name reading)) rows
+    pub wrote : TakesAll old new (behind_rows (form options) shown rows)
     pub steps : SearchesLines es options (length es) (file_of source.name reading).lines began ended
 
   -- the source was searched: it stands for a file, of whose output the rows went out and the
@@ -122,9 +123,9 @@ module _ (es : List Expression) (options : Options) (many : Bool) (source : Sour
     pub fault : IsTrue (is_fault end) ↔ FaultMet es options (file_of source.name reading)
     pub ends : IsTrue (is_fault end) → (file_of source.name reading).ending ≡ ending_of end
     pub rows : List Text
-    pub are_rows : OutAs es options many (form options) (file_of source.name reading ∷ [])
+    pub are_rows : GroupedAs es options many (form options) (file_of source.name reading ∷ [])
         (rows ++ summary_as (form options) many source.name end selected)
-    pub wrote : TakesAll old new rows
+    pub wrote : TakesAll old new (behind_rows (form options) shown rows)
     pub steps : SearchesLines es options (length es) (file_of source.name reading).lines began ended
 
   -- output and messages for the source's file were written
@@ -135,8 +136,8 @@ module _ (es : List Expression) (options : Options) (many : Bool) (source : Sour
     pub some : IsTrue (nat_lt 0 selected) ↔ HasSelected es options (file_of source.name reading)
     pub fault : IsTrue (is_fault end) ↔ FaultMet es options (file_of source.name reading)
     pub rows : List Text
-    pub are_rows : OutAs es options many (form options) (file_of source.name reading ∷ []) rows
-    pub wrote : TakesAll old.out new.out rows
+    pub are_rows : GroupedAs es options many (form options) (file_of source.name reading ∷ []) rows
+    pub wrote : TakesAll old.out new.out (behind_rows (form options) shown rows)
     pub messages : List Text
     pub are_messages : Told es options (file_of source.name reading ∷ []) messages
     pub told : TakesAll old.messages new.messages messages
@@ -149,8 +150,8 @@ module _ (es : List Expression) (options : Options) (many : Bool) (source : Sour
     pub is_reading : IsReadingOf source reading
     pub failures : CountsSource reading old.source_failures new.source_failures
     pub rows : List Text
-    pub are_rows : OutAs es options many (form options) (file_of source.name reading ∷ []) rows
-    pub wrote : TakesAll old.out new.out rows
+    pub are_rows : GroupedAs es options many (form options) (file_of source.name reading ∷ []) rows
+    pub wrote : TakesAll old.out new.out (behind_rows (form options) shown rows)
     pub messages : List Text
     pub are_messages : Told es options (file_of source.name reading ∷ []) messages
     pub told : TakesFront old.messages new.messages messages

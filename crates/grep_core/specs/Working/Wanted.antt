@@ -4,7 +4,8 @@ use Rattle.re_syntax.specs.Bytes.{Text}
 use Rattle.grep_core.specs.declared.options.Options.{Options}
 use Rattle.grep_core.specs.declared.options.Form.{Form as AskedForm}
 use Rattle.grep_core.specs.declared.options.Form.TheVariants.{Nothing, Names, Counts, Parts, Lines}
-use Rattle.grep_core.specs.Output.{Form, nothing, names, counts, parts, lines}
+use Rattle.grep_core.specs.declared.options.Form.TheVariants.{Around}
+use Rattle.grep_core.specs.Output.{Form, nothing, names, counts, parts, lines, around}
 
 abbrev pub form_of : AskedForm → Form
 form_of Nothing = nothing
@@ -12,6 +13,7 @@ form_of Names = names
 form_of Counts = counts
 form_of Parts = parts
 form_of Lines = lines
+form_of (Around context) = around context
 
 -- a line is selected that is matched, and under `-v` one that is not
 abbrev pub selects : Options → Bool → Bool

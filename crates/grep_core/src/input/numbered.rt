@@ -1,10 +1,12 @@
 // The lines of a reader, of which no more are handed out than can be numbered.
-ghost use Rattle.std.specs.Prelude.{◌≡◌, ◌+◌, [], ◌++◌, ⊤, IfOk, IfErr, length};
+ghost use Rattle.std.specs.Prelude.{◌≡◌, ◌+◌, ◌≤◌, [], ◌++◌, IfOk, IfErr, IfSome, length, take};
 ghost use Rattle.re_syntax.specs.Bytes.{Text};
-ghost use Rattle.re_search.specs.Working.Blocks.{IsBlock, PassesAll};
+ghost use Rattle.re_syntax.specs.Lines.{lines_of};
+ghost use Rattle.re_search.specs.Working.Blocks.{IsBlock};
 ghost use Rattle.grep_core.specs.declared.input.lines.Stage.{Stage};
 ghost use Rattle.grep_core.specs.Working.Held.{HasWholeLine};
-ghost use Rattle.grep_core.specs.Working.Numbered.{HandsNext, PassesNext};
+ghost use Rattle.grep_core.specs.Reading.{most_lines};
+ghost use Rattle.grep_core.specs.Working.Numbered.{AreAhead, HandsNext, PassesNext};
 
 use crate::devices::counted::CountedRead;
 use crate::input::lines::{Lines, ReadFault};
@@ -73,22 +75,28 @@ impl<R: CountedRead> NumberedLines<R> {
         self.lines.ready()
     }
 
-    /// Passes the first of the lines that are ready, of so many bytes, without handing them out.
-    /// None is passed where they are more than can be numbered, or are not all ready.
-    pub fn pass(&mut self, count: usize)
-        requires { PassesAll (λ _. ⊤) self.old.lines.ahead count }
-        ensures passed { PassesNext R.remaining R.failures self.old self.new count }
+    /// How many lines there are in whole ones, where so many more can be numbered.
+    pub fn count(&self, block: &[u8]) -> Option<u64>
+        requires { IsBlock block.now }
+        ensures { IfSome result (λ count. (count ≡ length (lines_of block.now))
+            × (self.now.number + count ≤ most_lines)) }
+    {
+        let count = memchr_iter(b'\n', block).count() as u64;
+        if count > u64::MAX - self.number {
+            return None;
+        }
+        Some(count)
+    }
+
+    /// Passes so many of the lines that are ahead, in so many bytes, without handing them out.
+    pub fn pass(&mut self, bytes: usize, count: u64)
+        requires { (block : Text) × (bytes ≡ length block) × AreAhead self.old block count }
+        ensures passed { PassesNext R.remaining R.failures self.old self.new
+            (lines_of (take bytes self.old.lines.ahead)) }
         ensures same_loan { R.loan self.new.lines.reader ≡ R.loan self.old.lines.reader }
     {
-        let Some(bytes) = self.lines.ready().get(..count) else {
-            return;
-        };
-        let passed = memchr_iter(b'\n', bytes).count() as u64;
-        let Some(number) = self.number.checked_add(passed) else {
-            return;
-        };
-        self.number = number;
-        self.lines.pass(count);
+        self.number += count;
+        self.lines.pass(bytes);
     }
 
     /// The reader, without the bytes that are held.

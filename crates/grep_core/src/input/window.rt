@@ -227,8 +227,8 @@ fn first_newline(bytes: &[u8]) -> Option<usize>
     memchr(b'\n', bytes)
 }
 
-// Where the lines end that newlines end: behind the last newline.
-fn lines_end(bytes: &[u8]) -> usize
+/// Where the lines end that newlines end: behind the last newline.
+pub fn lines_end(bytes: &[u8]) -> usize
     ensures within { result ≤ length bytes.now }
     ensures ended { 0 < result → get_or bytes.now (result - 1) 0 ≡ newline }
     ensures cut_off { HasNoNewline (drop result bytes.now) }

@@ -2,6 +2,7 @@
 ghost use Rattle.std.specs.Prelude.{[], ◌∷◌, ◌++◌};
 ghost use Rattle.std.specs.Fmt.{decimal};
 ghost use Rattle.std.specs.Option.{option_copied};
+ghost use Rattle.grep_core.specs.Around.{group_separator};
 ghost use Rattle.grep_core.specs.Row.{prefix, number_part, head, output_line};
 ghost use Rattle.grep_core.specs.Written.{Writes};
 ghost use Rattle.re_syntax.specs.Lines.{newline};
@@ -88,6 +89,16 @@ pub fn write_line_behind<W: CountedWrite>(
 {
     push_all(out, margin)?;
     write_line(out, line)
+}
+
+/// Writes the line that parts groups of lines: the margin, two hyphens and a newline.
+///
+/// `WriteFault` comes where a write fails. It is not tried again.
+pub fn write_separator<W: CountedWrite>(out: &mut W, margin: &[u8]) -> Result<(), WriteFault>
+    ensures { Writes W.contents W.failures out.old out.new
+        (output_line margin.now group_separator) result }
+{
+    write_line_behind(out, margin, b"--")
 }
 
 #[tactic(auto, using(crate::proofs::lemmas::RowLemmas::writing))]

@@ -47,6 +47,7 @@ pub fn write_summary<W: CountedWrite>(
         Form::Nothing => Ok(()),
         Form::Parts => Ok(()),
         Form::Lines => Ok(()),
+        Form::Around(_) => Ok(()),
     }
 }
 

@@ -2,7 +2,7 @@
 ghost use Rattle.std.specs.Prelude.{◌≡◌, ◌≤◌, ◌++◌, length, slice_range};
 ghost use Rattle.std.specs.Option.{option_copied};
 ghost use Rattle.grep_core.specs.Output.{shown_number};
-ghost use Rattle.grep_core.specs.Row.{colon, head, output_line};
+ghost use Rattle.grep_core.specs.Row.{colon, hyphen, head, output_line};
 ghost use Rattle.grep_core.specs.Working.Wanted.{name_shown};
 ghost use Rattle.grep_core.specs.Written.{Writes};
 
@@ -41,6 +41,29 @@ impl Wanted<'_> {
         }
     }
 
+    // The margin, the head with this separator, and the text.
+    fn write_with<W: CountedWrite>(
+        &self,
+        separator: u8,
+        number: u64,
+        text: &[u8],
+        out: &mut W,
+        margin: &[u8],
+    ) -> Result<(), WriteFault>
+        ensures { Writes W.contents W.failures out.old out.new (output_line margin.now
+            (head separator (name_shown self.now.many self.now.name.now)
+            (shown_number self.now.options number) ++ text.now)) result }
+    {
+        write_row(
+            out,
+            margin,
+            separator,
+            self.shown_name(),
+            self.shown_number(number),
+            text,
+        )
+    }
+
     /// Writes an output line for a line of the file: the margin, the file's name and the line's
     /// number as far as they are shown, and the text, which is the line or a part of it.
     ///
@@ -56,14 +79,25 @@ impl Wanted<'_> {
             (head colon (name_shown self.now.many self.now.name.now)
             (shown_number self.now.options number) ++ text.now)) result }
     {
-        write_row(
-            out,
-            margin,
-            b':',
-            self.shown_name(),
-            self.shown_number(number),
-            text,
-        )
+        self.write_with(b':', number, text, out, margin)
+    }
+
+    /// Writes an output line for a line that is not selected and stands around one that is: what
+    /// [`Wanted::write_text`] writes, with hyphens for the colons.
+    ///
+    /// `WriteFault` comes where a write fails. It is not tried again.
+    pub fn write_around<W: CountedWrite>(
+        &self,
+        number: u64,
+        text: &[u8],
+        out: &mut W,
+        margin: &[u8],
+    ) -> Result<(), WriteFault>
+        ensures { Writes W.contents W.failures out.old out.new (output_line margin.now
+            (head hyphen (name_shown self.now.many self.now.name.now)
+            (shown_number self.now.options number) ++ text.now)) result }
+    {
+        self.write_with(b'-', number, text, out, margin)
     }
 
     /// Writes an output line for a part of a line of the file: what [`Wanted::write_text`] writes

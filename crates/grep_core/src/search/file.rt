@@ -1,11 +1,13 @@
 //! The search of one source.
 ghost use Rattle.std.specs.Prelude.{◌≡◌, ℕ, ◌+◌, ◌-◌, ◌^◌, ◌<◌, [], nat_lt, map, length, Err, IfOk};
-ghost use Rattle.std.specs.Prelude.{IfSome, if◌then◌else◌};
+ghost use Rattle.std.specs.Prelude.{IfSome, false, if◌then◌else◌};
 ghost use Rattle.re_search.specs.Working.Filters.{AreNeeded};
 ghost use Rattle.re_search.specs.Searching.{AllAnswer};
+ghost use Rattle.grep_core.specs.Output.{form};
 ghost use Rattle.grep_core.specs.Reading.{open_source, OneLeft};
 ghost use Rattle.grep_core.specs.Run.{writer};
 ghost use Rattle.grep_core.specs.Sources.{source_at, GivesBack};
+ghost use Rattle.grep_core.specs.Working.OneLine.{IsPlain};
 ghost use Rattle.grep_core.specs.Working.Searched.{is_missing, is_fault, SearchesSource};
 ghost use Rattle.grep_core.specs.Working.Searched.{BreaksSource, StopsSource};
 
@@ -14,6 +16,7 @@ use crate::input::lines::{ReadFault, Stage};
 use crate::input::numbered::NumberedLines;
 use crate::input::sources::Sources;
 use crate::output::wanted::Wanted;
+use crate::search::around::search_around;
 use crate::search::line::search_line;
 use crate::search::passing::pass_unselected;
 use crate::search::sending::send_before_read;
@@ -117,17 +120,18 @@ fn search_lines<R: CountedRead, M: LineMatch, W: CountedWrite>(
     requires none_ahead { lines.old.lines.ahead ≡ [] }
     requires still_open { lines.old.lines.stage ≡ Stage.Open }
     requires none_numbered { lines.old.number ≡ 0 }
+    requires plain { IsPlain (form wanted.now.options) }
     requires whole { AllAnswer wanted.now.options.line_regexp (map M.whole matchers.old) }
     requires needed { IfSome filter (λ f. AreNeeded f.now (map M.expression matchers.old)) }
     ensures ok { IfOk result
         (λ found. SearchesSource (map M.expression matchers.old) wanted.now.options wanted.now.many
-        (open_source wanted.now.name.now (R.remaining lines.old.lines.reader))
+        false (open_source wanted.now.name.now (R.remaining lines.old.lines.reader))
         (OneLeft (R.remaining lines.new.lines.reader))
         (R.failures lines.old.lines.reader) (R.failures lines.new.lines.reader)
         (writer W.contents W.failures out.old) (writer W.contents W.failures out.new)
         meter.old meter.new found.end found.selected) }
     ensures write { result ≡ Err SearchFault.Write →
-        BreaksSource (map M.expression matchers.old) wanted.now.options wanted.now.many
+        BreaksSource (map M.expression matchers.old) wanted.now.options wanted.now.many false
         (open_source wanted.now.name.now (R.remaining lines.old.lines.reader))
         (OneLeft (R.remaining lines.new.lines.reader))
         (R.failures lines.old.lines.reader) (R.failures lines.new.lines.reader)
@@ -135,7 +139,7 @@ fn search_lines<R: CountedRead, M: LineMatch, W: CountedWrite>(
         meter.new }
     ensures memory { (count : ℕ) → result ≡ Err (SearchFault.Memory count) →
         StopsSource (map M.expression matchers.old)
-        wanted.now.options wanted.now.many
+        wanted.now.options wanted.now.many false
         (open_source wanted.now.name.now (R.remaining lines.old.lines.reader))
         (OneLeft (R.remaining lines.new.lines.reader)) count (R.failures lines.old.lines.reader)
         (R.failures lines.new.lines.reader)
@@ -172,6 +176,53 @@ fn search_lines<R: CountedRead, M: LineMatch, W: CountedWrite>(
     }
 }
 
+// Searches the lines of a reader, from the first on, as its options ask for it.
+fn search_opened<R: CountedRead, M: LineMatch, W: CountedWrite>(
+    setting: &Setting,
+    lines: &mut NumberedLines<R>,
+    matchers: &mut [M],
+    wanted: &Wanted,
+    out: &mut W,
+    meter: &mut Meter,
+) -> Result<FileFound, SearchFault>
+    requires none_ahead { lines.old.lines.ahead ≡ [] }
+    requires still_open { lines.old.lines.stage ≡ Stage.Open }
+    requires none_numbered { lines.old.number ≡ 0 }
+    requires whole { AllAnswer wanted.now.options.line_regexp (map M.whole matchers.old) }
+    requires needed { IfSome setting.now.asked.filter
+        (λ f. AreNeeded f.now (map M.expression matchers.old)) }
+    ensures ok { IfOk result
+        (λ found. SearchesSource (map M.expression matchers.old) wanted.now.options wanted.now.many
+        setting.now.shown (open_source wanted.now.name.now (R.remaining lines.old.lines.reader))
+        (OneLeft (R.remaining lines.new.lines.reader))
+        (R.failures lines.old.lines.reader) (R.failures lines.new.lines.reader)
+        (writer W.contents W.failures out.old) (writer W.contents W.failures out.new)
+        meter.old meter.new found.end found.selected) }
+    ensures write { result ≡ Err SearchFault.Write →
+        BreaksSource (map M.expression matchers.old) wanted.now.options wanted.now.many
+        setting.now.shown (open_source wanted.now.name.now (R.remaining lines.old.lines.reader))
+        (OneLeft (R.remaining lines.new.lines.reader))
+        (R.failures lines.old.lines.reader) (R.failures lines.new.lines.reader)
+        (writer W.contents W.failures out.old) (writer W.contents W.failures out.new) meter.old
+        meter.new }
+    ensures memory { (count : ℕ) → result ≡ Err (SearchFault.Memory count) →
+        StopsSource (map M.expression matchers.old) wanted.now.options wanted.now.many
+        setting.now.shown (open_source wanted.now.name.now (R.remaining lines.old.lines.reader))
+        (OneLeft (R.remaining lines.new.lines.reader)) count (R.failures lines.old.lines.reader)
+        (R.failures lines.new.lines.reader)
+        (writer W.contents W.failures out.old) (writer W.contents W.failures out.new) meter.old
+        meter.new }
+    ensures same_expressions { map M.expression matchers.new ≡ map M.expression matchers.old }
+    ensures same_wholes { map M.whole matchers.new ≡ map M.whole matchers.old }
+{
+    let asked = &setting.asked;
+    let Some(context) = wanted.options.shown_around() else {
+        return search_lines(lines, matchers, asked.filter, wanted, out, meter);
+    };
+    let shown = setting.shown;
+    search_around(asked, context, shown, lines, matchers, wanted, out, meter)
+}
+
 /// Opens the next source, searches its lines and gives its reader back.
 pub fn search_file<S: Sources, M: LineMatch, W: CountedWrite>(
     setting: &Setting,
@@ -190,20 +241,23 @@ pub fn search_file<S: Sources, M: LineMatch, W: CountedWrite>(
     ensures next { S.stands_at sources.new (k + 1) }
     ensures same_loan { S.loan sources.new ≡ S.loan sources.old }
     ensures ok { IfOk result (λ found. SearchesSource (map M.expression matchers.old)
-        setting.now.asked.options setting.now.many (source_at (S.listed sources.old) k)
+        setting.now.asked.options setting.now.many setting.now.shown
+        (source_at (S.listed sources.old) k)
         (GivesBack S.given_back sources.old sources.new)
         (S.failures sources.old) (S.failures sources.new)
         (writer W.contents W.failures out.old) (writer W.contents W.failures out.new)
         meter.old meter.new found.end found.selected) }
     ensures write { result ≡ Err SearchFault.Write → BreaksSource (map M.expression matchers.old)
-        setting.now.asked.options setting.now.many (source_at (S.listed sources.old) k)
+        setting.now.asked.options setting.now.many setting.now.shown
+        (source_at (S.listed sources.old) k)
         (GivesBack S.given_back sources.old sources.new)
         (S.failures sources.old) (S.failures sources.new)
         (writer W.contents W.failures out.old) (writer W.contents W.failures out.new)
         meter.old meter.new }
     ensures memory { (count : ℕ) → result ≡ Err (SearchFault.Memory count)
         → StopsSource (map M.expression matchers.old)
-        setting.now.asked.options setting.now.many (source_at (S.listed sources.old) k)
+        setting.now.asked.options setting.now.many setting.now.shown
+        (source_at (S.listed sources.old) k)
         (GivesBack S.given_back sources.old sources.new) count
         (S.failures sources.old) (S.failures sources.new)
         (writer W.contents W.failures out.old) (writer W.contents W.failures out.new)
@@ -227,14 +281,7 @@ pub fn search_file<S: Sources, M: LineMatch, W: CountedWrite>(
         many: setting.many,
         name: sources.name(k),
     };
-    let found = search_lines(
-        &mut lines,
-        matchers,
-        setting.asked.filter,
-        &wanted,
-        out,
-        meter,
-    );
+    let found = search_opened(setting, &mut lines, matchers, &wanted, out, meter);
     sources.close(lines.into_reader());
     found
 }

@@ -76,6 +76,7 @@ fn write_selected<M: LineMatch, W: CountedWrite>(
         Form::Nothing => Ok(()),
         Form::Names => Ok(()),
         Form::Counts => Ok(()),
+        Form::Around(_) => Ok(()),
     }
 }
 

@@ -1,14 +1,36 @@
 //! Lines that are passed in one sweep, without being handed out.
-ghost use Rattle.std.specs.Prelude.{◌≡◌, List, map};
+ghost use Rattle.std.specs.Prelude.{◌≡◌, IfSome, List, map};
 ghost use Rattle.re_syntax.specs.Bytes.{Text};
+ghost use Rattle.re_syntax.specs.Lines.{lines_of};
 ghost use Rattle.re_search.specs.Searching.{AllAnswer};
-ghost use Rattle.grep_core.specs.Working.Numbered.{HasHanded};
-ghost use Rattle.grep_core.specs.Working.Passed.{PassesUnselected};
+ghost use Rattle.grep_core.specs.Working.Numbered.{AreAhead, HasHanded};
+ghost use Rattle.grep_core.specs.Working.Passed.{AreUnselected, PassesUnselected};
 
 use crate::devices::counted::CountedRead;
 use crate::input::numbered::NumberedLines;
 use crate::options::Options;
 use re_search::{LineMatch, first_candidate};
+
+/// The next lines, as far as they are held and it is known without a search that none of them is
+/// selected, and how many they are. `None` comes under `-v`, and where they are more than can be
+/// numbered.
+pub fn unselected_ahead<'a, R: CountedRead, M: LineMatch>(
+    lines: &'a NumberedLines<R>,
+    matchers: &[M],
+    options: &Options,
+) -> Option<(&'a [u8], u64)>
+    requires { AllAnswer options.now.line_regexp (map M.whole matchers.now) }
+    ensures { IfSome result (λ found. AreAhead lines.now found.0.now found.1
+        × AreUnselected (map M.expression matchers.now) options.now (lines_of found.0.now)) }
+{
+    if options.invert_match {
+        return None;
+    }
+    let ready = lines.ready();
+    let block = &ready[..first_candidate(matchers, ready)];
+    let count = lines.count(block)?;
+    Some((block, count))
+}
 
 /// Passes the next lines, as far as they are held and it is known without a search that none of
 /// them is selected. Under `-v` none is passed.
@@ -24,9 +46,8 @@ pub fn pass_unselected<R: CountedRead, M: LineMatch>(
         reader handed lines.new }
     ensures same_loan { R.loan lines.new.lines.reader ≡ R.loan lines.old.lines.reader }
 {
-    if options.invert_match {
-        return;
+    if let Some((block, count)) = unselected_ahead(lines, matchers, options) {
+        let bytes = block.len();
+        lines.pass(bytes, count);
     }
-    let count = first_candidate(matchers, lines.ready());
-    lines.pass(count);
 }

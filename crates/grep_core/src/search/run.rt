@@ -57,7 +57,7 @@ fn search_source<S: Sources, M: LineMatch, W: CountedWrite, N: CountedWrite>(
     ensures next { S.stands_at sources.new (k + 1) }
     ensures same_loan { S.loan sources.new ≡ S.loan sources.old }
     ensures given { SourceGives (map M.expression matchers.old) setting.now.asked.options
-        setting.now.many (source_at (S.listed sources.old) k)
+        setting.now.many setting.now.shown (source_at (S.listed sources.old) k)
         (GivesBack S.given_back sources.old sources.new) k
         (devices (writer W.contents W.failures out.old) (writer N.contents N.failures messages.old)
         (S.failures sources.old) meter.old)
@@ -175,13 +175,14 @@ pub fn search_filtered<S: Sources, M: LineMatch, W: CountedWrite, N: CountedWrit
 {
     let count = sources.count();
     let many = count >= 2;
-    let setting = Setting {
-        asked: *asked,
-        many,
-    };
     let mut some = false;
     let mut faulty = false;
     for k in 0..count {
+        let setting = Setting {
+            asked: *asked,
+            many,
+            shown: some,
+        };
         let found = match search_source(&setting, sources, k, matchers, out, messages, meter) {
             Ok(found) => found,
             Err(fault) => return Err(fault),

@@ -22,4 +22,7 @@ pub struct Setting<'a> {
     pub asked: Asked<'a>,
     /// Whether there are two sources or more: rows and counts then begin with the source's name.
     pub many: bool,
+    /// Whether a line of a source before is selected: where lines around selected ones are shown, a
+    /// separator then stands before the first group.
+    pub shown: bool,
 }

@@ -18,7 +18,7 @@ use Rattle.grep_core.proofs.lemmas.ChooseLaws.{same_value, IfHolds-both, Chosen-
 use Rattle.grep_core.proofs.lemmas.LawsHold.{means_one, IsMeant-determined}
 use Rattle.grep_session.specs.declared.fault.EditFault.{EditFault}
 use Rattle.grep_session.specs.declared.fault.EditFault.TheVariants.{NoSuchFile, FileIsMissing, OutOfRange, LineHasNewline, NoSuchPattern, Pattern, TooManyPatterns, Memory}
-use Rattle.grep_session.specs.Edits.{Edit, AddFile, AddMissing, DropFile, Splice, AddPatterns, DropPattern, SetFlag, SetSyntax, Applies, Reads}
+use Rattle.grep_session.specs.Edits.{Edit, AddFile, AddMissing, DropFile, Splice, AddPatterns, DropPattern, SetFlag, SetSyntax, SetContext, Applies, Reads}
 use Rattle.grep_core.specs.Matchers.{IsFirstRefused}
 use Rattle.grep_session.specs.Laws.{AreAlike, EditsAreDetermined}
 use Rattle.grep_session.specs.Touched.{Touched, Touches, PartsCostOf, PartsCost, Costs, CostsAs, CostsAccepted, pairs_cost, parts_alone, all_lines}
@@ -69,6 +69,7 @@ Applies-once (AddPatterns list) old a b p q = IfHolds-both p q (λ e f. alike_sa
 Applies-once (DropPattern n) old a b p q = IfHolds-both p q (λ e f. alike_same a b (same_value e f)) (λ e f. alike_same a b (same_value e f))
 Applies-once (SetFlag flag on) old a b p q = Reads-once _ _ _ _ a b p q
 Applies-once (SetSyntax syntax) old a b p q = Reads-once _ _ _ _ a b p q
+Applies-once (SetContext context) old a b p q = alike_same a b (same_value p q)
 
 -- ---- one cost
 
@@ -85,6 +86,7 @@ Touches-once (DropPattern n) old a b p q =
     p.4 ∙ ap parts_alone lines ∙ sym q.4
 Touches-once (SetFlag flag on) old a b p q = IfHolds-both p q same_value same_value
 Touches-once (SetSyntax syntax) old a b p q = IfHolds-both p q same_value same_value
+Touches-once (SetContext context) old a b p q = same_value p q
 Touches-once (AddMissing name) old a b p q = same_value p q
 Touches-once (DropFile k) old a b p q = same_value p q
 

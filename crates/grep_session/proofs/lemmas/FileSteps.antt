@@ -1,5 +1,6 @@
 -- What is written of one file, and of files one after another.
-use Rattle.std.proofs.Common.{◌≡◌, ℕ, ◌+◌, ◌<◌, Bool, true, false, ◌&&◌, List, [], ◌++◌, length, drop, get_or, Option, None, Some, Result, ap, sym, refl, subst, if◌then◌else◌}
+use Rattle.std.proofs.Common.{◌≡◌, ℕ, ◌+◌, nat_lt, ◌<◌, Bool, true, false, ◌&&◌, ◌||◌, List, [], ◌∷◌, ◌++◌, length, drop, get_or, Option, None, Some, Result, ap, sym, refl, subst, ◌∙◌, arith, if◌then◌else◌}
+use Rattle.std.proofs.lemmas.Bool.{lt-ltb}
 use Rattle.re_syntax.specs.Bytes.{Text}
 use Rattle.grep_core.specs.declared.options.Options.{Options}
 use Rattle.grep_core.specs.declared.search.file.FileEnd.TheVariants.{Missing, Whole}
@@ -8,40 +9,51 @@ use Rattle.grep_core.specs.Working.Searched.{summary_as, told_of}
 use Rattle.grep_core.specs.Written.{GoesOut, StopsWithin, Writes}
 use Rattle.grep_session.specs.declared.kept.KeptLine.{KeptLine}
 use Rattle.grep_session.specs.declared.kept.KeptFile.{KeptFile}
-use Rattle.grep_session.specs.Working.Report.{selected_count, rows_from, rows_with, file_rows, report_rows, told_from, end_of, has_selected}
+use Rattle.grep_session.specs.Working.Report.{is_selected, some_selected, selected_count, text_rows, rows_with, file_rows, rows_behind, told_from, end_of, has_selected}
 use Rattle.grep_session.proofs.lemmas.Writing.{WrittenUpTo, drop-item, writes_behind, stops_before, written_on, broken_off, all_written}
 
+-- the number of selected lines tells whether there is one
+pub counted_some : (options : Options) (text : List KeptLine) → nat_lt 0 (selected_count options text) ≡ some_selected options text
+counted_some options [] = refl
+counted_some options (line ∷ text) = by_verdict (is_selected options line) (selected_count options text) (some_selected options text) (counted_some options text)
+  where
+    by_verdict : (found : Bool) (n : ℕ) (some : Bool) → nat_lt 0 n ≡ some → nat_lt 0 ((if found then 1 else 0) + n) ≡ (found || some)
+    by_verdict true n some e = lt-ltb 0 (1 + n) (omega arith)
+    by_verdict false n some e = let same : 0 + n ≡ n = omega arith in ap (nat_lt 0) same ∙ e
+
 module _ {W : Type 0} (contents : W → Option Text) (failures : W → ℕ) (margin : Text) (options : Options) where
-  module _ (many : Bool) (name : Text) (kept : Option (List KeptLine)) where
+  module _ (many : Bool) (name : Text) (some : Bool) (kept : Option (List KeptLine)) where
     -- all rows of the lines went out, and behind them the summary as the last call answers
     pub file_written : {T E : Type 0} (a b c : W) (r : Result T E) (text : List KeptLine) (selected : ℕ) → kept ≡ Some text → selected ≡ selected_count options text
-        → GoesOut contents failures a b (written margin (rows_from options many name 1 text)) → Writes contents failures b c (written margin (summary_as (form options) many name Whole selected)) r
-        → Writes contents failures a c (written margin (rows_with options many name kept)) r
+        → GoesOut contents failures a b (written margin (text_rows options many name (form options) some text)) → Writes contents failures b c (written margin (summary_as (form options) many name Whole selected)) r
+        → Writes contents failures a c (written margin (rows_with options many name some kept)) r
     file_written a b c r text selected is count g w =
         let summary = subst (λ n. Writes contents failures b c (written margin (summary_as (form options) many name Whole n)) r) count w in
-        subst (λ k. Writes contents failures a c (written margin (rows_with options many name k)) r) (sym is)
-        (writes_behind contents failures margin a b c (rows_from options many name 1 text) (summary_as (form options) many name Whole (selected_count options text)) r g summary)
+        subst (λ k. Writes contents failures a c (written margin (rows_with options many name some k)) r) (sym is)
+        (writes_behind contents failures margin a b c (text_rows options many name (form options) some text) (summary_as (form options) many name Whole (selected_count options text)) r g summary)
 
     -- a write failed within the rows of the lines
-    pub file_stopped : (a b : W) (text : List KeptLine) → kept ≡ Some text → StopsWithin contents failures a b (written margin (rows_from options many name 1 text)) → StopsWithin contents failures a b (written margin (rows_with options many name kept))
+    pub file_stopped : (a b : W) (text : List KeptLine) → kept ≡ Some text → StopsWithin contents failures a b (written margin (text_rows options many name (form options) some text)) → StopsWithin contents failures a b (written margin (rows_with options many name some kept))
     file_stopped a b text is s =
-        subst (λ k. StopsWithin contents failures a b (written margin (rows_with options many name k))) (sym is)
-        (stops_before contents failures margin a b (rows_from options many name 1 text) (summary_as (form options) many name Whole (selected_count options text)) s)
+        subst (λ k. StopsWithin contents failures a b (written margin (rows_with options many name some k))) (sym is)
+        (stops_before contents failures margin a b (text_rows options many name (form options) some text) (summary_as (form options) many name Whole (selected_count options text)) s)
 
     -- there are none
-    pub file_unopened : {T E : Type 0} (a b : W) (r : Result T E) → kept ≡ None → Writes contents failures a b (written margin (summary_as (form options) many name Missing 0)) r → Writes contents failures a b (written margin (rows_with options many name kept)) r
-    file_unopened a b r is w = subst (λ k. Writes contents failures a b (written margin (rows_with options many name k)) r) (sym is) w
+    pub file_unopened : {T E : Type 0} (a b : W) (r : Result T E) → kept ≡ None → Writes contents failures a b (written margin (summary_as (form options) many name Missing 0)) r → Writes contents failures a b (written margin (rows_with options many name some kept)) r
+    file_unopened a b r is w = subst (λ k. Writes contents failures a b (written margin (rows_with options many name some k)) r) (sym is) w
 
   -- output: the next file
-  module _ (many : Bool) (xs : List KeptFile) (i : ℕ) (x : KeptFile) (inside : i < length xs) (is : x ≡ get_or xs i x) (a b c : W) (all : List Text) (s : WrittenUpTo contents failures margin a b all (report_rows options many (drop i xs))) where
-    next_output : report_rows options many (drop i xs) ≡ file_rows options many x ++ report_rows options many (drop (i + 1) xs)
-    next_output = ap (report_rows options many) (drop-item xs i x inside is)
+  module _ (many some : Bool) (xs : List KeptFile) (i : ℕ) (x : KeptFile) (inside : i < length xs) (is : x ≡ get_or xs i x) (a b c : W) (all : List Text) (s : WrittenUpTo contents failures margin a b all (rows_behind options many some (drop i xs))) where
+    next_output : rows_behind options many some (drop i xs) ≡ file_rows options many some x ++ rows_behind options many (some || has_selected options x) (drop (i + 1) xs)
+    next_output = ap (rows_behind options many some) (drop-item xs i x inside is)
 
-    pub output_on : GoesOut contents failures b c (written margin (file_rows options many x)) → WrittenUpTo contents failures margin a c all (report_rows options many (drop (i + 1) xs))
-    output_on g = written_on contents failures margin a b c all (report_rows options many (drop i xs)) (file_rows options many x) (report_rows options many (drop (i + 1) xs)) next_output s g
+    pub output_on : (now : Bool) → now ≡ (some || has_selected options x) → GoesOut contents failures b c (written margin (file_rows options many some x)) → WrittenUpTo contents failures margin a c all (rows_behind options many now (drop (i + 1) xs))
+    output_on now e g =
+        subst (λ v. WrittenUpTo contents failures margin a c all (rows_behind options many v (drop (i + 1) xs))) (sym e)
+        (written_on contents failures margin a b c all (rows_behind options many some (drop i xs)) (file_rows options many some x) (rows_behind options many (some || has_selected options x) (drop (i + 1) xs)) next_output s g)
 
-    pub output_stopped : StopsWithin contents failures b c (written margin (file_rows options many x)) → StopsWithin contents failures a c (written margin all)
-    output_stopped g = broken_off contents failures margin a b c all (report_rows options many (drop i xs)) (file_rows options many x) (report_rows options many (drop (i + 1) xs)) next_output s g
+    pub output_stopped : StopsWithin contents failures b c (written margin (file_rows options many some x)) → StopsWithin contents failures a c (written margin all)
+    output_stopped g = broken_off contents failures margin a b c all (rows_behind options many some (drop i xs)) (file_rows options many some x) (rows_behind options many (some || has_selected options x) (drop (i + 1) xs)) next_output s g
 
   -- messages: the next file
   module _ (xs : List KeptFile) (i : ℕ) (x : KeptFile) (inside : i < length xs) (is : x ≡ get_or xs i x) (a b c : W) (all : List Text) (s : WrittenUpTo contents failures margin a b all (told_from options (drop i xs))) where

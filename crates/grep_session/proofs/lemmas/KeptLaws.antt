@@ -1,10 +1,9 @@
--- What is written of files that are kept is what grep writes of these files, where what is kept is right.
-use Rattle.std.proofs.Common.{◌≡◌, ℕ, suc, ◌==◌, ◌+◌, nat_le, ◌≤◌, Bool, true, false, ◌&&◌, not, IsTrue, ◌↔◌, Decides, List, [], ◌∷◌, ◌++◌, length, map, slice_range, All, Any, Option, None, Some, MatchBool, IfSome, refl, sym, ap, subst, ◌∙◌, inl, inr, arith, if◌then◌else◌}
+-- The verdicts on lines and files that are kept, the messages and the status are those of grep, where what is kept is right.
+use Rattle.std.proofs.Common.{◌≡◌, ℕ, suc, ◌==◌, ◌≤◌, Bool, true, false, ◌&&◌, not, IsTrue, ◌↔◌, Decides, List, [], ◌∷◌, ◌++◌, length, map, All, Any, Option, None, Some, MatchBool, IfSome, refl, sym, ap, ◌∙◌, inl, inr, arith, if◌then◌else◌}
 use Rattle.std.specs.Prelude.{⊤}
-use Rattle.std.specs.List.{enumerate_from, list_any}
+use Rattle.std.specs.List.{list_any}
 use Rattle.std.proofs.lemmas.Bool.{false≢true}
 use Rattle.std.proofs.lemmas.Bool.Decides.{nat_tests}
-use Rattle.std.proofs.lemmas.List.{length-map}
 use Rattle.std.proofs.lemmas.List.Elements.{All-head, All-tail, All-nil, All-cons}
 use Rattle.re_syntax.specs.Bytes.{Text}
 use Rattle.re_syntax.specs.Expression.{Expression}
@@ -13,40 +12,23 @@ use Rattle.re_syntax.specs.Parts.{ArePartsFrom, AreParts}
 use Rattle.re_syntax.proofs.lemmas.Decisions.{Any-none, Any-first, Any-later, Any-cases}
 use Rattle.re_search.specs.declared.span.Span.{Span}
 use Rattle.grep_core.specs.declared.options.Options.{Options}
-use Rattle.grep_core.specs.declared.search.file.FileEnd.TheVariants.{Missing, Whole}
 use Rattle.grep_core.specs.declared.status.Status.{Status}
 use Rattle.grep_core.specs.declared.status.Status.TheVariants.{Selected as selected}
-use Rattle.grep_core.specs.Choose.{EachGives, Chosen}
+use Rattle.grep_core.specs.Choose.{EachGives}
 use Rattle.grep_core.specs.Files.{File, Selected, HasSelected}
 use Rattle.grep_core.specs.Messages.{message, FaultMet, Stops, Reached, Message, Messages, AnySelected, StatusOf}
-use Rattle.grep_core.specs.Working.OneLine.{LineRowsOf}
-use Rattle.grep_core.specs.Output.{Form, nothing, names, counts, parts, lines, form, PartsOfLine, OutAs, Out}
-use Rattle.grep_core.specs.Working.Handed.{file_so_far}
-use Rattle.grep_core.specs.Working.Searched.{is_fault, ending_of, summary_as, status_by}
-use Rattle.grep_core.proofs.lemmas.FileOutput.{rows_none, output_all}
-use Rattle.grep_core.proofs.lemmas.MoreFiles.{OutAs-append}
+use Rattle.grep_core.specs.Working.Searched.{is_fault, ending_of, status_by}
 use Rattle.grep_core.proofs.lemmas.PassLemmas.{or_tells}
 use Rattle.grep_core.proofs.lemmas.StatusLaws.{StatusOf-quiet, StatusOf-error, StatusOf-selected, StatusOf-none}
-use Rattle.grep_core.proofs.lemmas.Verdicts.{picked, decided_yes, decided_no, IfHolds-by}
+use Rattle.grep_core.proofs.lemmas.Verdicts.{decided_yes, decided_no}
 use Rattle.grep_session.specs.declared.kept.KeptLine.{KeptLine}
 use Rattle.grep_session.specs.declared.kept.KeptFile.{KeptFile}
 use Rattle.grep_session.specs.Working.Kept.{line_text, span_places, kept_lines, file_with, kept_file, AreMatching, IsKept, IsFileKept}
-use Rattle.grep_session.specs.Working.Report.{matches_none, is_selected, has_selected_in, has_selected, end_with, end_of, selected_count, OnLine, PartsFit, LinesFit, FileFits, row, selected_rows, rows_as, rows_with, report_rows, told_as, told_from, is_faulty, any_selected, any_missing, status_by_files}
+use Rattle.grep_session.specs.Working.Report.{matches_none, is_selected, has_selected_in, has_selected, end_with, end_of, OnLine, PartsFit, LinesFit, FileFits, told_as, told_from, is_faulty, any_selected, any_missing, status_by_files}
 
 -- the status of a run that did not stop
 pub status_in_turn : (quiet some : Bool) (status : Status) → (quiet && some) ≡ false → status ≡ (if quiet && some then selected else status)
 status_in_turn quiet some status e = ap (λ b. if b then selected else status) (sym e)
-
--- under `-o` alone parts are asked for
-pub asks_parts : (options : Options) → form options ≡ parts → IsTrue options.only_matching
-asks_parts options e = by_flags options.quiet options.files_with_matches options.count options.only_matching options.invert_match e
-  where
-    by_flags : (q l c o v : Bool) → (if q then nothing else if l then names else if c then counts else if o && v then nothing else if o then parts else lines) ≡ parts → IsTrue o
-    by_flags true l c o v is = absurd (let no : ⊥ = cc in no)
-    by_flags false true c o v is = absurd (let no : ⊥ = cc in no)
-    by_flags false false true o v is = absurd (let no : ⊥ = cc in no)
-    by_flags false false false true v is = refl
-    by_flags false false false false v is = absurd (let no : ⊥ = cc in no)
 
 -- the verdict on some element of a list that is mapped
 mapped_told : {A B : Type 0} (f : A → B) (p : A → Bool) (P : B → Type 0) (K : A → Type 0) → ((x : A) → K x → Decides (p x) (P (f x))) → (xs : List A) → All K xs → Decides (list_any p xs) (Any P (map f xs))
@@ -71,7 +53,7 @@ matching_tells line entire first (e ∷ es) numbers (rest, inr (fails, is), h) =
     )
 
 module _ (es : List Expression) (options : Options) where
-  parts_asked : (line : KeptLine) → IsTrue options.only_matching → IsKept es options line → AreParts es (line_text line) options.line_regexp (map span_places line.found.spans)
+  pub parts_asked : (line : KeptLine) → IsTrue options.only_matching → IsKept es options line → AreParts es (line_text line) options.line_regexp (map span_places line.found.spans)
   parts_asked line asked k = by_flag options.only_matching asked k.parts
     where
       by_flag : {P : Type 0} (asks : Bool) → IsTrue asks → MatchBool asks P ⊤ → P
@@ -80,7 +62,7 @@ module _ (es : List Expression) (options : Options) where
 
   -- ---- verdicts
 
-  selected_told : (line : KeptLine) → IsKept es options line → Decides (is_selected options line) (Selected es options (line_text line))
+  pub selected_told : (line : KeptLine) → IsKept es options line → Decides (is_selected options line) (Selected es options (line_text line))
   selected_told line k = by_flag options.invert_match (matches_none line) (matching_tells (line_text line) options.line_regexp 0 es line.found.numbers k.matching)
     where
       by_flag : {M : Type 0} (inverted none : Bool) → IsTrue (not none) ↔ M → Decides (if inverted then not (not none) else not none) (MatchBool inverted (M → ⊥) M)
@@ -88,7 +70,7 @@ module _ (es : List Expression) (options : Options) where
       by_flag true true m = decided_yes (λ p. false≢true (m.1 p))
       by_flag true false m = decided_no (λ f. f (m.0 refl))
 
-  has_told : (name : Text) (kept : Option (List KeptLine)) → IfSome kept (All (IsKept es options)) → Decides (has_selected_in options kept) (HasSelected es options (file_with name kept))
+  pub has_told : (name : Text) (kept : Option (List KeptLine)) → IfSome kept (All (IsKept es options)) → Decides (has_selected_in options kept) (HasSelected es options (file_with name kept))
   has_told name None k = decided_no (Any-none (Selected es options))
   has_told name (Some text) k = mapped_told line_text (is_selected options) (Selected es options) (IsKept es options) selected_told text k
 
@@ -126,94 +108,7 @@ module _ (es : List Expression) (options : Options) where
   files_fit [] k = All-nil (FileFits options)
   files_fit (file ∷ files) k = All-cons (FileFits options) file files (file_fits (kept_lines file) (All-head (IsFileKept es options) file files k)) (files_fit files (All-tail (IsFileKept es options) file files k))
 
-  -- ---- the output for one file
-
-  -- the selected lines with their numbers
-  abbrev picked_from : ℕ → List KeptLine → List (ℕ × Text)
-  picked_from number [] = []
-  picked_from number (line ∷ text) = picked (is_selected options line) (number, line_text line) ++ picked_from (number + 1) text
-
-  are_chosen : (number : ℕ) (text : List KeptLine) → All (IsKept es options) text → Chosen (λ l. Selected es options l.1) (enumerate_from number (map line_text text)) (picked_from number text)
-  are_chosen number [] k = refl
-  are_chosen number (line ∷ text) k =
-      (picked (is_selected options line) (number, line_text line), picked_from (number + 1) text, IfHolds-by (is_selected options line) (selected_told line (All-head (IsKept es options) line text k)), are_chosen (number + 1) text (All-tail (IsKept es options) line text k), refl)
-
-  picked_count : (number : ℕ) (text : List KeptLine) → length (picked_from number text) ≡ selected_count options text
-  picked_count number [] = refl
-  picked_count number (line ∷ text) = by_verdict (is_selected options line) (picked_from (number + 1) text) (selected_count options text) (picked_count (number + 1) text)
-    where
-      by_verdict : (b : Bool) (ys : List (ℕ × Text)) (n : ℕ) → length ys ≡ n → length (picked b (number, line_text line) ++ ys) ≡ (if b then 1 else 0) + n
-      by_verdict true ys n e = omega (arith, e)
-      by_verdict false ys n e = omega (arith, e)
-
-  module _ (many : Bool) (name : Text) where
-    no_rows : (shape : Form) → ((number : ℕ) (line : KeptLine) → selected_rows options many name shape number line ≡ []) → (number : ℕ) (text : List KeptLine) → rows_as options many name shape number text ≡ []
-    no_rows shape none number [] = refl
-    no_rows shape none number (line ∷ text) = by_verdict (is_selected options line) (selected_rows options many name shape number line) (rows_as options many name shape (number + 1) text) (none number line) (no_rows shape none (number + 1) text)
-      where
-        by_verdict : (b : Bool) (xs ys : List Text) → xs ≡ [] → ys ≡ [] → (if b then xs else []) ++ ys ≡ []
-        by_verdict true xs ys p q = λ i. p i ++ q i
-        by_verdict false xs ys p q = q
-
-    line_rows_are : (number : ℕ) (text : List KeptLine) → rows_as options many name lines number text ≡ map (λ l. row options many name l.0 l.1) (picked_from number text)
-    line_rows_are number [] = refl
-    line_rows_are number (line ∷ text) = by_verdict (is_selected options line) (rows_as options many name lines (number + 1) text) (picked_from (number + 1) text) (line_rows_are (number + 1) text)
-      where
-        by_verdict : (b : Bool) (rows : List Text) (ls : List (ℕ × Text)) → rows ≡ map (λ l. row options many name l.0 l.1) ls
-            → (if b then row options many name number (line_text line) ∷ [] else []) ++ rows ≡ map (λ l. row options many name l.0 l.1) (picked b (number, line_text line) ++ ls)
-        by_verdict true rows ls e = ap (λ r. row options many name number (line_text line) ∷ r) e
-        by_verdict false rows ls e = e
-
-    -- the rows of parts, by their places
-    places_rows : (number : ℕ) (text : Text) (spans : List Span) → map (λ span. row options many name number (slice_range text span.start span.end)) spans ≡ map (λ p. row options many name number (slice_range text p.0 p.1)) (map span_places spans)
-    places_rows number text [] = refl
-    places_rows number text (span ∷ spans) = ap (λ r. row options many name number (slice_range text span.start span.end) ∷ r) (places_rows number text spans)
-
-    part_rows_are : IsTrue options.only_matching → (number : ℕ) (text : List KeptLine) → All (IsKept es options) text → EachGives (PartsOfLine es options many (file_so_far name [])) (picked_from number text) (rows_as options many name parts number text)
-    part_rows_are asked number [] k = refl
-    part_rows_are asked number (line ∷ text) k =
-        by_verdict (is_selected options line) (selected_rows options many name parts number line) (rows_as options many name parts (number + 1) text) (picked_from (number + 1) text)
-        (map span_places line.found.spans, parts_asked line asked (All-head (IsKept es options) line text k), places_rows number (line_text line) line.found.spans)
-        (part_rows_are asked (number + 1) text (All-tail (IsKept es options) line text k))
-      where
-        by_verdict : (b : Bool) (rows more : List Text) (ls : List (ℕ × Text)) → PartsOfLine es options many (file_so_far name []) (number, line_text line) rows → EachGives (PartsOfLine es options many (file_so_far name [])) ls more
-            → EachGives (PartsOfLine es options many (file_so_far name [])) (picked b (number, line_text line) ++ ls) ((if b then rows else []) ++ more)
-        by_verdict true rows more ls p r = (rows, more, p, r, refl)
-        by_verdict false rows more ls p r = r
-
-    -- the rows of the lines are those of the file
-    line_rows_of : (shape : Form) → (shape ≡ parts → IsTrue options.only_matching) → (text : List KeptLine) → All (IsKept es options) text → LineRowsOf es options many shape (file_so_far name (map line_text text)) (rows_as options many name shape 1 text)
-    line_rows_of nothing asked text k = no_rows nothing (λ number line. refl) 1 text
-    line_rows_of names asked text k = no_rows names (λ number line. refl) 1 text
-    line_rows_of counts asked text k = no_rows counts (λ number line. refl) 1 text
-    line_rows_of parts asked text k = (picked_from 1 text, are_chosen 1 text k, part_rows_are (asked refl) 1 text k)
-    line_rows_of lines asked text k = (picked_from 1 text, are_chosen 1 text k, line_rows_are 1 text)
-
-    file_output : (kept : Option (List KeptLine)) → IfSome kept (All (IsKept es options)) → OutAs es options many (form options) (file_with name kept ∷ []) (rows_with options many name kept)
-    file_output None k = output_all es options many name [] Missing (form options) [] [] (rows_none es options many name (form options)) refl
-    file_output (Some text) k =
-        subst (λ n. OutAs es options many (form options) (file_with name (Some text) ∷ []) (rows_as options many name (form options) 1 text ++ summary_as (form options) many name Whole n)) (picked_count 1 text)
-        (output_all es options many name (map line_text text) Whole (form options) (rows_as options many name (form options) 1 text) (picked_from 1 text) (line_rows_of (form options) (asks_parts options) text k) (are_chosen 1 text k))
-
-  -- ---- the output, the messages and the status for all files
-
-  nothing_written : (many : Bool) (shape : Form) → OutAs es options many shape [] []
-  nothing_written many nothing = refl
-  nothing_written many names = ([], refl, refl)
-  nothing_written many counts = refl
-  nothing_written many parts = refl
-  nothing_written many lines = refl
-
-  output_as : (many : Bool) (files : List KeptFile) → All (IsFileKept es options) files → OutAs es options many (form options) (map kept_file files) (report_rows options many files)
-  output_as many [] k = nothing_written many (form options)
-  output_as many (file ∷ files) k =
-      OutAs-append es options many (form options) (kept_file file ∷ []) (map kept_file files) (rows_with options many file.name.items (kept_lines file)) (report_rows options many files)
-      (file_output many file.name.items (kept_lines file) (All-head (IsFileKept es options) file files k)) (output_as many files (All-tail (IsFileKept es options) file files k))
-
-  -- what is written is the output
-  pub kept_output : (files : List KeptFile) → All (IsFileKept es options) files → Out es options (map kept_file files) (report_rows options (nat_le 2 (length files)) files)
-  kept_output files k =
-      subst (λ n. OutAs es options (nat_le 2 n) (form options) (map kept_file files) (report_rows options (nat_le 2 (length files)) files)) (sym (length-map files kept_file)) (output_as (nat_le 2 (length files)) files k)
+  -- ---- the messages and the status for all files
 
   one_message : (name : Text) (kept : Option (List KeptLine)) → Message es options (file_with name kept) (message (ending_of (end_with kept)) name)
   one_message name None = inl (tt, refl)

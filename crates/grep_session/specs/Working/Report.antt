@@ -1,20 +1,24 @@
 -- What is written of files that are kept, as a function of what is kept.
-use Rattle.std.specs.Prelude.{◌==◌, ℕ, ◌+◌, ◌≤◌, Bool, false, ◌&&◌, not, IsTrue, List, [], ◌∷◌}
-use Rattle.std.specs.Prelude.{◌++◌, All, map, length, slice_range, Option, None, Some}
+use Rattle.std.specs.Prelude.{◌==◌, ℕ, ◌+◌, ◌≤◌, Bool, false, ◌&&◌, ◌||◌, not, IsTrue, List, []}
+use Rattle.std.specs.Prelude.{◌∷◌, ◌++◌, All, map, length, slice_range, Option, None, Some}
 use Rattle.std.specs.Prelude.{if◌then◌else◌, Result, IfOk}
-use Rattle.std.specs.List.{list_any, flat_map}
+use Rattle.std.specs.List.{list_any}
 use Rattle.re_syntax.specs.Bytes.{Text}
 use Rattle.re_syntax.specs.Expression.{Expression}
 use Rattle.re_search.specs.declared.span.Span.{Span}
 use Rattle.grep_core.specs.declared.options.Options.{Options}
+use Rattle.grep_core.specs.declared.output.around.Progress.{Progress}
+use Rattle.grep_core.specs.declared.output.around.Shown.{Shown}
 use Rattle.grep_core.specs.declared.search.file.FileEnd.{FileEnd}
 use Rattle.grep_core.specs.declared.search.file.FileEnd.TheVariants.{Missing, Whole}
 use Rattle.grep_core.specs.declared.status.Status.{Status}
 use Rattle.grep_core.specs.declared.status.Status.TheVariants.{Selected as selected}
 use Rattle.grep_core.specs.Row.{colon, head}
 use Rattle.grep_core.specs.Files.{File}
-use Rattle.grep_core.specs.Output.{Form, parts, lines, form, shown_number, Out, written}
+use Rattle.grep_core.specs.Output.{Form, parts, lines, around, form, shown_number, Out, written}
 use Rattle.grep_core.specs.Messages.{Messages, StatusOf}
+use Rattle.grep_core.specs.Working.Progress.{progress_from, next_shown, behind_line, last_of}
+use Rattle.grep_core.specs.Working.Progress.{rows_at}
 use Rattle.grep_core.specs.Working.Searched.{is_fault, summary_as, told_of, status_by}
 use Rattle.grep_core.specs.Working.Wanted.{name_shown, selects}
 use Rattle.grep_core.specs.Written.{Writes}
@@ -105,18 +109,44 @@ module _ (options : Options) (many : Bool) (name : Text) where
   abbrev pub rows_from : ℕ → List KeptLine → List Text
   rows_from number text = rows_as (form options) number text
 
-  -- what is written of the lines of a file, and behind them
-  abbrev pub rows_with : Option (List KeptLine) → List Text
-  rows_with None = summary_as (form options) many name Missing 0
-  rows_with (Some text) =
-      rows_from 1 text ++ summary_as (form options) many name Whole (selected_count options text)
+  -- what is written at a line of which so much is shown; those before it are the lines before it
+  abbrev pub shown_rows : Bool → Shown → List Text → KeptLine → List Text
+  shown_rows found shown before line =
+      rows_at options many name found shown (last_of shown.before before) (length before + 1)
+      (line_text line)
 
-abbrev pub file_rows : Options → Bool → KeptFile → List Text
-file_rows options many file = rows_with options many file.name.items (kept_lines file)
+  -- what is written of the lines behind those before, which have come so far
+  abbrev pub around_rows : Progress → List Text → List KeptLine → List Text
+  around_rows p before [] = []
+  around_rows p before (line ∷ more) =
+      shown_rows (is_selected options line) (next_shown p (is_selected options line)) before line
+      ++ around_rows (behind_line p (is_selected options line)) (before ++ line_text line ∷ []) more
+
+  -- what is written of the lines of a file, behind files of which a line is selected, or none is
+  abbrev pub text_rows : Form → Bool → List KeptLine → List Text
+  text_rows (around context) some text = around_rows (progress_from context some) [] text
+  text_rows shape some text = rows_as shape 1 text
+
+  -- the same, and what is written behind them
+  abbrev pub rows_with : Bool → Option (List KeptLine) → List Text
+  rows_with some None = summary_as (form options) many name Missing 0
+  rows_with some (Some text) =
+      text_rows (form options) some text
+      ++ summary_as (form options) many name Whole (selected_count options text)
+
+abbrev pub file_rows : Options → Bool → Bool → KeptFile → List Text
+file_rows options many some file = rows_with options many file.name.items some (kept_lines file)
+
+-- what is written of files, behind others of which a line is selected, or none is
+abbrev pub rows_behind : Options → Bool → Bool → List KeptFile → List Text
+rows_behind options many some [] = []
+rows_behind options many some (file ∷ files) =
+    file_rows options many some file
+    ++ rows_behind options many (some || has_selected options file) files
 
 -- what is written of files
 abbrev pub report_rows : Options → Bool → List KeptFile → List Text
-report_rows options many files = flat_map (file_rows options many) files
+report_rows options many files = rows_behind options many false files
 
 -- ---- messages and status
 

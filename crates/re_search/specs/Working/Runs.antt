@@ -35,7 +35,7 @@ Covers (One a) set = (x : ℕ) → x < 256 → IsTrue (set x) → x ≡ a
 Covers (Two a b) set = (x : ℕ) → x < 256 → IsTrue (set x) → (x ≡ a) ⊎ (x ≡ b)
 Covers (Three a b c) set = (x : ℕ) → x < 256 → IsTrue (set x) → (x ≡ a) ⊎ (x ≡ b) ⊎ (x ≡ c)
 
--- the first byte of the set from one on; 256 where there is none
+-- no byte of the set stands from one on before the result, which is 256 at most
 pub record IsNextMember (set : Bytes) (from result : ℕ) : Type 0 where
   pub on : (from ≤ result) × (result ≤ 256)
   pub passed : (x : ℕ) → from ≤ x → x < result → ¬ IsTrue (set x)

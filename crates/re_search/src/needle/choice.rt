@@ -11,6 +11,15 @@ const LONG: usize = 4;
 // By how many ranks a byte is much rarer than another.
 const MUCH: u8 = 32;
 
+/// What the marks of a run are.
+#[derive(Clone, Copy)]
+pub enum RunOf {
+    /// Single bytes.
+    Bytes,
+    /// Sets of at most three bytes.
+    Sets,
+}
+
 // A run of marks: where it begins, how long it is, and how common its rarest mark is.
 #[derive(Clone, Copy)]
 struct Run {
@@ -55,14 +64,14 @@ impl Run {
     }
 }
 
-/// Where the run of single bytes begins that is looked for.
-pub fn text_start(marks: &[Mark]) -> usize
+/// Where the run of such marks begins that is looked for.
+pub fn run_start(marks: &[Mark], of: RunOf) -> usize
     ensures { result ≤ length marks.now }
 {
     let mut now = Run::at(0);
     let mut best = Run::at(0);
     'marks: for place in 0..marks.len() {
-        now = match byte_rank(&marks[place]) {
+        now = match mark_rank(&marks[place], of) {
             Some(rank) => now.with(rank),
             None => Run::at(place + 1),
         };
@@ -73,36 +82,13 @@ pub fn text_start(marks: &[Mark]) -> usize
     best.start
 }
 
-/// Where the run of small sets begins that is looked for.
-pub fn sets_start(marks: &[Mark]) -> usize
-    ensures { result ≤ length marks.now }
-{
-    let mut now = Run::at(0);
-    let mut best = Run::at(0);
-    'marks: for place in 0..marks.len() {
-        now = match set_rank(&marks[place]) {
-            Some(rank) => now.with(rank),
-            None => Run::at(place + 1),
-        };
-        if now.beats(best) {
-            best = now;
-        }
-    }
-    best.start
-}
-
-// How common the mark's byte is, where it is one byte.
-fn byte_rank(mark: &Mark) -> Option<u8> {
-    match mark {
-        Mark::Set(set) => Some(rank_of(set.one_byte()?)),
-        Mark::Stretch => None,
-    }
-}
-
-// How common the bytes of the mark are, where they are few.
-fn set_rank(mark: &Mark) -> Option<u8> {
-    match mark {
-        Mark::Set(set) => Some(Few::of(set)?.rank()),
-        Mark::Stretch => None,
+// How common the bytes of the mark are, where it may be one of such a run.
+fn mark_rank(mark: &Mark, of: RunOf) -> Option<u8> {
+    let Mark::Set(set) = mark else {
+        return None;
+    };
+    match of {
+        RunOf::Bytes => Some(rank_of(set.one_byte()?)),
+        RunOf::Sets => Some(Few::of(set)?.rank()),
     }
 }

@@ -1,5 +1,5 @@
 -- Single atoms of basic expressions, from what stands at their place.
-use Rattle.std.proofs.Common.{◌≡◌, ◌≢◌, ℕ, ◌+◌, ◌<◌, ◌⊎◌, inl, inr, true, nat_eq, ◌∷◌, ◌++◌, length, take, drop, Some, IsTrue, slice_get, codes, refl, sym, ap, ◌∙◌, subst, arith, length-drop}
+use Rattle.std.proofs.Common.{◌≡◌, ◌≢◌, ℕ, ◌+◌, ◌<◌, ◌⊎◌, inl, inr, true, nat_eq, ◌∷◌, ◌++◌, length, take, drop, Some, IsTrue, slice_get, codes, refl, sym, ap, ◌∙◌, subst, arith, length-drop, Option, Global}
 use Rattle.std.proofs.lemmas.Bool.{or_cases, or_left, or_right, eqb-true, ne_eqb, cases_eq}
 use Rattle.re_syntax.specs.declared.pieces.Piece.{Piece}
 use Rattle.re_syntax.specs.declared.class.Class.TheVariants.{Alnum}
@@ -8,7 +8,7 @@ use Rattle.re_syntax.specs.declared.fault.FaultKind.TheVariants.{UnclosedBracket
 use Rattle.re_syntax.specs.declared.fault.PatternFault.{PatternFault}
 use Rattle.re_syntax.specs.Bytes.{Text, Begins, in_class}
 use Rattle.re_syntax.specs.Escapes.{is_in, is_undefined}
-use Rattle.re_syntax.specs.Expression.{Expression, one_of, byte, expression_of}
+use Rattle.re_syntax.specs.Expression.{Expression, one_of, byte}
 use Rattle.re_syntax.specs.Brackets.{IsBracket}
 use Rattle.re_syntax.specs.Faults.{ShowsBracketFault, IsNoBracket}
 use Rattle.re_syntax.specs.Basic.{ItemPlace, First, AfterAnchor, Later, is_ordinary, IsAtEnd, of_group, of_branch, Atom, bracket, period, escaped, ordinary, group}
@@ -16,7 +16,7 @@ use Rattle.re_syntax.specs.BasicFaults.{NeedsItem, needs_interval, needs_plus, n
 use Rattle.re_syntax.specs.Profile.{basic_refused}
 use Rattle.re_syntax.specs.EscapeFaults.{IsRefusedEscape, undefined, reference, BeginsRefusedEscape}
 use Rattle.re_syntax.specs.Working.BasicSteps.{HasItem, MayBegin, AtomStands, HasNoAtom}
-use Rattle.re_syntax.specs.Working.PieceSteps.{meant_bytes, IsBracketPiece}
+use Rattle.re_syntax.specs.Working.PieceSteps.{meant_bytes, IsTold, IsBracketPiece}
 use Rattle.re_syntax.specs.Working.EscapeSteps.{EscapeStands, HasNoEscape, trailing, refused}
 use Rattle.re_syntax.proofs.lemmas.BracketsUnique.{heads, tails, apart, bracket_front}
 use Rattle.re_syntax.proofs.lemmas.BracketLists.{bracket-shortens}
@@ -130,13 +130,15 @@ no_atom_needed h p levels = record {
 -- Bracket expressions.
 
 -- a bracket expression is an atom
-pub bracket_atom : (levels : ℕ) (text : Text) (at : ℕ) (piece : Piece) → IsBracketPiece text at piece → (p : ItemPlace) → AtomStands p levels text at piece
+pub bracket_atom : {alloc : Option Global} (levels : ℕ) (text : Text) (at : ℕ) (piece : Piece) → IsBracketPiece alloc text at piece → (p : ItemPlace) → AtomStands alloc p levels text at piece
 bracket_atom levels text at piece b p =
     let within = b.stands.within in
     record {
       forward = omega (arith, simp length-drop at (bracket-shortens b.stands.stands), within);
       within = within;
       height = omega (arith, b.height);
+      meaning = b.meaning;
+      is = b.is;
       stands = rw b.height (bracket b.stands.stands);
     }
 
@@ -189,17 +191,17 @@ single_atom p b u h i k l = go (cases_eq b 46)
         rw (ne_eqb b 46 n) (ordinary b (stands_for_itself p b u h k n l) (λ e. i.no_tail u (ap (λ x. x ∷ u) e)))
 
 -- which stands up to the next place
-pub single_stands : (levels : ℕ) (text : Text) (at b : ℕ) (piece : Piece) → at < length text → drop at text ≡ b ∷ drop (at + 1) text → HasItem (drop at text) → b ≢ 91 → b ≢ 92 →
-    expression_of piece.tree ≡ one_of (meant_bytes b) → piece.height ≡ 0 → piece.behind ≡ at + 1 → (p : ItemPlace) → MayBegin p (drop at text) →
-    AtomStands p levels text at piece
+pub single_stands : {alloc : Option Global} (levels : ℕ) (text : Text) (at b : ℕ) (piece : Piece) → at < length text → drop at text ≡ b ∷ drop (at + 1) text → HasItem (drop at text) → b ≢ 91 → b ≢ 92 →
+    IsTold alloc piece (one_of (meant_bytes b)) → piece.height ≡ 0 → piece.behind ≡ at + 1 → (p : ItemPlace) → MayBegin p (drop at text) →
+    AtomStands alloc p levels text at piece
 single_stands levels text at b piece h e i k l f g n p m =
     let one : Atom p 0 (b ∷ drop (at + 1) text) (drop (at + 1) text) (one_of (meant_bytes b)) = single_atom p b (drop (at + 1) text) (rw e at m) (rw e at i) k l in
-    record { forward = omega arith; within = omega arith; height = omega arith; stands = rw (e, f, g, n) one }
+    record { forward = omega arith; within = omega arith; height = omega arith; meaning = one_of (meant_bytes b); is = f; stands = rw (e, g, n) one }
 
 -- an escape stands up to the next place but one
-pub escaped_stands : (levels : ℕ) (text : Text) (at b : ℕ) (piece : Piece) → EscapeStands basic_refused text at b → ¬ Begins (codes "\\(") (drop at text) →
-    ¬ IsAtEnd (drop at text) → ¬ NeedsItem (drop at text) → expression_of piece.tree ≡ byte b → piece.height ≡ 0 → piece.behind ≡ at + 2 →
-    (p : ItemPlace) → AtomStands p levels text at piece
+pub escaped_stands : {alloc : Option Global} (levels : ℕ) (text : Text) (at b : ℕ) (piece : Piece) → EscapeStands basic_refused text at b → ¬ Begins (codes "\\(") (drop at text) →
+    ¬ IsAtEnd (drop at text) → ¬ NeedsItem (drop at text) → IsTold alloc piece (byte b) → piece.height ≡ 0 → piece.behind ≡ at + 2 →
+    (p : ItemPlace) → AtomStands alloc p levels text at piece
 escaped_stands levels text at b piece s k l m f g n p =
     let within = s.within in
-    record { forward = omega arith; within = omega arith; height = omega arith; stands = rw (f, g, n) (escaped_atom s k l m) }
+    record { forward = omega arith; within = omega arith; height = omega arith; meaning = byte b; is = f; stands = rw (g, n) (escaped_atom s k l m) }

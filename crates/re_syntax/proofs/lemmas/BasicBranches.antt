@@ -1,14 +1,14 @@
 -- Branches of basic expressions, from the items that stand there.
-use Rattle.std.proofs.Common.{◌≡◌, ℕ, ◌≤◌, inr, max, List, [], ◌∷◌, ◌++◌, length, take, drop, map, codes, refl, sym, ap, ◌∙◌, subst, arith, append_assoc}
+use Rattle.std.proofs.Common.{◌≡◌, ℕ, ◌≤◌, inr, max, List, [], ◌∷◌, ◌++◌, length, take, drop, codes, refl, sym, ap, ◌∙◌, subst, arith, append_assoc, Option, Global}
 use Rattle.re_syntax.specs.declared.pieces.Piece.{Piece}
 use Rattle.re_syntax.specs.declared.pieces.Pieces.{Pieces}
 use Rattle.re_syntax.specs.Bytes.{Text, Begins}
 use Rattle.re_syntax.specs.Working.Ahead.{IsAfter}
-use Rattle.re_syntax.specs.Expression.{Expression, sequence, expression_of}
+use Rattle.re_syntax.specs.Expression.{Expression, sequence}
 use Rattle.re_syntax.specs.Basic.{First, IsAtEnd, of_text, of_group, of_branch, Branches, last, more, Items}
 use Rattle.re_syntax.specs.BasicFaults.{IsStart}
 use Rattle.re_syntax.specs.Working.BasicSteps.{IsAtLast, text_ends, group_ends, HasNoItems, BranchStands, HasNoBranches, BranchesStand}
-use Rattle.re_syntax.specs.Working.PieceSteps.{IsJoined}
+use Rattle.re_syntax.specs.Working.PieceSteps.{AreTold, IsJoined}
 use Rattle.re_syntax.proofs.lemmas.BracketsUnique.{tails}
 use Rattle.re_syntax.proofs.lemmas.BasicUnique.{last_ends, last_bar, items-unique}
 use Rattle.re_syntax.proofs.lemmas.Places.{take-after, regrouped}
@@ -35,33 +35,35 @@ behind_bar {u = u} {v = v} (more {k = k} {fs = fs} is bs) js s e p =
     record { height = k; below = omega arith; others = fs; branches = subst (λ x. Branches k x v fs) (tails (tails (same.rests ∙ e))) bs }
 
 -- the branches that were read from one place on, up to the end of one of them, and what they say of all branches
-pub record BranchesSoFar (levels : ℕ) (text : Text) (from : ℕ) (branches : Pieces) : Type 0 where
+pub record BranchesSoFar (alloc : Option Global) (levels : ℕ) (text : Text) (from : ℕ) (branches : Pieces) : Type 0 where
   pub forward : from ≤ branches.behind
   pub within : branches.behind ≤ length text
   pub height : branches.height ≤ levels
   pub at_end : IsAtEnd (drop branches.behind text)
-  pub stands : Branches branches.height (drop from text) (drop branches.behind text) (map expression_of branches.trees.items)
+  pub members : List Expression
+  pub are : AreTold alloc branches members
+  pub stands : Branches branches.height (drop from text) (drop branches.behind text) members
   pub ahead : (u : Text) → drop branches.behind text ≡ codes "\\|" ++ u → (k : ℕ) (v : Text) (fs : List Expression) → Branches k u v fs →
-      Branches (max branches.height k) (drop from text) v (map expression_of branches.trees.items ++ fs)
+      Branches (max branches.height k) (drop from text) v (members ++ fs)
   pub back : (u : Text) → drop branches.behind text ≡ codes "\\|" ++ u → HasNoBranches levels u → HasNoBranches levels (drop from text)
 
 -- the first
-pub first_branch : (levels : ℕ) (text : Text) (from : ℕ) (old new : Pieces) (piece : Piece) → BranchStands levels text from piece → old.trees.items ≡ [] →
-    old.height ≡ 0 → IsJoined old piece new → BranchesSoFar levels text from new
-first_branch levels text from old new piece b e f j =
-    let means : map expression_of new.trees.items ≡ sequence b.members ∷ [] =
-    j.means ∙ ap (λ x. map expression_of x ++ expression_of piece.tree ∷ []) e ∙ ap (λ x. x ∷ []) b.means in
+pub first_branch : {alloc : Option Global} (levels : ℕ) (text : Text) (from : ℕ) (old new : Pieces) (piece : Piece) → BranchStands alloc levels text from piece → AreTold alloc old [] →
+    old.height ≡ 0 → IsJoined old piece new → BranchesSoFar alloc levels text from new
+first_branch {alloc} levels text from old new piece b e f j =
     let height : piece.height ≡ new.height = omega (arith, j.height) in
     record {
       forward = omega (arith, b.forward, j.place);
       within = omega (arith, b.within, j.place);
       height = omega (arith, b.height);
       at_end = rw j.place b.at_end;
-      stands = rw (means, j.place) (at_height height (last b.stands));
+      members = sequence b.members ∷ [];
+      are = j.means alloc [] (sequence b.members) e b.is;
+      stands = rw j.place (at_height height (last b.stands));
       ahead = λ u s k v fs bs.
           let there : drop piece.behind text ≡ 92 ∷ 124 ∷ u = rw j.place at s in
           let inner : Items First piece.height (drop from text) (92 ∷ 124 ∷ u) b.members = subst (λ x. Items First piece.height (drop from text) x b.members) there b.stands in
-          rw means (at_height (ap (λ n. max n k) height) (more inner bs));
+          at_height (ap (λ n. max n k) height) (more inner bs);
       back = λ u s h. record {
         none = λ n v es bs p le.
             let there : drop piece.behind text ≡ 92 ∷ 124 ∷ u = rw j.place at s in
@@ -71,24 +73,24 @@ first_branch levels text from old new piece b e f j =
     }
 
 -- one more behind a bar
-pub next_branch : (levels : ℕ) (text : Text) (from : ℕ) (old new : Pieces) (place : ℕ) (piece : Piece) → BranchesSoFar levels text from old →
-    IsAfter (codes "\\|") text old.behind place → BranchStands levels text place piece → IsJoined old piece new → BranchesSoFar levels text from new
-next_branch levels text from old new place piece s bar b j =
-    let means : map expression_of new.trees.items ≡ map expression_of old.trees.items ++ sequence b.members ∷ [] =
-    j.means ∙ ap (λ x. map expression_of old.trees.items ++ x ∷ []) b.means in
+pub next_branch : {alloc : Option Global} (levels : ℕ) (text : Text) (from : ℕ) (old new : Pieces) (place : ℕ) (piece : Piece) → BranchesSoFar alloc levels text from old →
+    IsAfter (codes "\\|") text old.behind place → BranchStands alloc levels text place piece → IsJoined old piece new → BranchesSoFar alloc levels text from new
+next_branch {alloc} levels text from old new place piece s bar b j =
     record {
       forward = omega (arith, s.forward, bar.place, b.forward, j.place);
       within = omega (arith, b.within, j.place);
       height = omega (arith, s.height, b.height, j.height);
       at_end = rw j.place b.at_end;
+      members = s.members ++ sequence b.members ∷ [];
+      are = j.means alloc s.members (sequence b.members) s.are b.is;
       stands =
           let all = s.ahead (drop place text) bar.front piece.height (drop piece.behind text) (sequence b.members ∷ []) (last b.stands) in
-          rw (means, j.place) (at_height (sym j.height) all);
+          rw j.place (at_height (sym j.height) all);
       ahead = λ u e k v fs bs.
           let there : drop piece.behind text ≡ 92 ∷ 124 ∷ u = rw j.place at e in
           let inner : Items First piece.height (drop place text) (92 ∷ 124 ∷ u) b.members = subst (λ x. Items First piece.height (drop place text) x b.members) there b.stands in
           let all = s.ahead (drop place text) bar.front (max piece.height k) v (sequence b.members ∷ fs) (more inner bs) in
-          rw (means, append_assoc) (at_height (regrouped old.height piece.height k ∙ ap (λ n. max n k) (sym j.height)) all);
+          rw append_assoc (at_height (regrouped old.height piece.height k ∙ ap (λ n. max n k) (sym j.height)) all);
       back = λ u e h. s.back (drop place text) bar.front (record {
         none = λ n v es bs p le.
             let there : drop piece.behind text ≡ 92 ∷ 124 ∷ u = rw j.place at e in
@@ -116,7 +118,7 @@ last_here of_group n = group_ends
 last_here (of_branch {t = u}) n = absurd (n (u, refl))
 
 -- all branches
-pub branches_read : {levels : ℕ} {text : Text} {from : ℕ} {branches : Pieces} → BranchesSoFar levels text from branches →
-    ¬ Begins (codes "\\|") (drop branches.behind text) → BranchesStand levels text from branches
+pub branches_read : {alloc : Option Global} {levels : ℕ} {text : Text} {from : ℕ} {branches : Pieces} → BranchesSoFar alloc levels text from branches →
+    ¬ Begins (codes "\\|") (drop branches.behind text) → BranchesStand alloc levels text from branches
 branches_read {text = text} {branches = branches} s n =
-    record { forward = s.forward; within = s.within; height = s.height; at_end = last_here s.at_end n; stands = s.stands }
+    record { forward = s.forward; within = s.within; height = s.height; at_end = last_here s.at_end n; members = s.members; are = s.are; stands = s.stands }

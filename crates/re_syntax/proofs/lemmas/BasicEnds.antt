@@ -1,15 +1,15 @@
 -- Where a branch of a basic expression ends, and the anchors at its two ends.
-use Rattle.std.proofs.Common.{◌≡◌, ℕ, ◌<◌, ◌≤◌, ◌⊎◌, inl, inr, [], ◌∷◌, ◌++◌, length, drop, map, codes, refl, sym, ap, ◌∙◌, subst, arith, length-drop, append-nil}
+use Rattle.std.proofs.Common.{◌≡◌, ℕ, ◌<◌, ◌≤◌, ◌⊎◌, inl, inr, [], ◌∷◌, ◌++◌, length, drop, codes, refl, sym, ap, ◌∙◌, subst, arith, length-drop, append-nil, Option, Global}
 use Rattle.std.proofs.Math.Seq.{drop-length}
 use Rattle.std.proofs.lemmas.Bool.{cases_lt}
 use Rattle.re_syntax.specs.declared.pieces.Pieces.{Pieces}
 use Rattle.re_syntax.specs.declared.pieces.Piece.{Piece}
 use Rattle.re_syntax.specs.Bytes.{Text, Begins}
 use Rattle.re_syntax.specs.Working.Ahead.{IsAfter}
-use Rattle.re_syntax.specs.Expression.{end, expression_of}
+use Rattle.re_syntax.specs.Expression.{end}
 use Rattle.re_syntax.specs.Basic.{IsAtEnd, of_text, of_group, of_branch, Items, none, trailing}
 use Rattle.re_syntax.specs.Working.BasicSteps.{HasItem, HasNoItem, at_end, at_tail, HasNoTail, IsBehindTail, IsEnded}
-use Rattle.re_syntax.specs.Working.PieceSteps.{IsJoined}
+use Rattle.re_syntax.specs.Working.PieceSteps.{IsTold, IsJoined}
 
 -- the end of the text
 pub at_text_end : (text : Text) (at : ℕ) → at ≡ length text → IsAtEnd (drop at text)
@@ -47,7 +47,7 @@ end_here (at_end h) k = h
 end_here (at_tail e h) k = absurd (k.none _ e h)
 
 -- an end and no anchor before it
-pub ended_without_tail : (text : Text) (items : Pieces) → items.behind ≤ length text → HasNoItem (drop items.behind text) → HasNoTail (drop items.behind text) → IsEnded text items items
+pub ended_without_tail : {alloc : Option Global} (text : Text) (items : Pieces) → items.behind ≤ length text → HasNoItem (drop items.behind text) → HasNoTail (drop items.behind text) → IsEnded alloc text items items
 ended_without_tail text items h n k = record {
   forward = omega arith;
   within = h;
@@ -55,19 +55,19 @@ ended_without_tail text items h n k = record {
   height = refl;
   last = [];
   stands = λ p. none;
-  means = sym (append-nil _);
+  means = λ es are. rw (append-nil es) are;
 }
 
 -- an anchor and the end behind it
-pub ended_with_tail : (text : Text) (old new : Pieces) (piece : Piece) → IsBehindTail text old.behind piece.behind → expression_of piece.tree ≡ end → piece.height ≡ 0 → IsJoined old piece new → IsEnded text old new
-ended_with_tail text old new piece t e f j = record {
+pub ended_with_tail : {alloc : Option Global} (text : Text) (old new : Pieces) (piece : Piece) → IsBehindTail text old.behind piece.behind → IsTold alloc piece end → piece.height ≡ 0 → IsJoined old piece new → IsEnded alloc text old new
+ended_with_tail {alloc} text old new piece t e f j = record {
   forward = omega (arith, j.place, t.stands.place);
   within = omega (arith, j.place, t.stands.within);
   at_end = subst (λ n. IsAtEnd (drop n text)) (sym j.place) t.last;
   height = j.height ∙ omega arith;
   last = end ∷ [];
   stands = λ p. subst (λ u. Items p 0 u (drop new.behind text) (end ∷ [])) (sym t.stands.front) (subst (λ n. Items p 0 (codes "$" ++ drop piece.behind text) (drop n text) (end ∷ [])) (sym j.place) (trailing t.last));
-  means = j.means ∙ ap (λ x. map expression_of old.trees.items ++ x ∷ []) e;
+  means = λ es are. j.means alloc es end are e;
 }
 
 -- where an item has to stand the text has a byte

@@ -1,5 +1,5 @@
 -- Groups of basic expressions, and a whole expression, from the branches that stand there.
-use Rattle.std.proofs.Common.{◌≡◌, ◌≢◌, ℕ, suc, ◌+◌, ◌-◌, ◌<◌, ◌≤◌, ◌⊎◌, inl, inr, List, [], ◌∷◌, ◌++◌, length, take, drop, map, codes, refl, sym, ap, ◌∙◌, subst, arith, length-drop}
+use Rattle.std.proofs.Common.{◌≡◌, ◌≢◌, ℕ, suc, ◌+◌, ◌-◌, ◌<◌, ◌≤◌, ◌⊎◌, inl, inr, List, [], ◌∷◌, ◌++◌, length, take, drop, codes, refl, sym, ap, ◌∙◌, subst, arith, length-drop, Option, Global}
 use Rattle.std.proofs.lemmas.List.{nil_from_length, take-append-drop}
 use Rattle.re_syntax.specs.declared.pieces.Piece.{Piece}
 use Rattle.re_syntax.specs.declared.pieces.Pieces.{Pieces}
@@ -8,11 +8,11 @@ use Rattle.re_syntax.specs.declared.fault.PatternFault.{PatternFault}
 use Rattle.re_syntax.specs.declared.syntax.Syntax.TheVariants.{Basic}
 use Rattle.re_syntax.specs.Bytes.{Text, Begins}
 use Rattle.re_syntax.specs.Working.Ahead.{IsAfter}
-use Rattle.re_syntax.specs.Expression.{Expression, choice, expression_of}
+use Rattle.re_syntax.specs.Expression.{Expression, choice}
 use Rattle.re_syntax.specs.Basic.{ItemPlace, Branches, Atom, bracket, period, escaped, ordinary, group}
 use Rattle.re_syntax.specs.BasicFaults.{IsStart, OpensUnclosed, IsShownIn, IsNoBasic}
 use Rattle.re_syntax.specs.Working.BasicSteps.{IsAtLast, text_ends, group_ends, AtomStands, HasNoAtom, HasNoBranches, BranchesStand}
-use Rattle.re_syntax.specs.Working.PieceSteps.{IsRefused, memory, told}
+use Rattle.re_syntax.specs.Working.PieceSteps.{IsRefused, memory, told, IsTold, AreTold}
 use Rattle.re_syntax.specs.Profile.{most_levels}
 use Rattle.re_syntax.specs.Spelled.{IsSpelled, as_basic}
 use Rattle.re_syntax.proofs.lemmas.BracketsUnique.{heads, tails, apart, bracket_front}
@@ -37,11 +37,11 @@ pub opening_starts : (text : Text) (at : ℕ) → Begins (codes "\\(") (drop at 
 opening_starts text at b = inr (inl (take at text, take-after text at (codes "\\(") (drop (at + 2) text) (behind_opening text at b)))
 
 -- a group whose branches were read
-pub group_stands : (levels : ℕ) (text : Text) (at : ℕ) (branches : Pieces) (piece : Piece) → Begins (codes "\\(") (drop at text) → levels ≢ 0 →
-    BranchesStand (levels - 1) text (at + 2) branches → IsAfter (codes "\\)") text branches.behind piece.behind → piece.height ≡ branches.height + 1 →
-    expression_of piece.tree ≡ choice (map expression_of branches.trees.items) → (p : ItemPlace) → AtomStands p levels text at piece
+pub group_stands : {alloc : Option Global} (levels : ℕ) (text : Text) (at : ℕ) (branches : Pieces) (piece : Piece) → Begins (codes "\\(") (drop at text) → levels ≢ 0 →
+    BranchesStand alloc (levels - 1) text (at + 2) branches → IsAfter (codes "\\)") text branches.behind piece.behind → piece.height ≡ branches.height + 1 →
+    ((es : List Expression) → AreTold alloc branches es → IsTold alloc piece (choice es)) → (p : ItemPlace) → AtomStands alloc p levels text at piece
 group_stands levels text at branches piece b n s c e f p =
-    let es = map expression_of branches.trees.items in
+    let es = s.members in
     let inner : Branches branches.height (drop (at + 2) text) (codes "\\)" ++ drop piece.behind text) es =
     subst (λ u. Branches branches.height (drop (at + 2) text) u es) c.front s.stands in
     let one : Atom p (suc branches.height) (codes "\\(" ++ drop (at + 2) text) (drop piece.behind text) (choice es) = group inner in
@@ -54,7 +54,9 @@ group_stands levels text at branches piece b n s c e f p =
       forward = omega (arith, s.forward, c.place);
       within = c.within;
       height = omega (arith, s.height);
-      stands = rw f three;
+      meaning = choice es;
+      is = f es s.are;
+      stands = three;
     }
 
 -- an atom that begins as a group is one
@@ -87,7 +89,7 @@ no_group_inside levels text at b k p = record {
 }
 
 -- no end of the group follows the branches
-pub no_group_end : (levels : ℕ) (text : Text) (at : ℕ) (branches : Pieces) → Begins (codes "\\(") (drop at text) → BranchesStand (levels - 1) text (at + 2) branches →
+pub no_group_end : {alloc : Option Global} (levels : ℕ) (text : Text) (at : ℕ) (branches : Pieces) → Begins (codes "\\(") (drop at text) → BranchesStand alloc (levels - 1) text (at + 2) branches →
     ¬ Begins (codes "\\)") (drop branches.behind text) → (p : ItemPlace) → HasNoAtom p levels (drop at text)
 no_group_end levels text at branches b s k p = record {
   none = λ h u x a le.
@@ -102,46 +104,46 @@ last_cases text_ends = inl refl
 last_cases (group_ends {t = u}) = inr (u, refl)
 
 -- behind the opening of such a group branches go on up to the text's end
-pub opens_unclosed : (levels : ℕ) (text : Text) (at : ℕ) (branches : Pieces) → Begins (codes "\\(") (drop at text) → BranchesStand levels text (at + 2) branches →
+pub opens_unclosed : {alloc : Option Global} (levels : ℕ) (text : Text) (at : ℕ) (branches : Pieces) → Begins (codes "\\(") (drop at text) → BranchesStand alloc levels text (at + 2) branches →
     ¬ Begins (codes "\\)") (drop branches.behind text) → OpensUnclosed (drop at text)
 opens_unclosed levels text at branches b s k = record {
   inside = drop (at + 2) text;
   height = branches.height;
-  members = map expression_of branches.trees.items;
+  members = s.members;
   opens = behind_opening text at b;
   goes_on = go (last_cases s.at_end);
 }
   where
-    go : (drop branches.behind text ≡ []) ⊎ Begins (codes "\\)") (drop branches.behind text) → Branches branches.height (drop (at + 2) text) [] (map expression_of branches.trees.items)
-    go (inl e) = subst (λ u. Branches branches.height (drop (at + 2) text) u (map expression_of branches.trees.items)) e s.stands
+    go : (drop branches.behind text ≡ []) ⊎ Begins (codes "\\)") (drop branches.behind text) → Branches branches.height (drop (at + 2) text) [] s.members
+    go (inl e) = subst (λ u. Branches branches.height (drop (at + 2) text) u s.members) e s.stands
     go (inr c) = absurd (k c)
 
 -- A whole expression.
 
 -- branches up to the text's end
-pub whole_read : (text : Text) (branches : Pieces) (e : Expression) → BranchesStand most_levels text 0 branches → length text ≤ branches.behind → e ≡ choice (map expression_of branches.trees.items) →
-    IsSpelled Basic text e
-whole_read text branches e s h f =
-    let es = map expression_of branches.trees.items in
+pub whole_read : {alloc : Option Global} (text : Text) (branches : Pieces) (piece : Piece) → BranchesStand alloc most_levels text 0 branches → length text ≤ branches.behind →
+    ((es : List Expression) → AreTold alloc branches es → IsTold alloc piece (choice es)) → (e : Expression) × IsSpelled Basic text e × IsTold alloc piece e
+whole_read text branches piece s h f =
+    let es = s.members in
     let nothing : drop branches.behind text ≡ [] = nil_from_length (drop branches.behind text) (omega (arith, length-drop branches.behind text)) in
     let all : Branches branches.height text [] es = subst (λ u. Branches branches.height text u es) nothing s.stands in
-    rw f (as_basic all s.height)
+    (choice es, as_basic all s.height, f es s.are)
 
 -- what is spelled has branches
 spelled_branches : {text : Text} {e : Expression} → IsSpelled Basic text e → (h : ℕ) × (es : List Expression) × Branches h text [] es × (h ≤ most_levels)
 spelled_branches (as_basic {h = h} {es = es} bs le) = (h, es, bs, le)
 
 -- branches up to a closing that no group has
-pub not_whole : (text : Text) (branches : Pieces) → BranchesStand most_levels text 0 branches → branches.behind < length text → IsNoBasic text (record { kind = UnopenedGroup; at = branches.behind })
+pub not_whole : {alloc : Option Global} (text : Text) (branches : Pieces) → BranchesStand alloc most_levels text 0 branches → branches.behind < length text → IsNoBasic text (record { kind = UnopenedGroup; at = branches.behind })
 not_whole text branches s h = record {
   none = λ e spelled. let (k, es, bs, le) = spelled_branches spelled in
       let same = branches-unique bs s.stands refl text_ends s.at_end in
       absurd (omega (arith, simp length-drop at (ap length same.rests)));
   shown = record {
     height = branches.height;
-    members = map expression_of branches.trees.items;
+    members = s.members;
     closes = closing (last_cases s.at_end);
-    stands = subst (λ t. Branches branches.height t (drop branches.behind text) (map expression_of branches.trees.items)) (sym (take-append-drop branches.behind text)) s.stands;
+    stands = subst (λ t. Branches branches.height t (drop branches.behind text) s.members) (sym (take-append-drop branches.behind text)) s.stands;
   };
 }
   where

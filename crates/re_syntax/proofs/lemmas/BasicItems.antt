@@ -1,16 +1,16 @@
 -- Items of basic expressions, from their atoms and what follows them.
-use Rattle.std.proofs.Common.{◌≡◌, ◌≢◌, ℕ, suc, ◌<◌, ◌≤◌, inr, max, List, ◌∷◌, ◌++◌, length, drop, map, Option, IsTrue, true, false, refl, sym, ap, ◌∙◌, subst, arith, append_assoc, length-append, length-drop}
+use Rattle.std.proofs.Common.{◌≡◌, ◌≢◌, ℕ, suc, ◌<◌, ◌≤◌, inr, max, List, ◌∷◌, ◌++◌, length, drop, Option, IsTrue, true, false, refl, sym, ap, ◌∙◌, subst, arith, append_assoc, length-append, length-drop, Global, []}
 use Rattle.re_syntax.specs.declared.pieces.Piece.{Piece}
 use Rattle.re_syntax.specs.declared.pieces.Pieces.{Pieces}
 use Rattle.re_syntax.specs.declared.interval.Counts.{Counts}
 use Rattle.re_syntax.specs.declared.fault.FaultKind.TheVariants.{TooDeep}
 use Rattle.re_syntax.specs.declared.fault.PatternFault.{PatternFault}
 use Rattle.re_syntax.specs.Bytes.{Text}
-use Rattle.re_syntax.specs.Expression.{Expression, sequence, expression_of, repeat}
+use Rattle.re_syntax.specs.Expression.{Expression, sequence, repeat}
 use Rattle.re_syntax.specs.Basic.{Duplication, star, plus, question, interval, ItemPlace, AfterAnchor, Later, IsAtEnd, Items, none, leading, trailing, item, Item, atom, repeated, Atom}
 use Rattle.re_syntax.specs.BasicFaults.{IsShownIn}
 use Rattle.re_syntax.specs.Working.BasicSteps.{OpensNoDuplication, DuplicationStands, HasBadInterval, HasItem, MayBegin, AtomStands, HasNoAtom, ItemStands, HasNoItems, SoFar, IsEnded, BranchStands}
-use Rattle.re_syntax.specs.Working.PieceSteps.{IsRepeated, IsJoined}
+use Rattle.re_syntax.specs.Working.PieceSteps.{IsTold, AreTold, IsRepeated, IsJoined}
 use Rattle.re_syntax.proofs.lemmas.BracketsUnique.{heads, tails, apart}
 use Rattle.re_syntax.proofs.lemmas.Chains.{stands_some}
 use Rattle.re_syntax.proofs.lemmas.BasicUnique.{item_parts, item_front, end_front, items-after, items-higher}
@@ -37,23 +37,31 @@ no_items_without_atom {p} {levels} {t} i b h = record { none = λ n u es is end'
         let there : Atom p parts.level t parts.rest parts.start = subst (λ x. Atom x parts.level t parts.rest parts.start) f here in
         h.none parts.level parts.rest parts.start there (omega (arith, parts.height))
 
+-- the piece is an item, which may stand at this place of its branch
+pub record MeansItem (alloc : Option Global) (p : ItemPlace) (text : Text) (at : ℕ) (piece : Piece) : Type 0 where
+  pub meaning : Expression
+  pub is : IsTold alloc piece meaning
+  pub stands : Item p piece.height (drop at text) (drop piece.behind text) meaning
+
 -- an item that was read up to a place; duplications may follow
-pub record ItemSoFar (levels : ℕ) (text : Text) (at : ℕ) (piece : Piece) : Type 0 where
+pub record ItemSoFar (alloc : Option Global) (levels : ℕ) (text : Text) (at : ℕ) (piece : Piece) : Type 0 where
   pub forward : at < piece.behind
   pub within : piece.behind ≤ length text
   pub height : piece.height ≤ levels
-  pub stands : (p : ItemPlace) → MayBegin p (drop at text) → Item p piece.height (drop at text) (drop piece.behind text) (expression_of piece.tree)
+  pub stands : (p : ItemPlace) → MayBegin p (drop at text) → MeansItem alloc p text at piece
 
 -- an atom is such an item
-pub item_of_atom : (levels : ℕ) (text : Text) (at : ℕ) (piece : Piece) → ((p : ItemPlace) → MayBegin p (drop at text) → AtomStands p levels text at piece) → ItemSoFar levels text at piece
+pub item_of_atom : {alloc : Option Global} (levels : ℕ) (text : Text) (at : ℕ) (piece : Piece) → ((p : ItemPlace) → MayBegin p (drop at text) → AtomStands alloc p levels text at piece) → ItemSoFar alloc levels text at piece
 item_of_atom levels text at piece h =
     let a = h AfterAnchor (behind_anchor (drop at text)) in
-    record { forward = a.forward; within = a.within; height = a.height; stands = λ p b. atom (h p b).stands }
+    record { forward = a.forward; within = a.within; height = a.height; stands = λ p b. record { meaning = (h p b).meaning; is = (h p b).is; stands = atom (h p b).stands } }
 
 -- where no duplication follows, it is read
-pub item_read : (levels : ℕ) (text : Text) (at : ℕ) (piece : Piece) → ItemSoFar levels text at piece → OpensNoDuplication (drop piece.behind text) →
-    (p : ItemPlace) → MayBegin p (drop at text) → ItemStands p levels text at piece
-item_read levels text at piece h n p b = record { forward = h.forward; within = h.within; height = h.height; no_more = n; stands = h.stands p b }
+pub item_read : {alloc : Option Global} (levels : ℕ) (text : Text) (at : ℕ) (piece : Piece) → ItemSoFar alloc levels text at piece → OpensNoDuplication (drop piece.behind text) →
+    (p : ItemPlace) → MayBegin p (drop at text) → ItemStands alloc p levels text at piece
+item_read levels text at piece h n p b =
+    let m = h.stands p b in
+    record { forward = h.forward; within = h.within; height = h.height; no_more = n; meaning = m.meaning; is = m.is; stands = m.stands }
 
 -- a duplication takes some byte
 pub duplication_takes : {text : Text} {at : ℕ} {counts : Counts} {behind : ℕ} → DuplicationStands text at counts behind → at < behind
@@ -66,8 +74,8 @@ duplication_takes {text} {at} {counts} {behind} d = go d.duplication d.front
     go (interval {t = t} form allowed) e = omega (arith, simp (length-append, length-drop) at (ap length e), d.within)
 
 -- with one duplication more
-pub item_repeated : (levels : ℕ) (text : Text) (at : ℕ) (old new : Piece) (counts : Counts) (behind : ℕ) → ItemSoFar levels text at old → old.height ≢ levels →
-    DuplicationStands text old.behind counts behind → IsRepeated old counts behind new → ItemSoFar levels text at new
+pub item_repeated : {alloc : Option Global} (levels : ℕ) (text : Text) (at : ℕ) (old new : Piece) (counts : Counts) (behind : ℕ) → ItemSoFar alloc levels text at old → old.height ≢ levels →
+    DuplicationStands text old.behind counts behind → IsRepeated alloc old counts behind new → ItemSoFar alloc levels text at new
 item_repeated levels text at old new counts behind h n d r =
     let takes = duplication_takes d in
     record {
@@ -75,19 +83,20 @@ item_repeated levels text at old new counts behind h n d r =
       within = omega (arith, d.within, r.place);
       height = omega (arith, h.height, r.height);
       stands = λ p b.
-          let there : Item p old.height (drop at text) (d.bytes ++ drop behind text) (expression_of old.tree) =
-          subst (λ t. Item p old.height (drop at text) t (expression_of old.tree)) d.front (h.stands p b) in
+          let m = h.stands p b in
+          let there : Item p old.height (drop at text) (d.bytes ++ drop behind text) m.meaning =
+          subst (λ t. Item p old.height (drop at text) t m.meaning) d.front m.stands in
           let grown : suc old.height ≡ new.height = omega (arith, r.height) in
-          let again : Item p new.height (drop at text) (drop behind text) (repeat (expression_of old.tree) counts.least counts.most) =
-          subst (λ k. Item p k (drop at text) (drop behind text) (repeat (expression_of old.tree) counts.least counts.most)) grown (repeated there d.duplication) in
-          rw (r.means, r.place) again;
+          let again : Item p new.height (drop at text) (drop behind text) (repeat m.meaning counts.least counts.most) =
+          subst (λ k. Item p k (drop at text) (drop behind text) (repeat m.meaning counts.least counts.most)) grown (repeated there d.duplication) in
+          record { meaning = repeat m.meaning counts.least counts.most; is = r.means m.meaning m.is; stands = rw r.place again };
     }
 
 -- one more level than there are
-pub too_deep : (levels : ℕ) (text : Text) (at : ℕ) (piece : Piece) (counts : Counts) (behind : ℕ) → ItemSoFar levels text at piece → piece.height ≡ levels →
+pub too_deep : {alloc : Option Global} (levels : ℕ) (text : Text) (at : ℕ) (piece : Piece) (counts : Counts) (behind : ℕ) → ItemSoFar alloc levels text at piece → piece.height ≡ levels →
     DuplicationStands text piece.behind counts behind → (p : ItemPlace) → MayBegin p (drop at text) → HasNoItems p levels (drop at text)
 too_deep levels text at piece counts behind h e d p b = record {
-  none = λ n u es is end' le. let higher = items-higher is (h.stands p b) refl end' (stands_some d) in absurd (omega arith);
+  none = λ n u es is end' le. let higher = items-higher is (h.stands p b).stands refl end' (stands_some d) in absurd (omega arith);
 }
 
 -- which shows at the duplication
@@ -106,11 +115,11 @@ later_not_interval (trailing l) w e h = apart 36 92 (heads e) refl
 later_not_interval (item i is) w e h = let (b, v, f, clear) = item_front i in clear.no_duplication (heads (sym f ∙ e)) 123 w (tails (sym f ∙ e)) refl
 
 -- so where an interval is refused behind an item no items stand
-pub no_items_bad : (levels : ℕ) (text : Text) (at : ℕ) (piece : Piece) (fault : PatternFault) → ItemSoFar levels text at piece → HasBadInterval text piece.behind fault →
+pub no_items_bad : {alloc : Option Global} (levels : ℕ) (text : Text) (at : ℕ) (piece : Piece) (fault : PatternFault) → ItemSoFar alloc levels text at piece → HasBadInterval text piece.behind fault →
     (p : ItemPlace) → MayBegin p (drop at text) → HasNoItems p levels (drop at text)
 no_items_bad levels text at piece fault h bad p b = record {
   none = λ n u es is end' le.
-      let rest = items-after is (h.stands p b) refl end' bad.none in
+      let rest = items-after is (h.stands p b).stands refl end' bad.none in
       let (w, e) = bad.opens in
       later_not_interval rest.items w e end';
 }
@@ -118,9 +127,9 @@ no_items_bad levels text at piece fault h bad p b = record {
 -- The items so far, and one more.
 
 -- one more item
-pub one_more : (levels : ℕ) (text : Text) (from : ℕ) (old new : Pieces) (piece : Piece) → SoFar levels text from old →
-    ((p : ItemPlace) → MayBegin p (drop old.behind text) → ItemStands p levels text old.behind piece) → IsJoined old piece new → SoFar levels text from new
-one_more levels text from old new piece s h j =
+pub one_more : {alloc : Option Global} (levels : ℕ) (text : Text) (from : ℕ) (old new : Pieces) (piece : Piece) → SoFar alloc levels text from old →
+    ((p : ItemPlace) → MayBegin p (drop old.behind text) → ItemStands alloc p levels text old.behind piece) → IsJoined old piece new → SoFar alloc levels text from new
+one_more {alloc} levels text from old new piece s h j =
     let i = h s.place s.begins in
     record {
       forward = omega (arith, j.place, i.forward, s.forward);
@@ -129,10 +138,12 @@ one_more levels text from old new piece s h j =
       opens = λ b. absurd (i.no_more.escaped (rw j.place at b));
       place = Later;
       begins = record { no_lead = λ e. cc; no_duplication = λ e. rw j.place i.no_more };
+      members = s.members ++ i.meaning ∷ [];
+      are = j.means alloc s.members i.meaning s.are i.is;
       ahead = λ k v es is.
           let next : Items Later k (drop piece.behind text) v es = rw j.place at is in
-          let all = s.ahead (max piece.height k) v (expression_of piece.tree ∷ es) (item i.stands next) in
-          rw (j.means, append_assoc) (at_height (regrouped old.height piece.height k ∙ ap (λ n. max n k) (sym j.height)) all);
+          let all = s.ahead (max piece.height k) v (i.meaning ∷ es) (item i.stands next) in
+          rw append_assoc (at_height (regrouped old.height piece.height k ∙ ap (λ n. max n k) (sym j.height)) all);
       back = λ none_there. s.back (record {
         none = λ n u es is end' le.
             let rest = items-after is i.stands refl end' (opens_none i.no_more) in
@@ -141,16 +152,16 @@ one_more levels text from old new piece s h j =
     }
 
 -- and the end
-pub all_read : (levels : ℕ) (text : Text) (from : ℕ) (old new : Pieces) (piece : Piece) → SoFar levels text from old → IsEnded text old new →
-    expression_of piece.tree ≡ sequence (map expression_of new.trees.items) → piece.height ≡ new.height → piece.behind ≡ new.behind → BranchStands levels text from piece
+pub all_read : {alloc : Option Global} (levels : ℕ) (text : Text) (from : ℕ) (old new : Pieces) (piece : Piece) → SoFar alloc levels text from old → IsEnded alloc text old new →
+    ((es : List Expression) → AreTold alloc new es → IsTold alloc piece (sequence es)) → piece.height ≡ new.height → piece.behind ≡ new.behind → BranchStands alloc levels text from piece
 all_read levels text from old new piece s e means h b = record {
   forward = omega (arith, s.forward, e.forward);
   within = omega (arith, e.within);
   at_end = rw b e.at_end;
   height = omega (arith, e.height, s.height);
-  members = map expression_of new.trees.items;
+  members = s.members ++ e.last;
   stands =
       let all = s.ahead 0 (drop new.behind text) e.last (e.stands s.place) in
-      rw (e.means, h, b) (at_height (omega (arith, e.height)) all);
-  means = means;
+      rw (h, b) (at_height (omega (arith, e.height)) all);
+  is = means (s.members ++ e.last) (e.means s.members s.are);
 }

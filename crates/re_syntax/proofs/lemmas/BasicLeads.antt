@@ -1,14 +1,14 @@
 -- The anchor that a branch of a basic expression begins with, and what is said of the items behind it.
-use Rattle.std.proofs.Common.{◌≡◌, ℕ, ◌+◌, ◌≤◌, inl, inr, List, [], ◌∷◌, ◌++◌, length, take, drop, map, codes, refl, sym, ap, ◌∙◌, subst, arith}
+use Rattle.std.proofs.Common.{◌≡◌, ℕ, ◌+◌, ◌≤◌, inl, inr, List, [], ◌∷◌, ◌++◌, length, take, drop, codes, refl, sym, ap, ◌∙◌, subst, arith, Option, Global}
 use Rattle.re_syntax.specs.declared.pieces.Pieces.{Pieces}
 use Rattle.re_syntax.specs.declared.pieces.Piece.{Piece}
 use Rattle.re_syntax.specs.Bytes.{Text, Begins}
 use Rattle.re_syntax.specs.Working.Ahead.{IsAfter}
-use Rattle.re_syntax.specs.Expression.{Expression, begin, expression_of}
+use Rattle.re_syntax.specs.Expression.{Expression, begin}
 use Rattle.re_syntax.specs.Basic.{ItemPlace, First, AfterAnchor, IsAtEnd, Items, none, leading, trailing, item}
 use Rattle.re_syntax.specs.BasicFaults.{IsStart}
 use Rattle.re_syntax.specs.Working.BasicSteps.{SoFar}
-use Rattle.re_syntax.specs.Working.PieceSteps.{IsJoined}
+use Rattle.re_syntax.specs.Working.PieceSteps.{IsTold, AreTold, IsJoined}
 use Rattle.re_syntax.proofs.lemmas.BracketsUnique.{heads, tails, apart}
 use Rattle.re_syntax.proofs.lemmas.BasicUnique.{item_front, end_byte}
 use Rattle.re_syntax.proofs.lemmas.Places.{take-after}
@@ -25,8 +25,8 @@ behind_lead (trailing l) w e end' = absurd (apart 36 94 (heads e) refl)
 behind_lead (item i is) w e end' = let (b, v, f, clear) = item_front i in absurd (clear.not_caret refl (heads (sym f ∙ e)))
 
 -- a branch without the anchor
-pub without_lead : (levels : ℕ) (text : Text) (from : ℕ) (items : Pieces) → from ≤ length text → IsStart (take from text) → ¬ Begins (codes "^") (drop from text) →
-    items.trees.items ≡ [] → items.height ≡ 0 → items.behind ≡ from → SoFar levels text from items
+pub without_lead : {alloc : Option Global} (levels : ℕ) (text : Text) (from : ℕ) (items : Pieces) → from ≤ length text → IsStart (take from text) → ¬ Begins (codes "^") (drop from text) →
+    AreTold alloc items [] → items.height ≡ 0 → items.behind ≡ from → SoFar alloc levels text from items
 without_lead levels text from items h s n e f g = record {
   forward = omega arith;
   within = omega arith;
@@ -34,16 +34,17 @@ without_lead levels text from items h s n e f g = record {
   opens = rw g (λ b. inl s);
   place = First;
   begins = rw g (record { no_lead = λ k. n; no_duplication = λ k. cc });
-  ahead = rw (e, f, g) (λ k v es is. at_height (omega arith) is);
+  members = [];
+  are = e;
+  ahead = rw (f, g) (λ k v es is. at_height (omega arith) is);
   back = rw g (λ k. k);
 }
 
 -- a branch with it
-pub with_lead : (levels : ℕ) (text : Text) (from : ℕ) (old new : Pieces) (piece : Piece) → from ≤ length text → IsAfter (codes "^") text from piece.behind →
-    old.trees.items ≡ [] → old.height ≡ 0 → expression_of piece.tree ≡ begin → piece.height ≡ 0 → IsJoined old piece new → SoFar levels text from new
-with_lead levels text from old new piece h s e f g k j =
+pub with_lead : {alloc : Option Global} (levels : ℕ) (text : Text) (from : ℕ) (old new : Pieces) (piece : Piece) → from ≤ length text → IsAfter (codes "^") text from piece.behind →
+    AreTold alloc old [] → old.height ≡ 0 → IsTold alloc piece begin → piece.height ≡ 0 → IsJoined old piece new → SoFar alloc levels text from new
+with_lead {alloc} levels text from old new piece h s e f g k j =
     let there : drop from text ≡ codes "^" ++ drop new.behind text = s.front ∙ ap (λ n. 94 ∷ drop n text) (sym j.place) in
-    let means : map expression_of new.trees.items ≡ begin ∷ [] = j.means ∙ ap (λ x. map expression_of x ++ expression_of piece.tree ∷ []) e ∙ ap (λ x. x ∷ []) g in
     let height : new.height ≡ 0 = omega (arith, j.height) in
     let place : new.behind ≡ from + 1 = j.place ∙ s.place in
     record {
@@ -53,6 +54,8 @@ with_lead levels text from old new piece h s e f g k j =
       opens = λ b. inr (take from text, ap (λ n. take n text) place ∙ take-after text from (codes "^") (drop new.behind text) there);
       place = AfterAnchor;
       begins = record { no_lead = λ x. cc; no_duplication = λ x. cc };
-      ahead = λ n v es is. rw (means, there) (at_height (omega arith) (leading is));
+      members = begin ∷ [];
+      are = j.means alloc [] begin e g;
+      ahead = λ n v es is. rw there (at_height (omega arith) (leading is));
       back = λ none_there. record { none = λ n u es is end' le. let (fs, rest) = behind_lead is (drop new.behind text) there end' in none_there.none n u fs rest end' le };
     }

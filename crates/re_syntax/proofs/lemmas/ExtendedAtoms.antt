@@ -1,5 +1,5 @@
 -- Single atoms of extended expressions, from what stands at their place.
-use Rattle.std.proofs.Common.{◌≡◌, ◌≢◌, ℕ, ◌+◌, ◌<◌, ◌⊎◌, inl, inr, Bool, true, false, ◌∷◌, ◌++◌, length, take, drop, Some, IsTrue, slice_get, codes, refl, sym, ap, ◌∙◌, subst, arith, length-drop}
+use Rattle.std.proofs.Common.{◌≡◌, ◌≢◌, ℕ, ◌+◌, ◌<◌, ◌⊎◌, inl, inr, Bool, true, false, ◌∷◌, ◌++◌, length, take, drop, Some, IsTrue, slice_get, codes, refl, sym, ap, ◌∙◌, subst, arith, length-drop, Option, Global}
 use Rattle.std.proofs.lemmas.Bool.{ne_eqb, cases_eq}
 use Rattle.re_syntax.specs.declared.pieces.Piece.{Piece}
 use Rattle.re_syntax.specs.declared.fault.FaultKind.{FaultKind}
@@ -9,7 +9,7 @@ use Rattle.re_syntax.specs.Bytes.{Text, Begins}
 use Rattle.re_syntax.specs.Escapes.{is_undefined}
 use Rattle.re_syntax.specs.EscapeFaults.{IsRefusedEscape, undefined, reference, BeginsRefusedEscape}
 use Rattle.re_syntax.specs.Working.EscapeSteps.{EscapeStands, HasNoEscape, trailing, refused}
-use Rattle.re_syntax.specs.Expression.{Expression, one_of, end, byte, expression_of}
+use Rattle.re_syntax.specs.Expression.{Expression, one_of, end, byte}
 use Rattle.re_syntax.specs.Brackets.{IsBracket}
 use Rattle.re_syntax.specs.Faults.{ShowsBracketFault, IsNoBracket}
 use Rattle.re_syntax.specs.Intervals.{HasNoInterval}
@@ -17,7 +17,7 @@ use Rattle.re_syntax.specs.Extended.{is_ordinary, Atom, bracket, period, dollar,
 use Rattle.re_syntax.specs.ExtendedFaults.{opens_star, opens_plus, opens_question, opens_interval, OpensDuplication, ShowsExtendedFault, IsShownIn}
 use Rattle.re_syntax.specs.Profile.{extended_refused}
 use Rattle.re_syntax.specs.Working.ExtendedSteps.{stops, MayBegin, AtomStands, HasNoAtom}
-use Rattle.re_syntax.specs.Working.PieceSteps.{meant_bytes, IsBracketPiece}
+use Rattle.re_syntax.specs.Working.PieceSteps.{meant_bytes, IsTold, IsBracketPiece}
 use Rattle.re_syntax.proofs.lemmas.BracketsUnique.{heads, apart, bracket_front}
 use Rattle.re_syntax.proofs.lemmas.BracketKinds.{IsBracketKind, is_unclosed, is_class, is_symbol, is_range, bracket_kind}
 use Rattle.re_syntax.proofs.lemmas.BracketLists.{bracket-shortens}
@@ -38,12 +38,12 @@ shown_escape text at fault (trailing e front) = subst (IsShownIn text) (sym e) f
 shown_escape text at fault (refused e r) = subst (IsShownIn text) (sym e) (shown_refused (take at text) (drop at text) r.refused r)
 
 -- an escape stands up to the next place but one
-pub escaped_stands : (g : Bool) (levels : ℕ) (text : Text) (at b : ℕ) (piece : Piece) → EscapeStands extended_refused text at b → expression_of piece.tree ≡ byte b →
-    piece.height ≡ 0 → piece.behind ≡ at + 2 → AtomStands g levels text at piece
+pub escaped_stands : {alloc : Option Global} (g : Bool) (levels : ℕ) (text : Text) (at b : ℕ) (piece : Piece) → EscapeStands extended_refused text at b → IsTold alloc piece (byte b) →
+    piece.height ≡ 0 → piece.behind ≡ at + 2 → AtomStands alloc g levels text at piece
 escaped_stands g levels text at b piece s f h n =
     let within = s.within in
     let one : Atom g 0 (92 ∷ b ∷ drop (at + 2) text) (drop (at + 2) text) (byte b) = escaped b s.allowed in
-    record { forward = omega arith; within = omega arith; height = omega arith; stands = rw (f, h, n, s.front) one }
+    record { forward = omega arith; within = omega arith; height = omega arith; meaning = byte b; is = f; stands = rw (h, n, s.front) one }
 
 -- at a backslash nothing else stands
 atom_escape : {g : Bool} {h : ℕ} {t u w : Text} {e : Expression} → Atom g h t u e → t ≡ 92 ∷ w →
@@ -63,13 +63,15 @@ no_escape_atom g levels (w, e) h = record { none = λ n u x a le. atom_escape a 
 -- Bracket expressions.
 
 -- a bracket expression is an atom
-pub bracket_atom : (g : Bool) (levels : ℕ) (text : Text) (at : ℕ) (piece : Piece) → IsBracketPiece text at piece → AtomStands g levels text at piece
+pub bracket_atom : {alloc : Option Global} (g : Bool) (levels : ℕ) (text : Text) (at : ℕ) (piece : Piece) → IsBracketPiece alloc text at piece → AtomStands alloc g levels text at piece
 bracket_atom g levels text at piece b =
     let within = b.stands.within in
     record {
       forward = omega (arith, simp length-drop at (bracket-shortens b.stands.stands), within);
       within = within;
       height = omega (arith, b.height);
+      meaning = b.meaning;
+      is = b.is;
       stands = rw b.height (bracket b.stands.stands);
     }
 
@@ -104,14 +106,14 @@ shown_no_bracket text at fault h =
 -- Other bytes.
 
 -- an atom of one byte stands up to the next place
-one_byte : (g : Bool) (levels : ℕ) (text : Text) (at b : ℕ) (piece : Piece) (e : Expression) → at < length text → drop at text ≡ b ∷ drop (at + 1) text →
-    Atom g 0 (b ∷ drop (at + 1) text) (drop (at + 1) text) e → expression_of piece.tree ≡ e → piece.height ≡ 0 → piece.behind ≡ at + 1 → AtomStands g levels text at piece
+one_byte : {alloc : Option Global} (g : Bool) (levels : ℕ) (text : Text) (at b : ℕ) (piece : Piece) (e : Expression) → at < length text → drop at text ≡ b ∷ drop (at + 1) text →
+    Atom g 0 (b ∷ drop (at + 1) text) (drop (at + 1) text) e → IsTold alloc piece e → piece.height ≡ 0 → piece.behind ≡ at + 1 → AtomStands alloc g levels text at piece
 one_byte g levels text at b piece e h front a f k n =
-    record { forward = omega arith; within = omega arith; height = omega arith; stands = rw (f, k, n, front) a }
+    record { forward = omega arith; within = omega arith; height = omega arith; meaning = e; is = f; stands = rw (k, n, front) a }
 
 -- a `$`
-pub dollar_stands : (g : Bool) (levels : ℕ) (text : Text) (at : ℕ) (piece : Piece) → at < length text → drop at text ≡ 36 ∷ drop (at + 1) text →
-    expression_of piece.tree ≡ end → piece.height ≡ 0 → piece.behind ≡ at + 1 → AtomStands g levels text at piece
+pub dollar_stands : {alloc : Option Global} (g : Bool) (levels : ℕ) (text : Text) (at : ℕ) (piece : Piece) → at < length text → drop at text ≡ 36 ∷ drop (at + 1) text →
+    IsTold alloc piece end → piece.height ≡ 0 → piece.behind ≡ at + 1 → AtomStands alloc g levels text at piece
 dollar_stands g levels text at piece h front f k n = one_byte g levels text at 36 piece end h front dollar f k n
 
 -- a byte that ends no branch is none that would
@@ -176,8 +178,8 @@ single_atom g b u m k l o w = go (cases_eq b 46)
     go (inr n) = rw (ne_eqb b 46 n) (ordinary b (stands_for_itself g b u m k n l o w) no_interval)
 
 -- which stands up to the next place
-pub single_stands : (g : Bool) (levels : ℕ) (text : Text) (at b : ℕ) (piece : Piece) → at < length text → drop at text ≡ b ∷ drop (at + 1) text →
-    MayBegin g (drop at text) → b ≢ 91 → b ≢ 92 → b ≢ 40 → b ≢ 36 → expression_of piece.tree ≡ one_of (meant_bytes b) → piece.height ≡ 0 → piece.behind ≡ at + 1 →
-    AtomStands g levels text at piece
+pub single_stands : {alloc : Option Global} (g : Bool) (levels : ℕ) (text : Text) (at b : ℕ) (piece : Piece) → at < length text → drop at text ≡ b ∷ drop (at + 1) text →
+    MayBegin g (drop at text) → b ≢ 91 → b ≢ 92 → b ≢ 40 → b ≢ 36 → IsTold alloc piece (one_of (meant_bytes b)) → piece.height ≡ 0 → piece.behind ≡ at + 1 →
+    AtomStands alloc g levels text at piece
 single_stands g levels text at b piece h front m k l o w f i n =
     one_byte g levels text at b piece (one_of (meant_bytes b)) h front (single_atom g b (drop (at + 1) text) (rw front at m) k l o w) f i n

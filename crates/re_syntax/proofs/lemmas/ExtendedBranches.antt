@@ -1,5 +1,5 @@
 -- Branches and groups of extended expressions, and a whole expression, from the items that stand there.
-use Rattle.std.proofs.Common.{◌≡◌, ◌≢◌, ℕ, suc, ◌+◌, ◌-◌, ◌≤◌, ◌⊎◌, inl, inr, max, Bool, true, false, ◌&&◌, nat_eq, List, [], ◌∷◌, ◌++◌, length, take, drop, map, codes, refl, sym, ap, ◌∙◌, subst, arith, append_assoc, length-drop}
+use Rattle.std.proofs.Common.{◌≡◌, ◌≢◌, ℕ, suc, ◌+◌, ◌-◌, ◌≤◌, ◌⊎◌, inl, inr, max, Bool, true, false, ◌&&◌, nat_eq, List, [], ◌∷◌, ◌++◌, length, take, drop, codes, refl, sym, ap, ◌∙◌, subst, arith, append_assoc, length-drop, Option, Global}
 use Rattle.std.proofs.lemmas.Bool.{or_cases, eqb-true}
 use Rattle.re_syntax.specs.declared.pieces.Piece.{Piece}
 use Rattle.re_syntax.specs.declared.pieces.Pieces.{Pieces}
@@ -8,11 +8,11 @@ use Rattle.re_syntax.specs.declared.fault.PatternFault.{PatternFault}
 use Rattle.re_syntax.specs.declared.syntax.Syntax.TheVariants.{Extended}
 use Rattle.re_syntax.specs.Bytes.{Text, Begins}
 use Rattle.re_syntax.specs.Working.Ahead.{IsAfter}
-use Rattle.re_syntax.specs.Expression.{Expression, sequence, choice, expression_of}
+use Rattle.re_syntax.specs.Expression.{Expression, sequence, choice}
 use Rattle.re_syntax.specs.Extended.{Branches, last, more, Items, Atom, group}
 use Rattle.re_syntax.specs.ExtendedFaults.{IsStart, OpensUnclosed, IsShownIn, IsNoExtended}
 use Rattle.re_syntax.specs.Working.ExtendedSteps.{stops, ends, AtomStands, HasNoAtom, HasNoItems, BranchStands, HasNoBranches, BranchesStand}
-use Rattle.re_syntax.specs.Working.PieceSteps.{IsRefused, memory, told, IsJoined}
+use Rattle.re_syntax.specs.Working.PieceSteps.{IsRefused, memory, told, IsTold, AreTold, IsJoined}
 use Rattle.re_syntax.specs.Profile.{most_levels}
 use Rattle.re_syntax.specs.Spelled.{IsSpelled, as_extended}
 use Rattle.re_syntax.proofs.lemmas.BracketsUnique.{tails}
@@ -42,33 +42,35 @@ behind_bar {g} {u = u} {v = v} (more {k = k} {fs = fs} is bs) js s e p =
     record { height = k; below = omega arith; others = fs; branches = subst (λ x. Branches g k x v fs) (tails (same.rests ∙ e)) bs }
 
 -- the branches that were read from one place on, up to the end of one of them, and what they say of all branches
-pub record BranchesSoFar (g : Bool) (levels : ℕ) (text : Text) (from : ℕ) (branches : Pieces) : Type 0 where
+pub record BranchesSoFar (alloc : Option Global) (g : Bool) (levels : ℕ) (text : Text) (from : ℕ) (branches : Pieces) : Type 0 where
   pub forward : from ≤ branches.behind
   pub within : branches.behind ≤ length text
   pub height : branches.height ≤ levels
   pub at_end : stops g (drop branches.behind text) ≡ true
-  pub stands : Branches g branches.height (drop from text) (drop branches.behind text) (map expression_of branches.trees.items)
+  pub members : List Expression
+  pub are : AreTold alloc branches members
+  pub stands : Branches g branches.height (drop from text) (drop branches.behind text) members
   pub ahead : (u : Text) → drop branches.behind text ≡ codes "|" ++ u → (k : ℕ) (v : Text) (fs : List Expression) → Branches g k u v fs →
-      Branches g (max branches.height k) (drop from text) v (map expression_of branches.trees.items ++ fs)
+      Branches g (max branches.height k) (drop from text) v (members ++ fs)
   pub back : (u : Text) → drop branches.behind text ≡ codes "|" ++ u → HasNoBranches g levels u → HasNoBranches g levels (drop from text)
 
 -- the first
-pub first_branch : (g : Bool) (levels : ℕ) (text : Text) (from : ℕ) (old new : Pieces) (piece : Piece) → BranchStands g levels text from piece → old.trees.items ≡ [] →
-    old.height ≡ 0 → IsJoined old piece new → BranchesSoFar g levels text from new
-first_branch g levels text from old new piece b e f j =
-    let means : map expression_of new.trees.items ≡ sequence b.members ∷ [] =
-    j.means ∙ ap (λ x. map expression_of x ++ expression_of piece.tree ∷ []) e ∙ ap (λ x. x ∷ []) b.means in
+pub first_branch : {alloc : Option Global} (g : Bool) (levels : ℕ) (text : Text) (from : ℕ) (old new : Pieces) (piece : Piece) → BranchStands alloc g levels text from piece → AreTold alloc old [] →
+    old.height ≡ 0 → IsJoined old piece new → BranchesSoFar alloc g levels text from new
+first_branch {alloc} g levels text from old new piece b e f j =
     let height : piece.height ≡ new.height = omega (arith, j.height) in
     record {
       forward = omega (arith, b.forward, j.place);
       within = omega (arith, b.within, j.place);
       height = omega (arith, b.height);
       at_end = rw j.place b.at_end;
-      stands = rw (means, j.place) (at_height height (last b.stands));
+      members = sequence b.members ∷ [];
+      are = j.means alloc [] (sequence b.members) e b.is;
+      stands = rw j.place (at_height height (last b.stands));
       ahead = λ u s k v fs bs.
           let there : drop piece.behind text ≡ 124 ∷ u = rw j.place at s in
           let inner : Items g piece.height (drop from text) (124 ∷ u) b.members = subst (λ x. Items g piece.height (drop from text) x b.members) there b.stands in
-          rw means (at_height (ap (λ n. max n k) height) (more inner bs));
+          at_height (ap (λ n. max n k) height) (more inner bs);
       back = λ u s h. record {
         none = λ n v es bs p le.
             let there : drop piece.behind text ≡ 124 ∷ u = rw j.place at s in
@@ -78,24 +80,24 @@ first_branch g levels text from old new piece b e f j =
     }
 
 -- one more behind a bar
-pub next_branch : (g : Bool) (levels : ℕ) (text : Text) (from : ℕ) (old new : Pieces) (place : ℕ) (piece : Piece) → BranchesSoFar g levels text from old →
-    IsAfter (codes "|") text old.behind place → BranchStands g levels text place piece → IsJoined old piece new → BranchesSoFar g levels text from new
-next_branch g levels text from old new place piece s bar b j =
-    let means : map expression_of new.trees.items ≡ map expression_of old.trees.items ++ sequence b.members ∷ [] =
-    j.means ∙ ap (λ x. map expression_of old.trees.items ++ x ∷ []) b.means in
+pub next_branch : {alloc : Option Global} (g : Bool) (levels : ℕ) (text : Text) (from : ℕ) (old new : Pieces) (place : ℕ) (piece : Piece) → BranchesSoFar alloc g levels text from old →
+    IsAfter (codes "|") text old.behind place → BranchStands alloc g levels text place piece → IsJoined old piece new → BranchesSoFar alloc g levels text from new
+next_branch {alloc} g levels text from old new place piece s bar b j =
     record {
       forward = omega (arith, s.forward, bar.place, b.forward, j.place);
       within = omega (arith, b.within, j.place);
       height = omega (arith, s.height, b.height, j.height);
       at_end = rw j.place b.at_end;
+      members = s.members ++ sequence b.members ∷ [];
+      are = j.means alloc s.members (sequence b.members) s.are b.is;
       stands =
           let all = s.ahead (drop place text) bar.front piece.height (drop piece.behind text) (sequence b.members ∷ []) (last b.stands) in
-          rw (means, j.place) (at_height (sym j.height) all);
+          rw j.place (at_height (sym j.height) all);
       ahead = λ u e k v fs bs.
           let there : drop piece.behind text ≡ 124 ∷ u = rw j.place at e in
           let inner : Items g piece.height (drop place text) (124 ∷ u) b.members = subst (λ x. Items g piece.height (drop place text) x b.members) there b.stands in
           let all = s.ahead (drop place text) bar.front (max piece.height k) v (sequence b.members ∷ fs) (more inner bs) in
-          rw (means, append_assoc) (at_height (regrouped old.height piece.height k ∙ ap (λ n. max n k) (sym j.height)) all);
+          rw append_assoc (at_height (regrouped old.height piece.height k ∙ ap (λ n. max n k) (sym j.height)) all);
       back = λ u e h. s.back (drop place text) bar.front (record {
         none = λ n v es bs p le.
             let there : drop piece.behind text ≡ 124 ∷ u = rw j.place at e in
@@ -126,10 +128,10 @@ last_ends g (b ∷ t) h n = go (or_cases (nat_eq b 124) (g && nat_eq b 41) h)
     go (inr e) = e
 
 -- all branches
-pub branches_read : {g : Bool} {levels : ℕ} {text : Text} {from : ℕ} {branches : Pieces} → BranchesSoFar g levels text from branches →
-    ¬ Begins (codes "|") (drop branches.behind text) → BranchesStand g levels text from branches
+pub branches_read : {alloc : Option Global} {g : Bool} {levels : ℕ} {text : Text} {from : ℕ} {branches : Pieces} → BranchesSoFar alloc g levels text from branches →
+    ¬ Begins (codes "|") (drop branches.behind text) → BranchesStand alloc g levels text from branches
 branches_read {g} {text = text} {branches = branches} s n =
-    record { forward = s.forward; within = s.within; height = s.height; at_end = last_ends g (drop branches.behind text) s.at_end n; stands = s.stands }
+    record { forward = s.forward; within = s.within; height = s.height; at_end = last_ends g (drop branches.behind text) s.at_end n; members = s.members; are = s.are; stands = s.stands }
 
 -- Groups.
 
@@ -146,11 +148,11 @@ pub opening_starts : (text : Text) (at : ℕ) → Begins (codes "(") (drop at te
 opening_starts text at b = inr (inl (take at text, take-after text at (codes "(") (drop (at + 1) text) (behind_opening text at b)))
 
 -- a group whose branches were read
-pub group_stands : (g : Bool) (levels : ℕ) (text : Text) (at : ℕ) (branches : Pieces) (piece : Piece) → Begins (codes "(") (drop at text) → levels ≢ 0 →
-    BranchesStand true (levels - 1) text (at + 1) branches → IsAfter (codes ")") text branches.behind piece.behind → piece.height ≡ branches.height + 1 →
-    expression_of piece.tree ≡ choice (map expression_of branches.trees.items) → AtomStands g levels text at piece
+pub group_stands : {alloc : Option Global} (g : Bool) (levels : ℕ) (text : Text) (at : ℕ) (branches : Pieces) (piece : Piece) → Begins (codes "(") (drop at text) → levels ≢ 0 →
+    BranchesStand alloc true (levels - 1) text (at + 1) branches → IsAfter (codes ")") text branches.behind piece.behind → piece.height ≡ branches.height + 1 →
+    ((es : List Expression) → AreTold alloc branches es → IsTold alloc piece (choice es)) → AtomStands alloc g levels text at piece
 group_stands g levels text at branches piece b n s c e f =
-    let es = map expression_of branches.trees.items in
+    let es = s.members in
     let inner : Branches true branches.height (drop (at + 1) text) (codes ")" ++ drop piece.behind text) es =
     subst (λ u. Branches true branches.height (drop (at + 1) text) u es) c.front s.stands in
     let one : Atom g (suc branches.height) (codes "(" ++ drop (at + 1) text) (drop piece.behind text) (choice es) = group inner in
@@ -163,7 +165,9 @@ group_stands g levels text at branches piece b n s c e f =
       forward = omega (arith, s.forward, c.place);
       within = c.within;
       height = omega (arith, s.height);
-      stands = rw f three;
+      meaning = choice es;
+      is = f es s.are;
+      stands = three;
     }
 
 -- no level is left
@@ -180,8 +184,8 @@ no_group_inside g levels text at b k = record {
 }
 
 -- no end of the group follows the branches
-pub no_group_end : (g : Bool) (levels : ℕ) (text : Text) (at : ℕ) (branches : Pieces) → Begins (codes "(") (drop at text) →
-    BranchesStand true (levels - 1) text (at + 1) branches → ¬ Begins (codes ")") (drop branches.behind text) → HasNoAtom g levels (drop at text)
+pub no_group_end : {alloc : Option Global} (g : Bool) (levels : ℕ) (text : Text) (at : ℕ) (branches : Pieces) → Begins (codes "(") (drop at text) →
+    BranchesStand alloc true (levels - 1) text (at + 1) branches → ¬ Begins (codes ")") (drop branches.behind text) → HasNoAtom g levels (drop at text)
 no_group_end g levels text at branches b s k = record {
   none = λ h u x a le.
       let inside = is_group a (behind_opening text at b) in
@@ -195,14 +199,14 @@ left_open [] h k = refl
 left_open (b ∷ t) h k = absurd (k (t, ap (λ x. x ∷ t) (eqb-true b 41 h)))
 
 -- so they do behind the opening of a group that is not closed
-pub opens_unclosed : (levels : ℕ) (text : Text) (at : ℕ) (branches : Pieces) → Begins (codes "(") (drop at text) → BranchesStand true levels text (at + 1) branches →
+pub opens_unclosed : {alloc : Option Global} (levels : ℕ) (text : Text) (at : ℕ) (branches : Pieces) → Begins (codes "(") (drop at text) → BranchesStand alloc true levels text (at + 1) branches →
     ¬ Begins (codes ")") (drop branches.behind text) → OpensUnclosed (drop at text)
 opens_unclosed levels text at branches b s k = record {
   inside = drop (at + 1) text;
   height = branches.height;
-  members = map expression_of branches.trees.items;
+  members = s.members;
   opens = behind_opening text at b;
-  goes_on = subst (λ u. Branches true branches.height (drop (at + 1) text) u (map expression_of branches.trees.items)) (left_open (drop branches.behind text) s.at_end k) s.stands;
+  goes_on = subst (λ u. Branches true branches.height (drop (at + 1) text) u s.members) (left_open (drop branches.behind text) s.at_end k) s.stands;
 }
 
 -- A whole expression.
@@ -213,13 +217,13 @@ nothing_left [] h = refl
 nothing_left (b ∷ t) h = let k : false ≡ true = h in cc
 
 -- branches up to the text's end
-pub whole_read : (text : Text) (branches : Pieces) (e : Expression) → BranchesStand false most_levels text 0 branches →
-    e ≡ choice (map expression_of branches.trees.items) → IsSpelled Extended text e
-whole_read text branches e s f =
-    let es = map expression_of branches.trees.items in
+pub whole_read : {alloc : Option Global} (text : Text) (branches : Pieces) (piece : Piece) → BranchesStand alloc false most_levels text 0 branches →
+    ((es : List Expression) → AreTold alloc branches es → IsTold alloc piece (choice es)) → (e : Expression) × IsSpelled Extended text e × IsTold alloc piece e
+whole_read text branches piece s f =
+    let es = s.members in
     let nothing : drop branches.behind text ≡ [] = nothing_left (drop branches.behind text) s.at_end in
     let all : Branches false branches.height text [] es = subst (λ u. Branches false branches.height text u es) nothing s.stands in
-    rw f (as_extended all s.height)
+    (choice es, as_extended all s.height, f es s.are)
 
 -- where no branches stand nothing is spelled
 nothing_spelled : (text : Text) → HasNoBranches false most_levels text → (e : Expression) → ¬ IsSpelled Extended text e

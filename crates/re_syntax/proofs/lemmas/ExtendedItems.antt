@@ -1,5 +1,5 @@
 -- Items of extended expressions, and branches of them, from their atoms and what follows them.
-use Rattle.std.proofs.Common.{◌≡◌, ◌≢◌, ℕ, suc, ◌<◌, ◌≤◌, inl, inr, max, Bool, true, false, List, [], ◌∷◌, ◌++◌, length, take, drop, map, Option, codes, refl, sym, ap, ◌∙◌, subst, arith, append_assoc, append-nil, length-append, length-drop}
+use Rattle.std.proofs.Common.{◌≡◌, ◌≢◌, ℕ, suc, ◌<◌, ◌≤◌, inl, inr, max, Bool, true, false, List, [], ◌∷◌, ◌++◌, length, take, drop, Option, codes, refl, sym, ap, ◌∙◌, subst, arith, append_assoc, append-nil, length-append, length-drop, Global}
 use Rattle.re_syntax.specs.declared.pieces.Piece.{Piece}
 use Rattle.re_syntax.specs.declared.pieces.Pieces.{Pieces}
 use Rattle.re_syntax.specs.declared.interval.Counts.{Counts}
@@ -7,11 +7,11 @@ use Rattle.re_syntax.specs.declared.fault.FaultKind.TheVariants.{TooDeep}
 use Rattle.re_syntax.specs.declared.fault.PatternFault.{PatternFault}
 use Rattle.re_syntax.specs.Bytes.{Text}
 use Rattle.re_syntax.specs.Working.Ahead.{IsAfter}
-use Rattle.re_syntax.specs.Expression.{Expression, begin, repeat, sequence, expression_of}
+use Rattle.re_syntax.specs.Expression.{Expression, begin, repeat, sequence}
 use Rattle.re_syntax.specs.Extended.{Duplication, star, plus, question, interval, Items, none, anchor, item, Item, atom, repeated, Atom}
 use Rattle.re_syntax.specs.ExtendedFaults.{OpensDuplication, IsStart, HasNothingToRepeat, IsShownIn}
 use Rattle.re_syntax.specs.Working.ExtendedSteps.{stops, DuplicationStands, HasBadInterval, MayBegin, AtomStands, HasNoAtom, ItemStands, HasNoItems, IsNext, BranchStands}
-use Rattle.re_syntax.specs.Working.PieceSteps.{IsRepeated, IsJoined}
+use Rattle.re_syntax.specs.Working.PieceSteps.{IsTold, AreTold, IsRepeated, IsJoined}
 use Rattle.re_syntax.proofs.lemmas.Chains.{stands_some}
 use Rattle.re_syntax.proofs.lemmas.ExtendedUnique.{item_parts}
 use Rattle.re_syntax.proofs.lemmas.ExtendedReading.{items-after, items-after-anchor, items-higher}
@@ -35,20 +35,22 @@ no_items_without_atom {g} {levels} {t} m h = record { none = λ n u es is p le. 
         h.none parts.level parts.rest parts.start (subst (λ x. Atom g parts.level x parts.rest parts.start) e parts.atom_first) (omega (arith, parts.height))
 
 -- an item that was read up to a place; duplications may follow
-pub record ItemSoFar (g : Bool) (levels : ℕ) (text : Text) (at : ℕ) (piece : Piece) : Type 0 where
+pub record ItemSoFar (alloc : Option Global) (g : Bool) (levels : ℕ) (text : Text) (at : ℕ) (piece : Piece) : Type 0 where
   pub forward : at < piece.behind
   pub within : piece.behind ≤ length text
   pub height : piece.height ≤ levels
-  pub stands : Item g piece.height (drop at text) (drop piece.behind text) (expression_of piece.tree)
+  pub meaning : Expression
+  pub is : IsTold alloc piece meaning
+  pub stands : Item g piece.height (drop at text) (drop piece.behind text) meaning
 
 -- an atom is such an item
-pub item_of_atom : {g : Bool} {levels : ℕ} {text : Text} {at : ℕ} {piece : Piece} → AtomStands g levels text at piece → ItemSoFar g levels text at piece
-item_of_atom a = record { forward = a.forward; within = a.within; height = a.height; stands = atom a.stands }
+pub item_of_atom : {alloc : Option Global} {g : Bool} {levels : ℕ} {text : Text} {at : ℕ} {piece : Piece} → AtomStands alloc g levels text at piece → ItemSoFar alloc g levels text at piece
+item_of_atom a = record { forward = a.forward; within = a.within; height = a.height; meaning = a.meaning; is = a.is; stands = atom a.stands }
 
 -- where no duplication follows, it is read
-pub item_read : {g : Bool} {levels : ℕ} {text : Text} {at : ℕ} {piece : Piece} → ItemSoFar g levels text at piece → ¬ OpensDuplication (drop piece.behind text) →
-    ItemStands g levels text at piece
-item_read h n = record { forward = h.forward; within = h.within; height = h.height; no_more = n; stands = h.stands }
+pub item_read : {alloc : Option Global} {g : Bool} {levels : ℕ} {text : Text} {at : ℕ} {piece : Piece} → ItemSoFar alloc g levels text at piece → ¬ OpensDuplication (drop piece.behind text) →
+    ItemStands alloc g levels text at piece
+item_read h n = record { forward = h.forward; within = h.within; height = h.height; no_more = n; meaning = h.meaning; is = h.is; stands = h.stands }
 
 -- a duplication takes some byte
 pub duplication_takes : {text : Text} {at : ℕ} {counts : Counts} {behind : ℕ} → DuplicationStands text at counts behind → at < behind
@@ -61,24 +63,26 @@ duplication_takes {text} {at} {counts} {behind} d = go d.duplication d.front
     go (interval {t = t} form allowed) e = omega (arith, simp (length-append, length-drop) at (ap length e), d.within)
 
 -- with one duplication more
-pub item_repeated : (g : Bool) (levels : ℕ) (text : Text) (at : ℕ) (old new : Piece) (counts : Counts) (behind : ℕ) → ItemSoFar g levels text at old → old.height ≢ levels →
-    DuplicationStands text old.behind counts behind → IsRepeated old counts behind new → ItemSoFar g levels text at new
+pub item_repeated : {alloc : Option Global} (g : Bool) (levels : ℕ) (text : Text) (at : ℕ) (old new : Piece) (counts : Counts) (behind : ℕ) → ItemSoFar alloc g levels text at old → old.height ≢ levels →
+    DuplicationStands text old.behind counts behind → IsRepeated alloc old counts behind new → ItemSoFar alloc g levels text at new
 item_repeated g levels text at old new counts behind h n d r =
     let takes = duplication_takes d in
-    let there : Item g old.height (drop at text) (d.bytes ++ drop behind text) (expression_of old.tree) =
-    subst (λ t. Item g old.height (drop at text) t (expression_of old.tree)) d.front h.stands in
+    let there : Item g old.height (drop at text) (d.bytes ++ drop behind text) h.meaning =
+    subst (λ t. Item g old.height (drop at text) t h.meaning) d.front h.stands in
     let grown : suc old.height ≡ new.height = omega (arith, r.height) in
-    let again : Item g new.height (drop at text) (drop behind text) (repeat (expression_of old.tree) counts.least counts.most) =
-    subst (λ k. Item g k (drop at text) (drop behind text) (repeat (expression_of old.tree) counts.least counts.most)) grown (repeated there d.duplication) in
+    let again : Item g new.height (drop at text) (drop behind text) (repeat h.meaning counts.least counts.most) =
+    subst (λ k. Item g k (drop at text) (drop behind text) (repeat h.meaning counts.least counts.most)) grown (repeated there d.duplication) in
     record {
       forward = omega (arith, h.forward, r.place);
       within = omega (arith, d.within, r.place);
       height = omega (arith, h.height, r.height);
-      stands = rw (r.means, r.place) again;
+      meaning = repeat h.meaning counts.least counts.most;
+      is = r.means h.meaning h.is;
+      stands = rw r.place again;
     }
 
 -- one more level than there are
-pub too_deep : (g : Bool) (levels : ℕ) (text : Text) (at : ℕ) (piece : Piece) (counts : Counts) (behind : ℕ) → ItemSoFar g levels text at piece → piece.height ≡ levels →
+pub too_deep : {alloc : Option Global} (g : Bool) (levels : ℕ) (text : Text) (at : ℕ) (piece : Piece) (counts : Counts) (behind : ℕ) → ItemSoFar alloc g levels text at piece → piece.height ≡ levels →
     DuplicationStands text piece.behind counts behind → HasNoItems g levels (drop at text)
 too_deep g levels text at piece counts behind h e d =
     record { none = λ n u es is p le. let higher = items-higher is h.stands refl p (stands_some d) in absurd (omega arith) }
@@ -93,7 +97,7 @@ pub no_items_opening : (g : Bool) (levels : ℕ) {t : Text} → OpensDuplication
 no_items_opening g levels o = record { none = λ n u es is p le. let (b, w, e, first) = opening o in items_opening is b w e first p }
 
 -- so where an interval is refused behind an item no items stand
-pub no_items_bad : (g : Bool) (levels : ℕ) (text : Text) (at : ℕ) (piece : Piece) (fault : PatternFault) → ItemSoFar g levels text at piece →
+pub no_items_bad : {alloc : Option Global} (g : Bool) (levels : ℕ) (text : Text) (at : ℕ) (piece : Piece) (fault : PatternFault) → ItemSoFar alloc g levels text at piece →
     HasBadInterval text piece.behind fault → HasNoItems g levels (drop at text)
 no_items_bad g levels text at piece fault h bad = record {
   none = λ n u es is p le.
@@ -103,28 +107,32 @@ no_items_bad g levels text at piece fault h bad = record {
 }
 
 -- an anchor comes next
-pub anchor_next : (g : Bool) (levels : ℕ) (text : Text) (at : ℕ) (piece : Piece) → IsAfter (codes "^") text at piece.behind → expression_of piece.tree ≡ begin →
-    piece.height ≡ 0 → IsNext g levels text at piece
+pub anchor_next : {alloc : Option Global} (g : Bool) (levels : ℕ) (text : Text) (at : ℕ) (piece : Piece) → IsAfter (codes "^") text at piece.behind → IsTold alloc piece begin →
+    piece.height ≡ 0 → IsNext alloc g levels text at piece
 anchor_next g levels text at piece s f n = record {
   forward = omega (arith, s.place);
   within = s.within;
   height = omega arith;
+  meaning = begin;
+  is = f;
   opens = λ o. inr (take at text, ap (λ x. take x text) s.place ∙ take-after text at (codes "^") (drop piece.behind text) s.front);
   ahead = λ k v es is.
       let one : Items g k (94 ∷ drop piece.behind text) v (begin ∷ es) = anchor is in
-      rw (f, s.front) (items_at_height (omega arith) one);
+      rw s.front (items_at_height (omega arith) one);
   back = λ h. record {
     none = λ m u es is p le. let rest = items-after-anchor is s.front p in h.none rest.height u rest.others rest.items p (omega (arith, rest.below));
   };
 }
 
 -- an item comes next
-pub item_next : {g : Bool} {levels : ℕ} {text : Text} {at : ℕ} {piece : Piece} → ItemStands g levels text at piece → IsNext g levels text at piece
+pub item_next : {alloc : Option Global} {g : Bool} {levels : ℕ} {text : Text} {at : ℕ} {piece : Piece} → ItemStands alloc g levels text at piece → IsNext alloc g levels text at piece
 item_next i = record {
   forward = i.forward;
   within = i.within;
   height = i.height;
   opens = λ o. absurd (i.no_more o);
+  meaning = i.meaning;
+  is = i.is;
   ahead = λ k v es is. item i.stands is;
   back = λ h. record {
     none = λ m u es is p le.
@@ -135,48 +143,54 @@ item_next i = record {
 -- The items so far, and one more.
 
 -- the items that were read from one place on, and what they say of the items of the whole branch
-pub record SoFar (g : Bool) (levels : ℕ) (text : Text) (from : ℕ) (items : Pieces) : Type 0 where
+pub record SoFar (alloc : Option Global) (g : Bool) (levels : ℕ) (text : Text) (from : ℕ) (items : Pieces) : Type 0 where
   pub forward : from ≤ items.behind
   pub within : items.behind ≤ length text
   pub height : items.height ≤ levels
   pub opens : OpensDuplication (drop items.behind text) → HasNothingToRepeat (take items.behind text)
+  pub members : List Expression
+  pub are : AreTold alloc items members
   pub ahead : (k : ℕ) (v : Text) (es : List Expression) → Items g k (drop items.behind text) v es →
-      Items g (max items.height k) (drop from text) v (map expression_of items.trees.items ++ es)
+      Items g (max items.height k) (drop from text) v (members ++ es)
   pub back : HasNoItems g levels (drop items.behind text) → HasNoItems g levels (drop from text)
 
 -- none yet
-pub none_so_far : (g : Bool) (levels : ℕ) (text : Text) (from : ℕ) (items : Pieces) → from ≤ length text → IsStart (take from text) → items.trees.items ≡ [] →
-    items.height ≡ 0 → items.behind ≡ from → SoFar g levels text from items
+pub none_so_far : {alloc : Option Global} (g : Bool) (levels : ℕ) (text : Text) (from : ℕ) (items : Pieces) → from ≤ length text → IsStart (take from text) → AreTold alloc items [] →
+    items.height ≡ 0 → items.behind ≡ from → SoFar alloc g levels text from items
 none_so_far g levels text from items h s e f n = record {
   forward = omega arith;
   within = omega arith;
   height = omega arith;
   opens = rw n (λ o. inl s);
-  ahead = rw (e, f, n) (λ k v es is. items_at_height (omega arith) is);
+  members = [];
+  are = e;
+  ahead = rw (f, n) (λ k v es is. items_at_height (omega arith) is);
   back = rw n (λ k. k);
 }
 
 -- one more
-pub one_more : (g : Bool) (levels : ℕ) (text : Text) (from : ℕ) (old new : Pieces) (piece : Piece) → SoFar g levels text from old →
-    IsNext g levels text old.behind piece → IsJoined old piece new → SoFar g levels text from new
-one_more g levels text from old new piece s i j = record {
+pub one_more : {alloc : Option Global} (g : Bool) (levels : ℕ) (text : Text) (from : ℕ) (old new : Pieces) (piece : Piece) → SoFar alloc g levels text from old →
+    IsNext alloc g levels text old.behind piece → IsJoined old piece new → SoFar alloc g levels text from new
+one_more {alloc} g levels text from old new piece s i j = record {
   forward = omega (arith, j.place, i.forward, s.forward);
   within = omega (arith, j.place, i.within);
   height = omega (arith, j.height, s.height, i.height);
   opens = rw j.place i.opens;
+  members = s.members ++ i.meaning ∷ [];
+  are = j.means alloc s.members i.meaning s.are i.is;
   ahead = λ k v es is.
       let next : Items g k (drop piece.behind text) v es = rw j.place at is in
-      let all = s.ahead (max piece.height k) v (expression_of piece.tree ∷ es) (i.ahead k v es next) in
-      rw (j.means, append_assoc) (items_at_height (regrouped old.height piece.height k ∙ ap (λ n. max n k) (sym j.height)) all);
+      let all = s.ahead (max piece.height k) v (i.meaning ∷ es) (i.ahead k v es next) in
+      rw append_assoc (items_at_height (regrouped old.height piece.height k ∙ ap (λ n. max n k) (sym j.height)) all);
   back = λ h. s.back (i.back (rw j.place at h));
 }
 
 -- and the end of the branch
-pub branch_read : (g : Bool) (levels : ℕ) (text : Text) (from : ℕ) (items : Pieces) (piece : Piece) → SoFar g levels text from items →
-    stops g (drop items.behind text) ≡ true → expression_of piece.tree ≡ sequence (map expression_of items.trees.items) → piece.height ≡ items.height →
-    piece.behind ≡ items.behind → BranchStands g levels text from piece
+pub branch_read : {alloc : Option Global} (g : Bool) (levels : ℕ) (text : Text) (from : ℕ) (items : Pieces) (piece : Piece) → SoFar alloc g levels text from items →
+    stops g (drop items.behind text) ≡ true → ((es : List Expression) → AreTold alloc items es → IsTold alloc piece (sequence es)) → piece.height ≡ items.height →
+    piece.behind ≡ items.behind → BranchStands alloc g levels text from piece
 branch_read g levels text from items piece s p f h n =
-    let es = map expression_of items.trees.items in
+    let es = s.members in
     let all : Items g (max items.height 0) (drop from text) (drop items.behind text) (es ++ []) = s.ahead 0 (drop items.behind text) [] none in
     let whole : Items g (max items.height 0) (drop from text) (drop items.behind text) es =
     subst (λ x. Items g (max items.height 0) (drop from text) (drop items.behind text) x) (append-nil es) all in
@@ -187,5 +201,5 @@ branch_read g levels text from items piece s p f h n =
       at_end = rw n p;
       members = es;
       stands = rw (h, n) (items_at_height (omega arith) whole);
-      means = f;
+      is = f es s.are;
     }

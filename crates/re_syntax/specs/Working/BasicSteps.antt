@@ -1,6 +1,8 @@
 -- What each step of reading a basic expression says: which part of the grammar stands at a place of
 -- the text, or that none does and where that shows.
-use Rattle.std.specs.Prelude.{◌≡◌, ℕ, ◌<◌, ◌≤◌, max, [], ◌++◌, List, length, take, drop, map, codes}
+use Rattle.std.specs.Prelude.{◌≡◌, ℕ, ◌<◌, ◌≤◌, max, [], ◌++◌, List, length, take, drop, codes}
+use Rattle.std.specs.Prelude.{Option}
+use Rattle.std.specs.Global.{Global}
 use Rattle.re_syntax.specs.declared.pieces.Piece.{Piece}
 use Rattle.re_syntax.specs.declared.pieces.Pieces.{Pieces}
 use Rattle.re_syntax.specs.declared.interval.Counts.{Counts}
@@ -8,7 +10,8 @@ use Rattle.re_syntax.specs.declared.fault.PatternFault.{PatternFault}
 use Rattle.re_syntax.specs.Bytes.{Text, Begins}
 use Rattle.re_syntax.specs.Working.Ahead.{IsAfter}
 use Rattle.re_syntax.specs.Working.DuplicationSteps.{HasNone, HasOne}
-use Rattle.re_syntax.specs.Expression.{Expression, sequence, expression_of}
+use Rattle.re_syntax.specs.Working.PieceSteps.{IsTold, AreTold}
+use Rattle.re_syntax.specs.Expression.{Expression, sequence}
 use Rattle.re_syntax.specs.Basic.{ItemPlace, First, Later, Duplication, IsAtEnd, Branches, Items}
 use Rattle.re_syntax.specs.Basic.{Item, Atom}
 use Rattle.re_syntax.specs.BasicFaults.{NeedsItem, HasNothingToRepeat, IsShownIn}
@@ -60,27 +63,29 @@ pub record MayBegin (p : ItemPlace) (t : Text) : Type 0 where
   pub no_duplication : p ≡ Later → OpensNoDuplication t
 
 -- an atom stands from one place up to another, at most so high
-pub record AtomStands (p : ItemPlace) (levels : ℕ) (text : Text) (at : ℕ)
+pub record AtomStands (alloc : Option Global) (p : ItemPlace) (levels : ℕ) (text : Text) (at : ℕ)
     (piece : Piece) : Type 0 where
   pub forward : at < piece.behind
   pub within : piece.behind ≤ length text
   pub height : piece.height ≤ levels
-  pub stands : Atom p piece.height (drop at text) (drop piece.behind text)
-      (expression_of piece.tree)
+  pub meaning : Expression
+  pub is : IsTold alloc piece meaning
+  pub stands : Atom p piece.height (drop at text) (drop piece.behind text) meaning
 
 -- no atom stands there, or only a higher one
 pub record HasNoAtom (p : ItemPlace) (levels : ℕ) (t : Text) : Type 0 where
   pub none : (h : ℕ) (u : Text) (e : Expression) → Atom p h t u e → h ≤ levels → ⊥
 
 -- the same of an item, behind which no duplication stands
-pub record ItemStands (p : ItemPlace) (levels : ℕ) (text : Text) (at : ℕ)
+pub record ItemStands (alloc : Option Global) (p : ItemPlace) (levels : ℕ) (text : Text) (at : ℕ)
     (piece : Piece) : Type 0 where
   pub forward : at < piece.behind
   pub within : piece.behind ≤ length text
   pub height : piece.height ≤ levels
   pub no_more : OpensNoDuplication (drop piece.behind text)
-  pub stands : Item p piece.height (drop at text) (drop piece.behind text)
-      (expression_of piece.tree)
+  pub meaning : Expression
+  pub is : IsTold alloc piece meaning
+  pub stands : Item p piece.height (drop at text) (drop piece.behind text) meaning
 
 -- no items of a branch stand there, or only higher ones
 pub record HasNoItems (p : ItemPlace) (levels : ℕ) (t : Text) : Type 0 where
@@ -97,39 +102,42 @@ pub record HasNoTail (t : Text) : Type 0 where
   pub none : (u : Text) → t ≡ codes "$" ++ u → ¬ IsAtEnd u
 
 -- the items that were read from one place on, and what they say of the items of the whole branch
-pub record SoFar (levels : ℕ) (text : Text) (from : ℕ) (items : Pieces) : Type 0 where
+pub record SoFar (alloc : Option Global) (levels : ℕ) (text : Text) (from : ℕ)
+    (items : Pieces) : Type 0 where
   pub forward : from ≤ items.behind
   pub within : items.behind ≤ length text
   pub height : items.height ≤ levels
   pub opens : NeedsItem (drop items.behind text) → HasNothingToRepeat (take items.behind text)
   pub place : ItemPlace
   pub begins : MayBegin place (drop items.behind text)
+  pub members : List Expression
+  pub are : AreTold alloc items members
   pub ahead : (k : ℕ) (v : Text) (es : List Expression) →
       Items place k (drop items.behind text) v es →
-      Items First (max items.height k) (drop from text) v
-      (map expression_of items.trees.items ++ es)
+      Items First (max items.height k) (drop from text) v (members ++ es)
   pub back : HasNoItems place levels (drop items.behind text) →
       HasNoItems First levels (drop from text)
 
 -- the items, and behind them the end of their branch
-pub record IsEnded (text : Text) (old new : Pieces) : Type 0 where
+pub record IsEnded (alloc : Option Global) (text : Text) (old new : Pieces) : Type 0 where
   pub forward : old.behind ≤ new.behind
   pub within : new.behind ≤ length text
   pub at_end : IsAtEnd (drop new.behind text)
   pub height : new.height ≡ old.height
   pub last : List Expression
   pub stands : (p : ItemPlace) → Items p 0 (drop old.behind text) (drop new.behind text) last
-  pub means : map expression_of new.trees.items ≡ map expression_of old.trees.items ++ last
+  pub means : (es : List Expression) → AreTold alloc old es → AreTold alloc new (es ++ last)
 
 -- the items of a branch stand from one place up to its end, at most so high
-pub record BranchStands (levels : ℕ) (text : Text) (from : ℕ) (piece : Piece) : Type 0 where
+pub record BranchStands (alloc : Option Global) (levels : ℕ) (text : Text) (from : ℕ)
+    (piece : Piece) : Type 0 where
   pub forward : from ≤ piece.behind
   pub within : piece.behind ≤ length text
   pub height : piece.height ≤ levels
   pub at_end : IsAtEnd (drop piece.behind text)
   pub members : List Expression
   pub stands : Items First piece.height (drop from text) (drop piece.behind text) members
-  pub means : expression_of piece.tree ≡ sequence members
+  pub is : IsTold alloc piece (sequence members)
 
 -- no branches of an expression stand there, or only higher ones
 pub record HasNoBranches (levels : ℕ) (t : Text) : Type 0 where
@@ -137,10 +145,12 @@ pub record HasNoBranches (levels : ℕ) (t : Text) : Type 0 where
       h ≤ levels → ⊥
 
 -- the branches of an expression stand from one place up to its end, at most so high
-pub record BranchesStand (levels : ℕ) (text : Text) (from : ℕ) (branches : Pieces) : Type 0 where
+pub record BranchesStand (alloc : Option Global) (levels : ℕ) (text : Text) (from : ℕ)
+    (branches : Pieces) : Type 0 where
   pub forward : from ≤ branches.behind
   pub within : branches.behind ≤ length text
   pub height : branches.height ≤ levels
   pub at_end : IsAtLast (drop branches.behind text)
-  pub stands : Branches branches.height (drop from text) (drop branches.behind text)
-      (map expression_of branches.trees.items)
+  pub members : List Expression
+  pub are : AreTold alloc branches members
+  pub stands : Branches branches.height (drop from text) (drop branches.behind text) members

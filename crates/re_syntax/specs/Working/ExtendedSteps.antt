@@ -1,15 +1,17 @@
 -- What each step of reading an extended expression says: which part of the grammar stands at a
 -- place of the text, or that none does and where that shows.
 use Rattle.std.specs.Prelude.{◌≡◌, ℕ, ◌<◌, ◌≤◌, max, Bool, true, false, ◌&&◌, ◌||◌, nat_eq, [], ◌∷◌}
-use Rattle.std.specs.Prelude.{List, length, take, drop, map, IsTrue, codes}
+use Rattle.std.specs.Prelude.{List, length, take, drop, IsTrue, codes, Option}
+use Rattle.std.specs.Global.{Global}
 use Rattle.re_syntax.specs.declared.pieces.Piece.{Piece}
 use Rattle.re_syntax.specs.declared.pieces.Pieces.{Pieces}
 use Rattle.re_syntax.specs.declared.interval.Counts.{Counts}
 use Rattle.re_syntax.specs.declared.fault.PatternFault.{PatternFault}
 use Rattle.re_syntax.specs.Bytes.{Text, Begins}
 use Rattle.re_syntax.specs.Working.DuplicationSteps.{HasNone, HasOne}
+use Rattle.re_syntax.specs.Working.PieceSteps.{IsTold, AreTold}
 use Rattle.re_syntax.specs.Escapes.{is_in}
-use Rattle.re_syntax.specs.Expression.{Expression, sequence, expression_of}
+use Rattle.re_syntax.specs.Expression.{Expression, sequence}
 use Rattle.re_syntax.specs.Extended.{Duplication, Branches, Items, Item, Atom}
 use Rattle.re_syntax.specs.ExtendedFaults.{OpensDuplication, HasNothingToRepeat, IsShownIn}
 
@@ -53,27 +55,29 @@ pub record MayBegin (in_group : Bool) (t : Text) : Type 0 where
   pub no_duplication : ¬ OpensDuplication t
 
 -- an atom stands from one place up to another, at most so high
-pub record AtomStands (in_group : Bool) (levels : ℕ) (text : Text) (at : ℕ)
-    (piece : Piece) : Type 0 where
+pub record AtomStands (alloc : Option Global) (in_group : Bool) (levels : ℕ) (text : Text)
+    (at : ℕ) (piece : Piece) : Type 0 where
   pub forward : at < piece.behind
   pub within : piece.behind ≤ length text
   pub height : piece.height ≤ levels
-  pub stands : Atom in_group piece.height (drop at text) (drop piece.behind text)
-      (expression_of piece.tree)
+  pub meaning : Expression
+  pub is : IsTold alloc piece meaning
+  pub stands : Atom in_group piece.height (drop at text) (drop piece.behind text) meaning
 
 -- no atom stands there, or only a higher one
 pub record HasNoAtom (in_group : Bool) (levels : ℕ) (t : Text) : Type 0 where
   pub none : (h : ℕ) (u : Text) (e : Expression) → Atom in_group h t u e → h ≤ levels → ⊥
 
 -- the same of an item, behind which no duplication stands
-pub record ItemStands (in_group : Bool) (levels : ℕ) (text : Text) (at : ℕ)
-    (piece : Piece) : Type 0 where
+pub record ItemStands (alloc : Option Global) (in_group : Bool) (levels : ℕ) (text : Text)
+    (at : ℕ) (piece : Piece) : Type 0 where
   pub forward : at < piece.behind
   pub within : piece.behind ≤ length text
   pub height : piece.height ≤ levels
   pub no_more : ¬ OpensDuplication (drop piece.behind text)
-  pub stands : Item in_group piece.height (drop at text) (drop piece.behind text)
-      (expression_of piece.tree)
+  pub meaning : Expression
+  pub is : IsTold alloc piece meaning
+  pub stands : Item in_group piece.height (drop at text) (drop piece.behind text) meaning
 
 -- no items of a branch stand there, or only higher ones
 pub record HasNoItems (in_group : Bool) (levels : ℕ) (t : Text) : Type 0 where
@@ -82,29 +86,31 @@ pub record HasNoItems (in_group : Bool) (levels : ℕ) (t : Text) : Type 0 where
 
 -- the items of a branch from one place on are an anchor or an item, up to another place, and the
 -- items from there on
-pub record IsNext (in_group : Bool) (levels : ℕ) (text : Text) (at : ℕ)
+pub record IsNext (alloc : Option Global) (in_group : Bool) (levels : ℕ) (text : Text) (at : ℕ)
     (piece : Piece) : Type 0 where
   pub forward : at < piece.behind
   pub within : piece.behind ≤ length text
   pub height : piece.height ≤ levels
   pub opens : OpensDuplication (drop piece.behind text) →
       HasNothingToRepeat (take piece.behind text)
+  pub meaning : Expression
+  pub is : IsTold alloc piece meaning
   pub ahead : (k : ℕ) (v : Text) (es : List Expression) →
       Items in_group k (drop piece.behind text) v es →
-      Items in_group (max piece.height k) (drop at text) v (expression_of piece.tree ∷ es)
+      Items in_group (max piece.height k) (drop at text) v (meaning ∷ es)
   pub back : HasNoItems in_group levels (drop piece.behind text) →
       HasNoItems in_group levels (drop at text)
 
 -- the items of a branch stand from one place up to its end, at most so high
-pub record BranchStands (in_group : Bool) (levels : ℕ) (text : Text) (from : ℕ)
-    (piece : Piece) : Type 0 where
+pub record BranchStands (alloc : Option Global) (in_group : Bool) (levels : ℕ) (text : Text)
+    (from : ℕ) (piece : Piece) : Type 0 where
   pub forward : from ≤ piece.behind
   pub within : piece.behind ≤ length text
   pub height : piece.height ≤ levels
   pub at_end : stops in_group (drop piece.behind text) ≡ true
   pub members : List Expression
   pub stands : Items in_group piece.height (drop from text) (drop piece.behind text) members
-  pub means : expression_of piece.tree ≡ sequence members
+  pub is : IsTold alloc piece (sequence members)
 
 -- no branches of an expression stand there, or only higher ones
 pub record HasNoBranches (in_group : Bool) (levels : ℕ) (t : Text) : Type 0 where
@@ -112,11 +118,13 @@ pub record HasNoBranches (in_group : Bool) (levels : ℕ) (t : Text) : Type 0 wh
       ends in_group u ≡ true → h ≤ levels → ⊥
 
 -- the branches of an expression stand from one place up to its end, at most so high
-pub record BranchesStand (in_group : Bool) (levels : ℕ) (text : Text) (from : ℕ)
-    (branches : Pieces) : Type 0 where
+pub record BranchesStand (alloc : Option Global) (in_group : Bool) (levels : ℕ) (text : Text)
+    (from : ℕ) (branches : Pieces) : Type 0 where
   pub forward : from ≤ branches.behind
   pub within : branches.behind ≤ length text
   pub height : branches.height ≤ levels
   pub at_end : ends in_group (drop branches.behind text) ≡ true
+  pub members : List Expression
+  pub are : AreTold alloc branches members
   pub stands : Branches in_group branches.height (drop from text) (drop branches.behind text)
-      (map expression_of branches.trees.items)
+      members

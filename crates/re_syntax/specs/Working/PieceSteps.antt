@@ -1,13 +1,18 @@
 -- What is said of parts of an expression that were read, in basic and in extended expressions.
-use Rattle.std.specs.Prelude.{◌≡◌, ℕ, ◌+◌, max, [], ◌∷◌, ◌++◌, map, nat_eq, if◌then◌else◌}
+use Rattle.std.specs.Prelude.{◌≡◌, ℕ, ◌+◌, ◌-◌, ◌^◌, max, min, List, [], ◌∷◌, ◌++◌, map, nat_eq}
+use Rattle.std.specs.Prelude.{if◌then◌else◌, Option, None, MatchOption, Vec}
+use Rattle.std.specs.Global.{Global}
 use Rattle.re_syntax.specs.declared.pieces.Piece.{Piece}
 use Rattle.re_syntax.specs.declared.pieces.Pieces.{Pieces}
+use Rattle.re_syntax.specs.declared.tree.Tree.{Tree}
 use Rattle.re_syntax.specs.declared.interval.Counts.{Counts}
 use Rattle.re_syntax.specs.declared.fault.FaultKind.TheVariants.{Memory}
 use Rattle.re_syntax.specs.declared.fault.PatternFault.{PatternFault}
 use Rattle.re_syntax.specs.Bytes.{Text, Bytes, any_but_nul, only}
 use Rattle.re_syntax.specs.Brackets.{IsBracketUpTo}
-use Rattle.re_syntax.specs.Expression.{repeat, expression_of}
+use Rattle.re_syntax.specs.Expression.{Expression, cat, repeat, expression_of}
+use Rattle.re_syntax.specs.Working.Counted.{up_to_word}
+use Rattle.re_syntax.specs.Holds.{positions}
 
 -- memory ran out, or what is said of the text holds and the fault shows there
 pub data IsRefused (P Shown : Type 0) (fault : PatternFault) : Type 0 where
@@ -18,20 +23,44 @@ pub data IsRefused (P Shown : Type 0) (fault : PatternFault) : Type 0 where
 abbrev pub meant_bytes : ℕ → Bytes
 meant_bytes b = if nat_eq b 46 then any_but_nul else only b
 
+-- the tree of an expression, or none where no allocator is given for it
+abbrev pub Keeps : Option Global → Option Tree → Expression → Type 0
+Keeps alloc tree e = MatchOption tree (alloc ≡ None) (λ kept. expression_of kept ≡ e)
+
+-- those of several
+abbrev pub KeepsAll : Option Global → Option (Vec Tree Global) → List Expression → Type 0
+KeepsAll alloc trees es =
+    MatchOption trees (alloc ≡ None) (λ kept. map expression_of kept.items ≡ es)
+
+-- what the piece tells of the expression that it means
+pub record IsTold (alloc : Option Global) (piece : Piece) (e : Expression) : Type 0 where
+  pub tree : Keeps alloc piece.tree e
+  pub count : piece.positions ≡ up_to_word (positions e)
+
+-- what the pieces tell of theirs
+pub record AreTold (alloc : Option Global) (pieces : Pieces) (es : List Expression) : Type 0 where
+  pub trees : KeepsAll alloc pieces.trees es
+  pub count : pieces.positions ≡ up_to_word (positions (cat es))
+
 -- the piece is the bracket expression at a place
-pub record IsBracketPiece (text : Text) (at : ℕ) (piece : Piece) : Type 0 where
-  pub stands : IsBracketUpTo text at piece.behind (expression_of piece.tree)
+pub record IsBracketPiece (alloc : Option Global) (text : Text) (at : ℕ)
+    (piece : Piece) : Type 0 where
+  pub meaning : Expression
+  pub is : IsTold alloc piece meaning
+  pub stands : IsBracketUpTo text at piece.behind meaning
   pub height : piece.height ≡ 0
 
 -- the piece is the other, repeated
-pub record IsRepeated (old : Piece) (counts : Counts) (behind : ℕ) (new : Piece) : Type 0 where
-  pub means : expression_of new.tree ≡ repeat (expression_of old.tree) counts.least counts.most
+pub record IsRepeated (alloc : Option Global) (old : Piece) (counts : Counts) (behind : ℕ)
+    (new : Piece) : Type 0 where
+  pub means : (e : Expression) → IsTold alloc old e →
+      IsTold alloc new (repeat e counts.least counts.most)
   pub height : new.height ≡ old.height + 1
   pub place : new.behind ≡ behind
 
 -- the piece is the last of the pieces, and the others are as they were
 pub record IsJoined (old : Pieces) (piece : Piece) (new : Pieces) : Type 0 where
-  pub means : map expression_of new.trees.items ≡ map expression_of old.trees.items ++
-      expression_of piece.tree ∷ []
+  pub means : (alloc : Option Global) (es : List Expression) (e : Expression) →
+      AreTold alloc old es → IsTold alloc piece e → AreTold alloc new (es ++ e ∷ [])
   pub height : new.height ≡ max old.height piece.height
   pub place : new.behind ≡ piece.behind

@@ -8,5 +8,5 @@ pub loop-piece-init : goal.loop-piece-init
 loop-piece-init c = (
   tt,
   tt,
-  reads_on-begins c.default.result c.new.result.items c.new-2.result.items (pieces_left c.into_iter-piece-iterator.result) (texts_of c.args.words.now) (search rules) (search rules) (search rules) (search rules),
+  reads_on-begins c.default-2.result c.default.result c.new.result.items c.new-2.result.items (pieces_left c.into_iter-piece-iterator.result) (texts_of c.args.words.now) (search rules) (search rules) (search rules) (search rules) (search rules),
 )

@@ -7,4 +7,4 @@ use Rattle.grep_cmd.proofs.words.read_words.Given as goal
 abbrev pub invariant-loop-piece : goal.invariant-loop-piece
 invariant-loop-piece l =
     (goal.iterator-loop-piece).can_next l.piece-iterator × (goal.iterator-loop-piece).is_finite l.piece-iterator
-    × (reads_on (asked l.request) (pieces_left l.piece-iterator) ≡ read (texts_of l.words))
+    × (reads_on l.draft.around (asked l.draft.request) (pieces_left l.piece-iterator) ≡ read (texts_of l.words))

@@ -2,7 +2,7 @@
 use crate::ScriptEnd::{Clean, Refused};
 use crate::script::tests::{Row, assert_row};
 
-static ROWS: [Row; 14] = [
+static ROWS: [Row; 15] = [
     // a file, a pattern, an edit, a refusal that leaves all as it was, and a count past the end
     (
         b"file f 2\nab\nc\npatterns 1\na\nshow\nsplice 0 1 1 1\nca\npatterns 1\n(\nsyntax extended\nshow\nsplice 0 18446744073709551615 1 0\n",
@@ -60,6 +60,12 @@ static ROWS: [Row; 14] = [
         b"file \x00\xff 1\n\xff x \nfile -: 1\n  \npatterns 1\n \nshow\n",
         b"ok\nok\nok\no \x00\xff:\xff x \no -::  \nstatus 0\n",
         Clean,
+    ),
+    // lines around selected ones, and forms of `context` that are none
+    (
+        b"file f 4\na\nb\nc\na\npatterns 1\na\ncontext 0 1\nshow\ncontext 1\ncontext off 1\ncontext 1 x\ncontext off\nshow\n",
+        b"ok\nok\nok\no a\no b\no --\no a\nstatus 0\nrefused BadCommand\nrefused BadCommand\nrefused BadCommand\nok\no a\no a\nstatus 0\n",
+        Refused,
     ),
     // leading zeros
     (b"file f 01\na\nclose 00\n", b"ok\nok\n", Clean),

@@ -1,5 +1,5 @@
 //! Edits of a session as data.
-use grep_core::{Flag, Options};
+use grep_core::{Context, Flag, Options};
 use grep_session::{EditFault, Session};
 use re_search::{Meter, Syntax};
 use re_syntax::split_file;
@@ -17,6 +17,7 @@ pub enum Edit {
     DropPattern(usize),
     SetFlag(Flag, bool),
     SetSyntax(Syntax),
+    SetContext(Option<Context>),
 }
 
 /// What an edit answers.
@@ -81,6 +82,10 @@ pub fn make_edit(session: &mut Session, edit: Edit, handed: Handed, meter: &mut 
         Edit::DropPattern(p) => session.drop_pattern(p, meter),
         Edit::SetFlag(flag, on) => session.set_flag(flag, on, meter),
         Edit::SetSyntax(syntax) => session.set_syntax(syntax, meter),
+        Edit::SetContext(context) => {
+            session.set_context(context);
+            Ok(())
+        }
     }
 }
 

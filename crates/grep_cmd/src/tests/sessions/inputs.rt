@@ -170,6 +170,7 @@ impl Inputs {
                 reading_answer(alloc, patterns, *syntax, &options)
             }
             Edit::SetSyntax(syntax) => reading_answer(alloc, patterns, syntax, options),
+            Edit::SetContext(_) => DONE,
         })
     }
 
@@ -187,6 +188,7 @@ impl Inputs {
             Edit::SetFlag(Flag::OnlyMatching, on) => !on || self.options.only_matching,
             Edit::SetFlag(_, _) => true,
             Edit::SetSyntax(syntax) => self.syntax == syntax,
+            Edit::SetContext(_) => true,
         }
     }
 
@@ -236,6 +238,7 @@ impl Inputs {
             Edit::DropPattern(p) => self.patterns = spliced(alloc, &self.patterns, p, 1, b"")?,
             Edit::SetFlag(flag, on) => self.options = with_option(self.options, flag, on),
             Edit::SetSyntax(syntax) => self.syntax = syntax,
+            Edit::SetContext(context) => self.options.context = context,
         }
         Ok(())
     }

@@ -1,60 +1,24 @@
 //! Edits of which each request for memory is refused in turn, and calls that make none.
 //!
-//! The library that tools/refuse_growths.sh loads before the C library takes requests of
-//! two sizes as commands. Without it each request is granted, and each edit is made once.
+//! Where no library refuses requests, as tools/refuse_growths.sh has it, each is granted, and each
+//! edit is made once.
 ghost use Rattle.std.specs.Prelude.{◌≤◌};
 
-use crate::tests::harness::{Devices, UNLIMITED};
+use crate::tests::harness::Devices;
+use crate::tests::marks::{refuse, was_refused};
 use crate::tests::sessions::edits::{handed_by, make_edit};
 use crate::tests::sessions::game::Game;
 use crate::tests::sessions::harness::{
     Row, assert_row, assert_same, assert_seen, number_of, observed, written_by,
 };
 use crate::tests::sessions::{flags, numbered, refused, worked};
-use grep_core::{Limited, Tally};
 use grep_session::{EditFault, Session};
-use std::alloc::{AllocError, Global};
+use std::alloc::Global;
 use std::process::Abort;
 use std::test::Fail;
 
-/// A request for so many bytes and N more has the N-th request behind it refused.
-const REFUSE: usize = 9_000_000;
-
-/// A request for so many bytes is refused where one was since the last command, and ends that
-/// command.
-const WAS_REFUSED: usize = 8_000_000;
-
 /// How many requests an edit of these sessions makes at most.
 const MOST: usize = 2_000;
-
-/// Has the N-th request for memory from here on refused.
-fn refuse(alloc: Global, n: usize) -> Result<(), AllocError> {
-    let mut mark = Vec::with_capacity(alloc, REFUSE.saturating_add(n))?;
-    mark.push(b'.')?;
-    Ok(())
-}
-
-/// A request of the size by which it is told whether one was refused.
-fn ask(alloc: Global) -> Result<usize, AllocError> {
-    let mut mark = Vec::with_capacity(alloc, WAS_REFUSED)?;
-    mark.push(b'.')?;
-    Ok(mark.len())
-}
-
-/// Whether a request was refused since that was asked for. From here on none is.
-fn was_refused(alloc: Global) -> bool {
-    ask(alloc).is_err()
-}
-
-/// Devices with room for all that the sessions write.
-fn roomy(alloc: Global) -> Result<Devices, AllocError> {
-    let out = Vec::with_capacity(alloc, 4_096)?;
-    let messages = Vec::with_capacity(alloc, 4_096)?;
-    Ok(Devices {
-        out: Tally::new(Limited::new(out, UNLIMITED.step, UNLIMITED.output)),
-        messages: Tally::new(Limited::new(messages, UNLIMITED.step, UNLIMITED.messages)),
-    })
-}
 
 /// Compares what is seen of a session with its row, while each request for memory is noted: there
 /// is none.
@@ -64,7 +28,7 @@ fn assert_seen_without_memory(
     session: &Session,
     row: Row,
 ) -> Result<(), Fail> {
-    let mut devices = roomy(alloc)?;
+    let mut devices = Devices::roomy(alloc)?;
     refuse(alloc, 1)?;
     let status = written_by(session, &mut devices)?;
     let same = session.status();

@@ -5,7 +5,7 @@ use crate::tests::sessions::game::Game;
 use crate::tests::sessions::harness::{STATES, assert_same, observed, steps_of};
 use crate::tests::sessions::inputs::{Inputs, count_lines};
 use crate::tests::sessions::shown::shown;
-use grep_core::Flag;
+use grep_core::{Context, Flag};
 use re_search::Syntax;
 use re_syntax::split_file;
 use std::alloc::{AllocError, Global};
@@ -147,12 +147,22 @@ impl Dice {
         }
     }
 
+    /// At most three lines on each side.
+    fn context(&mut self) -> Context {
+        Context {
+            before: self.below(4) as u64,
+            after: self.below(4) as u64,
+        }
+    }
+
     /// An edit of the options or the syntax.
     fn edit_of_options(&mut self) -> Edit {
-        match self.below(12) {
+        match self.below(14) {
             0 => Edit::SetSyntax(Syntax::Basic),
             1 => Edit::SetSyntax(Syntax::Extended),
             2 => Edit::SetSyntax(Syntax::Fixed),
+            3 => Edit::SetContext(None),
+            4 => Edit::SetContext(Some(self.context())),
             _ => Edit::SetFlag(self.among(flags(), Flag::Count), self.below(3) == 0),
         }
     }

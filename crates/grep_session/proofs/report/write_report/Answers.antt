@@ -2,7 +2,7 @@ use Rattle.std.proofs.Common.{nat_le, length, map}
 use Rattle.grep_core.specs.Messages.{StatusOf}
 use Rattle.grep_session.specs.Working.Kept.{kept_file}
 use Rattle.grep_session.specs.Working.Report.{report_rows}
-use Rattle.grep_session.proofs.lemmas.KeptLaws.{kept_output}
+use Rattle.grep_session.proofs.lemmas.KeptOutput.{kept_output}
 use Rattle.grep_session.proofs.lemmas.Writing.{writes_err, if_ok}
 use Rattle.grep_session.proofs.report.write_report.Goals as goal
 

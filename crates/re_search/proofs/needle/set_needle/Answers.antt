@@ -13,7 +13,7 @@ returns c =
     let marks = c.args.marks.now in
     let run = rw take_rest at (c.in_ok-sets.ensures) in
     let stands : drop c.args.start (map shown marks) ≡ map Some (map members sets) ++ run.0 = drop-map shown c.args.start marks ∙ run.1 in
-    let some : 1 ≤ length (map members sets) = omega (arith, c.requires.some, c.if-len-least.false, c.len.ensures, length-map sets members) in
+    let some : 1 ≤ length (map members sets) = omega (arith, c.if-len-lt2.false, c.len.ensures, length-map sets members) in
     let all : IsTrue (nat_eq c.len-2.result (length marks)) → length (map members sets) ≡ length (map shown marks) =
     λ told. omega (arith, eqb-true c.len-2.result (length marks) told, c.len-2.ensures, length-map sets members, length-map marks shown) in
     rw c.in-Some.ensures

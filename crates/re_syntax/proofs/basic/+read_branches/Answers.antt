@@ -43,7 +43,7 @@ read_atom-returns-in_default-clause-read t c =
     let not_backslash : get_or c.args.text.now c.args.at 0 ≢ 92 = search rules in
     single_stands c.args.levels c.args.text.now c.args.at (get_or c.args.text.now c.args.at 0) _ here
     (front_here c.args.text.now c.args.at (get_or c.args.text.now c.args.at 0) here refl) c.requires.item not_bracket not_backslash
-    (expression-Set c.meant_by.result ∙ ap one_of c.meant_by.ensures) refl refl
+    (c.leaf.ensures.told _ (expression-Set c.meant_by.result ∙ ap one_of c.meant_by.ensures)) c.leaf.ensures.height c.leaf.ensures.place
 
 pub read_escaped-returns-then-needs_item-clause-refused : goal.read_escaped-returns-then-needs_item-clause-refused
 read_escaped-returns-then-needs_item-clause-refused t c p =
@@ -60,7 +60,7 @@ pub read_escaped-returns-clause-read : goal.read_escaped-returns-clause-read
 read_escaped-returns-clause-read t c p =
     let no_group = nothing_found _ _ c.after.result c.is_some.result c.is_some.ensures c.if-is_some.false c.after.ensures in
     escaped_stands c.args.levels c.args.text.now c.args.at c.in_ok-byte.byte _ c.in_ok-byte.ensures.read no_group c.requires.not_end c.if-needs_item.ensures
-    (expression-Set c.only.result ∙ ap one_of c.only.ensures) refl refl p
+    (c.leaf.ensures.told _ (expression-Set c.only.result ∙ ap one_of c.only.ensures)) c.leaf.ensures.height c.leaf.ensures.place p
 
 pub read_group-read_branches-requires : goal.read_group-read_branches-requires
 read_group-read_branches-requires t c =
@@ -78,8 +78,8 @@ read_group-returns-in-None-clause-refused t c p =
 
 pub read_group-returns-in-Some-clause-read : goal.read_group-returns-in-Some-clause-read
 read_group-returns-in-Some-clause-read t c p =
-    group_stands c.args.levels c.args.text.now c.args.at c.in_ok-branches.branches _ c.requires.opens c.if-levels-eq0.false c.in_ok-branches.ensures.read c.in-Some.ensures refl
-    c.choice_of.ensures p
+    group_stands c.args.levels c.args.text.now c.args.at c.in_ok-branches.branches _ c.requires.opens c.if-levels-eq0.false c.in_ok-branches.ensures.read c.in-Some.ensures (ap (λ n. n + 1) c.any_of-inside.ensures.height)
+    (λ es are. let told = c.any_of-inside.ensures.told c.args.alloc es are in record { tree = told.tree; count = told.count }) p
 
 pub read_item-returns-in_err-piece-clause-refused : goal.read_item-returns-in_err-piece-clause-refused
 read_item-returns-in_err-piece-clause-refused t c =
@@ -125,7 +125,7 @@ read_branch-items-preserved t c =
 
 pub read_branch-returns-clause-read : goal.read_branch-returns-clause-read
 read_branch-returns-clause-read t c =
-    all_read c.args.levels c.args.text.now c.args.from c.items.items c.in_ok-all.all _ c.items.invariant c.in_ok-all.ensures.read c.sequence_of.ensures refl refl
+    all_read c.args.levels c.args.text.now c.args.from c.items.items c.in_ok-all.all _ c.items.invariant c.in_ok-all.ensures.read (c.all_of.ensures.told c.args.alloc) c.all_of.ensures.height c.all_of.ensures.place
 
 pub read_branches-returns-in_err-first-clause-refused : goal.read_branches-returns-in_err-first-clause-refused
 read_branches-returns-in_err-first-clause-refused t c =
@@ -134,7 +134,7 @@ read_branches-returns-in_err-first-clause-refused t c =
 
 pub read_branches-branches-init : goal.read_branches-branches-init
 read_branches-branches-init t c =
-    first_branch c.args.levels c.args.text.now c.args.from _ c.in_ok-branches.branches c.in_ok-first.first c.in_ok-first.ensures.read c.new.ensures.items refl
+    first_branch c.args.levels c.args.text.now c.args.from _ c.in_ok-branches.branches c.in_ok-first.first c.in_ok-first.ensures.read c.no_pieces-none.ensures.told c.no_pieces-none.ensures.height
     c.in_ok-branches.ensures.made
 
 pub read_branches-read_branch-requires-in-Some : goal.read_branches-read_branch-requires-in-Some

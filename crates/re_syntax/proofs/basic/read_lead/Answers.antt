@@ -1,4 +1,3 @@
-use Rattle.std.proofs.Common.{refl}
 use Rattle.re_syntax.proofs.lemmas.ExpressionLaws.{expression-Begin}
 use Rattle.re_syntax.proofs.lemmas.Places.{ok_as}
 use Rattle.re_syntax.proofs.lemmas.BasicLeads.{without_lead, with_lead}
@@ -6,10 +5,11 @@ use Rattle.re_syntax.proofs.basic.read_lead.Goals as goal
 
 pub returns-in-None-clause-read : goal.returns-in-None-clause-read
 returns-in-None-clause-read c levels =
-    without_lead levels c.args.text.now c.args.from (record { trees = c.new.result; height = 0; behind = c.args.from }) c.requires.within c.requires.starts
-    c.in-None.ensures c.new.ensures.items refl refl
+    without_lead levels c.args.text.now c.args.from c.no_pieces-items.result c.requires.within c.requires.starts
+    c.in-None.ensures c.no_pieces-items.ensures.told c.no_pieces-items.ensures.height c.no_pieces-items.ensures.place
 
 pub returns-in-Some-clause-read : goal.returns-in-Some-clause-read
 returns-in-Some-clause-read c =
     ok_as _ _ c.joined.result c.joined.ensures.made
-    (λ new j levels. with_lead levels c.args.text.now c.args.from _ new _ c.requires.within c.in-Some.ensures c.new.ensures.items refl expression-Begin refl j)
+    (λ new j levels. with_lead levels c.args.text.now c.args.from _ new c.leaf.result c.requires.within (rw c.leaf.ensures.place c.in-Some.ensures) c.no_pieces-items.ensures.told
+    c.no_pieces-items.ensures.height (c.leaf.ensures.told _ expression-Begin) c.leaf.ensures.height j)

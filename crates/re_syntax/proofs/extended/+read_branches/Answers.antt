@@ -32,12 +32,12 @@ read_atom-returns-in-91-clause-refused t c =
 pub read_atom-returns-in_ok-byte-in-92-clause-read : goal.read_atom-returns-in_ok-byte-in-92-clause-read
 read_atom-returns-in_ok-byte-in-92-clause-read t c =
     escaped_stands c.args.in_group c.args.levels c.args.text.now c.args.at c.in_ok-byte-in-92.byte _ c.in_ok-byte-in-92.ensures.read
-    (expression-Set c.only.result ∙ ap one_of c.only.ensures) refl refl
+    (c.leaf.ensures.told _ (expression-Set c.only.result ∙ ap one_of c.only.ensures)) c.leaf.ensures.height c.leaf.ensures.place
 
 pub read_atom-returns-in-36-clause-read : goal.read_atom-returns-in-36-clause-read
 read_atom-returns-in-36-clause-read t c =
     dollar_stands c.args.in_group c.args.levels c.args.text.now c.args.at _ c.requires.within
-    (front_here c.args.text.now c.args.at 36 c.requires.within c.in-36.is) expression-End refl refl
+    (front_here c.args.text.now c.args.at 36 c.requires.within c.in-36.is) (c.leaf-in-36.ensures.told _ expression-End) c.leaf-in-36.ensures.height c.leaf-in-36.ensures.place
 
 pub read_atom-returns-in_default-clause-read : goal.read_atom-returns-in_default-clause-read
 read_atom-returns-in_default-clause-read t c =
@@ -47,11 +47,11 @@ read_atom-returns-in_default-clause-read t c =
     let not_dollar : get_or c.args.text.now c.args.at 0 ≢ 36 = search rules in
     single_stands c.args.in_group c.args.levels c.args.text.now c.args.at (get_or c.args.text.now c.args.at 0) _ c.requires.within
     (front_here c.args.text.now c.args.at (get_or c.args.text.now c.args.at 0) c.requires.within refl) c.requires.begins not_bracket not_backslash not_group not_dollar
-    (expression-Set c.meant_by.result ∙ ap one_of c.meant_by.ensures) refl refl
+    (c.leaf-in_default.ensures.told _ (expression-Set c.meant_by.result ∙ ap one_of c.meant_by.ensures)) c.leaf-in_default.ensures.height c.leaf-in_default.ensures.place
 
 pub read_branch-items-init : goal.read_branch-items-init
 read_branch-items-init t c =
-    none_so_far c.args.in_group c.args.levels c.args.text.now c.args.from _ c.requires.within c.requires.starts c.new.ensures.items refl refl
+    none_so_far c.args.in_group c.args.levels c.args.text.now c.args.from _ c.requires.within c.requires.starts c.no_pieces-items.ensures.told c.no_pieces-items.ensures.height c.no_pieces-items.ensures.place
 
 pub read_branch-returns-in_err-piece-clause-refused : goal.read_branch-returns-in_err-piece-clause-refused
 read_branch-returns-in_err-piece-clause-refused t c =
@@ -66,7 +66,7 @@ read_branch-items-preserved t c =
 pub read_branch-returns-clause-read : goal.read_branch-returns-clause-read
 read_branch-returns-clause-read t c =
     let at_end : stops c.args.in_group (drop c.items.items.behind c.args.text.now) ≡ true = search rules in
-    branch_read c.args.in_group c.args.levels c.args.text.now c.args.from c.items.items _ c.items.invariant at_end c.sequence_of.ensures refl refl
+    branch_read c.args.in_group c.args.levels c.args.text.now c.args.from c.items.items _ c.items.invariant at_end (c.all_of.ensures.told c.args.alloc) c.all_of.ensures.height c.all_of.ensures.place
 
 pub read_branches-returns-in_err-first-clause-refused : goal.read_branches-returns-in_err-first-clause-refused
 read_branches-returns-in_err-first-clause-refused t c =
@@ -76,7 +76,7 @@ read_branches-returns-in_err-first-clause-refused t c =
 pub read_branches-branches-init : goal.read_branches-branches-init
 read_branches-branches-init t c =
     first_branch c.args.in_group c.args.levels c.args.text.now c.args.from _ c.in_ok-branches.branches c.in_ok-first.first c.in_ok-first.ensures.read
-    c.new.ensures.items refl c.in_ok-branches.ensures.made
+    c.no_pieces-none.ensures.told c.no_pieces-none.ensures.height c.in_ok-branches.ensures.made
 
 pub read_branches-read_branch-requires-in-Some : goal.read_branches-read_branch-requires-in-Some
 read_branches-read_branch-requires-in-Some t c = (search rules, (c.in-Some.ensures.within, (bar_starts c.in-Some.ensures, c.requires.few)))
@@ -113,7 +113,7 @@ read_group-returns-in-None-clause-refused t c =
 pub read_group-returns-in-Some-clause-read : goal.read_group-returns-in-Some-clause-read
 read_group-returns-in-Some-clause-read t c =
     group_stands c.args.in_group c.args.levels c.args.text.now c.args.at c.in_ok-branches.branches _ c.requires.opens c.if-levels-eq0.false
-    c.in_ok-branches.ensures.read c.in-Some.ensures refl c.choice_of.ensures
+    c.in_ok-branches.ensures.read c.in-Some.ensures (ap (λ n. n + 1) c.any_of-inside.ensures.height) (λ es are. let told = c.any_of-inside.ensures.told c.args.alloc es are in record { tree = told.tree; count = told.count })
 
 pub read_item-returns-in_err-piece-clause-refused : goal.read_item-returns-in_err-piece-clause-refused
 read_item-returns-in_err-piece-clause-refused t c =
@@ -154,7 +154,7 @@ read_item-duplications-preserved t c =
 
 pub read_next-returns-in-Some-clause-read : goal.read_next-returns-in-Some-clause-read
 read_next-returns-in-Some-clause-read t c =
-    anchor_next c.args.in_group c.args.levels c.args.text.now c.args.at _ c.in-Some.ensures expression-Begin refl
+    anchor_next c.args.in_group c.args.levels c.args.text.now c.args.at c.leaf.result (rw c.leaf.ensures.place c.in-Some.ensures) (c.leaf.ensures.told _ expression-Begin) c.leaf.ensures.height
 
 pub read_next-returns-then-opens_duplication-clause-refused : goal.read_next-returns-then-opens_duplication-clause-refused
 read_next-returns-then-opens_duplication-clause-refused t c =

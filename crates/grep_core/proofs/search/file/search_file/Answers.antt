@@ -10,7 +10,7 @@ pub returns-in_default-clause-ok : goal.returns-in_default-clause-ok
 returns-in_default-clause-ok g c =
     let es = map g.M.LineMatch.expression c.args.matchers.now in
     let source = source_at (g.S.Sources.listed c.args.sources.now) c.args.k in
-    source_missing es c.args.setting.now.asked.options c.args.setting.now.many source _ (writer g.W.CountedWrite.contents g.W.CountedWrite.failures c.args.out.now) c.args.meter.now (g.S.Sources.failures c.args.sources.now) (g.S.Sources.failures c.open.new.self)
+    source_missing es c.args.setting.now.asked.options c.args.setting.now.many c.args.setting.now.shown source _ (writer g.W.CountedWrite.contents g.W.CountedWrite.failures c.args.out.now) c.args.meter.now (g.S.Sources.failures c.args.sources.now) (g.S.Sources.failures c.open.new.self)
     c.in_default.ensures.given.0 c.in_default.ensures.given.1 c.open.ensures.none_back
 
 pub returns-in-Err-clause-memory : goal.returns-in-Err-clause-memory
@@ -20,7 +20,7 @@ returns-in-Err-clause-memory g c = λ count is.
     let same : 0 ≡ count = cc in
     let opened = c.in-Some.ensures.given in
     let counted = c.close.ensures.counted ∙ (λ i. count_more (opened.3 i) (g.S.Reader.CountedRead.failures (c.in-Err.ensures.err i))) ∙ ap (count_more (g.S.Sources.failures c.args.sources.now)) opened.2 in
-    rw (← same) (source_unread es c.args.setting.now.asked.options c.args.setting.now.many source _ (writer g.W.CountedWrite.contents g.W.CountedWrite.failures c.args.out.now) c.args.meter.now (g.S.Sources.failures c.args.sources.now) _ counted _ (gives_both g.S.Sources.given_back c.args.sources.now c.open.new.self c.close.new.self [] _ c.open.ensures.none_back c.close.ensures.back))
+    rw (← same) (source_unread es c.args.setting.now.asked.options c.args.setting.now.many c.args.setting.now.shown source _ (writer g.W.CountedWrite.contents g.W.CountedWrite.failures c.args.out.now) c.args.meter.now (g.S.Sources.failures c.args.sources.now) _ counted _ (gives_both g.S.Sources.given_back c.args.sources.now c.open.new.self c.close.new.self [] _ c.open.ensures.none_back c.close.ensures.back))
 
 pub returns-clause-ok : goal.returns-clause-ok
 returns-clause-ok g c =
@@ -31,8 +31,8 @@ returns-clause-ok g c =
     let counted = c.close-2.ensures.counted ∙ (λ i. count_more (opened.3 i) (g.S.Reader.CountedRead.failures (c.into_reader.ensures i))) in
     let gives = subst (λ rest. GivesBack g.S.Sources.given_back c.args.sources.now c.close-2.new.self (rest ∷ [])) (ap g.S.Reader.CountedRead.remaining c.into_reader.ensures)
     (gives_both g.S.Sources.given_back c.args.sources.now c.open.new.self c.close-2.new.self [] _ c.open.ensures.none_back c.close-2.ensures.back) in
-    found_in g.S.Reader.CountedRead.remaining g.S.Reader.CountedRead.failures es c.args.setting.now.asked.options c.args.setting.now.many source _ _ gives opened.0 c.in-Some.reader opened.1 opened.2 c.in-Ok.lines.lines (ap (λ (n : Numbered _). n.lines.reader) c.in-Ok.ensures.ok)
-    c.name.result.now named _ _ _ _ _ _ _ counted c.search_lines-found.result c.search_lines-found.ensures.ok
+    found_in g.S.Reader.CountedRead.remaining g.S.Reader.CountedRead.failures es c.args.setting.now.asked.options c.args.setting.now.many c.args.setting.now.shown source _ _ gives opened.0 c.in-Some.reader opened.1 opened.2 c.in-Ok.lines.lines (ap (λ (n : Numbered _). n.lines.reader) c.in-Ok.ensures.ok)
+    c.name.result.now named _ _ _ _ _ _ _ counted c.search_opened-found.result c.search_opened-found.ensures.ok
 
 pub returns-clause-write : goal.returns-clause-write
 returns-clause-write g c = λ is.
@@ -43,8 +43,8 @@ returns-clause-write g c = λ is.
     let counted = c.close-2.ensures.counted ∙ (λ i. count_more (opened.3 i) (g.S.Reader.CountedRead.failures (c.into_reader.ensures i))) in
     let gives = subst (λ rest. GivesBack g.S.Sources.given_back c.args.sources.now c.close-2.new.self (rest ∷ [])) (ap g.S.Reader.CountedRead.remaining c.into_reader.ensures)
     (gives_both g.S.Sources.given_back c.args.sources.now c.open.new.self c.close-2.new.self [] _ c.open.ensures.none_back c.close-2.ensures.back) in
-    broken_in g.S.Reader.CountedRead.remaining g.S.Reader.CountedRead.failures es c.args.setting.now.asked.options c.args.setting.now.many source _ _ gives opened.0 c.in-Some.reader opened.1 opened.2 c.in-Ok.lines.lines (ap (λ (n : Numbered _). n.lines.reader) c.in-Ok.ensures.ok)
-    c.name.result.now named _ _ _ _ _ _ _ counted (c.search_lines-found.ensures.write is)
+    broken_in g.S.Reader.CountedRead.remaining g.S.Reader.CountedRead.failures es c.args.setting.now.asked.options c.args.setting.now.many c.args.setting.now.shown source _ _ gives opened.0 c.in-Some.reader opened.1 opened.2 c.in-Ok.lines.lines (ap (λ (n : Numbered _). n.lines.reader) c.in-Ok.ensures.ok)
+    c.name.result.now named _ _ _ _ _ _ _ counted (c.search_opened-found.ensures.write is)
 
 pub returns-clause-memory : goal.returns-clause-memory
 returns-clause-memory g c = λ count is.
@@ -55,5 +55,5 @@ returns-clause-memory g c = λ count is.
     let counted = c.close-2.ensures.counted ∙ (λ i. count_more (opened.3 i) (g.S.Reader.CountedRead.failures (c.into_reader.ensures i))) in
     let gives = subst (λ rest. GivesBack g.S.Sources.given_back c.args.sources.now c.close-2.new.self (rest ∷ [])) (ap g.S.Reader.CountedRead.remaining c.into_reader.ensures)
     (gives_both g.S.Sources.given_back c.args.sources.now c.open.new.self c.close-2.new.self [] _ c.open.ensures.none_back c.close-2.ensures.back) in
-    stopped_in g.S.Reader.CountedRead.remaining g.S.Reader.CountedRead.failures es c.args.setting.now.asked.options c.args.setting.now.many source _ _ gives opened.0 c.in-Some.reader opened.1 opened.2 c.in-Ok.lines.lines (ap (λ (n : Numbered _). n.lines.reader) c.in-Ok.ensures.ok)
-    c.name.result.now named _ _ _ _ _ _ _ counted count (c.search_lines-found.ensures.memory count is)
+    stopped_in g.S.Reader.CountedRead.remaining g.S.Reader.CountedRead.failures es c.args.setting.now.asked.options c.args.setting.now.many c.args.setting.now.shown source _ _ gives opened.0 c.in-Some.reader opened.1 opened.2 c.in-Ok.lines.lines (ap (λ (n : Numbered _). n.lines.reader) c.in-Ok.ensures.ok)
+    c.name.result.now named _ _ _ _ _ _ _ counted count (c.search_opened-found.ensures.memory count is)

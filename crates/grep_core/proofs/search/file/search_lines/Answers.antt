@@ -1,14 +1,15 @@
-use Rattle.std.proofs.Common.{◌≡◌, [], Bool, Result, Err, map, refl, ap, ◌∙◌, subst, arith}
+use Rattle.std.proofs.Common.{◌≡◌, [], Bool, false, Result, Err, map, refl, ap, ◌∙◌, subst, arith}
 use Rattle.grep_core.specs.declared.input.lines.ReadFault.{ReadFault}
 use Rattle.grep_core.specs.Working.Numbered.{NextIs}
 use Rattle.grep_core.proofs.lemmas.CostLaws.{as_expressions}
 use Rattle.grep_core.proofs.lemmas.WrittenLemmas.{TakesAll-written, TakesFront-written}
-use Rattle.grep_core.proofs.lemmas.LinesLemmas.{searched_none, searched_passed, passed_further, searched_sent, breaks_sending, may_count, fewer_left, searched_line, goes_on, leaves_at, breaks_at, ends_whole, ends_broken, runs_out}
+use Rattle.grep_core.proofs.lemmas.FileOutput.{rows_none}
+use Rattle.grep_core.proofs.lemmas.LinesLemmas.{written_plain, searched_none, searched_passed, passed_further, searched_sent, breaks_sending, may_count, fewer_left, searched_line, goes_on, leaves_at, breaks_at, ends_whole, ends_broken, runs_out}
 use Rattle.grep_core.proofs.search.file.search_lines.Goals as goal
 
 pub loop-lines-init : goal.loop-lines-init
 loop-lines-init g c = record {
-  so_far = searched_none _ _ _ _ _ _ _ c.args.lines.now _ _ refl c.requires.none_ahead c.requires.still_open c.requires.none_numbered;
+  so_far = searched_none _ _ _ _ _ _ _ _ (written_plain _ _ _ _ _ _ c.requires.plain [] [] (rows_none _ _ _ _ _)) c.args.lines.now _ _ refl c.requires.none_ahead c.requires.still_open c.requires.none_numbered;
   same_expressions = refl;
   same_wholes = refl;
   is_early = c.leaves_early-early.ensures;
@@ -22,8 +23,8 @@ returns-in_err-send_before_read-clause-write g c = λ is_write.
     let unsent = c.in_err-send_before_read.ensures in
     let before = i.so_far in
     let skipped = rw i.same_expressions at (c.pass_unselected.ensures.passed c.args.lines.now.lines.reader before.lines before.handed) in
-    let p = searched_passed g.R.CountedRead.remaining g.R.CountedRead.failures es w.options w.many w.name.now c.args.lines.now.lines.reader c.loop-lines.lines c.pass_unselected.new.lines _ _ _ _ c.loop-lines.selected before skipped in
-    breaks_sending g.R.CountedRead.remaining g.R.CountedRead.failures es w.options w.many w.name.now c.args.lines.now.lines.reader c.pass_unselected.new.lines _ _ _ _ _ c.loop-lines.selected p
+    let p = searched_passed g.R.CountedRead.remaining g.R.CountedRead.failures es w.options w.many false w.name.now c.args.lines.now.lines.reader c.requires.plain c.loop-lines.lines c.pass_unselected.new.lines _ _ _ _ c.loop-lines.selected before skipped in
+    breaks_sending g.R.CountedRead.remaining g.R.CountedRead.failures es w.options w.many false w.name.now c.args.lines.now.lines.reader c.pass_unselected.new.lines _ _ _ _ _ c.loop-lines.selected p
     (TakesFront-written g.W.CountedWrite.contents g.W.CountedWrite.failures c.loop-lines.out c.send_before_read.new.out [] unsent) unsent.counted
 
 pub loop-lines-preserved : goal.loop-lines-preserved
@@ -33,16 +34,16 @@ loop-lines-preserved g c =
     let i = c.loop-lines.invariant in
     let before = i.so_far in
     let skipped = rw i.same_expressions at (c.pass_unselected.ensures.passed c.args.lines.now.lines.reader before.lines before.handed) in
-    let p = searched_passed g.R.CountedRead.remaining g.R.CountedRead.failures es w.options w.many w.name.now c.args.lines.now.lines.reader c.loop-lines.lines c.pass_unselected.new.lines _ _ _ _ c.loop-lines.selected before skipped in
-    let s = searched_sent g.R.CountedRead.remaining g.R.CountedRead.failures es w.options w.many w.name.now c.args.lines.now.lines.reader c.pass_unselected.new.lines _ _ _ _ _ c.loop-lines.selected p (TakesAll-written g.W.CountedWrite.contents g.W.CountedWrite.failures c.loop-lines.out c.send_before_read.new.out [] c.in_ok-send_before_read.ensures) in
+    let p = searched_passed g.R.CountedRead.remaining g.R.CountedRead.failures es w.options w.many false w.name.now c.args.lines.now.lines.reader c.requires.plain c.loop-lines.lines c.pass_unselected.new.lines _ _ _ _ c.loop-lines.selected before skipped in
+    let s = searched_sent g.R.CountedRead.remaining g.R.CountedRead.failures es w.options w.many false w.name.now c.args.lines.now.lines.reader c.pass_unselected.new.lines _ _ _ _ _ c.loop-lines.selected p (TakesAll-written g.W.CountedWrite.contents g.W.CountedWrite.failures c.loop-lines.out c.send_before_read.new.out [] c.in_ok-send_before_read.ensures) in
     let next = rw c.in-Ok-true.field-0-test at c.in-Ok-true.ensures.next in
     let found = c.in_ok-found-in-Ok-true.found in
     let took = rw i.same_expressions at c.in_ok-found-in-Ok-true.ensures.ok in
     let spent = as_expressions g.M.LineMatch.expression c.loop-lines.matchers es w.options c.line.result.now _ _ i.same_expressions c.in_ok-found-in-Ok-true.ensures.steps in
     record {
       so_far =
-          searched_line g.R.CountedRead.remaining g.R.CountedRead.failures es w.options w.many w.name.now c.args.lines.now.lines.reader c.pass_unselected.new.lines c.next_line.new.self _ _ _ _ c.loop-lines.selected s (next c.args.lines.now.lines.reader s.lines s.handed) _ _
-          c.line.result.now c.line.ensures c.number-count.result c.number-count.ensures found c.count_found-selected.result took spent c.count_found-selected.ensures (goes_on found _ _ i.is_early c.if-found-early.false);
+          searched_line g.R.CountedRead.remaining g.R.CountedRead.failures es w.options w.many false w.name.now c.args.lines.now.lines.reader c.pass_unselected.new.lines c.next_line.new.self _ _ _ _ c.loop-lines.selected s (next c.args.lines.now.lines.reader s.lines s.handed) _ _
+          c.line.result.now c.line.ensures c.number-count.result c.number-count.ensures c.requires.plain found c.count_found-selected.result took spent c.count_found-selected.ensures (goes_on found _ _ i.is_early c.if-found-early.false);
       same_expressions = c.in_ok-found-in-Ok-true.ensures.same_expressions ∙ i.same_expressions;
       same_wholes = c.in_ok-found-in-Ok-true.ensures.same_wholes ∙ i.same_wholes;
       is_early = i.is_early;
@@ -58,10 +59,10 @@ count_found-selected-requires g c =
     let i = c.loop-lines.invariant in
     let before = i.so_far in
     let skipped = rw i.same_expressions at (c.pass_unselected.ensures.passed c.args.lines.now.lines.reader before.lines before.handed) in
-    let p = searched_passed g.R.CountedRead.remaining g.R.CountedRead.failures es w.options w.many w.name.now c.args.lines.now.lines.reader c.loop-lines.lines c.pass_unselected.new.lines _ _ _ _ c.loop-lines.selected before skipped in
-    let s = searched_sent g.R.CountedRead.remaining g.R.CountedRead.failures es w.options w.many w.name.now c.args.lines.now.lines.reader c.pass_unselected.new.lines _ _ _ _ _ c.loop-lines.selected p (TakesAll-written g.W.CountedWrite.contents g.W.CountedWrite.failures c.loop-lines.out c.send_before_read.new.out [] c.in_ok-send_before_read.ensures) in
+    let p = searched_passed g.R.CountedRead.remaining g.R.CountedRead.failures es w.options w.many false w.name.now c.args.lines.now.lines.reader c.requires.plain c.loop-lines.lines c.pass_unselected.new.lines _ _ _ _ c.loop-lines.selected before skipped in
+    let s = searched_sent g.R.CountedRead.remaining g.R.CountedRead.failures es w.options w.many false w.name.now c.args.lines.now.lines.reader c.pass_unselected.new.lines _ _ _ _ _ c.loop-lines.selected p (TakesAll-written g.W.CountedWrite.contents g.W.CountedWrite.failures c.loop-lines.out c.send_before_read.new.out [] c.in_ok-send_before_read.ensures) in
     let next = rw c.in-Ok-true.field-0-test at c.in-Ok-true.ensures.next in
-    may_count g.R.CountedRead.remaining g.R.CountedRead.failures es w.options w.many w.name.now c.args.lines.now.lines.reader c.pass_unselected.new.lines c.next_line.new.self _ _ _ _ c.loop-lines.selected s (next c.args.lines.now.lines.reader s.lines s.handed)
+    may_count g.R.CountedRead.remaining g.R.CountedRead.failures es w.options w.many false w.name.now c.args.lines.now.lines.reader c.pass_unselected.new.lines c.next_line.new.self _ _ _ _ c.loop-lines.selected s (next c.args.lines.now.lines.reader s.lines s.handed)
 
 pub loop-lines-smaller : goal.loop-lines-smaller
 loop-lines-smaller g c =
@@ -70,11 +71,11 @@ loop-lines-smaller g c =
     let i = c.loop-lines.invariant in
     let before = i.so_far in
     let skipped = rw i.same_expressions at (c.pass_unselected.ensures.passed c.args.lines.now.lines.reader before.lines before.handed) in
-    let p = searched_passed g.R.CountedRead.remaining g.R.CountedRead.failures es w.options w.many w.name.now c.args.lines.now.lines.reader c.loop-lines.lines c.pass_unselected.new.lines _ _ _ _ c.loop-lines.selected before skipped in
-    let s = searched_sent g.R.CountedRead.remaining g.R.CountedRead.failures es w.options w.many w.name.now c.args.lines.now.lines.reader c.pass_unselected.new.lines _ _ _ _ _ c.loop-lines.selected p (TakesAll-written g.W.CountedWrite.contents g.W.CountedWrite.failures c.loop-lines.out c.send_before_read.new.out [] c.in_ok-send_before_read.ensures) in
+    let p = searched_passed g.R.CountedRead.remaining g.R.CountedRead.failures es w.options w.many false w.name.now c.args.lines.now.lines.reader c.requires.plain c.loop-lines.lines c.pass_unselected.new.lines _ _ _ _ c.loop-lines.selected before skipped in
+    let s = searched_sent g.R.CountedRead.remaining g.R.CountedRead.failures es w.options w.many false w.name.now c.args.lines.now.lines.reader c.pass_unselected.new.lines _ _ _ _ _ c.loop-lines.selected p (TakesAll-written g.W.CountedWrite.contents g.W.CountedWrite.failures c.loop-lines.out c.send_before_read.new.out [] c.in_ok-send_before_read.ensures) in
     let next = rw c.in-Ok-true.field-0-test at c.in-Ok-true.ensures.next in
-    let further = passed_further g.R.CountedRead.remaining g.R.CountedRead.failures es w.options w.many w.name.now c.args.lines.now.lines.reader c.loop-lines.lines c.pass_unselected.new.lines before.lines before.handed skipped in
-    omega (arith, further, fewer_left g.R.CountedRead.remaining g.R.CountedRead.failures es w.options w.many w.name.now c.args.lines.now.lines.reader c.pass_unselected.new.lines c.next_line.new.self _ _ _ _ c.loop-lines.selected s (next c.args.lines.now.lines.reader s.lines s.handed))
+    let further = passed_further g.R.CountedRead.remaining g.R.CountedRead.failures es w.options w.many false w.name.now c.args.lines.now.lines.reader c.loop-lines.lines c.pass_unselected.new.lines before.lines before.handed skipped in
+    omega (arith, further, fewer_left g.R.CountedRead.remaining g.R.CountedRead.failures es w.options w.many false w.name.now c.args.lines.now.lines.reader c.pass_unselected.new.lines c.next_line.new.self _ _ _ _ c.loop-lines.selected s (next c.args.lines.now.lines.reader s.lines s.handed))
 
 pub returns-then-found-early-clause-ok : goal.returns-then-found-early-clause-ok
 returns-then-found-early-clause-ok g c =
@@ -83,13 +84,13 @@ returns-then-found-early-clause-ok g c =
     let i = c.loop-lines.invariant in
     let before = i.so_far in
     let skipped = rw i.same_expressions at (c.pass_unselected.ensures.passed c.args.lines.now.lines.reader before.lines before.handed) in
-    let p = searched_passed g.R.CountedRead.remaining g.R.CountedRead.failures es w.options w.many w.name.now c.args.lines.now.lines.reader c.loop-lines.lines c.pass_unselected.new.lines _ _ _ _ c.loop-lines.selected before skipped in
-    let s = searched_sent g.R.CountedRead.remaining g.R.CountedRead.failures es w.options w.many w.name.now c.args.lines.now.lines.reader c.pass_unselected.new.lines _ _ _ _ _ c.loop-lines.selected p (TakesAll-written g.W.CountedWrite.contents g.W.CountedWrite.failures c.loop-lines.out c.send_before_read.new.out [] c.in_ok-send_before_read.ensures) in
+    let p = searched_passed g.R.CountedRead.remaining g.R.CountedRead.failures es w.options w.many false w.name.now c.args.lines.now.lines.reader c.requires.plain c.loop-lines.lines c.pass_unselected.new.lines _ _ _ _ c.loop-lines.selected before skipped in
+    let s = searched_sent g.R.CountedRead.remaining g.R.CountedRead.failures es w.options w.many false w.name.now c.args.lines.now.lines.reader c.pass_unselected.new.lines _ _ _ _ _ c.loop-lines.selected p (TakesAll-written g.W.CountedWrite.contents g.W.CountedWrite.failures c.loop-lines.out c.send_before_read.new.out [] c.in_ok-send_before_read.ensures) in
     let next = rw c.in-Ok-true.field-0-test at c.in-Ok-true.ensures.next in
     let took = rw i.same_expressions at c.in_ok-found-in-Ok-true.ensures.ok in
     let spent = as_expressions g.M.LineMatch.expression c.loop-lines.matchers es w.options c.line.result.now _ _ i.same_expressions c.in_ok-found-in-Ok-true.ensures.steps in
-    leaves_at g.R.CountedRead.remaining g.R.CountedRead.failures es w.options w.many w.name.now c.args.lines.now.lines.reader c.pass_unselected.new.lines c.next_line.new.self _ _ _ _ c.loop-lines.selected s (next c.args.lines.now.lines.reader s.lines s.handed) _ _
-    c.line.result.now c.line.ensures c.number-count.result c.number-count.ensures c.in_ok-found-in-Ok-true.found _ c.count_found-selected.result took spent c.count_found-selected.ensures i.is_early c.if-found-early.true
+    leaves_at g.R.CountedRead.remaining g.R.CountedRead.failures es w.options w.many false w.name.now c.args.lines.now.lines.reader c.pass_unselected.new.lines c.next_line.new.self _ _ _ _ c.loop-lines.selected s (next c.args.lines.now.lines.reader s.lines s.handed) _ _
+    c.line.result.now c.line.ensures c.number-count.result c.number-count.ensures c.requires.plain c.in_ok-found-in-Ok-true.found _ c.count_found-selected.result took spent c.count_found-selected.ensures i.is_early c.if-found-early.true
 
 pub returns-in_err-found-in-Ok-true-clause-write : goal.returns-in_err-found-in-Ok-true-clause-write
 returns-in_err-found-in-Ok-true-clause-write g c = λ is_write.
@@ -98,13 +99,13 @@ returns-in_err-found-in-Ok-true-clause-write g c = λ is_write.
     let i = c.loop-lines.invariant in
     let before = i.so_far in
     let skipped = rw i.same_expressions at (c.pass_unselected.ensures.passed c.args.lines.now.lines.reader before.lines before.handed) in
-    let p = searched_passed g.R.CountedRead.remaining g.R.CountedRead.failures es w.options w.many w.name.now c.args.lines.now.lines.reader c.loop-lines.lines c.pass_unselected.new.lines _ _ _ _ c.loop-lines.selected before skipped in
-    let s = searched_sent g.R.CountedRead.remaining g.R.CountedRead.failures es w.options w.many w.name.now c.args.lines.now.lines.reader c.pass_unselected.new.lines _ _ _ _ _ c.loop-lines.selected p (TakesAll-written g.W.CountedWrite.contents g.W.CountedWrite.failures c.loop-lines.out c.send_before_read.new.out [] c.in_ok-send_before_read.ensures) in
+    let p = searched_passed g.R.CountedRead.remaining g.R.CountedRead.failures es w.options w.many false w.name.now c.args.lines.now.lines.reader c.requires.plain c.loop-lines.lines c.pass_unselected.new.lines _ _ _ _ c.loop-lines.selected before skipped in
+    let s = searched_sent g.R.CountedRead.remaining g.R.CountedRead.failures es w.options w.many false w.name.now c.args.lines.now.lines.reader c.pass_unselected.new.lines _ _ _ _ _ c.loop-lines.selected p (TakesAll-written g.W.CountedWrite.contents g.W.CountedWrite.failures c.loop-lines.out c.send_before_read.new.out [] c.in_ok-send_before_read.ensures) in
     let next = rw c.in-Ok-true.field-0-test at c.in-Ok-true.ensures.next in
     let broke = rw i.same_expressions at c.in_err-found-in-Ok-true.ensures.err in
     let spent = as_expressions g.M.LineMatch.expression c.loop-lines.matchers es w.options c.line.result.now _ _ i.same_expressions c.in_err-found-in-Ok-true.ensures.steps in
-    breaks_at g.R.CountedRead.remaining g.R.CountedRead.failures es w.options w.many w.name.now c.args.lines.now.lines.reader c.pass_unselected.new.lines c.next_line.new.self _ _ _ _ c.loop-lines.selected s (next c.args.lines.now.lines.reader s.lines s.handed) _ _
-    c.line.result.now c.line.ensures c.number-count.result c.number-count.ensures broke spent
+    breaks_at g.R.CountedRead.remaining g.R.CountedRead.failures es w.options w.many false w.name.now c.args.lines.now.lines.reader c.pass_unselected.new.lines c.next_line.new.self _ _ _ _ c.loop-lines.selected s (next c.args.lines.now.lines.reader s.lines s.handed) _ _
+    c.line.result.now c.line.ensures c.number-count.result c.number-count.ensures c.requires.plain broke spent
 
 pub returns-in-Ok-false-clause-ok : goal.returns-in-Ok-false-clause-ok
 returns-in-Ok-false-clause-ok g c =
@@ -113,10 +114,10 @@ returns-in-Ok-false-clause-ok g c =
     let i = c.loop-lines.invariant in
     let before = i.so_far in
     let skipped = rw i.same_expressions at (c.pass_unselected.ensures.passed c.args.lines.now.lines.reader before.lines before.handed) in
-    let p = searched_passed g.R.CountedRead.remaining g.R.CountedRead.failures es w.options w.many w.name.now c.args.lines.now.lines.reader c.loop-lines.lines c.pass_unselected.new.lines _ _ _ _ c.loop-lines.selected before skipped in
-    let s = searched_sent g.R.CountedRead.remaining g.R.CountedRead.failures es w.options w.many w.name.now c.args.lines.now.lines.reader c.pass_unselected.new.lines _ _ _ _ _ c.loop-lines.selected p (TakesAll-written g.W.CountedWrite.contents g.W.CountedWrite.failures c.loop-lines.out c.send_before_read.new.out [] c.in_ok-send_before_read.ensures) in
+    let p = searched_passed g.R.CountedRead.remaining g.R.CountedRead.failures es w.options w.many false w.name.now c.args.lines.now.lines.reader c.requires.plain c.loop-lines.lines c.pass_unselected.new.lines _ _ _ _ c.loop-lines.selected before skipped in
+    let s = searched_sent g.R.CountedRead.remaining g.R.CountedRead.failures es w.options w.many false w.name.now c.args.lines.now.lines.reader c.pass_unselected.new.lines _ _ _ _ _ c.loop-lines.selected p (TakesAll-written g.W.CountedWrite.contents g.W.CountedWrite.failures c.loop-lines.out c.send_before_read.new.out [] c.in_ok-send_before_read.ensures) in
     let next = rw c.in-Ok-false.field-0-test at c.in-Ok-false.ensures.next in
-    ends_whole g.R.CountedRead.remaining g.R.CountedRead.failures es w.options w.many w.name.now c.args.lines.now.lines.reader c.pass_unselected.new.lines c.next_line.new.self _ _ _ _ c.loop-lines.selected s (next c.args.lines.now.lines.reader s.lines s.handed)
+    ends_whole g.R.CountedRead.remaining g.R.CountedRead.failures es w.options w.many false w.name.now c.args.lines.now.lines.reader c.pass_unselected.new.lines c.next_line.new.self _ _ _ _ c.loop-lines.selected s (next c.args.lines.now.lines.reader s.lines s.handed)
 
 pub returns-in-Err-Device-clause-ok : goal.returns-in-Err-Device-clause-ok
 returns-in-Err-Device-clause-ok g c =
@@ -125,11 +126,11 @@ returns-in-Err-Device-clause-ok g c =
     let i = c.loop-lines.invariant in
     let before = i.so_far in
     let skipped = rw i.same_expressions at (c.pass_unselected.ensures.passed c.args.lines.now.lines.reader before.lines before.handed) in
-    let p = searched_passed g.R.CountedRead.remaining g.R.CountedRead.failures es w.options w.many w.name.now c.args.lines.now.lines.reader c.loop-lines.lines c.pass_unselected.new.lines _ _ _ _ c.loop-lines.selected before skipped in
-    let s = searched_sent g.R.CountedRead.remaining g.R.CountedRead.failures es w.options w.many w.name.now c.args.lines.now.lines.reader c.pass_unselected.new.lines _ _ _ _ _ c.loop-lines.selected p (TakesAll-written g.W.CountedWrite.contents g.W.CountedWrite.failures c.loop-lines.out c.send_before_read.new.out [] c.in_ok-send_before_read.ensures) in
+    let p = searched_passed g.R.CountedRead.remaining g.R.CountedRead.failures es w.options w.many false w.name.now c.args.lines.now.lines.reader c.requires.plain c.loop-lines.lines c.pass_unselected.new.lines _ _ _ _ c.loop-lines.selected before skipped in
+    let s = searched_sent g.R.CountedRead.remaining g.R.CountedRead.failures es w.options w.many false w.name.now c.args.lines.now.lines.reader c.pass_unselected.new.lines _ _ _ _ _ c.loop-lines.selected p (TakesAll-written g.W.CountedWrite.contents g.W.CountedWrite.failures c.loop-lines.out c.send_before_read.new.out [] c.in_ok-send_before_read.ensures) in
     let reader = c.args.lines.now.lines.reader in
     let next = subst (λ (r : Result Bool ReadFault). NextIs g.R.CountedRead.remaining g.R.CountedRead.failures reader s.lines c.next_line.new.self r) (ap Err c.in-Err-Device.field-0-is) (c.in-Err-Device.ensures.next reader s.lines s.handed) in
-    ends_broken g.R.CountedRead.remaining g.R.CountedRead.failures es w.options w.many w.name.now c.args.lines.now.lines.reader c.pass_unselected.new.lines c.next_line.new.self _ _ _ _ c.loop-lines.selected s next
+    ends_broken g.R.CountedRead.remaining g.R.CountedRead.failures es w.options w.many false w.name.now c.args.lines.now.lines.reader c.pass_unselected.new.lines c.next_line.new.self _ _ _ _ c.loop-lines.selected s next
 
 pub returns-in-Err-Memory-clause-memory : goal.returns-in-Err-Memory-clause-memory
 returns-in-Err-Memory-clause-memory g c = λ count is.
@@ -138,9 +139,9 @@ returns-in-Err-Memory-clause-memory g c = λ count is.
     let i = c.loop-lines.invariant in
     let before = i.so_far in
     let skipped = rw i.same_expressions at (c.pass_unselected.ensures.passed c.args.lines.now.lines.reader before.lines before.handed) in
-    let p = searched_passed g.R.CountedRead.remaining g.R.CountedRead.failures es w.options w.many w.name.now c.args.lines.now.lines.reader c.loop-lines.lines c.pass_unselected.new.lines _ _ _ _ c.loop-lines.selected before skipped in
-    let s = searched_sent g.R.CountedRead.remaining g.R.CountedRead.failures es w.options w.many w.name.now c.args.lines.now.lines.reader c.pass_unselected.new.lines _ _ _ _ _ c.loop-lines.selected p (TakesAll-written g.W.CountedWrite.contents g.W.CountedWrite.failures c.loop-lines.out c.send_before_read.new.out [] c.in_ok-send_before_read.ensures) in
+    let p = searched_passed g.R.CountedRead.remaining g.R.CountedRead.failures es w.options w.many false w.name.now c.args.lines.now.lines.reader c.requires.plain c.loop-lines.lines c.pass_unselected.new.lines _ _ _ _ c.loop-lines.selected before skipped in
+    let s = searched_sent g.R.CountedRead.remaining g.R.CountedRead.failures es w.options w.many false w.name.now c.args.lines.now.lines.reader c.pass_unselected.new.lines _ _ _ _ _ c.loop-lines.selected p (TakesAll-written g.W.CountedWrite.contents g.W.CountedWrite.failures c.loop-lines.out c.send_before_read.new.out [] c.in_ok-send_before_read.ensures) in
     let reader = c.args.lines.now.lines.reader in
     let next = subst (λ (r : Result Bool ReadFault). NextIs g.R.CountedRead.remaining g.R.CountedRead.failures reader s.lines c.next_line.new.self r) (ap Err c.in-Err-Memory.field-0-is) (c.in-Err-Memory.ensures.next reader s.lines s.handed) in
     let same : c.next_line.new.self.number ≡ count = cc in
-    runs_out g.R.CountedRead.remaining g.R.CountedRead.failures es w.options w.many w.name.now c.args.lines.now.lines.reader c.pass_unselected.new.lines c.next_line.new.self _ _ _ _ c.loop-lines.selected s next count same
+    runs_out g.R.CountedRead.remaining g.R.CountedRead.failures es w.options w.many false w.name.now c.args.lines.now.lines.reader c.pass_unselected.new.lines c.next_line.new.self _ _ _ _ c.loop-lines.selected s next count same

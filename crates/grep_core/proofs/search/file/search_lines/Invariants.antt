@@ -1,4 +1,4 @@
-use Rattle.std.proofs.Common.{◌≡◌, ◌-◌, ◌^◌, map}
+use Rattle.std.proofs.Common.{◌≡◌, ◌-◌, ◌^◌, map, false}
 use Rattle.grep_core.specs.Run.{writer}
 use Rattle.grep_core.specs.Working.Searched.{leaves_early}
 use Rattle.grep_core.proofs.lemmas.LinesLemmas.{SearchedSoFar}
@@ -7,7 +7,7 @@ use Rattle.grep_core.proofs.search.file.search_lines.Given as goal
 -- the lines that were handed out were searched
 abbrev pub invariant-loop-lines : goal.invariant-loop-lines
 invariant-loop-lines g l = record {
-  so_far : SearchedSoFar g.R.CountedRead.remaining g.R.CountedRead.failures (map g.M.LineMatch.expression l.fn.matchers) l.wanted.options l.wanted.many l.wanted.name.now
+  so_far : SearchedSoFar g.R.CountedRead.remaining g.R.CountedRead.failures (map g.M.LineMatch.expression l.fn.matchers) l.wanted.options l.wanted.many false l.wanted.name.now
       l.fn.lines.lines.reader l.lines (writer g.W.CountedWrite.contents g.W.CountedWrite.failures l.fn.out) (writer g.W.CountedWrite.contents g.W.CountedWrite.failures l.out) l.fn.meter l.meter l.selected;
   same_expressions : map g.M.LineMatch.expression l.matchers ≡ map g.M.LineMatch.expression l.fn.matchers;
   same_wholes : map g.M.LineMatch.whole l.matchers ≡ map g.M.LineMatch.whole l.fn.matchers;

@@ -1,0 +1,311 @@
+-- A search that shows lines around selected ones: what is written of a file's first lines, one more line at a time.
+use Rattle.std.proofs.Common.{◌≡◌, ℕ, ◌+◌, ◌-◌, nat_lt, ◌<◌, ◌≤◌, ◌⊎◌, ◌↔◌, min, Bool, true, false, ◌&&◌, ◌||◌, IsTrue, Decides, List, [], ◌∷◌, ◌++◌, All, length, take, drop, inl, inr, refl, sym, ap, subst, ◌∙◌, append_assoc, arith, if◌then◌else◌}
+use Rattle.std.specs.List.{enumerate_from}
+use Rattle.std.proofs.Math.Nat.{min-eq_left, min-eq_right}
+use Rattle.std.proofs.lemmas.Bool.{cases_lt, false≢true, lt-ltb, le-ltb, or_right, false_from_ne_true}
+use Rattle.std.proofs.lemmas.List.{length-append, length-take-le, length-drop, append-nil, take-append-drop, drop_at}
+use Rattle.std.proofs.lemmas.List.Elements.{All-nil, All-cons, All-append, All-drop}
+use Rattle.re_syntax.specs.Bytes.{Text}
+use Rattle.re_syntax.specs.Expression.{Expression}
+use Rattle.grep_core.specs.declared.options.Context.{Context}
+use Rattle.grep_core.specs.declared.options.Options.{Options}
+use Rattle.grep_core.specs.declared.output.around.Progress.{Progress}
+use Rattle.grep_core.specs.Choose.{EachGives}
+use Rattle.grep_core.specs.Files.{Selected}
+use Rattle.grep_core.specs.Around.{group_separator, IsShown, BeginsGroup, Groups}
+use Rattle.grep_core.specs.Output.{around, shown_number}
+use Rattle.grep_core.specs.Working.Wanted.{name_shown}
+use Rattle.grep_core.specs.Working.Groups.{behind_rows}
+use Rattle.grep_core.specs.Working.Progress.{progress_from, next_shown, with_waiting, behind_line, last_of, rows_around, row_by, rows_at}
+use Rattle.grep_core.proofs.lemmas.ChooseLaws.{EachGives-append}
+use Rattle.grep_core.proofs.lemmas.Decided.{dec_selected}
+use Rattle.grep_core.proofs.lemmas.Verdicts.{decided_yes, decided_no}
+use Rattle.grep_core.proofs.lemmas.MoreLines.{enumerate_from-append}
+use Rattle.grep_core.proofs.lemmas.ShownLemmas.{EachGives-placed, EachGives-placed_nothing, shown_more, shown_passed, shown_cases, shown_near, begins_from, begins_at, begins_same, shows_same}
+use Rattle.grep_core.proofs.lemmas.GroupLemmas.{behind_group, behind_none, said_before, more_nonempty, Given, groups_grown}
+
+module _ (es : List Expression) (options : Options) (many : Bool) (name : Text) (context : Context) (before : Bool) where
+  -- the search stands so behind these lines, and these rows of them are written, where some line was shown before or none: what the first of them show, the groups, was
+  -- written, and the others are held
+  pub record Tracks (p : Progress) (lines rows : List Text) : Type 0 where
+    pub same_context : p.context ≡ context
+    pub few : p.waiting ≤ p.context.before
+    pub within : p.waiting ≤ length lines
+    pub front : List Text
+    pub held : List Text
+    pub parted : lines ≡ front ++ held
+    pub many_held : length held ≡ p.waiting
+    pub none_held : All (λ line. ¬ Selected es options line) held
+    pub kept : (k : ℕ) → length front ≤ k → k < length lines → ¬ IsShown es options context lines k
+    pub missing : (k : ℕ) → k < length front → IsShown es options context lines k ⊎ (k + context.before < length lines)
+    pub left : (d : ℕ) → (d < p.left) ↔ IsShown es options context lines (length lines + d)
+    pub gap : Decides p.gap (BeginsGroup es options context lines (length front))
+    pub groups : List Text
+    pub given : EachGives (Given es options many name context lines) (enumerate_from 0 front) groups
+    pub written : rows ≡ behind_rows (around context) before groups
+    pub shown : Decides p.shown (IsTrue before ⊎ (groups ≡ [] → ⊥))
+    pub first : groups ≡ [] → p.gap ≡ true
+
+  -- before the first line
+  pub tracks_none : Tracks (progress_from context before) [] []
+  tracks_none = record {
+    same_context = refl;
+    few = omega arith;
+    within = omega arith;
+    front = [];
+    held = [];
+    parted = refl;
+    many_held = refl;
+    none_held = All-nil (λ line. ¬ Selected es options line);
+    kept = λ k low high _. let bad : ⊥ = omega (arith, high) in bad;
+    missing = λ k below. absurd (omega (arith, below));
+    left = λ d. ((λ below. absurd (omega (arith, below))), (λ s. absurd (omega (arith, s.on))));
+    gap = ((λ _. tt), (λ _. refl));
+    groups = [];
+    given = refl;
+    written = behind_none context before;
+    shown = said_before before;
+    first = λ _. refl;
+  }
+
+  -- lines that wait are the last of all
+  held_last : (p : Progress) (lines rows : List Text) (t : Tracks p lines rows) → last_of p.waiting lines ≡ t.held
+  held_last p lines rows t =
+      let front_long : length t.front ≡ length lines - p.waiting = omega (arith, ap length t.parted, length-append t.front t.held, t.many_held) in
+      ap (drop (length lines - p.waiting)) t.parted ∙ drop_at t.front t.held (length lines - p.waiting) front_long
+
+  -- the rows of these stand before that of the next line
+  rows_held : (p : Progress) (lines rows : List Text) (t : Tracks p lines rows) (row : Text)
+      → rows_around options many name ((length lines + 1) - length (last_of p.waiting lines)) (last_of p.waiting lines) ++ row ∷ [] ≡ rows_around options many name (length t.front + 1) t.held ++ row ∷ []
+  rows_held p lines rows t row =
+      let number : (length lines + 1) - length t.held ≡ length t.front + 1 = omega (arith, ap length t.parted, length-append t.front t.held) in
+      ap (λ w. rows_around options many name ((length lines + 1) - length w) w ++ row ∷ []) (held_last p lines rows t)
+      ∙ ap (λ n. rows_around options many name n t.held ++ row ∷ []) number
+
+  -- the next line is selected
+  tracks_selected : (p : Progress) (lines rows : List Text) (line : Text) → Selected es options line → Tracks p lines rows
+      → Tracks (behind_line p true) (lines ++ line ∷ []) (rows ++ rows_at options many name true (next_shown p true) (last_of p.waiting lines) (length lines + 1) line)
+  tracks_selected p lines rows line selected t =
+      let all : List Text = lines ++ line ∷ [] in
+      let one_more : length all ≡ length lines + 1 = length-append lines (line ∷ []) in
+      let row : Text = row_by options many name true (length lines + 1) line in
+      let separator : List Text = if p.gap then group_separator ∷ [] else [] in
+      let written : List Text = rows_around options many name (length t.front + 1) t.held ++ row ∷ [] in
+      let long : length lines ≡ length t.front + length t.held = ap length t.parted ∙ length-append t.front t.held in
+      let few : p.waiting ≤ context.before = subst (λ (c : Context). p.waiting ≤ c.before) t.same_context t.few in
+      let back : (k : ℕ) → k < length t.front → IsShown es options context all k → IsShown es options context lines k = λ k below s. elim (t.missing k below) [
+        | inl shown ↦ shown
+        | inr far ↦ elim (shown_cases es options context lines line k s) [ inl shown ↦ shown | inr near ↦ absurd (omega (arith, far, near.0)) ]
+      ] in
+      let near : (k : ℕ) → length t.front ≤ k → k ≤ length lines → IsShown es options context all k = λ k low high.
+      shown_near es options context lines line k selected (omega (arith, low, long, few, t.many_held)) (omega (arith, high)) in
+      record {
+        same_context = t.same_context;
+        few = omega arith;
+        within = omega arith;
+        front = all;
+        held = [];
+        parted = sym (append-nil all);
+        many_held = refl;
+        none_held = All-nil (λ line. ¬ Selected es options line);
+        kept = λ k low high _. let bad : ⊥ = omega (arith, low, high) in bad;
+        missing = λ k below. elim (cases_lt k (length t.front)) [
+          | inl early ↦ elim (t.missing k early) [ inl shown ↦ inl (shown_more es options context lines (line ∷ []) k shown) | inr far ↦ inr (omega (arith, far, one_more)) ]
+          | inr late ↦ inl (near k late (omega (arith, below, one_more)))
+        ];
+        left = λ d. (
+          (λ below. shown_near es options context lines line (length all + d) selected (omega (arith, one_more)) (omega (arith, subst (λ (c : Context). d < c.after) t.same_context below, one_more))),
+          (λ s. subst (λ (c : Context). d < c.after) (sym t.same_context) (omega (arith, s.on, s.behind, one_more))),
+        );
+        gap = ((λ e. absurd (false≢true e)), (λ b. absurd (begins_at es options context all (length all) (length lines) b one_more (near (length lines) (omega (arith, long)) (omega arith)))));
+        groups = t.groups ++ (separator ++ written);
+        given = groups_grown es options many name context lines t.front t.held line row t.groups p.gap t.parted t.none_held t.given back near t.gap (inl (selected, refl));
+        written = ap (λ w. rows ++ ((if p.gap && p.shown then group_separator ∷ [] else []) ++ w)) (rows_held p lines rows t row)
+            ∙ ap (λ r. r ++ ((if p.gap && p.shown then group_separator ∷ [] else []) ++ written)) t.written ∙ behind_group context before p.gap p.shown t.groups written t.shown t.first;
+        shown = ((λ _. inr (more_nonempty t.groups separator (rows_around options many name (length t.front + 1) t.held) row)), (λ _. refl));
+        first = λ e. absurd (more_nonempty t.groups separator (rows_around options many name (length t.front + 1) t.held) row e);
+      }
+
+  -- the next line is not selected, and is shown behind one that is
+  tracks_behind : (p : Progress) (lines rows : List Text) (line : Text) → ¬ Selected es options line → 0 < p.left → Tracks p lines rows
+      → Tracks (record p { left = p.left - 1 }) (lines ++ line ∷ []) (rows ++ (rows_around options many name ((length lines + 1) - length (last_of p.waiting lines)) (last_of p.waiting lines) ++ row_by options many name false (length lines + 1) line ∷ []))
+  tracks_behind p lines rows line passed some t =
+      let all : List Text = lines ++ line ∷ [] in
+      let one_more : length all ≡ length lines + 1 = length-append lines (line ∷ []) in
+      let row : Text = row_by options many name false (length lines + 1) line in
+      let written : List Text = rows_around options many name (length t.front + 1) t.held ++ row ∷ [] in
+      let long : length lines ≡ length t.front + length t.held = ap length t.parted ∙ length-append t.front t.held in
+      let none : All (λ l. ¬ Selected es options l) (line ∷ []) = All-cons (λ l. ¬ Selected es options l) line [] passed (All-nil (λ l. ¬ Selected es options l)) in
+      let here : IsShown es options context lines (length lines + 0) = (t.left 0).0 some in
+      let here_on : here.place < length lines = here.on in
+      let last_one : IsShown es options context lines (length lines - 1) = record { place = here.place; on = here.on; selected = here.selected; before = omega (arith, here_on); behind = omega (arith, here.behind) } in
+      let all_before : length lines ≤ length t.front = elim (cases_lt (length t.front) (length lines)) [
+        | inl low ↦ absurd (t.kept (length lines - 1) (omega (arith, low)) (omega (arith, low)) last_one)
+        | inr high ↦ high
+      ] in
+      let no_gap : p.gap ≡ false = false_from_ne_true p.gap (λ e. begins_at es options context lines (length t.front) (length lines - 1) (t.gap.0 e) (omega (arith, all_before, long, here_on)) last_one) in
+      let shown_here : IsShown es options context all (length lines) = shown_more es options context lines (line ∷ []) (length lines) (subst (IsShown es options context lines) (let e : length lines + 0 ≡ length lines = omega arith in e) here) in
+      let near : (k : ℕ) → length t.front ≤ k → k ≤ length lines → IsShown es options context all k = λ k low high.
+      subst (IsShown es options context all) (let e : length lines ≡ k = omega (arith, low, high, all_before) in e) shown_here in
+      let begins_not : BeginsGroup es options context all (length all) → ⊥ = λ b. begins_at es options context all (length all) (length lines) b one_more shown_here in
+      let some_before : t.groups ≡ [] → ⊥ = λ e. false≢true (sym no_gap ∙ t.first e) in
+      let group : List Text = (if p.gap then group_separator ∷ [] else []) ++ written in
+      let ungapped : (if p.gap && p.shown then group_separator ∷ [] else []) ++ written ≡ written = ap (λ b. (if b && p.shown then group_separator ∷ [] else []) ++ written) no_gap in
+      record {
+        same_context = t.same_context;
+        few = t.few;
+        within = omega (arith, t.within, one_more);
+        front = all;
+        held = [];
+        parted = sym (append-nil all);
+        many_held = omega (arith, long, all_before, t.many_held);
+        none_held = All-nil (λ l. ¬ Selected es options l);
+        kept = λ k low high _. let bad : ⊥ = omega (arith, low, high) in bad;
+        missing = λ k below. elim (cases_lt k (length t.front)) [
+          | inl early ↦ elim (t.missing k early) [ inl shown ↦ inl (shown_more es options context lines (line ∷ []) k shown) | inr far ↦ inr (omega (arith, far, one_more)) ]
+          | inr late ↦ inl (near k late (omega (arith, below, one_more)))
+        ];
+        left = λ d.
+            let next : length lines + (d + 1) ≡ length all + d = omega (arith, one_more) in (
+              (λ below. shown_more es options context lines (line ∷ []) (length all + d) (subst (IsShown es options context lines) next ((t.left (d + 1)).0 (omega (arith, below))))),
+              (λ s. let further : d + 1 < p.left = (t.left (d + 1)).1 (subst (IsShown es options context lines) (sym next) (shown_passed es options context lines (line ∷ []) (length all + d) none s)) in omega (arith, further)),
+            );
+        gap = ((λ e. absurd (false≢true (sym no_gap ∙ e))), (λ b. absurd (begins_not b)));
+        groups = t.groups ++ group;
+        given = groups_grown es options many name context lines t.front t.held line row t.groups p.gap t.parted t.none_held t.given (λ k _ s. shown_passed es options context lines (line ∷ []) k none s) near t.gap (inr (passed, refl));
+        written = ap (λ w. rows ++ w) (rows_held p lines rows t row) ∙ ap (λ r. r ++ written) t.written ∙ ap (λ w. behind_rows (around context) before t.groups ++ w) (sym ungapped)
+            ∙ behind_group context before p.gap p.shown t.groups written t.shown t.first;
+        shown = ((λ _. inr (more_nonempty t.groups (if p.gap then group_separator ∷ [] else []) (rows_around options many name (length t.front + 1) t.held) row)), (λ _. t.shown.1 (inr some_before)));
+        first = λ e. absurd (more_nonempty t.groups (if p.gap then group_separator ∷ [] else []) (rows_around options many name (length t.front + 1) t.held) row e);
+      }
+
+  -- lines that are not selected, and not shown behind one that is, wait as far as they may
+  waits : (p : Progress) (lines rows passed : List Text) (gap : Bool) (n : ℕ) → All (λ line. ¬ Selected es options line) passed → p.left ≡ 0
+      → ((p.waiting + length passed ≤ context.before) × (n ≡ p.waiting + length passed) × (gap ≡ p.gap)) ⊎ ((context.before < p.waiting + length passed) × (n ≡ context.before) × (gap ≡ true))
+      → Tracks p lines rows → Tracks (record p { gap = gap; waiting = n }) (lines ++ passed) rows
+  waits p lines rows passed gap n none left_none step t =
+      let all : List Text = lines ++ passed in
+      let waiting : List Text = t.held ++ passed in
+      let longer : length all ≡ length lines + length passed = length-append lines passed in
+      let long : length lines ≡ length t.front + length t.held = ap length t.parted ∙ length-append t.front t.held in
+      let waiting_long : length waiting ≡ p.waiting + length passed = length-append t.held passed ∙ ap (λ w. w + length passed) t.many_held in
+      let gone : ℕ = (p.waiting + length passed) - n in
+      let few : n ≤ p.waiting + length passed = elim step [ inl s ↦ omega (arith, s.1) | inr s ↦ omega (arith, s.0, s.1) ] in
+      let few_before : n ≤ context.before = elim step [ inl s ↦ omega (arith, s.0, s.1) | inr s ↦ omega (arith, s.1) ] in
+      let gone_long : length (take gone waiting) ≡ gone = length-take-le gone waiting (omega (arith, waiting_long)) in
+      let front : List Text = t.front ++ take gone waiting in
+      let front_long : length front ≡ length t.front + gone = length-append t.front (take gone waiting) ∙ ap (λ m. length t.front + m) gone_long in
+      let none_shown : (k : ℕ) → length t.front ≤ k → ¬ IsShown es options context all k = λ k low s.
+      let shown : IsShown es options context lines k = shown_passed es options context lines passed k none s in
+      elim (cases_lt k (length lines)) [
+        | inl on ↦ t.kept k low on shown
+        | inr out ↦
+            let at : k ≡ length lines + (k - length lines) = omega (arith, out) in
+            let some : k - length lines < p.left = (t.left (k - length lines)).1 (subst (IsShown es options context lines) at shown) in
+            absurd (omega (arith, some, left_none))
+      ] in
+      let to = λ (k : ℕ). shown_more es options context lines passed k in
+      let from : (k : ℕ) → IsShown es options context all k → IsShown es options context lines k = λ k. shown_passed es options context lines passed k none in
+      let first = EachGives-placed (Given es options many name context lines) (Given es options many name context all) 0 t.front t.groups
+      (λ k x zs low high. shows_same es options context (name_shown many name) (shown_number options) lines all k x zs (λ j _. to j) (λ j _. from j)) t.given in
+      let rest = EachGives-placed_nothing (Given es options many name context all) (length t.front) (take gone waiting) (λ k x low high. inr (none_shown k low, refl)) in
+      let zeroed : 0 + length t.front ≡ length t.front = omega arith in
+      let placed : enumerate_from 0 front ≡ enumerate_from 0 t.front ++ enumerate_from (length t.front) (take gone waiting) =
+      enumerate_from-append 0 t.front (take gone waiting) ∙ ap (λ m. enumerate_from 0 t.front ++ enumerate_from m (take gone waiting)) zeroed in
+      record {
+        same_context = t.same_context;
+        few = subst (λ (c : Context). n ≤ c.before) (sym t.same_context) few_before;
+        within = omega (arith, few, t.within, longer);
+        front = front;
+        held = drop gone waiting;
+        parted = ap (λ ls. ls ++ passed) t.parted ∙ append_assoc t.front t.held passed ∙ ap (λ ls. t.front ++ ls) (sym (take-append-drop gone waiting)) ∙ sym (append_assoc t.front (take gone waiting) (drop gone waiting));
+        many_held = omega (arith, length-drop gone waiting, waiting_long, few);
+        none_held = All-drop (λ line. ¬ Selected es options line) gone waiting (All-append (λ line. ¬ Selected es options line) t.held passed t.none_held none);
+        kept = λ k low high. none_shown k (omega (arith, low, front_long));
+        missing = λ k below. elim (cases_lt k (length t.front)) [
+          | inl early ↦ elim (t.missing k early) [ inl shown ↦ inl (to k shown) | inr far ↦ inr (omega (arith, far, longer)) ]
+          | inr late ↦ elim step [
+            | inl s ↦ absurd (omega (arith, below, front_long, late, s.1))
+            | inr s ↦ inr (omega (arith, below, front_long, s.0, s.1, longer, long, t.many_held))
+          ]
+        ];
+        left = λ d. ((λ below. absurd (omega (arith, below, left_none))), (λ s. absurd (none_shown (length all + d) (omega (arith, longer, long)) s)));
+        gap = elim step [
+          | inl s ↦
+              let same : length t.front ≡ length front = omega (arith, front_long, s.1) in
+              subst (λ m. Decides gap (BeginsGroup es options context all m)) same (subst (λ b. Decides b (BeginsGroup es options context all (length t.front))) (sym s.2)
+              ((λ e. begins_same es options context lines all (length t.front) (λ j _. from j) (t.gap.0 e)), (λ b. t.gap.1 (begins_same es options context all lines (length t.front) (λ j _. to j) b))))
+          | inr s ↦ ((λ _. begins_from es options context all (length front) (λ j e. none_shown j (omega (arith, front_long, e, s.0, s.1)))), (λ _. s.2))
+        ];
+        groups = t.groups;
+        given = subst (λ ls. EachGives (Given es options many name context all) ls t.groups) (sym placed)
+            (subst (EachGives (Given es options many name context all) (enumerate_from 0 t.front ++ enumerate_from (length t.front) (take gone waiting))) (append-nil t.groups)
+            (EachGives-append (Given es options many name context all) (enumerate_from 0 t.front) (enumerate_from (length t.front) (take gone waiting)) t.groups [] first rest));
+        written = t.written;
+        shown = t.shown;
+        first = λ e. elim step [ inl s ↦ s.2 ∙ t.first e | inr s ↦ s.2 ];
+      }
+
+  -- lines of which none is selected were passed, where no line is shown any more behind a selected one
+  pub tracks_passed : (p : Progress) (lines rows passed : List Text) → All (λ line. ¬ Selected es options line) passed → p.left ≡ 0 → Tracks p lines rows
+      → Tracks (with_waiting (length passed) p) (lines ++ passed) rows
+  tracks_passed p lines rows passed none left_none t =
+      let room : p.context.before ≡ context.before = ap (λ (c : Context). c.before) t.same_context in
+      waits p lines rows passed (p.gap || nat_lt p.context.before (p.waiting + length passed)) (min (p.waiting + length passed) p.context.before) none left_none
+      (elim (cases_lt p.context.before (p.waiting + length passed)) [
+        | inl over ↦ inr (omega (arith, over, room), min-eq_right (omega (arith, over)) ∙ room, or_right p.gap _ (lt-ltb _ _ over))
+        | inr fits ↦ inl (omega (arith, fits, room), min-eq_left fits, ap (λ b. p.gap || b) (le-ltb _ _ fits) ∙ or_false p.gap)
+      ]) t
+    where
+      or_false : (b : Bool) → (b || false) ≡ b
+      or_false true = refl
+      or_false false = refl
+
+  -- the next line is not selected
+  tracks_unselected : (p : Progress) (lines rows : List Text) (line : Text) → ¬ Selected es options line → Tracks p lines rows
+      → Tracks (behind_line p false) (lines ++ line ∷ []) (rows ++ rows_at options many name false (next_shown p false) (last_of p.waiting lines) (length lines + 1) line)
+  tracks_unselected p lines rows line passed t = elim (cases_lt 0 p.left) [
+    | inl some ↦ subst after (sym (lt-ltb 0 p.left some)) (tracks_behind p lines rows line passed some t)
+    | inr none ↦ subst after (sym (le-ltb 0 p.left none)) (subst (Tracks (with_waiting 1 p) (lines ++ line ∷ [])) (sym (append-nil rows))
+        (tracks_passed p lines rows (line ∷ []) (All-cons (λ l. ¬ Selected es options l) line [] passed (All-nil (λ l. ¬ Selected es options l))) (omega (arith, none)) t))
+  ]
+    where
+      after : Bool → Type 0
+      after some = Tracks (if some then record p { left = p.left - 1 } else with_waiting 1 p) (lines ++ line ∷ [])
+          (rows ++ ([] ++ (if some then rows_around options many name ((length lines + 1) - length (last_of p.waiting lines)) (last_of p.waiting lines) ++ row_by options many name false (length lines + 1) line ∷ [] else [])))
+
+  -- the next line
+  pub tracks_line : (p : Progress) (lines rows : List Text) (line : Text) (selected : Bool) → Decides selected (Selected es options line) → Tracks p lines rows
+      → Tracks (behind_line p selected) (lines ++ line ∷ []) (rows ++ rows_at options many name selected (next_shown p selected) (last_of p.waiting lines) (length lines + 1) line)
+  tracks_line p lines rows line true told t = tracks_selected p lines rows line (told.0 refl) t
+  tracks_line p lines rows line false told t = tracks_unselected p lines rows line (λ s. false≢true (told.1 s)) t
+
+  -- what was written of the lines is what is shown of them, as if the file ended there
+  pub tracked_groups : (p : Progress) (lines rows : List Text) → Tracks p lines rows
+      → (groups : List Text) × Groups es options context (name_shown many name) (shown_number options) lines groups × (rows ≡ behind_rows (around context) before groups)
+  tracked_groups p lines rows t =
+      let long : length lines ≡ length t.front + length t.held = ap length t.parted ∙ length-append t.front t.held in
+      let rest = EachGives-placed_nothing (Given es options many name context lines) (length t.front) t.held (λ k x low high. inr (t.kept k low (omega (arith, high, long)), refl)) in
+      let zeroed : 0 + length t.front ≡ length t.front = omega arith in
+      let placed : enumerate_from 0 lines ≡ enumerate_from 0 t.front ++ enumerate_from (length t.front) t.held =
+      ap (enumerate_from 0) t.parted ∙ enumerate_from-append 0 t.front t.held ∙ ap (λ m. enumerate_from 0 t.front ++ enumerate_from m t.held) zeroed in (
+        t.groups,
+        subst (λ ls. EachGives (Given es options many name context lines) ls t.groups) (sym placed)
+            (subst (EachGives (Given es options many name context lines) (enumerate_from 0 t.front ++ enumerate_from (length t.front) t.held)) (append-nil t.groups)
+            (EachGives-append (Given es options many name context lines) (enumerate_from 0 t.front) (enumerate_from (length t.front) t.held) t.groups [] t.given rest)),
+        t.written,
+      )
+
+  -- more lines add to what is written
+  pub tracks_further : (p : Progress) (lines rows more : List Text) → Tracks p lines rows → (q : Progress) × (rest : List Text) × Tracks q (lines ++ more) (rows ++ rest)
+  tracks_further p lines rows [] t = (p, [], subst (λ ls. Tracks p ls (rows ++ [])) (sym (append-nil lines)) (subst (Tracks p lines) (sym (append-nil rows)) t))
+  tracks_further p lines rows (line ∷ more) t =
+      let told = decided (dec_selected es options line) in
+      let next = tracks_line p lines rows line told.0 told.1 t in
+      let written : List Text = rows_at options many name told.0 (next_shown p told.0) (last_of p.waiting lines) (length lines + 1) line in
+      let rest = tracks_further (behind_line p told.0) (lines ++ line ∷ []) (rows ++ written) more next in
+      (rest.0, written ++ rest.1, subst (Tracks rest.0 (lines ++ line ∷ more)) (append_assoc rows written rest.1) (subst (λ ls. Tracks rest.0 ls ((rows ++ written) ++ rest.1)) (append_assoc lines (line ∷ []) more) rest.2))
+    where
+      decided : {P : Type 0} → Dec P → (b : Bool) × Decides b P
+      decided (yes h) = (true, decided_yes h)
+      decided (no h) = (false, decided_no h)

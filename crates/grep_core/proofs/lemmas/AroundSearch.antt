@@ -1,0 +1,295 @@
+-- A search of the lines of an open source of which lines around the selected ones are shown, one more line at a time.
+use Rattle.std.proofs.Common.{◌≡◌, ℕ, ◌+◌, ◌-◌, ◌^◌, ◌<◌, ◌≤◌, Bool, true, false, IsTrue, Decides, List, [], ◌∷◌, ◌++◌, Option, length, take, refl, sym, ap, subst, ◌∙◌, append-nil, inl, inr, arith, if◌then◌else◌}
+use Rattle.std.proofs.lemmas.List.{length-append, length_push}
+use Rattle.std.proofs.lemmas.List.Elements.{All-nil}
+use Rattle.re_syntax.specs.Bytes.{Text}
+use Rattle.re_syntax.specs.Lines.{lines_of}
+use Rattle.re_syntax.specs.Expression.{Expression}
+use Rattle.re_search.specs.Meters.{Steps}
+use Rattle.grep_core.specs.declared.options.Options.{Options}
+use Rattle.grep_core.specs.declared.options.Context.{Context}
+use Rattle.grep_core.specs.declared.output.around.Progress.{Progress}
+use Rattle.grep_core.specs.declared.input.lines.Stage.TheVariants.{Open}
+use Rattle.grep_core.specs.declared.search.file.FileEnd.TheVariants.{Whole, Broken}
+use Rattle.grep_core.specs.Counted.{one_more}
+use Rattle.grep_core.specs.Choose.{EachGives}
+use Rattle.grep_core.specs.Files.{whole, broken, Selected}
+use Rattle.grep_core.specs.Output.{around, form, GroupsOf, SelectedLines}
+use Rattle.grep_core.specs.Reading.{open_source, most_lines, OneLeft}
+use Rattle.grep_core.specs.Run.{Writer, TakesAll, TakesFront}
+use Rattle.grep_core.specs.Cost.{SearchesLine, SearchesLines}
+use Rattle.grep_core.specs.Working.Handed.{file_so_far}
+use Rattle.grep_core.specs.Working.LastLines.{LastLines, with_lines}
+use Rattle.grep_core.specs.Working.Numbered.{Numbered, AreAhead, HasHanded, PassesNext, StandsAs}
+use Rattle.grep_core.specs.Working.Passed.{AreUnselected, PassesWaiting}
+use Rattle.grep_core.specs.Working.Progress.{progress_from, next_shown, behind_line, with_waiting, last_of, rows_at}
+use Rattle.grep_core.specs.Working.Searched.{leaves_early, SearchesSource, BreaksSource, StopsSource}
+use Rattle.grep_core.proofs.lemmas.AroundLemmas.{Tracks, tracks_none, tracks_line, tracks_passed, tracked_groups, tracks_further}
+use Rattle.grep_core.proofs.lemmas.CostLaws.{searched_no_line, searched_one_line, searched_first_lines}
+use Rattle.grep_core.proofs.lemmas.ChooseLaws.{EachGives-one}
+use Rattle.grep_core.proofs.lemmas.FileOutput.{file_is, chosen_line, chosen_count}
+use Rattle.grep_core.proofs.lemmas.BlockLines.{last_of-many}
+use Rattle.grep_core.proofs.lemmas.HandedLemmas.{begins_with}
+use Rattle.grep_core.proofs.lemmas.LinesLemmas.{early_form, WrittenOf, WritesLines, searches_whole, searches_broken, stops_behind, breaks_in, chosen_on}
+use Rattle.grep_core.proofs.lemmas.MoreLines.{file_with}
+use Rattle.grep_core.proofs.lemmas.NumberedLemmas.{has_handed_none}
+use Rattle.grep_core.proofs.lemmas.PassedLines.{passed_block}
+use Rattle.grep_core.proofs.lemmas.WaitingRows.{WaitsNot, waits_not_next, held_next, length-last_of}
+use Rattle.grep_core.proofs.lemmas.Verdicts.{picked}
+use Rattle.grep_core.proofs.lemmas.WriterLaws.{TakesAll-nothing, TakesAll-more, TakesFront-more}
+
+-- ---- lines that are passed
+
+module _ {R : Type 0} (remaining : R → Option Text) (failures : R → ℕ) (es : List Expression) (options : Options) (reader : R) (handed : List Text) where
+  -- none was passed
+  pub passes_none : (now : Numbered R) (p : Progress) (behind : LastLines) → HasHanded remaining failures reader now handed → PassesWaiting remaining failures es options reader handed now p p behind behind
+  passes_none now p behind h = record {
+    passes = record { passed = []; unselected = All-nil (λ line. ¬ Selected es options line); handed_too = subst (HasHanded remaining failures reader now) (sym (append-nil handed)) h };
+    waits = inl (refl, refl, refl);
+  }
+
+  -- a block was passed
+  pub passes_waiting : (before now : Numbered R) (p q : Progress) (behind held : LastLines) (block : Text) (count : ℕ) → AreAhead before block count → AreUnselected es options (lines_of block) → PassesNext remaining failures before now (lines_of (take (length block) before.lines.ahead))
+      → HasHanded remaining failures reader before handed → p.left ≡ 0 → q ≡ with_waiting count p → held ≡ with_lines behind (lines_of block) → PassesWaiting remaining failures es options reader handed now p q behind held
+  passes_waiting before now p q behind held block count ahead none next h left_none e kept = record {
+    passes = record { passed = lines_of block; unselected = none; handed_too = passed_block remaining failures reader handed before now block count ahead next h };
+    waits = inr (left_none, e ∙ ap (λ n. with_waiting n p) ahead.counted, kept);
+  }
+
+-- ---- the turns of the search
+
+module _ {R : Type 0} (remaining : R → Option Text) (failures : R → ℕ) (es : List Expression) (options : Options) (many shown : Bool) (name : Text) (reader : R) (context : Context) where
+  -- the lines that were handed out were searched, and what is shown of them so far was written; the last of them are held
+  pub record FollowedSoFar (now : Numbered R) (old new : Writer) (began ended : Steps) (selected : ℕ) (p : Progress) (behind : List Text) : Type 0 where
+    pub lines : List Text
+    pub rows : List Text
+    pub handed : HasHanded remaining failures reader now lines
+    pub tracks : Tracks es options many name context shown p lines rows
+    pub apart : WaitsNot p
+    pub held : behind ≡ last_of p.waiting lines
+    pub wrote : TakesAll old new rows
+    pub chosen : List (ℕ × Text)
+    pub are_chosen : SelectedLines es options many (file_so_far name lines) chosen
+    pub counted : length chosen ≡ selected
+    pub few : selected ≤ now.number
+    pub steps : SearchesLines es options (length es) lines began ended
+
+module _ {R : Type 0} (remaining : R → Option Text) (failures : R → ℕ) (es : List Expression) (options : Options) (many shown : Bool) (name : Text) (reader : R) (context : Context) (asked : form options ≡ around context) where
+  abbrev Follows : Progress → List Text → List Text → Type 0
+  Follows = Tracks es options many name context shown
+
+  abbrev Followed : Numbered R → Writer → Writer → Steps → Steps → ℕ → Progress → List Text → Type 0
+  Followed = FollowedSoFar remaining failures es options many shown name reader context
+
+  -- the rows that are tracked are written of the lines
+  written_around : (p : Progress) (lines rows : List Text) → Follows p lines rows → WrittenOf es options many shown name (around context) lines rows
+  written_around p lines rows t =
+      let now = tracked_groups es options many name context shown p lines rows t in
+      record {
+        groups = now.0;
+        are_groups = now.1;
+        are_rows = now.2;
+        further = λ file more named has.
+            let later = tracks_further es options many name context shown p lines rows more t in
+            let all = tracked_groups es options many name context shown later.0 (lines ++ more) (rows ++ later.1) later.2 in (
+              all.0,
+              later.1,
+              subst (λ f. EachGives (GroupsOf es options many context) (f ∷ []) all.0) (sym (file_is file name (lines ++ more) named has)) (EachGives-one (GroupsOf es options many context) (file_with name (lines ++ more) file.ending) all.0 all.1),
+              sym all.2,
+            );
+      }
+
+  written_tracked : (p : Progress) (lines rows : List Text) → Follows p lines rows → WrittenOf es options many shown name (form options) lines rows
+  written_tracked p lines rows t = subst (λ shape. WrittenOf es options many shown name shape lines rows) (sym asked) (written_around p lines rows t)
+
+  -- a source is not left early
+  never_early : {P : Type 0} → IsTrue (leaves_early options) → P
+  never_early early = absurd (elim (early_form options early) [ inl e ↦ (let no : ⊥ = cc (asked, e) in no) | inr e ↦ (let no : ⊥ = cc (asked, e) in no) ])
+
+  pub followed_none : (now : Numbered R) (w : Writer) (steps : Steps) (behind : List Text) → now.lines.reader ≡ reader → now.lines.ahead ≡ [] → now.lines.stage ≡ Open → now.number ≡ 0 → behind ≡ [] → Followed now w w steps steps 0 (progress_from context shown) behind
+  followed_none now w steps behind same none is_open zero empty = record {
+    lines = [];
+    rows = [];
+    handed = subst (λ r. HasHanded remaining failures r now []) same (has_handed_none remaining failures now none is_open zero);
+    tracks = tracks_none es options many name context shown;
+    apart = λ _. refl;
+    held = empty;
+    wrote = TakesAll-nothing w;
+    chosen = [];
+    are_chosen = refl;
+    counted = refl;
+    few = omega arith;
+    steps = searched_no_line es options (length es) steps;
+  }
+
+  -- some lines were passed, which wait if any does
+  pub followed_passed : (before now : Numbered R) (old new : Writer) (began ended : Steps) (selected : ℕ) (p q : Progress) (behind held : LastLines) → behind.limit ≡ context.before → (s : Followed before old new began ended selected p behind.lines)
+      → PassesWaiting remaining failures es options reader s.lines now p q behind held → Followed now old new began ended selected q held.lines
+  followed_passed before now old new began ended selected p q behind held limit s h = record {
+    lines = s.lines ++ h.passes.passed;
+    rows = s.rows;
+    handed = h.passes.handed_too;
+    tracks = elim h.waits [
+      | inl none ↦ subst (λ r. Follows r (s.lines ++ h.passes.passed) s.rows) (sym none.1) (subst (λ ls. Follows p ls s.rows) (sym (ap (λ ls. s.lines ++ ls) none.0 ∙ append-nil s.lines)) s.tracks)
+      | inr some ↦ subst (λ r. Follows r (s.lines ++ h.passes.passed) s.rows) (sym some.1) (tracks_passed es options many name context shown p s.lines s.rows h.passes.passed h.passes.unselected some.0 s.tracks)
+    ];
+    apart = elim h.waits [
+      | inl none ↦ subst WaitsNot (sym none.1) s.apart
+      | inr some ↦ subst WaitsNot (sym some.1) (λ more. absurd (omega (arith, more, some.0)))
+    ];
+    held = elim h.waits [
+      | inl none ↦ ap (λ (x : LastLines). x.lines) none.2 ∙ s.held ∙ ap (λ ls. last_of p.waiting ls) (sym (ap (λ ls. s.lines ++ ls) none.0 ∙ append-nil s.lines)) ∙ ap (λ (r : Progress). last_of r.waiting (s.lines ++ h.passes.passed)) (sym none.1)
+      | inr some ↦
+          (let room : behind.limit ≡ p.context.before = limit ∙ sym (ap (λ (c : Context). c.before) s.tracks.same_context) in
+          ap (λ (x : LastLines). x.lines) some.2 ∙ ap (λ n. last_of n (behind.lines ++ h.passes.passed)) room ∙ ap (λ ls. last_of p.context.before (ls ++ h.passes.passed)) s.held
+          ∙ last_of-many p.context.before p.waiting s.lines h.passes.passed s.tracks.within s.tracks.few ∙ ap (λ (r : Progress). last_of r.waiting (s.lines ++ h.passes.passed)) (sym some.1))
+    ];
+    wrote = s.wrote;
+    chosen = s.chosen;
+    are_chosen = chosen_on es options many shown name s.lines h.passes.passed s.chosen h.passes.unselected s.are_chosen;
+    counted = s.counted;
+    few = omega (arith, s.few, s.handed.counted, h.passes.handed_too.counted, length-append s.lines h.passes.passed);
+    steps = searched_first_lines es options (length es) s.lines h.passes.passed began ended s.steps;
+  }
+
+  -- as many lines are held at most as before
+  pub passed_limit : (now : Numbered R) (p q : Progress) (behind held : LastLines) (lines : List Text) → PassesWaiting remaining failures es options reader lines now p q behind held → behind.limit ≡ context.before → held.limit ≡ context.before
+  passed_limit now p q behind held lines h limit = elim h.waits [
+    | inl none ↦ ap (λ (x : LastLines). x.limit) none.2 ∙ limit
+    | inr some ↦ ap (λ (x : LastLines). x.limit) some.2 ∙ limit
+  ]
+
+  -- no line is numbered twice
+  pub passed_on : (before now : Numbered R) (p q : Progress) (behind held : LastLines) (lines : List Text) → HasHanded remaining failures reader before lines → PassesWaiting remaining failures es options reader lines now p q behind held → before.number ≤ now.number
+  passed_on before now p q behind held lines h w = omega (arith, h.counted, w.passes.handed_too.counted, length-append lines w.passes.passed)
+
+  -- what was gathered was sent
+  pub followed_sent : (now : Numbered R) (old mid new : Writer) (began ended : Steps) (selected : ℕ) (p : Progress) (behind : List Text) → Followed now old mid began ended selected p behind → TakesAll mid new [] → Followed now old new began ended selected p behind
+  followed_sent now old mid new began ended selected p behind s sent = record {
+    lines = s.lines;
+    rows = s.rows;
+    handed = s.handed;
+    tracks = s.tracks;
+    apart = s.apart;
+    held = s.held;
+    wrote = subst (TakesAll old new) (append-nil s.rows) (TakesAll-more old mid new s.rows [] s.wrote sent);
+    chosen = s.chosen;
+    are_chosen = s.are_chosen;
+    counted = s.counted;
+    few = s.few;
+    steps = s.steps;
+  }
+
+  module _ (before now : Numbered R) (old mid : Writer) (began amid : Steps) (selected : ℕ) (p : Progress) (behind : List Text) (s : Followed before old mid began amid selected p behind) where
+    writes : WritesLines es options many shown name s.lines old mid selected
+    writes = record { rows = s.rows; of = written_tracked p s.lines s.rows s.tracks; wrote = s.wrote; chosen = s.chosen; are_chosen = s.are_chosen; counted = s.counted }
+
+    pub followed_few : p.waiting ≤ p.context.before
+    followed_few = s.tracks.few
+
+    pub same_before : p.context.before ≡ context.before
+    same_before = ap (λ (c : Context). c.before) s.tracks.same_context
+
+    -- what was gathered could not be sent
+    pub followed_unsent : (new : Writer) → TakesFront mid new [] → new.failures ≡ one_more mid.failures
+        → BreaksSource es options many shown (open_source name (remaining reader)) (OneLeft (remaining before.lines.reader)) (failures reader) (failures before.lines.reader) old new began amid
+    followed_unsent new front counted =
+        breaks_in es options many shown name (remaining reader) (remaining before.lines.reader) old mid new began amid selected (failures reader) (failures before.lines.reader) s.handed.hands.none_failed
+        s.lines s.rows (written_tracked p s.lines s.rows s.tracks) (subst (TakesFront old new) (append-nil s.rows) (TakesFront-more old mid new s.rows [] s.wrote front)) (counted ∙ ap one_more s.wrote.none_failed) s.steps
+        (begins_with remaining failures name reader before.lines s.lines s.handed.hands s.handed.few)
+
+    -- no line is left
+    pub followed_whole : StandsAs remaining failures reader now s.lines whole → SearchesSource es options many shown (open_source name (remaining reader)) (OneLeft (remaining now.lines.reader)) (failures reader) (failures now.lines.reader) old mid began amid Whole selected
+    followed_whole stands = searches_whole es options many shown name (remaining reader) (remaining now.lines.reader) old mid began amid (failures reader) (failures now.lines.reader) s.lines selected writes s.steps (stands name)
+
+    -- a read failed, or there is one line too many
+    pub followed_broken : StandsAs remaining failures reader now s.lines broken → SearchesSource es options many shown (open_source name (remaining reader)) (OneLeft (remaining now.lines.reader)) (failures reader) (failures now.lines.reader) old mid began amid Broken selected
+    followed_broken stands = searches_broken es options many shown name (remaining reader) (remaining now.lines.reader) old mid began amid (failures reader) (failures now.lines.reader) s.lines selected writes s.steps (stands name) never_early
+
+    -- want of memory
+    pub followed_out : HasHanded remaining failures reader now s.lines → (count : ℕ) → now.number ≡ count
+        → StopsSource es options many shown (open_source name (remaining reader)) (OneLeft (remaining now.lines.reader)) count (failures reader) (failures now.lines.reader) old mid began amid
+    followed_out handed count is_count =
+        stops_behind es options many shown name (remaining reader) (remaining now.lines.reader) old mid began amid s.lines selected count writes s.steps
+        (begins_with remaining failures name reader now.lines s.lines handed.hands handed.few) (handed.counted ∙ is_count) (failures reader) (failures now.lines.reader) handed.hands.none_failed
+
+    -- one more line was handed out
+    module _ (next : HasHanded remaining failures reader now (s.lines ++ now.lines.line ∷ [])) where
+      one_further : now.number ≡ before.number + 1
+      one_further = sym next.counted ∙ length_push s.lines now.lines.line ∙ ap (λ n. n + 1) s.handed.counted
+
+      -- fewer lines are selected than can be counted
+      pub counts_on : selected < most_lines
+      counts_on = omega (arith, s.few, one_further, next.counted, next.few)
+
+      -- fewer numbers are left
+      pub numbers_left : 2 ^ 64 - now.number < 2 ^ 64 - before.number
+      numbers_left = omega (arith, one_further, next.counted, next.few)
+
+      module _ (count : ℕ) (is_number : count ≡ now.number) where
+        is_count : count ≡ length s.lines + 1
+        is_count = is_number ∙ one_further ∙ ap (λ n. n + 1) (sym s.handed.counted)
+
+        -- as many lines are held as wait
+        pub held_few : length behind ≤ count
+        held_few = omega (arith, is_count, ap length s.held ∙ length-last_of p.waiting s.lines s.tracks.within, s.tracks.within)
+
+        module _ (line : Text) (is : line ≡ now.lines.line) (found : Bool) (told : Decides found (Selected es options line)) (ended : Steps) (spent : SearchesLine es options (length es) line amid ended) where
+          abbrev added : List Text
+          added = rows_at options many name found (next_shown p found) (last_of p.waiting s.lines) (length s.lines + 1) line
+
+          tracked : Follows (behind_line p found) (s.lines ++ line ∷ []) (s.rows ++ added)
+          tracked = tracks_line es options many name context shown p s.lines s.rows line found told s.tracks
+
+          at_line : rows_at options many name found (next_shown p found) behind count line ≡ added
+          at_line = ap (λ ls. rows_at options many name found (next_shown p found) ls count line) s.held ∙ ap (λ n. rows_at options many name found (next_shown p found) (last_of p.waiting s.lines) n line) is_count
+
+          handed_here : HasHanded remaining failures reader now (s.lines ++ line ∷ [])
+          handed_here = subst (λ l. HasHanded remaining failures reader now (s.lines ++ l ∷ [])) (sym is) next
+
+          -- what is shown at it was written, and it is held if it is not shown
+          pub followed_line : (new : Writer) (more : ℕ) (later : List Text) → TakesAll mid new (rows_at options many name found (next_shown p found) behind count line) → more ≡ (if found then selected + 1 else selected)
+              → later ≡ (if (next_shown p found).itself then [] else last_of context.before (behind ++ line ∷ [])) → Followed now old new began ended more (behind_line p found) later
+          followed_line new more later took e kept = record {
+            lines = s.lines ++ line ∷ [];
+            rows = s.rows ++ added;
+            handed = handed_here;
+            tracks = tracked;
+            apart = waits_not_next p found s.apart;
+            held = held_next p s.lines line behind later s.held s.tracks.few s.tracks.within s.apart found (kept ∙ ap (λ n. if (next_shown p found).itself then [] else last_of n (behind ++ line ∷ [])) (sym same_before));
+            wrote = TakesAll-more old mid new s.rows added s.wrote (subst (TakesAll mid new) at_line took);
+            chosen = s.chosen ++ picked found (length s.lines + 1, line);
+            are_chosen = chosen_line es options many name s.lines line s.chosen found s.are_chosen told;
+            counted = chosen_count s.chosen (length s.lines + 1, line) selected found s.counted ∙ sym e;
+            few = at_most found e;
+            steps = searched_one_line es options (length es) s.lines line began amid ended s.steps spent;
+          }
+            where
+              at_most : (b : Bool) → more ≡ (if b then selected + 1 else selected) → more ≤ now.number
+              at_most true eq = omega (arith, eq, s.few, one_further)
+              at_most false eq = omega (arith, eq, s.few, one_further)
+
+          -- a write failed in it
+          pub followed_breaks : (new : Writer) → TakesFront mid new (rows_at options many name found (next_shown p found) behind count line) → new.failures ≡ one_more mid.failures
+              → BreaksSource es options many shown (open_source name (remaining reader)) (OneLeft (remaining now.lines.reader)) (failures reader) (failures now.lines.reader) old new began ended
+          followed_breaks new front counted =
+              breaks_in es options many shown name (remaining reader) (remaining now.lines.reader) old mid new began ended selected (failures reader) (failures now.lines.reader) next.hands.none_failed
+              (s.lines ++ line ∷ []) (s.rows ++ added) (written_tracked (behind_line p found) (s.lines ++ line ∷ []) (s.rows ++ added) tracked) (TakesFront-more old mid new s.rows added s.wrote (subst (TakesFront mid new) at_line front)) (counted ∙ ap one_more s.wrote.none_failed)
+              (searched_one_line es options (length es) s.lines line began amid ended s.steps spent) (begins_with remaining failures name reader now.lines (s.lines ++ line ∷ []) handed_here.hands handed_here.few)
+
+          -- the line could not be kept
+          pub followed_refused : (new : Writer) → TakesAll mid new (rows_at options many name found (next_shown p found) behind count line)
+              → StopsSource es options many shown (open_source name (remaining reader)) (OneLeft (remaining now.lines.reader)) count (failures reader) (failures now.lines.reader) old new began ended
+          followed_refused new took =
+              let chosen = s.chosen ++ picked found (length s.lines + 1, line) in
+              stops_behind es options many shown name (remaining reader) (remaining now.lines.reader) old new began ended (s.lines ++ line ∷ []) (length chosen) count
+              (record {
+                rows = s.rows ++ added;
+                of = written_tracked (behind_line p found) (s.lines ++ line ∷ []) (s.rows ++ added) tracked;
+                wrote = TakesAll-more old mid new s.rows added s.wrote (subst (TakesAll mid new) at_line took);
+                chosen = chosen;
+                are_chosen = chosen_line es options many name s.lines line s.chosen found s.are_chosen told;
+                counted = refl;
+              })
+              (searched_one_line es options (length es) s.lines line began amid ended s.steps spent) (begins_with remaining failures name reader now.lines (s.lines ++ line ∷ []) handed_here.hands handed_here.few)
+              (handed_here.counted ∙ sym is_number) (failures reader) (failures now.lines.reader) next.hands.none_failed

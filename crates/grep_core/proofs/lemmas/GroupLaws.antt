@@ -1,0 +1,89 @@
+-- What is written of output in which each group of lines stands behind a separator, for some files and for others behind them.
+use Rattle.std.proofs.Common.{◌≡◌, ℕ, Bool, true, false, Decides, List, [], ◌∷◌, ◌++◌, drop, inl, inr, refl, sym, ap, ◌∙◌, append-nil}
+use Rattle.std.proofs.lemmas.Bool.{false≢true}
+use Rattle.re_syntax.specs.Bytes.{Text}
+use Rattle.re_syntax.specs.Expression.{Expression}
+use Rattle.re_syntax.proofs.lemmas.Decisions.{Any-none, Any-first, Any-later, Any-cases}
+use Rattle.grep_core.specs.declared.options.Context.{Context}
+use Rattle.grep_core.specs.declared.options.Options.{Options}
+use Rattle.grep_core.specs.declared.search.file.FileEnd.{FileEnd}
+use Rattle.grep_core.specs.Choose.{EachGives}
+use Rattle.grep_core.specs.Files.{File, HasSelected}
+use Rattle.grep_core.specs.Messages.{AnySelected}
+use Rattle.grep_core.specs.Output.{Form, nothing, names, counts, parts, lines, around, shown_name, shown_number, GroupsOf}
+use Rattle.grep_core.specs.Working.Groups.{GroupedAs, behind_rows}
+use Rattle.grep_core.specs.Working.Searched.{summary_as}
+use Rattle.grep_core.proofs.lemmas.AroundLaws.{first_empty, second_empty, groups_none, groups_some}
+
+-- ---- what is written of such output
+
+-- what is written of some output is a beginning of what is written of that and more
+pub behind_longer : (shape : Form) (shown : Bool) (rows more : List Text) → (rest : List Text) × (behind_rows shape shown (rows ++ more) ≡ behind_rows shape shown rows ++ rest)
+behind_longer nothing shown rows more = (more, refl)
+behind_longer names shown rows more = (more, refl)
+behind_longer counts shown rows more = (more, refl)
+behind_longer parts shown rows more = (more, refl)
+behind_longer lines shown rows more = (more, refl)
+behind_longer (around context) true rows more = (more, refl)
+behind_longer (around context) false [] more = (drop 1 more, refl)
+behind_longer (around context) false (row ∷ rows) more = (more, refl)
+
+-- no row was written
+pub behind_nothing : (shape : Form) (shown : Bool) → behind_rows shape shown [] ≡ []
+behind_nothing nothing shown = refl
+behind_nothing names shown = refl
+behind_nothing counts shown = refl
+behind_nothing parts shown = refl
+behind_nothing lines shown = refl
+behind_nothing (around context) true = refl
+behind_nothing (around context) false = refl
+
+-- a summary is written as it is
+pub behind_summary : (shape : Form) (shown many : Bool) (name : Text) (end : FileEnd) (selected : ℕ) (rows : List Text)
+    → behind_rows shape shown (rows ++ summary_as shape many name end selected) ≡ behind_rows shape shown rows ++ summary_as shape many name end selected
+behind_summary nothing shown many name end selected rows = refl
+behind_summary names shown many name end selected rows = refl
+behind_summary counts shown many name end selected rows = refl
+behind_summary parts shown many name end selected rows = refl
+behind_summary lines shown many name end selected rows = refl
+behind_summary (around context) shown many name end selected rows =
+    ap (behind_rows (around context) shown) (append-nil rows) ∙ sym (append-nil (behind_rows (around context) shown rows))
+
+-- groups behind others, of which there are some or none
+two_written : (context : Context) (some : Bool) (rows more : List Text) → (some ≡ true → rows ≡ [] → ⊥) → (some ≡ false → rows ≡ [])
+    → behind_rows (around context) false (rows ++ more) ≡ behind_rows (around context) false rows ++ behind_rows (around context) some more
+two_written context true [] more there none = absurd (there refl refl)
+two_written context true (row ∷ rows) more there none = refl
+two_written context false [] more there none = refl
+two_written context false (row ∷ rows) more there none = absurd (let e : row ∷ rows ≡ [] = none refl in let no : ⊥ = cc in no)
+
+module _ (es : List Expression) (options : Options) (many : Bool) where
+  -- ---- there is output exactly where a line is selected
+
+  -- files without a selected line have no groups
+  all_none : (context : Context) (files : List File) (rows : List Text) → EachGives (GroupsOf es options many context) files rows → (AnySelected es options files → ⊥) → rows ≡ []
+  all_none context [] rows h none = h
+  all_none context (file ∷ files) rows h none =
+      let here : h.0 ≡ [] = groups_none es options context (shown_name many file) (shown_number options) file.lines h.0 h.2 (λ some. none (Any-first (HasSelected es options) file files some)) in
+      let rest : h.1 ≡ [] = all_none context files h.1 h.3 (λ some. none (Any-later (HasSelected es options) file files some)) in
+      h.4 ∙ (λ i. here i ++ rest i)
+
+  -- and files with one have some
+  all_some : (context : Context) (files : List File) (rows : List Text) → EachGives (GroupsOf es options many context) files rows → AnySelected es options files → rows ≡ [] → ⊥
+  all_some context [] rows h some = absurd (Any-none (HasSelected es options) some)
+  all_some context (file ∷ files) rows h some =
+      elim (Any-cases (HasSelected es options) file files some) [
+        | inl here ↦ (λ nothing. groups_some es options context (shown_name many file) (shown_number options) file.lines h.0 h.2 here (first_empty h.0 h.1 (sym h.4 ∙ nothing)))
+        | inr later ↦ (λ nothing. all_some context files h.1 h.3 later (second_empty h.0 h.1 (sym h.4 ∙ nothing)))
+      ]
+
+  -- what is written for some files and for others behind them, where `some` tells whether those have a selected line
+  pub behind_both : (shape : Form) (files : List File) (rows more : List Text) (some : Bool) → GroupedAs es options many shape files rows → Decides some (AnySelected es options files)
+      → behind_rows shape false (rows ++ more) ≡ behind_rows shape false rows ++ behind_rows shape some more
+  behind_both nothing files rows more some h d = refl
+  behind_both names files rows more some h d = refl
+  behind_both counts files rows more some h d = refl
+  behind_both parts files rows more some h d = refl
+  behind_both lines files rows more some h d = refl
+  behind_both (around context) files rows more some h d =
+      two_written context some rows more (λ e. all_some context files rows h (d.0 e)) (λ e. all_none context files rows h (λ any. false≢true (sym e ∙ d.1 any)))

@@ -1,0 +1,122 @@
+-- The groups of lines around selected ones, as a file has one more line, and what is written of them.
+use Rattle.std.proofs.Common.{◌≡◌, ℕ, ◌+◌, ◌<◌, ◌≤◌, ◌⊎◌, Bool, true, false, ◌&&◌, IsTrue, Decides, List, [], ◌∷◌, ◌++◌, All, length, inl, inr, refl, sym, ap, subst, ◌∙◌, append_assoc, arith, if◌then◌else◌}
+use Rattle.std.specs.List.{enumerate_from}
+use Rattle.std.proofs.lemmas.Bool.{false≢true}
+use Rattle.std.proofs.lemmas.List.{length-append}
+use Rattle.std.proofs.lemmas.List.Elements.{All-head, All-tail}
+use Rattle.re_syntax.specs.Bytes.{Text}
+use Rattle.re_syntax.specs.Expression.{Expression}
+use Rattle.grep_core.specs.declared.options.Context.{Context}
+use Rattle.grep_core.specs.declared.options.Options.{Options}
+use Rattle.grep_core.specs.Row.{hyphen}
+use Rattle.grep_core.specs.Choose.{IfHolds, EachGives}
+use Rattle.grep_core.specs.Files.{Selected}
+use Rattle.grep_core.specs.Around.{group_separator, IsShown, BeginsGroup, IsRow, Shows}
+use Rattle.grep_core.specs.Output.{around, shown_number}
+use Rattle.grep_core.specs.Working.Wanted.{name_shown}
+use Rattle.grep_core.specs.Working.Groups.{behind_rows}
+use Rattle.grep_core.specs.Working.Progress.{row_with, rows_around}
+use Rattle.grep_core.proofs.lemmas.ChooseLaws.{EachGives-one, EachGives-append}
+use Rattle.grep_core.proofs.lemmas.MoreLines.{enumerate_from-append}
+use Rattle.grep_core.proofs.lemmas.ShownLemmas.{EachGives-placed, shown_more, begins_at, begins_same, shows_same}
+
+-- a group that begins is behind a separator where something was written before
+pub behind_group : (context : Context) (before gap shown : Bool) (groups rest : List Text) → Decides shown (IsTrue before ⊎ (groups ≡ [] → ⊥)) → (groups ≡ [] → gap ≡ true)
+    → behind_rows (around context) before groups ++ ((if gap && shown then group_separator ∷ [] else []) ++ rest) ≡ behind_rows (around context) before (groups ++ ((if gap then group_separator ∷ [] else []) ++ rest))
+behind_group context true true true groups rest told first = refl
+behind_group context true false true groups rest told first = refl
+behind_group context true gap false groups rest told first = absurd (false≢true (told.1 (inl refl)))
+behind_group context false gap true [] rest told first = elim (told.0 refl) [ inl b ↦ absurd (false≢true b) | inr n ↦ absurd (n refl) ]
+behind_group context false true false [] rest told first = refl
+behind_group context false false false [] rest told first = absurd (false≢true (first refl))
+behind_group context false true true (g ∷ gs) rest told first = refl
+behind_group context false false true (g ∷ gs) rest told first = refl
+behind_group context false gap false (g ∷ gs) rest told first = absurd (false≢true (told.1 (inr (λ e. let bad : ⊥ = omega (arith, ap length e) in bad))))
+
+-- of no group nothing is written
+pub behind_none : (context : Context) (before : Bool) → [] ≡ behind_rows (around context) before []
+behind_none context true = refl
+behind_none context false = refl
+
+-- what was said of a group, or of nothing before it
+pub said_before : (before : Bool) → Decides before (IsTrue before ⊎ (◌≡◌ {A = List Text} [] [] → ⊥))
+said_before before = ((λ t. inl t), (λ h. elim h [ inl t ↦ t | inr n ↦ absurd (n refl) ]))
+
+-- two lists of which the second is not empty
+pub more_nonempty : (xs ys zs : List Text) (y : Text) → xs ++ (ys ++ (zs ++ y ∷ [])) ≡ [] → ⊥
+more_nonempty xs ys zs y e =
+    let bad : ⊥ = omega (arith, ap length e, length-append xs (ys ++ (zs ++ y ∷ [])), length-append ys (zs ++ y ∷ []), length-append zs (y ∷ [])) in
+    bad
+
+module _ (es : List Expression) (options : Options) (many : Bool) (name : Text) (context : Context) where
+  -- what is shown of a numbered line
+  abbrev pub Given : List Text → ℕ × Text → List Text → Type 0
+  Given lines line out = Shows es options context (name_shown many name) (shown_number options (line.0 + 1)) lines line.0 line.1 out
+
+  -- the lines before one that is shown are shown with it: they are not selected, and the first of them begins a group or does not
+  group_held : (lines held : List Text) (f : ℕ) (line row : Text) (separator : List Text) → All (λ l. ¬ Selected es options l) held
+      → ((k : ℕ) → f ≤ k → k ≤ f + length held → IsShown es options context lines k) → IfHolds (BeginsGroup es options context lines f) (separator ≡ group_separator ∷ []) (separator ≡ [])
+      → IsRow es options context (name_shown many name) (shown_number options ((f + length held) + 1)) line row
+      → EachGives (Given lines) (enumerate_from f (held ++ line ∷ [])) (separator ++ (rows_around options many name (f + 1) held ++ row ∷ []))
+  group_held lines [] f line row separator none shown begins is_row =
+      let same : f + 0 ≡ f = omega arith in
+      EachGives-one (Given lines) (f, line) (separator ++ row ∷ []) (inl (
+        shown f (omega arith) (omega arith),
+        (
+          row,
+          subst (λ n. IsRow es options context (name_shown many name) (shown_number options (n + 1)) line row) same is_row,
+          elim begins [ inl b ↦ inl (b.0, ap (λ s. s ++ row ∷ []) b.1) | inr b ↦ inr (b.0, ap (λ s. s ++ row ∷ []) b.1) ],
+        ),
+      ))
+  group_held lines (l ∷ held) f line row separator none shown begins is_row =
+      let first : Text = row_with options many name hyphen (f + 1) l in
+      let rest : List Text = rows_around options many name ((f + 1) + 1) held ++ row ∷ [] in
+      let shown_first : IsShown es options context lines f = shown f (omega arith) (omega arith) in
+      let numbered : f + length (l ∷ held) ≡ (f + 1) + length held = omega arith in (
+        separator ++ first ∷ [],
+        rest,
+        inl (
+          shown_first,
+          (
+            first,
+            inr (All-head (λ l. ¬ Selected es options l) l held none, refl),
+            elim begins [ inl b ↦ inl (b.0, ap (λ s. s ++ first ∷ []) b.1) | inr b ↦ inr (b.0, ap (λ s. s ++ first ∷ []) b.1) ],
+          ),
+        ),
+        group_held lines held (f + 1) line row [] (All-tail (λ l. ¬ Selected es options l) l held none)
+            (λ k low high. shown k (omega (arith, low)) (omega (arith, high)))
+            (inr ((λ b. begins_at es options context lines (f + 1) f b refl shown_first), refl))
+            (subst (λ n. IsRow es options context (name_shown many name) (shown_number options (n + 1)) line row) numbered is_row),
+        sym (append_assoc separator (first ∷ []) rest),
+      )
+
+  -- what is written of lines with one more, which is shown and those before it from some place on
+  pub groups_grown : (lines front held : List Text) (line row : Text) (groups : List Text) (gap : Bool) → lines ≡ front ++ held → All (λ l. ¬ Selected es options l) held
+      → EachGives (Given lines) (enumerate_from 0 front) groups
+      → ((k : ℕ) → k < length front → IsShown es options context (lines ++ line ∷ []) k → IsShown es options context lines k)
+      → ((k : ℕ) → length front ≤ k → k ≤ length lines → IsShown es options context (lines ++ line ∷ []) k)
+      → Decides gap (BeginsGroup es options context lines (length front))
+      → IsRow es options context (name_shown many name) (shown_number options (length lines + 1)) line row
+      → EachGives (Given (lines ++ line ∷ [])) (enumerate_from 0 (lines ++ line ∷ [])) (groups ++ ((if gap then group_separator ∷ [] else []) ++ (rows_around options many name (length front + 1) held ++ row ∷ [])))
+  groups_grown lines front held line row groups gap parted none given same shown begins is_row =
+      let more : List Text = (if gap then group_separator ∷ [] else []) ++ (rows_around options many name (length front + 1) held ++ row ∷ []) in
+      let all : List Text = lines ++ line ∷ [] in
+      let long : length lines ≡ length front + length held = ap length parted ∙ length-append front held in
+      let stays = λ (k : ℕ). shown_more es options context lines (line ∷ []) k in
+      let first = EachGives-placed (Given lines) (Given all) 0 front groups
+      (λ k x zs low high. shows_same es options context (name_shown many name) (shown_number options) lines all k x zs (λ j _. stays j) (λ j below. same j (omega (arith, below, high)))) given in
+      let rest = group_held all held (length front) line row (if gap then group_separator ∷ [] else []) none (λ k low high. shown k low (omega (arith, high, long)))
+      (separated gap begins (begins_same es options context lines all (length front) same) (begins_same es options context all lines (length front) (λ j _. stays j)))
+      (subst (λ n. IsRow es options context (name_shown many name) (shown_number options (n + 1)) line row) long is_row) in
+      subst (λ ls. EachGives (Given all) ls (groups ++ more)) (sym (placed long))
+      (EachGives-append (Given all) (enumerate_from 0 front) (enumerate_from (length front) (held ++ line ∷ [])) groups more first rest)
+    where
+      separated : (b : Bool) {P Q : Type 0} → Decides b P → (P → Q) → (Q → P) → IfHolds Q (◌≡◌ {A = List Text} (if b then group_separator ∷ [] else []) (group_separator ∷ [])) (◌≡◌ {A = List Text} (if b then group_separator ∷ [] else []) [])
+      separated true d to from = inl (to (d.0 refl), refl)
+      separated false d to from = inr ((λ q. false≢true (d.1 (from q))), refl)
+
+      placed : length lines ≡ length front + length held → enumerate_from 0 (lines ++ line ∷ []) ≡ enumerate_from 0 front ++ enumerate_from (length front) (held ++ line ∷ [])
+      placed long =
+          let zeroed : 0 + length front ≡ length front = omega arith in
+          ap (λ ls. enumerate_from 0 (ls ++ line ∷ [])) parted ∙ ap (enumerate_from 0) (append_assoc front held (line ∷ [])) ∙ enumerate_from-append 0 front (held ++ line ∷ [])
+          ∙ ap (λ n. enumerate_from 0 front ++ enumerate_from n (held ++ line ∷ [])) zeroed

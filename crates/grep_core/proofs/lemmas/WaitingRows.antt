@@ -1,0 +1,142 @@
+-- What is written at a line, where lines around selected ones are shown, and which lines wait behind it.
+use Rattle.std.proofs.Common.{◌≡◌, ℕ, zero, suc, ◌+◌, ◌-◌, ◌<◌, ◌≤◌, nat_lt, min, Bool, true, false, not, List, [], ◌∷◌, ◌++◌, Option, Result, Ok, Err, IfOk, length, take, drop, get_or, refl, sym, ap, ◌∙◌, subst, append-nil, append_assoc, arith, take-append-drop, if◌then◌else◌}
+use Rattle.std.specs.Result.{IsErr, is_err}
+use Rattle.std.proofs.lemmas.Bool.{false≢true, ltb-true, ltb-false}
+use Rattle.std.proofs.lemmas.List.{length-drop, length_push, drop-drop, drop-append-le, drop_all, take_more, take_all}
+use Rattle.re_syntax.specs.Bytes.{Text}
+use Rattle.grep_core.specs.declared.options.Options.{Options}
+use Rattle.grep_core.specs.declared.output.around.Progress.{Progress}
+use Rattle.grep_core.specs.Row.{hyphen, output_line}
+use Rattle.grep_core.specs.Output.{written}
+use Rattle.grep_core.specs.Written.{GoesOut, StopsWithin, Writes}
+use Rattle.grep_core.specs.Working.Progress.{next_shown, behind_line, with_waiting, last_of, row_with, rows_around}
+use Rattle.grep_core.proofs.lemmas.RowLemmas.{goes_nowhere, goes_on, stops_early, stops_later, writes_last}
+use Rattle.grep_core.proofs.lemmas.WriterLaws.{written-append}
+
+-- what holds at an Ok
+pub if_kept : {T E P : Type 0} (r : Result T E) (refused : Bool) → refused ≡ is_err r → refused ≡ false → IfOk r (λ _. P) → P
+if_kept (Ok v) refused e none h = h
+if_kept (Err x) refused e none h = absurd (false≢true (sym none ∙ e))
+
+-- a Bool that does not fail to hold
+pub holds_too : (b : Bool) → not b ≡ false → b ≡ true
+holds_too true e = refl
+holds_too false e = absurd (false≢true (sym e))
+
+-- ---- the last of some lines
+
+pub last_of-none : {A : Type 0} (xs : List A) → last_of 0 xs ≡ []
+last_of-none xs = drop_all (length xs - 0) xs (omega arith)
+
+pub length-last_of : {A : Type 0} (n : ℕ) (xs : List A) → n ≤ length xs → length (last_of n xs) ≡ n
+length-last_of n xs h = length-drop (length xs - n) xs ∙ (let e : length xs - (length xs - n) ≡ n = omega (arith, h) in e)
+
+-- one more behind them, of which at most so many are kept
+pub last_of-more : {A : Type 0} (most n : ℕ) (xs : List A) (x : A) → n ≤ length xs → n ≤ most → last_of most (last_of n xs ++ x ∷ []) ≡ last_of (min (n + 1) most) (xs ++ x ∷ [])
+last_of-more most n xs x within few =
+    let k = length xs - n in
+    let front : k ≤ length xs = omega arith in
+    let joined : last_of n xs ++ x ∷ [] ≡ drop k (xs ++ x ∷ []) = sym (drop-append-le k xs (x ∷ []) front) in
+    let long : length (last_of n xs ++ x ∷ []) ≡ n + 1 = length_push (last_of n xs) x ∙ ap (λ m. m + 1) (length-last_of n xs within) in
+    let all : length (xs ++ x ∷ []) ≡ length xs + 1 = length_push xs x in
+    let places : k + (n + 1 - most) ≡ length xs + 1 - min (n + 1) most = omega (arith, within, few) in
+    ap (λ m. drop (m - most) (last_of n xs ++ x ∷ [])) long ∙ ap (drop (n + 1 - most)) joined ∙ drop-drop (n + 1 - most) k (xs ++ x ∷ []) ∙ ap (λ m. drop m (xs ++ x ∷ [])) places ∙ ap (λ m. drop (m - min (n + 1) most) (xs ++ x ∷ [])) (sym all)
+
+-- ---- which lines wait behind a line
+
+-- behind a selected line none waits, and where a line is shown behind it
+abbrev pub WaitsNot : Progress → Type 0
+WaitsNot p = 0 < p.left → p.waiting ≡ 0
+
+waits_not_by : (p : Progress) (more : Bool) → nat_lt 0 p.left ≡ more → WaitsNot p → WaitsNot (if more then record p { left = p.left - 1 } else with_waiting 1 p)
+waits_not_by p true e h = λ some. h (omega (arith, some))
+waits_not_by p false e h = λ some. absurd (omega (arith, some, ltb-false 0 p.left e))
+
+pub waits_not_next : (p : Progress) (selected : Bool) → WaitsNot p → WaitsNot (behind_line p selected)
+waits_not_next p true h = λ _. refl
+waits_not_next p false h = waits_not_by p (nat_lt 0 p.left) refl h
+
+module _ (p : Progress) (lines : List Text) (line : Text) (behind new : List Text) (held : behind ≡ last_of p.waiting lines) (few : p.waiting ≤ p.context.before) (within : p.waiting ≤ length lines) (apart : WaitsNot p) where
+  held_by : (more : Bool) → nat_lt 0 p.left ≡ more → new ≡ (if more then [] else last_of p.context.before (behind ++ line ∷ []))
+      → new ≡ last_of (let q : Progress = if more then record p { left = p.left - 1 } else with_waiting 1 p in q.waiting) (lines ++ line ∷ [])
+  held_by true e is = is ∙ sym (last_of-none (lines ++ line ∷ [])) ∙ ap (λ n. last_of n (lines ++ line ∷ [])) (sym (apart (ltb-true 0 p.left e)))
+  held_by false e is = is ∙ ap (λ ls. last_of p.context.before (ls ++ line ∷ [])) held ∙ last_of-more p.context.before p.waiting lines line within few
+
+  -- the lines that are held are those that wait
+  pub held_next : (selected : Bool) → new ≡ (if (next_shown p selected).itself then [] else last_of p.context.before (behind ++ line ∷ [])) → new ≡ last_of (behind_line p selected).waiting (lines ++ line ∷ [])
+  held_next true is = is ∙ sym (last_of-none (lines ++ line ∷ []))
+  held_next false is = held_by (nat_lt 0 p.left) refl is
+
+-- ---- rows of lines that wait
+
+module _ (options : Options) (many : Bool) (name : Text) where
+  pub length_rows : (first : ℕ) (xs : List Text) → length (rows_around options many name first xs) ≡ length xs
+  length_rows first [] = refl
+  length_rows first (x ∷ xs) = ap suc (length_rows (first + 1) xs)
+
+  pub row_at : (first : ℕ) (xs : List Text) (k : ℕ) → k < length xs → get_or (rows_around options many name first xs) k [] ≡ row_with options many name hyphen (first + k) (get_or xs k [])
+  row_at first [] k h = absurd (omega (arith, h))
+  row_at first (x ∷ xs) zero h = let e : first ≡ first + 0 = omega arith in ap (λ n. row_with options many name hyphen n x) e
+  row_at first (x ∷ xs) (suc k) h =
+      let e : (first + 1) + k ≡ first + suc k = omega arith in
+      row_at (first + 1) xs k (omega (arith, h)) ∙ ap (λ n. row_with options many name hyphen n (get_or xs k [])) e
+
+module _ {W : Type 0} (contents : W → Option Text) (failures : W → ℕ) where
+  -- no row yet
+  pub rows_none_out : (a : W) (rows : List Text) → GoesOut contents failures a a (written [] (take 0 rows))
+  rows_none_out a rows = goes_nowhere contents failures a
+
+  module _ (a b c : W) (rows : List Text) (k : ℕ) (within : k < length rows) (row : Text) (is : get_or rows k [] ≡ row) (before : GoesOut contents failures a b (written [] (take k rows))) where
+    -- one row more
+    pub row_out : GoesOut contents failures b c (output_line [] row) → GoesOut contents failures a c (written [] (take (k + 1) rows))
+    row_out more =
+        let one : take (k + 1) rows ≡ take k rows ++ row ∷ [] = take_more rows k [] within ∙ ap (λ r. take k rows ++ r ∷ []) is in
+        let bytes : written [] (take (k + 1) rows) ≡ written [] (take k rows) ++ output_line [] row = ap (written []) one ∙ written-append [] (take k rows) (row ∷ []) ∙ ap (λ t. written [] (take k rows) ++ t) (append-nil (output_line [] row)) in
+        subst (GoesOut contents failures a c) (sym bytes) (goes_on contents failures a b c (written [] (take k rows)) (output_line [] row) before more)
+
+    -- a write failed in it
+    pub row_stops : StopsWithin contents failures b c (output_line [] row) → StopsWithin contents failures a c (written [] rows)
+    row_stops stop =
+        let one : take (k + 1) rows ≡ take k rows ++ row ∷ [] = take_more rows k [] within ∙ ap (λ r. take k rows ++ r ∷ []) is in
+        let parted : rows ≡ take k rows ++ row ∷ drop (k + 1) rows = sym (take-append-drop (k + 1) rows) ∙ ap (λ t. t ++ drop (k + 1) rows) one ∙ append_assoc (take k rows) (row ∷ []) (drop (k + 1) rows) in
+        let bytes : written [] rows ≡ written [] (take k rows) ++ (output_line [] row ++ written [] (drop (k + 1) rows)) = ap (written []) parted ∙ written-append [] (take k rows) (row ∷ drop (k + 1) rows) in
+        subst (StopsWithin contents failures a c) (sym bytes)
+        (stops_later contents failures a b c (written [] (take k rows)) (output_line [] row ++ written [] (drop (k + 1) rows)) before
+        (stops_early contents failures b c (output_line [] row) (written [] (drop (k + 1) rows)) stop))
+
+  -- all rows
+  pub rows_all_out : (a b : W) (rows : List Text) (k : ℕ) → length rows ≤ k → GoesOut contents failures a b (written [] (take k rows)) → GoesOut contents failures a b (written [] rows)
+  rows_all_out a b rows k all g = subst (λ rs. GoesOut contents failures a b (written [] rs)) (take_all k rows all) g
+
+  -- what an error stops
+  pub stops_err : {T E : Type 0} (a b : W) (bytes : Text) (r : Result T E) → IsErr r → StopsWithin contents failures a b bytes → Writes contents failures a b bytes r
+  stops_err a b bytes (Ok v) is s = absurd (false≢true is)
+  stops_err a b bytes (Err e) is s = s
+
+  -- ---- what is written at a line
+
+  module _ (between waiting : List Text) (row : Text) where
+    abbrev all_at : Bool → List Text
+    all_at itself = between ++ (if itself then waiting ++ row ∷ [] else [])
+
+    -- a write failed in the separator
+    pub stops_between : (itself : Bool) (a b : W) → StopsWithin contents failures a b (written [] between) → StopsWithin contents failures a b (written [] (all_at itself))
+    stops_between itself a b s =
+        subst (StopsWithin contents failures a b) (sym (written-append [] between (if itself then waiting ++ row ∷ [] else []))) (stops_early contents failures a b (written [] between) (written [] (if itself then waiting ++ row ∷ [] else [])) s)
+
+    bytes_at : written [] (all_at true) ≡ written [] between ++ (written [] waiting ++ output_line [] row)
+    bytes_at =
+        written-append [] between (waiting ++ row ∷ []) ∙ ap (λ t. written [] between ++ t) (written-append [] waiting (row ∷ []) ∙ ap (λ t. written [] waiting ++ t) (append-nil (output_line [] row)))
+
+    -- a write failed in the rows of the lines that wait
+    pub stops_waiting : (itself : Bool) → itself ≡ true → (a b c : W) → GoesOut contents failures a b (written [] between) → StopsWithin contents failures b c (written [] waiting) → StopsWithin contents failures a c (written [] (all_at itself))
+    stops_waiting itself e a b c g s =
+        subst (λ t. StopsWithin contents failures a c (written [] t)) (sym (ap all_at e)) (subst (StopsWithin contents failures a c) (sym bytes_at)
+        (stops_later contents failures a b c (written [] between) (written [] waiting ++ output_line [] row) g (stops_early contents failures b c (written [] waiting) (output_line [] row) s)))
+
+    -- the line's row comes last
+    pub row_last : {T E : Type 0} (itself : Bool) → itself ≡ true → (a b c d : W) (r : Result T E) → GoesOut contents failures a b (written [] between) → GoesOut contents failures b c (written [] waiting) → Writes contents failures c d (output_line [] row) r
+        → Writes contents failures a d (written [] (all_at itself)) r
+    row_last itself e a b c d r g h w =
+        subst (λ t. Writes contents failures a d (written [] t) r) (sym (ap all_at e)) (subst (λ t. Writes contents failures a d t r) (sym bytes_at)
+        (writes_last contents failures a b d (written [] between) (written [] waiting ++ output_line [] row) r g (writes_last contents failures b c d (written [] waiting) (output_line [] row) r h w)))

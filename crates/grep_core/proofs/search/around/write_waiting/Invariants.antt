@@ -1,0 +1,10 @@
+use Rattle.std.proofs.Common.{◌-◌, [], length, take}
+use Rattle.grep_core.specs.Output.{written}
+use Rattle.grep_core.specs.Written.{GoesOut}
+use Rattle.grep_core.specs.Working.Progress.{rows_around}
+use Rattle.grep_core.proofs.search.around.write_waiting.Given as goal
+
+-- the rows of the lines up to here were written
+abbrev pub invariant-loop-k : goal.invariant-loop-k
+invariant-loop-k g l =
+    GoesOut g.W.CountedWrite.contents g.W.CountedWrite.failures l.fn.out l.out (written [] (take l.k (rows_around l.wanted.options l.wanted.many l.wanted.name.now (l.number - length l.behind.lines) l.behind.lines)))

@@ -1,0 +1,18 @@
+use Rattle.std.proofs.Common.{false, map}
+use Rattle.grep_core.proofs.lemmas.OpenedLemmas.{finds_anyway, breaks_anyway, stops_anyway}
+use Rattle.grep_core.proofs.search.file.search_opened.Goals as goal
+
+pub returns-in_default-clause-ok : goal.returns-in_default-clause-ok
+returns-in_default-clause-ok g c =
+    let w = c.args.wanted.now in
+    finds_anyway (map g.M.LineMatch.expression c.args.matchers.now) w.options w.many c.in_default.ensures false c.args.setting.now.shown _ _ _ _ _ _ _ _ c.search_lines.result c.search_lines.ensures.ok
+
+pub returns-in_default-clause-write : goal.returns-in_default-clause-write
+returns-in_default-clause-write g c = λ is.
+    let w = c.args.wanted.now in
+    breaks_anyway (map g.M.LineMatch.expression c.args.matchers.now) w.options w.many c.in_default.ensures false c.args.setting.now.shown _ _ _ _ _ _ _ _ (c.search_lines.ensures.write is)
+
+pub returns-in_default-clause-memory : goal.returns-in_default-clause-memory
+returns-in_default-clause-memory g c = λ count is.
+    let w = c.args.wanted.now in
+    stops_anyway (map g.M.LineMatch.expression c.args.matchers.now) w.options w.many c.in_default.ensures false c.args.setting.now.shown _ _ _ _ _ _ _ _ count (c.search_lines.ensures.memory count is)

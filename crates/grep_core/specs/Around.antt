@@ -1,0 +1,52 @@
+-- Selected lines and those around them (GNU grep, -A, -B and -C).
+use Rattle.std.specs.Prelude.{◌≡◌, ℕ, zero, suc, ◌+◌, ◌<◌, ◌≤◌, List, [], ◌∷◌, ◌++◌, length}
+use Rattle.std.specs.Prelude.{codes, get_or, Option, ⊤}
+use Rattle.std.specs.List.{enumerate_from}
+use Rattle.re_syntax.specs.Bytes.{Text}
+use Rattle.re_syntax.specs.Expression.{Expression}
+use Rattle.grep_core.specs.declared.options.Context.{Context}
+use Rattle.grep_core.specs.declared.options.Options.{Options}
+use Rattle.grep_core.specs.Row.{colon, hyphen, head}
+use Rattle.grep_core.specs.Choose.{IfHolds, EachGives}
+use Rattle.grep_core.specs.Files.{Selected}
+
+-- the output line between groups of lines that follow one another
+abbrev pub group_separator : Text
+group_separator = codes "--"
+
+module _ (es : List Expression) (options : Options) (context : Context) where
+  -- the line at place k is shown: a selected line of the file stands there, or no more lines before
+  -- or behind it than are asked for
+  pub record IsShown (lines : List Text) (k : ℕ) : Type 0 where
+    pub place : ℕ
+    pub on : place < length lines
+    pub selected : Selected es options (get_or lines place [])
+    pub before : place ≤ k + context.before
+    pub behind : k ≤ place + context.after
+
+  -- the line before place k is not shown, or there is none
+  abbrev pub BeginsGroup : List Text → ℕ → Type 0
+  BeginsGroup lines zero = ⊤
+  BeginsGroup lines (suc k) = ¬ IsShown lines k
+
+  -- by the name and the number that are shown: the line behind its head, in which a hyphen tells
+  -- that it is not selected
+  abbrev pub IsRow : Option Text → Option ℕ → Text → Text → Type 0
+  IsRow name number line row =
+      IfHolds (Selected es options line) (row ≡ head colon name number ++ line)
+      (row ≡ head hyphen name number ++ line)
+
+  -- what is shown of the line at place k: its row, behind a separator where a group begins with it
+  abbrev pub Shows : Option Text → Option ℕ → List Text → ℕ → Text → List Text → Type 0
+  Shows name number lines k line out =
+      IfHolds (IsShown lines k)
+      ((row : Text) × IsRow name number line row
+      × IfHolds (BeginsGroup lines k) (out ≡ group_separator ∷ row ∷ []) (out ≡ row ∷ []))
+      (out ≡ [])
+
+  -- the groups of a file's lines, each behind a separator; `shown_number` is what is shown of a
+  -- line's number
+  abbrev pub Groups : Option Text → (ℕ → Option ℕ) → List Text → List Text → Type 0
+  Groups name shown_number lines out =
+      EachGives (λ line. Shows name (shown_number (line.0 + 1)) lines line.0 line.1)
+      (enumerate_from 0 lines) out

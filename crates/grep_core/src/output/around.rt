@@ -1,0 +1,96 @@
+//! Which lines around selected ones are shown, and when.
+ghost use Rattle.std.specs.Prelude.{◌≡◌, ◌+◌, ◌≤◌};
+ghost use Rattle.grep_core.specs.Working.Progress.{progress_from, next_shown, with_waiting};
+ghost use Rattle.grep_core.specs.Working.Progress.{behind_line};
+
+#[cfg(test)]
+mod tests;
+
+use crate::options::Context;
+
+/// What is shown at a line of a file.
+#[derive(Clone, Copy, PartialEq, Eq, Debug, Drop)]
+pub struct Shown {
+    /// Whether a separator comes first.
+    pub separated: bool,
+    /// How many of the lines just before it are shown now.
+    pub before: u64,
+    /// Whether the line itself is shown.
+    pub itself: bool,
+}
+
+/// How far the lines of a file have come, where lines around selected ones are shown.
+#[derive(Clone, Copy, PartialEq, Eq, Debug, Drop)]
+pub struct Progress {
+    /// How many lines are asked for around a selected one.
+    pub context: Context,
+    /// Whether some line is shown, of this file or of one before it.
+    pub shown: bool,
+    /// Whether a line stands before those that wait and is not shown, or none stands there.
+    pub gap: bool,
+    /// How many lines wait: the last ones that were not shown, as far as they may be before the
+    /// next selected line; at most as many as are asked for.
+    pub waiting: u64,
+    /// How many lines are still shown behind the last selected one.
+    pub left: u64,
+}
+
+impl Progress {
+    /// Before the first line of a file, behind files of which some line is shown, or none.
+    pub fn new(context: Context, shown: bool) -> Progress
+        ensures { result ≡ progress_from context shown }
+    {
+        Progress {
+            context,
+            shown,
+            gap: true,
+            waiting: 0,
+            left: 0,
+        }
+    }
+
+    /// Goes over the next line, which is selected or is not, and tells what is shown at it.
+    pub fn step(&mut self, selected: bool) -> Shown
+        requires few { self.old.waiting ≤ self.old.context.before }
+        ensures shown { result ≡ next_shown self.old selected }
+        ensures now { self.new ≡ behind_line self.old selected }
+    {
+        if selected {
+            let shown = Shown {
+                separated: self.gap & self.shown,
+                before: self.waiting,
+                itself: true,
+            };
+            self.shown = true;
+            self.gap = false;
+            self.waiting = 0;
+            self.left = self.context.after;
+            return shown;
+        }
+        let itself = self.left > 0;
+        if itself {
+            self.left -= 1;
+        } else {
+            self.wait(1);
+        }
+        Shown {
+            separated: false,
+            before: 0,
+            itself,
+        }
+    }
+
+    /// Goes over so many lines none of which is shown yet.
+    pub fn wait(&mut self, count: u64)
+        requires few { self.old.waiting ≤ self.old.context.before }
+        ensures now { self.new ≡ with_waiting count self.old }
+    {
+        let room = self.context.before - self.waiting;
+        if count > room {
+            self.gap = true;
+            self.waiting = self.context.before;
+        } else {
+            self.waiting += count;
+        }
+    }
+}

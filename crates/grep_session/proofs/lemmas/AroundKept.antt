@@ -1,0 +1,70 @@
+-- What is written of lines that are kept, where lines around selected ones are shown, are the groups of the file.
+use Rattle.std.proofs.Common.{◌≡◌, ◌+◌, nat_lt, ◌<◌, Bool, true, false, ◌-◌, List, [], ◌∷◌, ◌++◌, length, map, All, refl, sym, ap, subst, ◌∙◌, append_assoc, append-nil, if◌then◌else◌}
+use Rattle.std.proofs.lemmas.Bool.{false≢true, lt-ltb, ltb-true}
+use Rattle.std.proofs.lemmas.List.Elements.{All-head, All-tail}
+use Rattle.re_syntax.specs.Bytes.{Text}
+use Rattle.re_syntax.specs.Expression.{Expression}
+use Rattle.grep_core.specs.declared.options.Context.{Context}
+use Rattle.grep_core.specs.declared.options.Options.{Options}
+use Rattle.grep_core.specs.declared.output.around.Progress.{Progress}
+use Rattle.grep_core.specs.Around.{Groups}
+use Rattle.grep_core.specs.Output.{around, shown_number}
+use Rattle.grep_core.specs.Working.Groups.{behind_rows}
+use Rattle.grep_core.specs.Working.Progress.{progress_from, next_shown, with_waiting, behind_line, last_of, rows_at}
+use Rattle.grep_core.specs.Working.Wanted.{name_shown}
+use Rattle.grep_core.proofs.lemmas.AroundLemmas.{Tracks, tracks_none, tracks_line, tracked_groups}
+use Rattle.grep_session.specs.declared.kept.KeptLine.{KeptLine}
+use Rattle.grep_session.specs.Working.Kept.{line_text, IsKept}
+use Rattle.grep_session.specs.Working.Report.{is_selected, shown_rows, around_rows}
+use Rattle.grep_session.proofs.lemmas.KeptLaws.{selected_told}
+
+-- while lines are shown behind a selected one, none waits
+abbrev pub IsIdle : Progress → Type 0
+IsIdle p = 0 < p.left → p.waiting ≡ 0
+
+idle_line : (p : Progress) (found : Bool) → IsIdle p → IsIdle (behind_line p found)
+idle_line p true idle = λ _. refl
+idle_line p false idle = by_left (nat_lt 0 p.left) refl
+  where
+    by_left : (b : Bool) → nat_lt 0 p.left ≡ b → IsIdle (if b then record p { left = p.left - 1 } else with_waiting 1 p)
+    by_left true e = λ _. idle (ltb-true 0 p.left e)
+    by_left false e = λ more. absurd (false≢true (sym e ∙ lt-ltb 0 p.left more))
+
+module _ (options : Options) (many : Bool) (name : Text) where
+  -- the lines before a line are written only where it is selected
+  same_rows : (p : Progress) (found : Bool) (before : List Text) (line : KeptLine) → IsIdle p
+      → rows_at options many name found (next_shown p found) (last_of p.waiting before) (length before + 1) (line_text line) ≡ shown_rows options many name found (next_shown p found) before line
+  same_rows p true before line idle = refl
+  same_rows p false before line idle = by_left (nat_lt 0 p.left) refl
+    where
+      by_left : (b : Bool) → nat_lt 0 p.left ≡ b
+          → rows_at options many name false (record { separated = false; before = 0; itself = b }) (last_of p.waiting before) (length before + 1) (line_text line)
+          ≡ rows_at options many name false (record { separated = false; before = 0; itself = b }) (last_of 0 before) (length before + 1) (line_text line)
+      by_left true e =
+          ap (λ n. rows_at options many name false (record { separated = false; before = 0; itself = true }) (last_of n before) (length before + 1) (line_text line)) (idle (ltb-true 0 p.left e))
+      by_left false e = refl
+
+module _ (es : List Expression) (options : Options) (many : Bool) (name : Text) (context : Context) (some : Bool) where
+  -- over the lines from some on
+  tracked : (text : List KeptLine) → All (IsKept es options) text → (p : Progress) (before rows : List Text) → IsIdle p → Tracks es options many name context some p before rows
+      → (q : Progress) × Tracks es options many name context some q (before ++ map line_text text) (rows ++ around_rows options many name p before text)
+  tracked [] k p before rows idle t = (p, subst (λ ls. Tracks es options many name context some p ls (rows ++ [])) (sym (append-nil before)) (subst (Tracks es options many name context some p before) (sym (append-nil rows)) t))
+  tracked (line ∷ text) k p before rows idle t =
+      let found = is_selected options line in
+      let here = shown_rows options many name found (next_shown p found) before line in
+      let next = subst (λ out. Tracks es options many name context some (behind_line p found) (before ++ line_text line ∷ []) (rows ++ out)) (same_rows options many name p found before line idle)
+      (tracks_line es options many name context some p before rows (line_text line) found (selected_told es options line (All-head (IsKept es options) line text k)) t) in
+      let rest = tracked text (All-tail (IsKept es options) line text k) (behind_line p found) (before ++ line_text line ∷ []) (rows ++ here) (idle_line p found idle) next in
+      let further = around_rows options many name (behind_line p found) (before ++ line_text line ∷ []) text in (
+        rest.0,
+        subst (λ ls. Tracks es options many name context some rest.0 ls (rows ++ (here ++ further))) (append_assoc before (line_text line ∷ []) (map line_text text))
+            (subst (Tracks es options many name context some rest.0 ((before ++ line_text line ∷ []) ++ map line_text text)) (append_assoc rows here further) rest.1),
+      )
+
+  -- over all lines of a file
+  pub around_groups : (text : List KeptLine) → All (IsKept es options) text
+      → (groups : List Text) × Groups es options context (name_shown many name) (shown_number options) (map line_text text) groups
+      × (around_rows options many name (progress_from context some) [] text ≡ behind_rows (around context) some groups)
+  around_groups text k =
+      let all = tracked text k (progress_from context some) [] [] (λ _. refl) (tracks_none es options many name context some) in
+      tracked_groups es options many name context some all.0 (map line_text text) (around_rows options many name (progress_from context some) [] text) all.1

@@ -1,0 +1,153 @@
+-- The lines of a file that are shown around selected ones, written one after the other.
+use Rattle.std.proofs.Common.{◌≡◌, ℕ, ◌+◌, ◌-◌, nat_lt, ◌<◌, ◌≤◌, Bool, true, false, not, List, [], ◌∷◌, ◌++◌, length, map, take, drop, get_or, Option, Result, Err, refl, sym, ap, subst, ◌∙◌, arith, append-nil, if◌then◌else◌}
+use Rattle.std.specs.List.{drop-map}
+use Rattle.std.proofs.lemmas.List.{length-map, length-drop, map-append, take_more, drop_all}
+use Rattle.re_syntax.specs.Bytes.{Text}
+use Rattle.grep_core.specs.declared.options.Options.{Options}
+use Rattle.grep_core.specs.declared.output.around.Progress.{Progress}
+use Rattle.grep_core.specs.declared.output.around.Shown.{Shown}
+use Rattle.grep_core.specs.Around.{group_separator}
+use Rattle.grep_core.specs.Row.{hyphen, output_line}
+use Rattle.grep_core.specs.Output.{written}
+use Rattle.grep_core.specs.Working.Progress.{next_shown, with_waiting, behind_line, last_of, row_with, rows_around, row_by}
+use Rattle.grep_core.specs.Written.{GoesOut, StopsWithin, Writes}
+use Rattle.grep_session.specs.declared.kept.KeptLine.{KeptLine}
+use Rattle.grep_session.specs.Working.Kept.{line_text}
+use Rattle.grep_session.specs.Working.Report.{is_selected, shown_rows, around_rows}
+use Rattle.grep_session.proofs.lemmas.Writing.{WrittenUpTo, drop-item, none_written, written_on, broken_off, all_written, writes_behind, stops_before, one_went, one_stopped}
+
+-- a line that is not left out is shown
+pub not_left_out : (itself : Bool) → not itself ≡ false → itself ≡ true
+not_left_out true e = refl
+not_left_out false e = sym e
+
+-- ---- how many lines wait
+
+-- no more lines wait than may stand before a selected one
+pub few_wait : (p : Progress) (found : Bool) → p.waiting ≤ p.context.before → (behind_line p found).waiting ≤ (behind_line p found).context.before
+few_wait p true few = omega arith
+few_wait p false few = by_left (nat_lt 0 p.left)
+  where
+    by_left : (b : Bool) → (if b then record p { left = p.left - 1 } else with_waiting 1 p).waiting ≤ (if b then record p { left = p.left - 1 } else with_waiting 1 p).context.before
+    by_left true = few
+    by_left false = omega arith
+
+-- and no more than there are
+pub wait_within : (p : Progress) (found : Bool) (k : ℕ) → p.waiting ≤ k → (behind_line p found).waiting ≤ k + 1
+wait_within p true k within = omega arith
+wait_within p false k within = by_left (nat_lt 0 p.left)
+  where
+    by_left : (b : Bool) → (if b then record p { left = p.left - 1 } else with_waiting 1 p).waiting ≤ k + 1
+    by_left true = omega (arith, within)
+    by_left false = omega (arith, within)
+
+-- those that are shown at the next line are there
+pub shown_within : (p : Progress) (found : Bool) (k : ℕ) → p.waiting ≤ k → (next_shown p found).before ≤ k
+shown_within p true k within = within
+shown_within p false k within = omega arith
+
+-- the lines up to the next one
+texts_on : (xs : List KeptLine) (i : ℕ) (x : KeptLine) → i < length xs → x ≡ get_or xs i x → map line_text (take (i + 1) xs) ≡ map line_text (take i xs) ++ line_text x ∷ []
+texts_on xs i x inside is =
+    ap (map line_text) (take_more xs i x inside) ∙ map-append line_text (take i xs) (get_or xs i x ∷ []) ∙ ap (λ y. map line_text (take i xs) ++ line_text y ∷ []) (sym is)
+
+module _ (options : Options) (many : Bool) (name : Text) where
+  -- ---- the lines that wait
+
+  abbrev pub waiting : ℕ → List Text → List Text
+  waiting = rows_around options many name
+
+  -- the last lines, from the first of them on
+  waiting_first : (xs : List KeptLine) (count : ℕ) → waiting (length xs - count + 1) (last_of count (map line_text xs)) ≡ waiting (length xs - count + 1) (map line_text (drop (length xs - count) xs))
+  waiting_first xs count = ap (waiting (length xs - count + 1)) (ap (λ n. drop (n - count) (map line_text xs)) (length-map xs line_text) ∙ drop-map line_text (length xs - count) xs)
+
+  module _ {W : Type 0} (contents : W → Option Text) (failures : W → ℕ) (margin : Text) (xs : List KeptLine) where
+    pub waiting_none : (a : W) (count : ℕ) → WrittenUpTo contents failures margin a a (waiting (length xs - count + 1) (last_of count (map line_text xs))) (waiting (length xs - count + 1) (map line_text (drop (length xs - count) xs)))
+    waiting_none a count =
+        let all = waiting (length xs - count + 1) (last_of count (map line_text xs)) in
+        subst (WrittenUpTo contents failures margin a a all) (waiting_first xs count) (none_written contents failures margin a all)
+
+    pub waiting_all : (a b : W) (all : List Text) (k : ℕ) → length xs ≤ k → WrittenUpTo contents failures margin a b all (waiting (k + 1) (map line_text (drop k xs))) → GoesOut contents failures a b (written margin all)
+    waiting_all a b all k end s = all_written contents failures margin a b all (waiting (k + 1) (map line_text (drop k xs))) (ap (λ l. waiting (k + 1) (map line_text l)) (drop_all k xs end)) s
+
+    module _ (k : ℕ) (x : KeptLine) (inside : k < length xs) (is : x ≡ get_or xs k x) (a b c : W) (all : List Text) (s : WrittenUpTo contents failures margin a b all (waiting (k + 1) (map line_text (drop k xs)))) where
+      next_waiting : waiting (k + 1) (map line_text (drop k xs)) ≡ (row_with options many name hyphen (k + 1) (line_text x) ∷ []) ++ waiting ((k + 1) + 1) (map line_text (drop (k + 1) xs))
+      next_waiting = ap (λ l. waiting (k + 1) (map line_text l)) (drop-item xs k x inside is)
+
+      pub waiting_on : GoesOut contents failures b c (output_line margin (row_with options many name hyphen (k + 1) (line_text x))) → WrittenUpTo contents failures margin a c all (waiting ((k + 1) + 1) (map line_text (drop (k + 1) xs)))
+      waiting_on g =
+          let row = row_with options many name hyphen (k + 1) (line_text x) in
+          written_on contents failures margin a b c all (waiting (k + 1) (map line_text (drop k xs))) (row ∷ []) (waiting ((k + 1) + 1) (map line_text (drop (k + 1) xs))) next_waiting s (one_went contents failures margin b c row g)
+
+      pub waiting_stops : StopsWithin contents failures b c (output_line margin (row_with options many name hyphen (k + 1) (line_text x))) → StopsWithin contents failures a c (written margin all)
+      waiting_stops g =
+          let row = row_with options many name hyphen (k + 1) (line_text x) in
+          broken_off contents failures margin a b c all (waiting (k + 1) (map line_text (drop k xs))) (row ∷ []) (waiting ((k + 1) + 1) (map line_text (drop (k + 1) xs))) next_waiting s (one_stopped contents failures margin b c row g)
+
+    -- ---- what is shown at a line
+
+    module _ (found : Bool) (shown : Shown) (line : KeptLine) (few : shown.before ≤ length xs) where
+      abbrev pub separator : List Text
+      separator = if shown.separated then group_separator ∷ [] else []
+
+      abbrev pub before : List Text
+      before = waiting (length xs - shown.before + 1) (last_of shown.before (map line_text xs))
+
+      abbrev pub itself : Text
+      itself = row_by options many name found (length xs + 1) (line_text line)
+
+      first_number : (length (map line_text xs) + 1) - length (last_of shown.before (map line_text xs)) ≡ length xs - shown.before + 1
+      first_number = omega (arith, few, length-map xs line_text, length-drop (length (map line_text xs) - shown.before) (map line_text xs))
+
+      all_shown : shown.itself ≡ true → shown_rows options many name found shown (map line_text xs) line ≡ separator ++ (before ++ itself ∷ [])
+      all_shown e =
+          ap (λ b. separator ++ (if b then waiting ((length (map line_text xs) + 1) - length (last_of shown.before (map line_text xs))) (last_of shown.before (map line_text xs)) ++ row_by options many name found (length (map line_text xs) + 1) (line_text line) ∷ [] else [])) e
+          ∙ ap (λ n. separator ++ (waiting n (last_of shown.before (map line_text xs)) ++ row_by options many name found (length (map line_text xs) + 1) (line_text line) ∷ [])) first_number
+          ∙ ap (λ n. separator ++ (before ++ row_by options many name found (n + 1) (line_text line) ∷ [])) (length-map xs line_text)
+
+      pub separator_stops : (a b : W) → StopsWithin contents failures a b (written margin separator) → StopsWithin contents failures a b (written margin (shown_rows options many name found shown (map line_text xs) line))
+      separator_stops a b s =
+          stops_before contents failures margin a b separator
+          (if shown.itself then waiting ((length (map line_text xs) + 1) - length (last_of shown.before (map line_text xs))) (last_of shown.before (map line_text xs)) ++ row_by options many name found (length (map line_text xs) + 1) (line_text line) ∷ [] else []) s
+
+      pub before_stops : (a b c : W) → shown.itself ≡ true → GoesOut contents failures a b (written margin separator) → StopsWithin contents failures b c (written margin before)
+          → StopsWithin contents failures a c (written margin (shown_rows options many name found shown (map line_text xs) line))
+      before_stops a b c e g s =
+          subst (λ l. StopsWithin contents failures a c (written margin l)) (sym (all_shown e))
+          (stops_behind a b c separator (before ++ itself ∷ []) g (stops_before contents failures margin b c before (itself ∷ []) s))
+        where
+          stops_behind : (a b c : W) (us vs : List Text) → GoesOut contents failures a b (written margin us) → StopsWithin contents failures b c (written margin vs) → StopsWithin contents failures a c (written margin (us ++ vs))
+          stops_behind a b c us vs g s = writes_behind contents failures margin {T = Unit {0}} {E = Unit {0}} a b c us vs (Err tt) g s
+
+      pub itself_written : {T E : Type 0} (a b c d : W) (r : Result T E) → shown.itself ≡ true → GoesOut contents failures a b (written margin separator) → GoesOut contents failures b c (written margin before)
+          → Writes contents failures c d (output_line margin itself) r → Writes contents failures a d (written margin (shown_rows options many name found shown (map line_text xs) line)) r
+      itself_written a b c d r e g h w =
+          subst (λ l. Writes contents failures a d (written margin l) r) (sym (all_shown e))
+          (writes_behind contents failures margin a b d separator (before ++ itself ∷ []) r g
+          (writes_behind contents failures margin b c d before (itself ∷ []) r h (subst (λ bytes. Writes contents failures c d bytes r) (sym (append-nil (output_line margin itself))) w)))
+
+    -- ---- the next line
+
+    -- no line is left
+    pub around_all : (a b : W) (all before : List Text) (p : Progress) (k : ℕ) → length xs ≤ k → WrittenUpTo contents failures margin a b all (around_rows options many name p before (drop k xs)) → GoesOut contents failures a b (written margin all)
+    around_all a b all before p k end s = all_written contents failures margin a b all (around_rows options many name p before (drop k xs)) (ap (around_rows options many name p before) (drop_all k xs end)) s
+
+    module _ (i : ℕ) (x : KeptLine) (inside : i < length xs) (is : x ≡ get_or xs i x) (p : Progress) (found : Bool) (told : found ≡ is_selected options x) (a b c : W) (all : List Text)
+        (s : WrittenUpTo contents failures margin a b all (around_rows options many name p (map line_text (take i xs)) (drop i xs))) where
+      abbrev pub here : List Text
+      here = shown_rows options many name found (next_shown p found) (map line_text (take i xs)) x
+
+      abbrev pub later : List Text
+      later = around_rows options many name (behind_line p found) (map line_text (take (i + 1) xs)) (drop (i + 1) xs)
+
+      next_around : around_rows options many name p (map line_text (take i xs)) (drop i xs) ≡ here ++ later
+      next_around =
+          ap (around_rows options many name p (map line_text (take i xs))) (drop-item xs i x inside is)
+          ∙ ap (λ f. shown_rows options many name f (next_shown p f) (map line_text (take i xs)) x ++ around_rows options many name (behind_line p f) (map line_text (take i xs) ++ line_text x ∷ []) (drop (i + 1) xs)) (sym told)
+          ∙ ap (λ l. here ++ around_rows options many name (behind_line p found) l (drop (i + 1) xs)) (sym (texts_on xs i x inside is))
+
+      pub around_on : GoesOut contents failures b c (written margin here) → WrittenUpTo contents failures margin a c all later
+      around_on g = written_on contents failures margin a b c all (around_rows options many name p (map line_text (take i xs)) (drop i xs)) here later next_around s g
+
+      pub around_stops : StopsWithin contents failures b c (written margin here) → StopsWithin contents failures a c (written margin all)
+      around_stops g = broken_off contents failures margin a b c all (around_rows options many name p (map line_text (take i xs)) (drop i xs)) here later next_around s g

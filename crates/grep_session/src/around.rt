@@ -1,0 +1,118 @@
+//! What is written of the lines of one file, where lines around selected ones are shown.
+ghost use Rattle.std.specs.Prelude.{◌≡◌, ◌+◌, ◌-◌, ◌≤◌, [], ◌∷◌, IfOk, length, map, if◌then◌else◌};
+ghost use Rattle.grep_core.specs.Around.{group_separator};
+ghost use Rattle.grep_core.specs.Output.{written};
+ghost use Rattle.grep_core.specs.Row.{output_line};
+ghost use Rattle.grep_core.specs.Working.Progress.{progress_from, last_of, rows_around, row_by};
+ghost use Rattle.grep_core.specs.Written.{Writes};
+ghost use Rattle.grep_session.specs.Working.Kept.{line_text};
+ghost use Rattle.grep_session.specs.Working.Report.{shown_rows, around_rows, selected_count};
+
+use crate::kept::KeptLine;
+use grep_core::{
+    Context, CountedWrite, Progress, Shown, Wanted, WriteFault, count_found, write_line_behind,
+};
+
+/// Writes the separator, where there is one.
+fn write_separator<W: CountedWrite>(
+    separated: bool,
+    out: &mut W,
+    margin: &[u8],
+) -> Result<(), WriteFault>
+    ensures { Writes W.contents W.failures out.old out.new (written margin.now
+        (if separated then group_separator ∷ [] else [])) result }
+{
+    if separated {
+        return write_line_behind(out, margin, b"--");
+    }
+    Ok(())
+}
+
+/// Writes the last `count` of these lines, the first lines of a file, as lines around others.
+fn write_waiting<W: CountedWrite>(
+    wanted: &Wanted,
+    lines: &[KeptLine],
+    count: usize,
+    out: &mut W,
+    margin: &[u8],
+) -> Result<(), WriteFault>
+    requires few { count ≤ length lines.now }
+    ensures { Writes W.contents W.failures out.old out.new (written margin.now
+        (rows_around wanted.now.options wanted.now.many wanted.now.name.now
+        (length lines.now - count + 1) (last_of count (map line_text lines.now)))) result }
+{
+    for k in lines.len() - count..lines.len() {
+        wanted.write_around(k as u64 + 1, &lines[k].text, out, margin)?;
+    }
+    Ok(())
+}
+
+/// Writes the row of a line that is shown.
+fn write_itself<W: CountedWrite>(
+    wanted: &Wanted,
+    number: u64,
+    line: &KeptLine,
+    found: bool,
+    out: &mut W,
+    margin: &[u8],
+) -> Result<(), WriteFault>
+    ensures { Writes W.contents W.failures out.old out.new (output_line margin.now
+        (row_by wanted.now.options wanted.now.many wanted.now.name.now found number
+        (line_text line.now))) result }
+{
+    if found {
+        return wanted.write_text(number, &line.text, out, margin);
+    }
+    wanted.write_around(number, &line.text, out, margin)
+}
+
+/// Writes what is shown at a line, which is selected or is not, behind the lines before it.
+fn write_shown<W: CountedWrite>(
+    wanted: &Wanted,
+    before: &[KeptLine],
+    line: &KeptLine,
+    found: bool,
+    shown: Shown,
+    out: &mut W,
+    margin: &[u8],
+) -> Result<(), WriteFault>
+    requires few { shown.before ≤ length before.now }
+    ensures { Writes W.contents W.failures out.old out.new (written margin.now
+        (shown_rows wanted.now.options wanted.now.many wanted.now.name.now found shown
+        (map line_text before.now) line.now)) result }
+{
+    write_separator(shown.separated, out, margin)?;
+    if !shown.itself {
+        return Ok(());
+    }
+    write_waiting(wanted, before, shown.before as usize, out, margin)?;
+    write_itself(wanted, before.len() as u64 + 1, line, found, out, margin)
+}
+
+/// Writes the selected lines of a file and those around them, behind files of which some line is
+/// shown or none is, and answers how many of its lines are selected.
+pub fn write_lines_around<W: CountedWrite>(
+    wanted: &Wanted,
+    context: Context,
+    some: bool,
+    lines: &[KeptLine],
+    out: &mut W,
+    margin: &[u8],
+) -> Result<u64, WriteFault>
+    ensures rows { Writes W.contents W.failures out.old out.new (written margin.now
+        (around_rows wanted.now.options wanted.now.many wanted.now.name.now
+        (progress_from context some) [] lines.now)) result }
+    ensures told { IfOk result
+        (λ selected. selected ≡ selected_count wanted.now.options lines.now) }
+{
+    let mut progress = Progress::new(context, some);
+    let mut selected: u64 = 0;
+    for k in 0..lines.len() {
+        let line = &lines[k];
+        let found = line.is_selected(&wanted.options);
+        let shown = progress.step(found);
+        write_shown(wanted, &lines[..k], line, found, shown, out, margin)?;
+        selected = count_found(selected, found);
+    }
+    Ok(selected)
+}

@@ -1,0 +1,7 @@
+use Rattle.std.proofs.Common.{sym, ap, ◌∙◌, rules}
+use Rattle.re_syntax.specs.Working.Counted.{up_to_word}
+use Rattle.re_syntax.proofs.lemmas.PiecesLaws.{positions-choice}
+use Rattle.re_syntax.proofs.pieces.any_of.Goals as goal
+
+pub returns-clause-told : goal.returns-clause-told
+returns-clause-told c alloc es are = record { tree = search rules; count = are.count ∙ ap up_to_word (sym (positions-choice es)) }

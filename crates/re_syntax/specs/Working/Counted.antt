@@ -1,0 +1,17 @@
+-- How many positions the expression of a text has, its intervals written out.
+use Rattle.std.specs.Prelude.{◌≡◌, ℕ, ◌-◌, ◌^◌, min}
+use Rattle.re_syntax.specs.declared.syntax.Syntax.{Syntax}
+use Rattle.re_syntax.specs.Bytes.{Text}
+use Rattle.re_syntax.specs.Expression.{Expression}
+use Rattle.re_syntax.specs.Holds.{positions}
+use Rattle.re_syntax.specs.Spelled.{IsSpelled}
+
+-- a number as a word has it: the greatest word where it is greater
+abbrev pub up_to_word : ℕ → ℕ
+up_to_word n = min n (2 ^ 64 - 1)
+
+-- so many positions has the expression that the text spells
+pub record HasPositions (syntax : Syntax) (text : Text) (count : ℕ) : Type 0 where
+  pub expression : Expression
+  pub spelled : IsSpelled syntax text expression
+  pub counted : count ≡ up_to_word (positions expression)

@@ -1,0 +1,44 @@
+//! How many positions expressions have, found without their trees.
+ghost use Rattle.std.specs.Prelude.{◌≡◌, ◌⊎◌, IfOk, IfErr};
+ghost use Rattle.re_syntax.specs.declared.fault.FaultKind.{FaultKind};
+ghost use Rattle.re_syntax.specs.declared.syntax.Syntax.TheVariants.{Basic, Extended};
+ghost use Rattle.re_syntax.specs.BasicFaults.{IsNoBasic};
+ghost use Rattle.re_syntax.specs.Working.Counted.{HasPositions};
+ghost use Rattle.re_syntax.specs.ExtendedFaults.{IsNoExtended};
+
+use crate::fault::PatternFault;
+use crate::{basic, extended};
+
+/// How many positions a basic regular expression has, its intervals written out, or the greatest
+/// `usize` where it has more. Its tree is not built.
+///
+/// # Errors
+///
+/// Those of [`crate::read_basic`]; but no memory is asked for.
+pub fn basic_positions(text: &[u8]) -> Result<usize, PatternFault>
+    ensures counted { IfOk result (HasPositions Basic text.now) }
+    ensures refused { IfErr result
+        (λ fault. (fault ≡ record { kind = FaultKind.Memory; at = 0 }) ⊎ IsNoBasic text.now fault) }
+{
+    let piece = basic::read_whole(None, text)?;
+    Ok(piece.positions)
+}
+
+/// How many positions an extended regular expression has, its intervals written out, or the
+/// greatest `usize` where it has more. Its tree is not built.
+///
+/// # Errors
+///
+/// Those of [`crate::read_extended`]; but no memory is asked for.
+pub fn extended_positions(text: &[u8]) -> Result<usize, PatternFault>
+    ensures counted { IfOk result (HasPositions Extended text.now) }
+    ensures refused { IfErr result
+        (λ fault. (fault ≡ record { kind = FaultKind.Memory; at = 0 }) ⊎
+        IsNoExtended text.now fault) }
+{
+    let piece = extended::read_whole(None, text)?;
+    Ok(piece.positions)
+}
+
+#[cfg(test)]
+mod tests;
