@@ -4,6 +4,7 @@ pub mod around;
 pub mod behind;
 pub mod file;
 pub mod line;
+pub mod looks;
 pub mod matching;
 pub mod passing;
 pub mod run;

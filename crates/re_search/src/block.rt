@@ -33,8 +33,8 @@ pub fn first_line_with_run(finder: &RunFinder, block: &[u8]) -> usize
     }
 }
 
-// Where the last line of the bytes begins, which no newline has to end.
-fn line_start(bytes: &[u8]) -> usize
+/// Where the last line of the bytes begins, which no newline has to end.
+pub fn line_start(bytes: &[u8]) -> usize
     ensures { PassesAll (λ _. ⊤) bytes.now result }
 {
     match last_newline(bytes) {

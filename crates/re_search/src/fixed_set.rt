@@ -8,6 +8,7 @@ ghost use Rattle.re_syntax.specs.Lines.{lines_of};
 ghost use Rattle.re_auto.specs.Meters.{many_built};
 ghost use Rattle.re_search.specs.Working.Literals.{any_literal, keys};
 ghost use Rattle.re_search.specs.Searching.{FindsPart, AddsAtMost};
+ghost use Rattle.re_search.specs.Working.Blocks.{IsBlock, PassesUnmatched};
 
 mod growth;
 mod keys;
@@ -16,6 +17,7 @@ mod making;
 mod table;
 mod trie;
 
+use crate::block::line_start;
 use crate::line_match::LineMatch;
 use crate::span::Span;
 use making::table_of;
@@ -118,6 +120,21 @@ impl FixedSet {
         self.table.stands_in(line)
     }
 
+    /// Where in a block of whole lines the first line begins on which some string stands, whether or
+    /// not the whole line has to be one; behind the last line where none does. No step is counted.
+    pub fn first_line(&self, block: &[u8]) -> usize
+        requires { IsBlock block.now }
+        ensures { PassesUnmatched (any_literal self.now) false block.now result }
+    {
+        if self.has_empty {
+            return 0;
+        }
+        match self.table.find(block, 0) {
+            Some(span) => line_start(&block[..span.start]),
+            None => block.len(),
+        }
+    }
+
     // The part where the whole line has to be one of the strings.
     fn whole_line(&self, line: &[u8], from: usize) -> Option<Span>
         ensures { FindsPart (any_literal self.now ∷ []) line.now true from result }
@@ -203,6 +220,17 @@ impl LineMatch for FixedSet {
             return self.whole_line(line, from);
         }
         self.occurrence(line, from)
+    }
+
+    fn first_candidate(&self, block: &[u8]) -> usize
+        requires { IsBlock block.now }
+        ensures { PassesUnmatched (any_literal self.now) self.now.whole block.now result }
+    {
+        self.first_line(block)
+    }
+
+    fn looks_dearly(&self) -> bool {
+        true
     }
 }
 

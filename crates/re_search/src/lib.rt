@@ -24,7 +24,7 @@ pub use matcher::Matcher;
 pub use plain::is_plain;
 pub use re_auto::Meter;
 pub use re_syntax::Syntax;
-pub use several::{first_candidate, is_matched, parts};
+pub use several::{first_candidate, is_matched, looks_dearly, parts};
 pub use simulated::Simulated;
 pub use span::Span;
 

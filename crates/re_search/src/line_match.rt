@@ -40,4 +40,10 @@ pub trait LineMatch {
     {
         0
     }
+
+    /// Whether `first_candidate` goes over a block at the cost of a search, so that asking for it
+    /// pays only where lines are passed.
+    fn looks_dearly(&self) -> bool {
+        false
+    }
 }

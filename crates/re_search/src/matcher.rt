@@ -157,6 +157,13 @@ impl LineMatch for Matcher {
             Matcher::Cached(cached) => cached.first_candidate(block),
         }
     }
+
+    fn looks_dearly(&self) -> bool {
+        match self {
+            Matcher::FixedSet(set) => set.looks_dearly(),
+            _ => false,
+        }
+    }
 }
 
 // Whether an expression of the syntax has to be small: an automaton is made for it.

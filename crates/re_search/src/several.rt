@@ -1,12 +1,15 @@
 //! Several matchers over one line (XCU grep: a line is selected where any of the patterns matches
 //! it).
-ghost use Rattle.std.specs.Prelude.{ℕ, Bool, List, ◌≡◌, ◌+◌, ◌-◌, ◌*◌, ◌≤◌, ◌++◌, length, map};
+ghost use Rattle.std.specs.Prelude.{ℕ, Bool, List, ◌≡◌, ◌+◌, ◌-◌, ◌*◌, ◌≤◌, ◌++◌, IfSome, length};
+ghost use Rattle.std.specs.Prelude.{map};
 ghost use Rattle.re_syntax.specs.Bytes.{Text};
 ghost use Rattle.re_syntax.specs.Expression.{Expression};
 ghost use Rattle.re_search.specs.Searching.{FindsPart, FindsPartOfAll, TellsMatchOfAll, AllAnswer};
 ghost use Rattle.re_search.specs.Searching.{AddsAtMost};
 ghost use Rattle.re_search.specs.Working.Blocks.{IsBlock, PassesUnmatchedByAll};
+ghost use Rattle.re_search.specs.Working.Filters.{AreNeeded};
 
+use crate::fixed_set::FixedSet;
 use crate::line_match::LineMatch;
 use crate::span::Span;
 use re_auto::Meter;
@@ -81,14 +84,33 @@ pub fn is_matched<M: LineMatch>(matchers: &mut [M], line: &[u8], meter: &mut Met
 
 /// Where in a block of whole lines the first line begins that some matcher may match: no line
 /// before it is matched by any. All matchers have to agree on whether the whole line has to be
-/// matched. No step is taken. Of several matchers none is asked.
-pub fn first_candidate<M: LineMatch>(matchers: &[M], block: &[u8]) -> usize
-    requires { IsBlock block.now }
+/// matched. A filter, where there is one, tells for all of them: strings of which some stands on
+/// each line that some matcher matches. Without one only a single matcher is asked. No step is
+/// taken.
+pub fn first_candidate<M: LineMatch>(
+    matchers: &[M],
+    filter: Option<&FixedSet>,
+    block: &[u8],
+) -> usize
+    requires block { IsBlock block.now }
+    requires needed { IfSome filter (λ f. AreNeeded f.now (map M.expression matchers.now)) }
     ensures { PassesUnmatchedByAll (map M.expression matchers.now) (map M.whole matchers.now)
         block.now result }
 {
+    if let Some(strings) = filter {
+        return strings.first_line(block);
+    }
     if matchers.len() != 1 {
         return 0;
     }
     matchers[0].first_candidate(block)
+}
+
+/// Whether [`first_candidate`] goes over a block at the cost of a search, so that asking for it
+/// pays only where lines are passed.
+pub fn looks_dearly<M: LineMatch>(matchers: &[M], filter: Option<&FixedSet>) -> bool {
+    if filter.is_some() {
+        return true;
+    }
+    matchers.len() == 1 && matchers[0].looks_dearly()
 }

@@ -24,11 +24,12 @@ use crate::output::rows::write_separator;
 use crate::output::wanted::Wanted;
 use crate::search::behind::Behind;
 use crate::search::file::{FileEnd, FileFound, SearchFault, count_found};
+use crate::search::looks::Looks;
 use crate::search::matching::is_selected_behind;
 use crate::search::passing::unselected_ahead;
 use crate::search::sending::send_before_read;
 use crate::search::setting::Asked;
-use re_search::{LineMatch, Meter};
+use re_search::{FixedSet, LineMatch, Meter, looks_dearly};
 use std::alloc::AllocError;
 
 // Writes the separator, where a group begins behind another.
@@ -123,11 +124,14 @@ fn keep(behind: &mut Behind, shown: bool, line: &[u8]) -> Result<(), AllocError>
 fn pass_waiting<R: CountedRead, M: LineMatch>(
     lines: &mut NumberedLines<R>,
     matchers: &[M],
+    filter: Option<&FixedSet>,
     options: &Options,
+    looks: &mut Looks,
     progress: &mut Progress,
     behind: &mut Behind,
 ) -> Result<(), SearchFault>
     requires whole { AllAnswer options.now.line_regexp (map M.whole matchers.now) }
+    requires needed { IfSome filter (λ f. AreNeeded f.now (map M.expression matchers.now)) }
     requires few { progress.old.waiting ≤ progress.old.context.before }
     ensures ok { IfOk result (λ _. (reader : R) (handed : List Text)
         → HasHanded R.remaining R.failures reader lines.old handed
@@ -140,7 +144,7 @@ fn pass_waiting<R: CountedRead, M: LineMatch>(
     if progress.left > 0 {
         return Ok(());
     }
-    let Some((block, count)) = unselected_ahead(lines, matchers, options) else {
+    let Some((block, count)) = unselected_ahead(lines, matchers, filter, options, looks) else {
         return Ok(());
     };
     let bytes = block.len();
@@ -199,9 +203,18 @@ pub fn search_around<R: CountedRead, M: LineMatch, W: CountedWrite>(
 {
     let mut progress = Progress::new(context, shown);
     let mut behind = Behind::new(asked.alloc, context.before);
+    let mut looks = Looks::new(looks_dearly(matchers, asked.filter));
     let mut selected: u64 = 0;
     loop {
-        pass_waiting(lines, matchers, &wanted.options, &mut progress, &mut behind)?;
+        pass_waiting(
+            lines,
+            matchers,
+            asked.filter,
+            &wanted.options,
+            &mut looks,
+            &mut progress,
+            &mut behind,
+        )?;
         send_before_read(lines, out)?;
         match lines.next_line() {
             Ok(true) => {

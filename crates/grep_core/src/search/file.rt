@@ -18,10 +18,11 @@ use crate::input::sources::Sources;
 use crate::output::wanted::Wanted;
 use crate::search::around::search_around;
 use crate::search::line::search_line;
+use crate::search::looks::Looks;
 use crate::search::passing::pass_unselected;
 use crate::search::sending::send_before_read;
 use crate::search::setting::Setting;
-use re_search::{FixedSet, LineMatch, Meter};
+use re_search::{FixedSet, LineMatch, Meter, looks_dearly};
 
 /// How the search of a file came to its end.
 #[derive(Clone, Copy, PartialEq, Eq, Debug, Drop)]
@@ -149,9 +150,10 @@ fn search_lines<R: CountedRead, M: LineMatch, W: CountedWrite>(
     ensures same_wholes { map M.whole matchers.new ≡ map M.whole matchers.old }
 {
     let early = wanted.options.leaves_early();
+    let mut looks = Looks::new(looks_dearly(matchers, filter));
     let mut selected: u64 = 0;
     loop {
-        pass_unselected(lines, matchers, &wanted.options);
+        pass_unselected(lines, matchers, filter, &wanted.options, &mut looks);
         send_before_read(lines, out)?;
         match lines.next_line() {
             Ok(true) => {

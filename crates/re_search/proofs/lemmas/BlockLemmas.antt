@@ -1,4 +1,4 @@
--- Lines of a block in which a run of sets, or a text, does not stand.
+-- Lines of a block in which something does not begin, as a run of sets or a text.
 use Rattle.std.proofs.Common.{◌≡◌, ℕ, ◌+◌, ◌<◌, ◌≤◌, Bool, true, false, List, [], ◌∷◌, ◌++◌, All, Some, None, length, map, take, drop, get_or, refl, sym, ap, ◌∙◌, subst, arith, append_assoc, append-nil, length-append, length-take, take-append-drop}
 use Rattle.std.specs.Prelude.{⊤}
 use Rattle.std.proofs.lemmas.List.{length_push}
@@ -11,6 +11,8 @@ use Rattle.re_syntax.proofs.lemmas.LinesLaws.{all_none, all_tail}
 use Rattle.re_syntax.proofs.lemmas.EndedLinesLaws.{AreEndedLines-ended_lines_of}
 use Rattle.memchr.specs.Find.{FindsNeedle}
 use Rattle.re_search.specs.Working.Blocks.{IsBlock, Lacks, PassesAll, PassesUnmatched, PassesUnmatchedByAll}
+use Rattle.re_search.specs.Working.Filters.{AreNeeded}
+use Rattle.re_search.specs.Working.Literals.{Literals, any_literal}
 use Rattle.re_search.specs.Working.Needles.{IsNeeded, RunIsNeeded}
 use Rattle.re_search.specs.Working.Runs.{RunStandsAt, FindsRun, LacksRun}
 use Rattle.re_search.specs.Searching.{AllAnswer, SomeMatches}
@@ -35,29 +37,55 @@ ended_text t =
       ap (λ l. l ++ newline ∷ []) ended.1.2 ∙ append_assoc (terminated lines) rest (newline ∷ []) ∙ terminated-push lines rest,
     )
 
--- ---- lines of a block that lack a run
+-- ---- what begins in a line begins in a block
 
--- a run that does not begin in the first lines of a block stands in none of them
-lines_lack : (run : List Bytes) (lines : List Text) (rest : Text) → ((k : ℕ) → k < length (terminated lines) → ¬ RunStandsAt (terminated lines ++ rest) run k) → All (LacksRun run) lines
-lines_lack run [] rest none = All-nil (LacksRun run)
-lines_lack run (t ∷ ts) rest none = All-cons (LacksRun run) t ts first (lines_lack run ts rest later)
-  where
-    long : length (terminated (t ∷ ts)) ≡ length t + 1 + length (terminated ts)
-    long = omega (arith, length-append t (newline ∷ terminated ts))
+-- of something that may begin at places of a text
+module _ (Begins : Text → ℕ → Type 0) (within : (line : Text) (k : ℕ) → Begins line k → k ≤ length line)
+    (before : (line after : Text) (k : ℕ) → Begins line k → Begins (line ++ after) k)
+    (behind : (front line : Text) (k : ℕ) → Begins line k → Begins (front ++ line) (length front + k)) where
+  -- it begins nowhere in the line
+  abbrev pub Free : Text → Type 0
+  Free line = (k : ℕ) → ¬ Begins line k
 
-    first : LacksRun run t
-    first k o =
-        let fits : k + length run ≤ length t = o.fits in
-        none k (omega (arith, long))
-        (subst (λ l. RunStandsAt l run k) (sym (append_assoc t (newline ∷ terminated ts) rest)) (run_before run t (newline ∷ terminated ts ++ rest) k o))
+  -- where it does not begin in the first lines of a block it does in none of them
+  lines_free : (lines : List Text) (rest : Text) → ((k : ℕ) → k < length (terminated lines) → ¬ Begins (terminated lines ++ rest) k) → All Free lines
+  lines_free [] rest none = All-nil Free
+  lines_free (t ∷ ts) rest none = All-cons Free t ts first (lines_free ts rest later)
+    where
+      long : length (terminated (t ∷ ts)) ≡ length t + 1 + length (terminated ts)
+      long = omega (arith, length-append t (newline ∷ terminated ts))
 
-    cut : (t ++ newline ∷ []) ++ (terminated ts ++ rest) ≡ terminated (t ∷ ts) ++ rest
-    cut = append_assoc t (newline ∷ []) (terminated ts ++ rest) ∙ sym (append_assoc t (newline ∷ terminated ts) rest)
+      first : Free t
+      first k o =
+          let inside : k ≤ length t = within t k o in
+          none k (omega (arith, long, inside))
+          (subst (λ l. Begins l k) (sym (append_assoc t (newline ∷ terminated ts) rest)) (before t (newline ∷ terminated ts ++ rest) k o))
 
-    later : (k : ℕ) → k < length (terminated ts) → ¬ RunStandsAt (terminated ts ++ rest) run k
-    later k below o =
-        let place : length (t ++ newline ∷ []) + k < length (terminated (t ∷ ts)) = omega (arith, long, below, length-append t (newline ∷ [])) in
-        none (length (t ++ newline ∷ []) + k) place (subst (λ l. RunStandsAt l run (length (t ++ newline ∷ []) + k)) cut (run_behind run (t ++ newline ∷ []) (terminated ts ++ rest) k o))
+      cut : (t ++ newline ∷ []) ++ (terminated ts ++ rest) ≡ terminated (t ∷ ts) ++ rest
+      cut = append_assoc t (newline ∷ []) (terminated ts ++ rest) ∙ sym (append_assoc t (newline ∷ terminated ts) rest)
+
+      later : (k : ℕ) → k < length (terminated ts) → ¬ Begins (terminated ts ++ rest) k
+      later k below o =
+          let place : length (t ++ newline ∷ []) + k < length (terminated (t ∷ ts)) = omega (arith, long, below, length-append t (newline ∷ [])) in
+          none (length (t ++ newline ∷ []) + k) place (subst (λ l. Begins l (length (t ++ newline ∷ []) + k)) cut (behind (t ++ newline ∷ []) (terminated ts ++ rest) k o))
+
+  -- a block in which it begins nowhere is passed as a whole
+  pub passes_free_block : (block : Text) → IsBlock block → ((k : ℕ) → k < length block → ¬ Begins block k) → PassesAll Free block (length block)
+  passes_free_block block (lines, free, is) none =
+      let all : terminated lines ++ [] ≡ block = append-nil (terminated lines) ∙ sym is in
+      let nowhere : (k : ℕ) → k < length (terminated lines) → ¬ Begins (terminated lines ++ []) k =
+      λ k below o. none k (omega (arith, below, ap length is)) (subst (λ l. Begins l k) all o) in
+      (lines, [], free, lines_free lines [] nowhere, sym all, ap length is)
+
+  -- the lines before the one in which it begins first are passed
+  pub passes_free_front : (block : Text) (at count : ℕ) → at ≤ length block → ((k : ℕ) → k < at → ¬ Begins block k) → PassesAll (λ _. ⊤) (take at block) count → PassesAll Free block count
+  passes_free_front block at count inside none (lines, rest, free, any, is, counted) =
+      let low : length (terminated lines) ≤ at = omega (arith, ap length is, length-append (terminated lines) rest, length-take at block, inside) in
+      let all : terminated lines ++ (rest ++ drop at block) ≡ block =
+      sym (append_assoc (terminated lines) rest (drop at block)) ∙ ap (λ l. l ++ drop at block) (sym is) ∙ take-append-drop at block in
+      let nowhere : (k : ℕ) → k < length (terminated lines) → ¬ Begins (terminated lines ++ (rest ++ drop at block)) k =
+      λ k below o. none k (omega (arith, below, low)) (subst (λ l. Begins l k) all o) in
+      (lines, rest ++ drop at block, free, lines_free lines (rest ++ drop at block) nowhere, sym all, counted)
 
 -- ---- lines that are passed
 
@@ -78,23 +106,21 @@ passes_behind bytes at below cut =
       omega (arith, ap length front.2, length_push (take at bytes) newline, length-take at bytes),
     )
 
+-- ---- where a run stands
+
+run_within : (run : List Bytes) (line : Text) (k : ℕ) → RunStandsAt line run k → k ≤ length line
+run_within run line k o = let fits : k + length run ≤ length line = o.fits in omega (arith, fits)
+
 -- a block in which the run does not stand is passed as a whole
 pub passes_whole_run : (run : List Bytes) (block : Text) → IsBlock block → FindsRun block run None → PassesAll (LacksRun run) block (length block)
-passes_whole_run run block (lines, free, is) none =
-    let all : terminated lines ++ [] ≡ block = append-nil (terminated lines) ∙ sym is in
-    let nowhere : (k : ℕ) → k < length (terminated lines) → ¬ RunStandsAt (terminated lines ++ []) run k =
-    λ k below o. none k (omega arith) (omega (arith, below, ap length is)) (subst (λ l. RunStandsAt l run k) all o) in
-    (lines, [], free, lines_lack run lines [] nowhere, sym all, ap length is)
+passes_whole_run run block whole none =
+    passes_free_block (λ l k. RunStandsAt l run k) (run_within run) (run_before run) (run_behind run) block whole (λ k below o. none k (omega arith) (omega (arith, below)) o)
 
 -- the lines before the one in which the run stands first are passed
 pub passes_front_run : (run : List Bytes) (block : Text) (at count : ℕ) → FindsRun block run (Some at) → PassesAll (λ _. ⊤) (take at block) count → PassesAll (LacksRun run) block count
-passes_front_run run block at count (first, stands) (lines, rest, free, any, is, counted) =
-    let before : length (terminated lines) ≤ at = omega (arith, ap length is, length-append (terminated lines) rest, length-take at block, first.high) in
-    let all : terminated lines ++ (rest ++ drop at block) ≡ block =
-    sym (append_assoc (terminated lines) rest (drop at block)) ∙ ap (λ l. l ++ drop at block) (sym is) ∙ take-append-drop at block in
-    let nowhere : (k : ℕ) → k < length (terminated lines) → ¬ RunStandsAt (terminated lines ++ (rest ++ drop at block)) run k =
-    λ k below o. first.before k (omega arith) (omega (arith, below, before)) (subst (λ l. RunStandsAt l run k) all o) in
-    (lines, rest ++ drop at block, free, lines_lack run lines (rest ++ drop at block) nowhere, sym all, counted)
+passes_front_run run block at count (first, stands) front =
+    let inside : at ≤ length block = omega (arith, first.high) in
+    passes_free_front (λ l k. RunStandsAt l run k) (run_within run) (run_before run) (run_behind run) block at count inside (λ k below o. first.before k (omega arith) below o) front
 
 -- a line that lacks the run of a text lacks the text
 passes_text : (text block : Text) (count : ℕ) → PassesAll (LacksRun (map only text)) block count → PassesAll (Lacks text) block count
@@ -142,3 +168,14 @@ pub only_one : {A B : Type 0} (f : A → B) (xs : List A) (x : A) → length xs 
 only_one f [] x one is = absurd (omega (arith, one))
 only_one f (y ∷ []) x one is = ap (λ z. f z ∷ []) is
 only_one f (y ∷ z ∷ xs) x one is = absurd (omega (arith, one))
+
+-- lines of which no part is matched aren't matched as a whole
+pub passes_whole_too : (e : Expression) (whole : Bool) (block : Text) (count : ℕ) → PassesUnmatched e false block count → PassesUnmatched e whole block count
+passes_whole_too e false block count passes = passes
+passes_whole_too e true block count (lines, rest, free, none, is, counted) =
+    (lines, rest, free, λ i d below holds. none i d below (0, length (get_or lines i d), omega arith, holds), is, counted)
+
+-- where some of the strings of a filter stands on each line that is matched, lines without any are passed
+pub passes_by_filter : (strings : Literals) (es : List Expression) (wholes : List Bool) (block : Text) (count : ℕ) → AreNeeded strings es → PassesUnmatched (any_literal strings) false block count → PassesUnmatchedByAll es wholes block count
+passes_by_filter strings es wholes block count needed (lines, rest, free, none, is, counted) = λ whole all.
+    (lines, rest, free, λ i d below some. none i d below (needed (get_or lines i d) whole some), is, counted)

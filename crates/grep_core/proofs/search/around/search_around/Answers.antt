@@ -46,6 +46,9 @@ returns-in_err-send_before_read-clause-write g c = λ is_write.
     followed_unsent g.R.CountedRead.remaining g.R.CountedRead.failures es w.options w.many c.args.shown w.name.now reader c.args.context c.requires.is_asked c.pass_waiting.new.lines c.pass_waiting.new.lines _ _ _ _ c.loop-behind.selected c.pass_waiting.new.progress c.pass_waiting.new.behind.lines p _
     (TakesFront-written g.W.CountedWrite.contents g.W.CountedWrite.failures c.loop-behind.out c.send_before_read.new.out [] unsent) unsent.counted
 
+pub pass_waiting-requires-clause-needed : goal.pass_waiting-requires-clause-needed
+pass_waiting-requires-clause-needed g c = rw c.loop-behind.invariant.same_expressions c.requires.needed
+
 pub is_selected_behind-found-requires-clause-needed : goal.is_selected_behind-found-requires-clause-needed
 is_selected_behind-found-requires-clause-needed g c = rw c.loop-behind.invariant.same_expressions c.requires.needed
 

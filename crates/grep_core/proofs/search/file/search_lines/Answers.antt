@@ -49,6 +49,9 @@ loop-lines-preserved g c =
       is_early = i.is_early;
     }
 
+pub pass_unselected-requires-clause-needed : goal.pass_unselected-requires-clause-needed
+pass_unselected-requires-clause-needed g c = rw c.loop-lines.invariant.same_expressions c.requires.needed
+
 pub search_line-requires-clause-needed : goal.search_line-requires-clause-needed
 search_line-requires-clause-needed g c = rw c.loop-lines.invariant.same_expressions c.requires.needed
 
