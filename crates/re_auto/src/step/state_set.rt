@@ -9,6 +9,9 @@ use crate::build::BuildFault;
 use crate::step::automaton::Automaton;
 use std::alloc::Global;
 
+// From how many positions on a set is large.
+const LARGE: u32 = 128;
+
 /// A set of positions of an automaton, and a mark 'at the line's first place'. What it stands for
 /// on a line and a place is `StandsAt` in `specs/Working/StateSets.antt`.
 #[derive(PartialEq, Eq, Hash, Drop)]
@@ -49,5 +52,15 @@ impl StateSet {
     {
         let clear = bits::is_clear(&self.words);
         !self.at_begin & clear
+    }
+
+    /// Whether it holds so many positions that a step from it takes longer than to keep what came
+    /// of it. Nothing that a contract says rests on it.
+    pub fn is_large(&self) -> bool {
+        let mut held: u32 = 0;
+        for word in self.words.iter() {
+            held = held.saturating_add(word.count_ones());
+        }
+        held >= LARGE
     }
 }

@@ -1,6 +1,8 @@
 //! When it is worth while to keep pairs, and to pass bytes without a step. Nothing that a contract
 //! says rests on it.
 
+use re_auto::StateSet;
+
 // How many bytes are stepped over before pairs are kept: what is made ready for them has to pay.
 const WARM: usize = 256;
 
@@ -61,18 +63,28 @@ impl Pace {
         self.reused = self.reused.saturating_add(bytes);
     }
 
-    /// One more pair was not held, where so many may be. Whether keeping pairs goes on: it has to
-    /// save enough steps.
-    pub fn affords_miss(&mut self, most: usize) -> bool {
+    /// One more pair was not held, where so many may be; it led to this set. Whether keeping pairs
+    /// goes on: it has to save enough steps, or the set is large, so that a step costs more than to
+    /// keep it.
+    pub fn affords_miss(&mut self, most: usize, set: &StateSet) -> bool {
         self.misses = self.misses.saturating_add(1);
         if self.misses / 2 <= most {
             return true;
         }
-        if !self.pays() {
+        if !self.affords_anew(set) {
             return false;
         }
         self.count_anew();
         true
+    }
+
+    /// There is no room for this set. Whether all that is held gives way to it: a step from it has to
+    /// cost more than to keep it, or what is held has saved enough.
+    pub fn affords_anew(&self, set: &StateSet) -> bool {
+        if set.is_large() {
+            return true;
+        }
+        self.pays()
     }
 
     /// A search gave up. Where keeping pairs didn't pay, the next lines are searched without.

@@ -6,11 +6,13 @@ ghost use Rattle.std.specs.NonZero.{non_zero_usize_get};
 ghost use Rattle.re_syntax.specs.Expression.{expression_of};
 ghost use Rattle.re_auto.specs.declared.step.state_set.StateSet.{StateSet as Set};
 ghost use Rattle.re_auto.specs.declared.mode.Mode.TheVariants.{Search};
-ghost use Rattle.re_auto.specs.Working.StateSets.{IsMadeFor, IsSame, IsAccepting};
+ghost use Rattle.re_auto.specs.Working.StateSets.{IsMadeFor, IsSame, IsNextSet, IsAccepting};
 ghost use Rattle.re_auto.specs.Working.StateSets.{AreAlikeInClasses};
 ghost use Rattle.re_search.specs.Working.Rows.{limit, IsSound, IsRight, IsBlank, IsMarkOf};
-ghost use Rattle.re_search.specs.Working.Rows.{IsCellOf, Extends};
+ghost use Rattle.re_search.specs.Working.Rows.{IsCellOf, Extends, TellsNext};
+ghost use Rattle.re_search.specs.Working.Pairs.{unknown};
 
+use crate::cached::pace::Pace;
 use crate::cached::pairs::Pairs;
 use crate::cached::stride::Stride;
 use indexmap::IndexSet;
@@ -118,6 +120,39 @@ impl Table {
         automaton.start(&mut set);
         self.add(alloc, automaton, mode, &set)?;
         Ok(())
+    }
+
+    /// Takes all rows away, and makes the first two anew and one for the set, at which nothing is
+    /// held. Gives the cell by which a search comes to the set; `None` where that does not pay, and
+    /// where memory is refused: then the table is of no use any more.
+    #[inline(never)]
+    pub fn begin_anew(
+        &mut self,
+        alloc: Global,
+        automaton: &Automaton,
+        mode: Mode,
+        set: &StateSet,
+        pace: &Pace,
+    ) -> Option<u32>
+        requires made { IsMadeFor (expression_of automaton.now) set.now }
+        ensures right { IfSome result (λ _. IsRight (expression_of automaton.now) mode self.new) }
+        ensures none { IfSome result (λ _. self.new.pairs.entries ≡ []) }
+        ensures cell { (from : Set) (byte : ℕ)
+            → IsNextSet (expression_of automaton.now) mode from byte set.now
+            → IfSome result (λ cell. (cell < unknown) ×
+            TellsNext (expression_of automaton.now) mode self.new.sets.keys self.new.stride from
+            byte cell) }
+        ensures most { self.new.pairs.most ≡ self.old.pairs.most }
+    {
+        if !pace.affords_anew(set) {
+            return None;
+        }
+        self.clear();
+        if !self.begin(alloc, automaton, mode) {
+            return None;
+        }
+        let number = self.number_of(alloc, automaton, mode, set)?;
+        Some(self.cell_of(mode, number))
     }
 
     /// The number of a set that is the same as this one, which may be a new one. `None` where

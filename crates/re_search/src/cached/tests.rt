@@ -25,7 +25,7 @@ type Row = (
     usize,
 );
 
-static ROWS: [Row; 15] = [
+static ROWS: [Row; 16] = [
     (
         b"ab*c",
         false,
@@ -103,6 +103,17 @@ static ROWS: [Row; 15] = [
         4096,
         (3, 397, 0, 400),
         3,
+    ),
+    // The sets grow for 300 bytes, more of them than there is room for.
+    (
+        b"([a-z]{150}){2}[0-9]",
+        false,
+        b"a",
+        1000,
+        false,
+        256,
+        (301, 699, 301, 699),
+        86,
     ),
 ];
 

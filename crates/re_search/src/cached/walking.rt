@@ -228,8 +228,10 @@ impl Table {
             meter.add_reused();
             return Some(walk.cell);
         }
-        let cell = self.learn(alloc, automaton, mode, walk.row, byte, into, meter)?;
-        if pace.affords_miss(self.pairs.most()) {
+        let Some(cell) = self.learn(alloc, automaton, mode, walk.row, byte, into, meter) else {
+            return self.begin_anew(alloc, automaton, mode, into, pace);
+        };
+        if pace.affords_miss(self.pairs.most(), into) {
             return Some(cell);
         }
         None
