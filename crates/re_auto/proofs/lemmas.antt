@@ -11,6 +11,7 @@ pub mod LeastStarts
 pub mod WithoutPositions
 pub mod CountLaws
 pub mod RowLemmas
+pub mod RangeLemmas
 pub mod PartLemmas
 pub mod SetsByWords
 pub mod StartsByLists

@@ -2,6 +2,7 @@ pub mod Positions
 pub mod Stepping
 pub mod Starts
 pub mod Bits
+pub mod Ranges
 pub mod Beginnings
 pub mod Tables
 pub mod StateSets

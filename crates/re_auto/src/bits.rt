@@ -2,7 +2,10 @@
 ghost use Rattle.std.specs.Prelude.{◌≡◌, ℕ, ◌+◌, ◌*◌, ◌^◌, ◌<◌, ◌≤◌, ◌↔◌, ◌⊎◌, length, IsTrue};
 ghost use Rattle.std.specs.Int.{bit_at};
 ghost use Rattle.re_auto.specs.Working.Bits.{Has, InWord, row_of};
+ghost use Rattle.re_auto.specs.Working.Ranges.{Covers, CoverRows};
 ghost use Rattle.re_auto.specs.Working.Tables.{most_words};
+
+use crate::ranges::WordRange;
 
 /// Adds the members of `row`.
 #[inline(always)]
@@ -12,6 +15,19 @@ pub fn add(into: &mut [u64], row: &[u64])
     ensures added { (e : ℕ) → Has into.new e ↔ (Has into.old e ⊎ Has row.now e) }
 {
     'words: for k in 0..into.len() {
+        into[k] |= row[k];
+    }
+}
+
+// Adds the members of `row`, which lie in the words of the range.
+#[inline(always)]
+fn add_within(into: &mut [u64], row: &[u64], range: WordRange)
+    requires same { length into.old ≡ length row.now }
+    requires covers { Covers range row.now }
+    ensures len { length into.new ≡ length into.old }
+    ensures added { (e : ℕ) → Has into.new e ↔ (Has into.old e ⊎ Has row.now e) }
+{
+    'words: for k in range.first as usize..range.past as usize {
         into[k] |= row[k];
     }
 }
@@ -94,10 +110,12 @@ pub fn row(table: &[u64], width: usize, r: usize) -> &[u64]
 
 /// Adds the rows of the members of word `k` of a set.
 #[inline(always)]
-fn add_rows_of_word(into: &mut [u64], table: &[u64], k: usize, word: u64)
+fn add_rows_of_word(into: &mut [u64], table: &[u64], ranges: &[WordRange], k: usize, word: u64)
     requires few { k < most_words }
     requires rows { (b : ℕ) → b < 64 → bit_at word b ≡ 1 →
         (k * 64 + b) * length into.old + length into.old ≤ length table.now }
+    requires named { (b : ℕ) → b < 64 → bit_at word b ≡ 1 → k * 64 + b < length ranges.now }
+    requires covered { CoverRows ranges.now table.now (length ranges.now) (length into.old) }
     ensures len { length into.new ≡ length into.old }
     ensures added { (q : ℕ) →
         Has into.new q ↔
@@ -109,16 +127,19 @@ fn add_rows_of_word(into: &mut [u64], table: &[u64], k: usize, word: u64)
     let mut left = word;
     'bits: while left != 0 {
         let bit = take_lowest(&mut left);
-        add(into, row(table, width, k * 64 + bit));
+        let p = k * 64 + bit;
+        add_within(into, row(table, width, p), ranges[p]);
     }
 }
 
-/// Adds the rows of the members of `from`.
+/// Adds the rows of the members of `from`, each as far as its range goes.
 #[inline(always)]
-pub fn add_rows(into: &mut [u64], table: &[u64], from: &[u64])
+pub fn add_rows(into: &mut [u64], table: &[u64], ranges: &[WordRange], from: &[u64])
     requires few { length from.now ≤ most_words }
     requires rows { (p : ℕ) → Has from.now p →
         p * length into.old + length into.old ≤ length table.now }
+    requires named { (p : ℕ) → Has from.now p → p < length ranges.now }
+    requires covered { CoverRows ranges.now table.now (length ranges.now) (length into.old) }
     ensures len { length into.new ≡ length into.old }
     ensures added { (q : ℕ) →
         Has into.new q ↔
@@ -126,7 +147,7 @@ pub fn add_rows(into: &mut [u64], table: &[u64], from: &[u64])
         ((p : ℕ) × Has from.now p × Has (row_of table.now (length into.old) p) q)) }
 {
     'words: for k in 0..from.len() {
-        add_rows_of_word(into, table, k, from[k]);
+        add_rows_of_word(into, table, ranges, k, from[k]);
     }
 }
 

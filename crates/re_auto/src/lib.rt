@@ -8,6 +8,7 @@ mod build;
 mod laws;
 mod meter;
 mod mode;
+mod ranges;
 mod step;
 mod tables;
 #[cfg(test)]

@@ -1,6 +1,7 @@
 ghost use Rattle.std.specs.Prelude.{Bool, IsTrue, ◌↔◌, ◌⊎◌};
 
 use crate::beginnings::Beginnings;
+use crate::ranges::WordRange;
 
 /// What is known of an expression's positions, as words of bits: a row is a set of positions and
 /// has `width` words. `AreTablesOf` in `specs/Working/Tables.antt` says what each table holds.
@@ -16,6 +17,8 @@ pub struct Tables {
     pub takes: Vec<u64>,
     /// For each position a row: those that can come directly after it.
     pub follow: Vec<u64>,
+    /// For each of these rows the words outside of which it has no member.
+    pub ranges: Vec<WordRange>,
     /// The positions that a stretch can begin with at the line's first place.
     pub first_at_begin: Vec<u64>,
     /// The positions that a stretch can begin with at any other place.

@@ -1,15 +1,19 @@
 -- The tables of an expression, from blank rows to what they tell.
 use Rattle.std.proofs.Common.{◌≡◌, ℕ, ◌+◌, ◌-◌, ◌*◌, ◌/◌, ◌%◌, ◌<◌, ◌≤◌, Bool, List, length-take, drop, get_or, inl, inr, ◌↔◌, sym, ap, ◌∙◌, subst, arith}
 use Rattle.std.proofs.lemmas.List.{get_or-take, get_or-drop}
+use Rattle.std.specs.Global.{Global}
 use Rattle.std.specs.Int.{bit_at}
+use Rattle.std.specs.Prelude.{Vec}
 use Rattle.re_syntax.specs.Expression.{Expression}
 use Rattle.re_syntax.specs.Holds.{positions}
 use Rattle.re_syntax.specs.Profile.{most_positions}
 use Rattle.re_auto.specs.declared.build.classes.Classes.{Classes}
 use Rattle.re_auto.specs.declared.build.ends.Ends.{Ends}
 use Rattle.re_auto.specs.declared.build.rows.Rows.{Rows}
+use Rattle.re_auto.specs.declared.ranges.WordRange.{WordRange}
 use Rattle.re_auto.specs.Working.Bits.{Has, row_of}
 use Rattle.re_auto.specs.Working.Positions.{Part, part_of}
+use Rattle.re_auto.specs.Working.Ranges.{CoverRows}
 use Rattle.re_auto.specs.Working.Tables.{Marks, AreTablesOf, words_for}
 use Rattle.re_auto.specs.Working.Building.{Shows, Adds, IsAddedOf, AreBlankRows}
 use Rattle.re_auto.specs.Working.ByteClasses.{AreClasses}
@@ -30,15 +34,17 @@ none_in_row table width p q none h =
     none (start * 64 + q) (rw (at, bit) (sym (ap (λ x. bit_at x (q % 64)) word) ∙ h))
 
 -- what was added to blank rows is all that they tell
-pub tells : (e : Expression) (count : ℕ) (r0 r1 : Rows) (a : Ends) (classes : Classes) (marks : List Bool) → count ≡ positions e → count ≤ most_positions → AreBlankRows count r0 → IsAddedOf e count r0 r1 a →
+pub tells : (e : Expression) (count : ℕ) (r0 r1 : Rows) (a : Ends) (classes : Classes) (marks : List Bool) (ranges : Vec WordRange Global) → count ≡ positions e → count ≤ most_positions → AreBlankRows count r0 → IsAddedOf e count r0 r1 a →
     AreClasses r1.takes.items r1.width classes →
     Marks marks (λ c. (q : ℕ) × Has a.first_inside.items q × Has (row_of r1.takes.items r1.width c) q) →
+    CoverRows ranges.items r1.follow.items count r1.width →
     AreTablesOf e (record {
       size = count;
       width = r1.width;
       class_of = classes.class_of;
       takes = classes.takes;
       follow = r1.follow;
+      ranges = ranges;
       first_at_begin = a.first_at_begin;
       first_inside = a.first_inside;
       last_at_end = a.last_at_end;
@@ -46,7 +52,7 @@ pub tells : (e : Expression) (count : ℕ) (r0 r1 : Rows) (a : Ends) (classes : 
       empty = a.empty;
       beginnings = marks;
     })
-tells e count r0 r1 a classes marks is few blank added classed meeting =
+tells e count r0 r1 a classes marks ranges is few blank added classed meeting covered =
     let begins : a.begins ≡ 0 = omega (arith, added.begins, is) in
     let part : Part = part_of e 0 in
     let adds : Adds part r0 r1 = subst (λ n. Adds (part_of e n) r0 r1) begins added.adds in
@@ -68,6 +74,7 @@ tells e count r0 r1 a classes marks is few blank added classed meeting =
             (via (adds.follow p q (rw blank.follow_length (row_within p count r0.width (omega (arith, is)))))
             (λ h. elim h [ inl was ↦ absurd (none_in_row r0.follow.items r0.width p q blank.follow was) | inr more ↦ more ], inr)),
       );
+      ranges = subst (λ n. CoverRows ranges.items r1.follow.items n r1.width) is covered;
       first_at_begin = shows.first_at_begin;
       first_inside = shows.first_inside;
       last_at_end = shows.last_at_end;

@@ -10,6 +10,7 @@ use Rattle.re_auto.specs.declared.tables.Tables.{Tables}
 use Rattle.re_auto.specs.declared.tables.Empty.{Empty}
 use Rattle.re_auto.specs.Working.Bits.{Has, row_of, Are, RowsAre}
 use Rattle.re_auto.specs.Working.Positions.{Part, part_of}
+use Rattle.re_auto.specs.Working.Ranges.{CoverRows}
 
 -- how many words of 64 bits hold so many positions
 abbrev pub words_for : ℕ → ℕ
@@ -55,6 +56,7 @@ pub record AreTablesOf (e : Expression) (tables : Tables) : Type 0 where
   pub few : positions e ≤ most_positions
   pub taken : TellsTakes (part_of e 0) tables
   pub follow : RowsAre tables.follow.items (part_of e 0).follow (positions e) tables.width
+  pub ranges : CoverRows tables.ranges.items tables.follow.items (positions e) tables.width
   pub first_at_begin : Are tables.first_at_begin.items ((part_of e 0).first true) tables.width
   pub first_inside : Are tables.first_inside.items ((part_of e 0).first false) tables.width
   pub last_at_end : Are tables.last_at_end.items ((part_of e 0).last true) tables.width

@@ -10,6 +10,7 @@ use crate::build::BuildFault;
 use crate::build::classes::{bytes_meeting, classes_of};
 use crate::build::count::{TOO_MANY, position_count};
 use crate::build::rows::Rows;
+use crate::ranges::ranges_of;
 use crate::tables::Tables;
 use re_syntax::Tree;
 use std::alloc::{AllocError, Global};
@@ -40,12 +41,14 @@ fn fill_tables(alloc: Global, tree: &Tree, count: usize) -> Result<Tables, Alloc
     let ends = rows.add(alloc, tree, count)?;
     let marks = bytes_meeting(&rows.takes, rows.width, &ends.first_inside);
     let classes = classes_of(alloc, &rows.takes, rows.width)?;
+    let ranges = ranges_of(alloc, &rows.follow, rows.width, count)?;
     Ok(Tables {
         size: count,
         width: rows.width,
         class_of: classes.class_of,
         takes: classes.takes,
         follow: rows.follow,
+        ranges,
         first_at_begin: ends.first_at_begin,
         first_inside: ends.first_inside,
         last_at_end: ends.last_at_end,

@@ -199,7 +199,7 @@ impl Automaton {
         } else {
             bits::clear(into);
         }
-        bits::add_rows(into, &self.tables.follow, from);
+        bits::add_rows(into, &self.tables.follow, &self.tables.ranges, from);
         bits::keep(into, self.taking(byte));
     }
 

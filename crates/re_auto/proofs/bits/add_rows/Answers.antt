@@ -8,6 +8,12 @@ pub add_rows_of_word-requires-clause-rows : goal.add_rows_of_word-requires-claus
 add_rows_of_word-requires-clause-rows c = λ b lt h.
     rw c.words.invariant.0 (c.requires.rows _ ((at_word c.args.from.now c.words.k b lt).1 h))
 
+pub add_rows_of_word-requires-clause-named : goal.add_rows_of_word-requires-clause-named
+add_rows_of_word-requires-clause-named c = λ b lt h. c.requires.named _ ((at_word c.args.from.now c.words.k b lt).1 h)
+
+pub add_rows_of_word-requires-clause-covered : goal.add_rows_of_word-requires-clause-covered
+add_rows_of_word-requires-clause-covered c = rw c.words.invariant.0 c.requires.covered
+
 pub words-preserved : goal.words-preserved
 words-preserved c = (
   omega (arith, c.add_rows_of_word.ensures.len, c.words.invariant.0),

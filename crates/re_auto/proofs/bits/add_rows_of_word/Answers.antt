@@ -9,18 +9,15 @@ row-requires c =
     let low = c.take_lowest-bit.ensures in
     c.requires.rows _ low.small (c.bits.invariant.2 _ low.small low.held)
 
-pub add-requires : goal.add-requires
-add-requires c = omega (arith, c.bits.invariant.0, c.row.ensures.len)
-
 pub bits-preserved : goal.bits-preserved
 bits-preserved c =
     let low = c.take_lowest-bit.ensures in (
-      omega (arith, c.add.ensures.len, c.bits.invariant.0),
+      omega (arith, c.add_within.ensures.len, c.bits.invariant.0),
       refl,
       (λ b lt h. c.bits.invariant.2 b lt ((low.rest b lt).1 (inl h))),
       λ q. chained
-          (one_added (Has c.bits.into q) (Has c.add.new.into q) (λ b. Has (row_of c.args.table.now (length c.args.into.now) (c.args.k * 64 + b)) q)
+          (one_added (Has c.bits.into q) (Has c.add_within.new.into q) (λ b. Has (row_of c.args.table.now (length c.args.into.now) (c.args.k * 64 + b)) q)
           c.bits.left _ c.take_lowest-bit.result low.small
-          (rw c.row.ensures.is at (c.add.ensures.added q)) low.rest)
+          (rw c.row.ensures.is at (c.add_within.ensures.added q)) low.rest)
           (c.bits.invariant.3 q),
     )
