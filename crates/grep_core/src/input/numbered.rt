@@ -10,7 +10,7 @@ ghost use Rattle.grep_core.specs.Working.Numbered.{AreAhead, HandsNext, PassesNe
 
 use crate::devices::counted::CountedRead;
 use crate::input::lines::{Lines, ReadFault};
-use memchr::memchr_iter;
+use crate::input::newlines::count_newlines;
 use std::alloc::Global;
 use std::marker::Model;
 
@@ -81,7 +81,7 @@ impl<R: CountedRead> NumberedLines<R> {
         ensures { IfSome result (λ count. (count ≡ length (lines_of block.now))
             × (self.now.number + count ≤ most_lines)) }
     {
-        let count = memchr_iter(b'\n', block).count() as u64;
+        let count = count_newlines(block);
         if count > u64::MAX - self.number {
             return None;
         }
