@@ -136,6 +136,7 @@ impl Behind {
         self.next = free;
         Ok(())
     }
+
     /// More lines, each with its newline, of which no more than can be held are looked at.
     ///
     /// `AllocError` comes where a growth is refused. Some of the lines may be held then.
