@@ -10,6 +10,7 @@ ghost use Rattle.re_search.specs.Working.Blocks.{IsBlock, PassesAll, PassesUnmat
 ghost use Rattle.re_search.specs.Working.Filters.{AreNeeded};
 
 use crate::block::line_start;
+use crate::cost::LookCost;
 use crate::fixed_set::FixedSet;
 use crate::line_match::LineMatch;
 use crate::span::Span;
@@ -140,11 +141,13 @@ fn first_lines(block: &[u8]) -> usize
     line_start(&block[..LOOK_AHEAD])
 }
 
-/// Whether [`first_candidate`] goes over a block at the cost of a search, so that asking for it
-/// pays only where lines are passed.
-pub fn looks_dearly<M: LineMatch>(matchers: &[M], filter: Option<&FixedSet>) -> bool {
+/// What asking for [`first_candidate`] costs, so that it is left out where it passes too little.
+pub fn look_cost<M: LineMatch>(matchers: &[M], filter: Option<&FixedSet>) -> LookCost {
     if filter.is_some() {
-        return true;
+        return LookCost::High;
     }
-    matchers.len() == 1 && matchers[0].looks_dearly()
+    if matchers.len() != 1 {
+        return LookCost::Middle;
+    }
+    matchers[0].look_cost()
 }
