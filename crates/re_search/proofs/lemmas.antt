@@ -5,6 +5,7 @@ pub mod RunLaws
 pub mod OutlineLaws
 pub mod NeedleLaws
 pub mod BlockLemmas
+pub mod LeastPasses
 pub mod SetBlocks
 pub mod Occurrences
 pub mod OneText

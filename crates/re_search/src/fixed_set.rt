@@ -18,6 +18,7 @@ mod table;
 mod trie;
 
 use crate::block::line_start;
+use crate::cost::LookCost;
 use crate::line_match::LineMatch;
 use crate::span::Span;
 use making::table_of;
@@ -229,8 +230,8 @@ impl LineMatch for FixedSet {
         self.first_line(block)
     }
 
-    fn looks_dearly(&self) -> bool {
-        true
+    fn look_cost(&self) -> LookCost {
+        LookCost::High
     }
 }
 

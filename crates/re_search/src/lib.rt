@@ -4,6 +4,7 @@
 
 mod block;
 mod cached;
+mod cost;
 mod filter;
 mod fixed;
 mod fixed_set;
@@ -16,6 +17,7 @@ mod simulated;
 mod span;
 
 pub use cached::Cached;
+pub use cost::LookCost;
 pub use filter::needed_strings;
 pub use fixed::Fixed;
 pub use fixed_set::FixedSet;
@@ -24,7 +26,7 @@ pub use matcher::Matcher;
 pub use plain::is_plain;
 pub use re_auto::Meter;
 pub use re_syntax::Syntax;
-pub use several::{first_candidate, is_matched, looks_dearly, parts};
+pub use several::{first_candidate, is_matched, look_cost, parts};
 pub use simulated::Simulated;
 pub use span::Span;
 

@@ -4,6 +4,7 @@ ghost use Rattle.re_syntax.specs.Holds.{Matches};
 ghost use Rattle.re_search.specs.Searching.{FindsPart, AddsAtMost};
 ghost use Rattle.re_search.specs.Working.Blocks.{IsBlock, PassesUnmatched};
 
+use crate::cost::LookCost;
 use crate::span::Span;
 use re_auto::Meter;
 
@@ -41,9 +42,8 @@ pub trait LineMatch {
         0
     }
 
-    /// Whether `first_candidate` goes over a block at the cost of a search, so that asking for it
-    /// pays only where lines are passed.
-    fn looks_dearly(&self) -> bool {
-        false
+    /// What asking for `first_candidate` costs, so that it is left out where it passes too little.
+    fn look_cost(&self) -> LookCost {
+        LookCost::Low
     }
 }

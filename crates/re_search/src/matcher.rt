@@ -15,6 +15,7 @@ ghost use Rattle.re_search.specs.Searching.{FindsPart, AddsAtMost};
 ghost use Rattle.re_search.specs.Working.Blocks.{IsBlock, PassesUnmatched};
 
 use crate::cached::Cached;
+use crate::cost::LookCost;
 use crate::fixed::Fixed;
 use crate::fixed_set::FixedSet;
 use crate::line_match::LineMatch;
@@ -158,10 +159,10 @@ impl LineMatch for Matcher {
         }
     }
 
-    fn looks_dearly(&self) -> bool {
+    fn look_cost(&self) -> LookCost {
         match self {
-            Matcher::FixedSet(set) => set.looks_dearly(),
-            _ => false,
+            Matcher::FixedSet(set) => set.look_cost(),
+            _ => LookCost::Low,
         }
     }
 }

@@ -1,18 +1,24 @@
 //! Several matchers over one line (XCU grep: a line is selected where any of the patterns matches
 //! it).
 ghost use Rattle.std.specs.Prelude.{ℕ, Bool, List, ◌≡◌, ◌+◌, ◌-◌, ◌*◌, ◌≤◌, ◌++◌, IfSome, length};
-ghost use Rattle.std.specs.Prelude.{map};
+ghost use Rattle.std.specs.Prelude.{map, ⊤};
 ghost use Rattle.re_syntax.specs.Bytes.{Text};
 ghost use Rattle.re_syntax.specs.Expression.{Expression};
 ghost use Rattle.re_search.specs.Searching.{FindsPart, FindsPartOfAll, TellsMatchOfAll, AllAnswer};
 ghost use Rattle.re_search.specs.Searching.{AddsAtMost};
-ghost use Rattle.re_search.specs.Working.Blocks.{IsBlock, PassesUnmatchedByAll};
+ghost use Rattle.re_search.specs.Working.Blocks.{IsBlock, PassesAll, PassesUnmatchedByAll};
 ghost use Rattle.re_search.specs.Working.Filters.{AreNeeded};
 
+use crate::block::line_start;
+use crate::cost::LookCost;
 use crate::fixed_set::FixedSet;
 use crate::line_match::LineMatch;
 use crate::span::Span;
 use re_auto::Meter;
+
+// How far several matchers look ahead in a block, in bytes. Their answers are not kept, so that
+// each is asked about the same lines again behind the line at which the least of them stops.
+const LOOK_AHEAD: usize = 4096;
 
 /// The next part of the line: of all stretches that are not empty, begin at `from` or later and
 /// are matched by some matcher the one that begins earliest, and of those that begin there the
@@ -85,8 +91,8 @@ pub fn is_matched<M: LineMatch>(matchers: &mut [M], line: &[u8], meter: &mut Met
 /// Where in a block of whole lines the first line begins that some matcher may match: no line
 /// before it is matched by any. All matchers have to agree on whether the whole line has to be
 /// matched. A filter, where there is one, tells for all of them: strings of which some stands on
-/// each line that some matcher matches. Without one only a single matcher is asked. No step is
-/// taken.
+/// each line that some matcher matches. Without one a single matcher is asked about the whole
+/// block, and several about its first lines alone. No step is taken.
 pub fn first_candidate<M: LineMatch>(
     matchers: &[M],
     filter: Option<&FixedSet>,
@@ -101,16 +107,47 @@ pub fn first_candidate<M: LineMatch>(
         return strings.first_line(block);
     }
     if matchers.len() != 1 {
-        return 0;
+        return least_candidate(matchers, block);
     }
     matchers[0].first_candidate(block)
 }
 
-/// Whether [`first_candidate`] goes over a block at the cost of a search, so that asking for it
-/// pays only where lines are passed.
-pub fn looks_dearly<M: LineMatch>(matchers: &[M], filter: Option<&FixedSet>) -> bool {
-    if filter.is_some() {
-        return true;
+// The first of the lines that some matcher may match, or behind the first lines of the block where
+// there is none among these. Each matcher is asked only about the lines before the answers of those
+// before it.
+fn least_candidate<M: LineMatch>(matchers: &[M], block: &[u8]) -> usize
+    requires { IsBlock block.now }
+    ensures { PassesUnmatchedByAll (map M.expression matchers.now) (map M.whole matchers.now)
+        block.now result }
+{
+    let mut end = first_lines(block);
+    for matcher in matchers {
+        if end == 0 {
+            return 0;
+        }
+        end = matcher.first_candidate(&block[..end]);
     }
-    matchers.len() == 1 && matchers[0].looks_dearly()
+    end
+}
+
+// Where the lines of a block end that lie within so many bytes from its first on.
+fn first_lines(block: &[u8]) -> usize
+    requires { IsBlock block.now }
+    ensures { PassesAll (λ _. ⊤) block.now result }
+{
+    if block.len() <= LOOK_AHEAD {
+        return block.len();
+    }
+    line_start(&block[..LOOK_AHEAD])
+}
+
+/// What asking for [`first_candidate`] costs, so that it is left out where it passes too little.
+pub fn look_cost<M: LineMatch>(matchers: &[M], filter: Option<&FixedSet>) -> LookCost {
+    if filter.is_some() {
+        return LookCost::High;
+    }
+    if matchers.len() != 1 {
+        return LookCost::Middle;
+    }
+    matchers[0].look_cost()
 }

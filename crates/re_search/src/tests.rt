@@ -172,3 +172,99 @@ fn a_long_line_is_searched_to_its_end(rt: HostRuntime) -> Result<(), Fail> {
     assert_eq!(rt; meter.built(), 250_005);
     Ok(())
 }
+
+// For texts and a block, which lacks its last newline: where the first line begins that some text
+// may match, or behind the last one.
+type Look = (&'static [&'static [u8]], &'static [u8], usize);
+
+static LOOKS: [Look; 20] = [
+    // One text is looked for in the whole block.
+    (&[b"x"], b"a\nbx\nx", 2),
+    (&[b"x"], b"a\nb", 4),
+    (&[b"x"], b"", 1),
+    // Of several the least place counts, whichever comes first.
+    (&[b"x", b"y"], b"a\nby\nx", 2),
+    (&[b"y", b"x"], b"a\nby\nx", 2),
+    (&[b"x", b"y"], b"a\nxy\nx", 2),
+    (&[b"x", b"y"], b"a\nb\nc", 6),
+    (&[b"x", b"y"], b"a\nb\nx", 4),
+    (&[b"x", b"y", b"z"], b"ab\ncz\ndy\nex", 3),
+    (&[b"z", b"y", b"x"], b"ab\ncz\ndy\nex", 3),
+    (&[b"y", b"z", b"x"], b"ab\ncd\ndy\nex\nz", 6),
+    (&[b"x", b"y"], b"x\ny", 0),
+    (&[b"y", b"x"], b"x\ny", 0),
+    (&[b"x", b"y"], b"", 1),
+    // A text with a newline stands on no line, but may stand on two.
+    (&[b"b\nc", b"x"], b"a\nab\ncd\nx", 2),
+    (&[b"x", b"b\nc"], b"a\nx\nab\ncd", 2),
+    // The empty text stands on each line, before what another one passes.
+    (&[b"x", b""], b"a\nx", 0),
+    (&[b"", b"x"], b"a\nb", 0),
+    (&[b"x", b"", b"y"], b"a\nb", 0),
+    // Of no text at all no line is matched.
+    (&[], b"a\nb", 4),
+];
+
+fn looks() -> &'static [Look] {
+    &LOOKS
+}
+
+fn assert_look(
+    rt: &impl Abort,
+    alloc: Global,
+    texts: &[&[u8]],
+    lines: &[u8],
+    expected: usize,
+) -> Result<(), Fail> {
+    let matchers = fixed(alloc, texts, false)?;
+    let mut block = Vec::new(alloc);
+    block.extend_from_slice(lines)?;
+    block.push(b'\n')?;
+    let place = first_candidate(&matchers, None, &block);
+    assert_eq!(rt; place, expected, "{texts:?}");
+    Ok(())
+}
+
+#[test]
+fn several_texts_pass_what_each_passes(rt: HostRuntime) -> Result<(), Fail> {
+    for row in looks() {
+        let (texts, lines, expected) = *row;
+        assert_look(&rt, rt.alloc(), texts, lines, expected)?;
+    }
+    Ok(())
+}
+
+// So many bytes of lines of two letters each, of which the last lacks its newline.
+fn short_lines(alloc: Global, count: usize) -> Result<Vec<u8>, AllocError> {
+    let mut lines = Vec::new(alloc);
+    for place in 0..count {
+        lines.push(if place % 3 == 2 { b'\n' } else { b'a' })?;
+    }
+    Ok(lines)
+}
+
+#[test]
+fn several_texts_look_so_far_ahead(rt: HostRuntime) -> Result<(), Fail> {
+    let alloc = rt.alloc();
+    // 1,365 lines of three bytes are 4,095 bytes.
+    assert_look(
+        &rt,
+        alloc,
+        &[b"x", b"y"],
+        &short_lines(alloc, 4_094)?,
+        4_095,
+    )?;
+    assert_look(
+        &rt,
+        alloc,
+        &[b"x", b"y"],
+        &short_lines(alloc, 5_000)?,
+        4_095,
+    )?;
+    assert_look(&rt, alloc, &[b"x"], &short_lines(alloc, 5_000)?, 5_001)?;
+    let long = vec![in alloc; b'a'; 4_096]?;
+    assert_look(&rt, alloc, &[b"x", b"y"], &long[..4_095], 4_096)?;
+    assert_look(&rt, alloc, &[b"x", b"y"], &long, 0)?;
+    assert_look(&rt, alloc, &[b"x"], &long, 4_097)?;
+    Ok(())
+}

@@ -29,7 +29,7 @@ use crate::search::matching::is_selected_behind;
 use crate::search::passing::unselected_ahead;
 use crate::search::sending::send_before_read;
 use crate::search::setting::Asked;
-use re_search::{FixedSet, LineMatch, Meter, looks_dearly};
+use re_search::{FixedSet, LineMatch, Meter, look_cost};
 use std::alloc::AllocError;
 
 // Writes the separator, where a group begins behind another.
@@ -203,7 +203,7 @@ pub fn search_around<R: CountedRead, M: LineMatch, W: CountedWrite>(
 {
     let mut progress = Progress::new(context, shown);
     let mut behind = Behind::new(asked.alloc, context.before);
-    let mut looks = Looks::new(looks_dearly(matchers, asked.filter));
+    let mut looks = Looks::new(look_cost(matchers, asked.filter));
     let mut selected: u64 = 0;
     loop {
         pass_waiting(

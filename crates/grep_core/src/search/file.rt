@@ -22,7 +22,7 @@ use crate::search::looks::Looks;
 use crate::search::passing::pass_unselected;
 use crate::search::sending::send_before_read;
 use crate::search::setting::Setting;
-use re_search::{FixedSet, LineMatch, Meter, looks_dearly};
+use re_search::{FixedSet, LineMatch, Meter, look_cost};
 
 /// How the search of a file came to its end.
 #[derive(Clone, Copy, PartialEq, Eq, Debug, Drop)]
@@ -150,7 +150,7 @@ fn search_lines<R: CountedRead, M: LineMatch, W: CountedWrite>(
     ensures same_wholes { map M.whole matchers.new ≡ map M.whole matchers.old }
 {
     let early = wanted.options.leaves_early();
-    let mut looks = Looks::new(looks_dearly(matchers, filter));
+    let mut looks = Looks::new(look_cost(matchers, filter));
     let mut selected: u64 = 0;
     loop {
         pass_unselected(lines, matchers, filter, &wanted.options, &mut looks);

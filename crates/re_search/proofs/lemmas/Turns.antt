@@ -33,7 +33,7 @@ module _ {A B : Type 0} (f : A → B) (old now : List A) (same : map f now ≡ m
       ap (λ n. take n (map f old)) (add-one i) ∙ take-suc (map f old) i value (within h).1 ∙ ap (λ v. take i (map f old) ++ v ∷ []) (value_at h value)
 
 -- a matcher's answer to whether the whole line has to be matched is the one that all give
-answer_of : (whole w : Bool) (wholes : List Bool) (i : ℕ) → i < length wholes → get_or wholes i w ≡ w → AllAnswer whole wholes → w ≡ whole
+pub answer_of : (whole w : Bool) (wholes : List Bool) (i : ℕ) → i < length wholes → get_or wholes i w ≡ w → AllAnswer whole wholes → w ≡ whole
 answer_of whole w wholes i h at all = sym at ∙ all i w h
 
 module _ (es : List Expression) (wholes : List Bool) (line : Text) (i : ℕ) (e : Expression) (w : Bool) (h : i < length wholes) (at : get_or wholes i w ≡ w) where
