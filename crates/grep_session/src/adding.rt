@@ -1,5 +1,5 @@
 //! Patterns that come behind others.
-ghost use Rattle.std.specs.Prelude.{◌≡◌, ◌-◌, ◌≤◌, length, map, drop, IfOk};
+ghost use Rattle.std.specs.Prelude.{◌-◌, ◌≤◌, length, map, drop, IfOk};
 ghost use Rattle.re_search.specs.Searching.{AllAnswer, AddsAtMost, SameMatchers};
 ghost use Rattle.grep_core.specs.Cost.{search_cost};
 ghost use Rattle.re_syntax.specs.Profile.{most_patterns};

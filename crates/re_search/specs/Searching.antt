@@ -1,6 +1,6 @@
 -- What a search of a line finds, and how many steps it takes.
-use Rattle.std.specs.Prelude.{◌≡◌, ℕ, ◌+◌, ◌-◌, ◌^◌, ◌≤◌, ◌↔◌, Bool, List, map, min, Option, MatchOption}
-use Rattle.std.specs.Prelude.{All, Any, IsTrue}
+use Rattle.std.specs.Prelude.{◌≡◌, ℕ, ◌+◌, ◌-◌, ◌^◌, ◌≤◌, ◌↔◌, Bool, List, min, Option, MatchOption}
+use Rattle.std.specs.Prelude.{All, Any, IsTrue, map}
 use Rattle.re_syntax.specs.Bytes.{Text}
 use Rattle.re_syntax.specs.Expression.{Expression}
 use Rattle.re_syntax.specs.Holds.{Matches}

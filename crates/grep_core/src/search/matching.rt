@@ -1,5 +1,5 @@
 //! Whether a line is selected, and its parts, by several matchers.
-ghost use Rattle.std.specs.Prelude.{◌≡◌, ◌↔◌, ◌<◌, ◌≤◌, IsTrue, IfSome, IsSomeAnd, false, length};
+ghost use Rattle.std.specs.Prelude.{◌↔◌, ◌<◌, ◌≤◌, IsTrue, IfSome, IsSomeAnd, false, length};
 ghost use Rattle.std.specs.Prelude.{map};
 ghost use Rattle.re_search.specs.Working.Filters.{AreNeeded};
 ghost use Rattle.re_search.specs.Working.Literals.{any_literal};
