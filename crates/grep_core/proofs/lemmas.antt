@@ -7,7 +7,6 @@ pub mod BufferLemmas
 pub mod LineSentLemmas
 pub mod MessageLemmas
 pub mod ChooseLaws
-pub mod AnyLaws
 pub mod Decided
 pub mod AroundLaws
 pub mod Determined

@@ -5,7 +5,7 @@ pub mod FoundLemmas
 pub mod EditLaws
 pub mod ColumnLemmas
 pub mod ReadingLemmas
-pub mod AgainLemmas
+pub mod AllPatternsRead
 pub mod DroppingLemmas
 pub mod AddingLemmas
 pub mod SurvivingLemmas

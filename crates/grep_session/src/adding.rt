@@ -1,6 +1,6 @@
 //! Patterns that come behind others.
-ghost use Rattle.std.specs.Prelude.{◌≡◌, ◌-◌, ◌≤◌, length, map, drop, IfOk};
-ghost use Rattle.re_search.specs.Searching.{AllAnswer, AddsAtMost};
+ghost use Rattle.std.specs.Prelude.{◌-◌, ◌≤◌, length, map, drop, IfOk};
+ghost use Rattle.re_search.specs.Searching.{AllAnswer, AddsAtMost, SameMatchers};
 ghost use Rattle.grep_core.specs.Cost.{search_cost};
 ghost use Rattle.re_syntax.specs.Profile.{most_patterns};
 ghost use Rattle.grep_session.specs.Working.Kept.{AddsMatching};
@@ -26,8 +26,7 @@ pub fn add_later<M: LineMatch>(
         (λ _.
         AddsMatching line.now options.now.line_regexp first
         (drop first (map M.expression matchers.old)) numbers.old.items numbers.new.items) }
-    ensures same_expressions { map M.expression matchers.new ≡ map M.expression matchers.old }
-    ensures same_wholes { map M.whole matchers.new ≡ map M.whole matchers.old }
+    ensures same_matchers { SameMatchers M.expression M.whole matchers.old matchers.new }
     ensures steps { AddsAtMost (search_cost (length matchers.old - first) line.now) meter.old
         meter.new }
 {

@@ -5,7 +5,7 @@ ghost use Rattle.std.specs.Prelude.{All, IfSome, nat_eq, nat_lt, vec_capacity};
 ghost use Rattle.std.specs.List.{AllZip, list_any};
 ghost use Rattle.re_syntax.specs.Expression.{Expression};
 ghost use Rattle.re_search.specs.Working.Matchers.{matched_expression, wants_whole};
-ghost use Rattle.re_search.specs.Searching.{AllAnswer, AddsAtMost};
+ghost use Rattle.re_search.specs.Searching.{AllAnswer, AddsAtMost, SameMatchers};
 ghost use Rattle.grep_session.specs.declared.change.Change.TheVariants.{Added, Dropped};
 ghost use Rattle.grep_session.specs.Working.Changed.{HasChanged, IsWithin, ChangeCost};
 ghost use Rattle.grep_session.specs.Working.Changed.{SearchesEach, SearchesOne};
@@ -55,8 +55,7 @@ fn find_again<M: LineMatch>(
     requires whole { AllAnswer options.now.line_regexp (map M.whole matchers.old) }
     ensures ok { IfOk result
         (IsFoundAgain anew (map M.expression matchers.old) options.now line.now numbers.items) }
-    ensures same_expressions { map M.expression matchers.new ≡ map M.expression matchers.old }
-    ensures same_wholes { map M.whole matchers.new ≡ map M.whole matchers.old }
+    ensures same_matchers { SameMatchers M.expression M.whole matchers.old matchers.new }
     ensures steps { (own : ℕ) ×
         MatchBool anew
         (PartsCostOf (map M.expression matchers.old) options.now line.now.text.items own)
@@ -79,8 +78,7 @@ fn find_without<M: LineMatch>(
     meter: &mut Meter,
 ) -> Result<Findings, AllocError>
     requires whole { AllAnswer options.now.line_regexp (map M.whole matchers.old) }
-    ensures same_expressions { map M.expression matchers.new ≡ map M.expression matchers.old }
-    ensures same_wholes { map M.whole matchers.new ≡ map M.whole matchers.old }
+    ensures same_matchers { SameMatchers M.expression M.whole matchers.old matchers.new }
     ensures ok { IfOk result
         (λ found. (before changed : List Expression) →
         HasChanged (Dropped p) (map M.expression matchers.old) before changed →
@@ -110,8 +108,7 @@ fn find_with<M: LineMatch>(
     requires whole { AllAnswer options.now.line_regexp (map M.whole matchers.old) }
     requires few { length matchers.old ≤ most_patterns }
     requires within { first ≤ length matchers.old }
-    ensures same_expressions { map M.expression matchers.new ≡ map M.expression matchers.old }
-    ensures same_wholes { map M.whole matchers.new ≡ map M.whole matchers.old }
+    ensures same_matchers { SameMatchers M.expression M.whole matchers.old matchers.new }
     ensures ok { IfOk result
         (λ found. (before changed : List Expression) →
         HasChanged (Added first) (map M.expression matchers.old) before changed →
@@ -141,8 +138,7 @@ fn find_changed<M: LineMatch>(
     requires whole { AllAnswer options.now.line_regexp (map M.whole matchers.old) }
     requires few { length matchers.old ≤ most_patterns }
     requires within { IsWithin change (length matchers.old) }
-    ensures same_expressions { map M.expression matchers.new ≡ map M.expression matchers.old }
-    ensures same_wholes { map M.whole matchers.new ≡ map M.whole matchers.old }
+    ensures same_matchers { SameMatchers M.expression M.whole matchers.old matchers.new }
     ensures ok { IfOk result
         (λ found. (before changed : List Expression) →
         HasChanged change (map M.expression matchers.old) before changed →
@@ -173,8 +169,7 @@ fn change_lines<M: LineMatch>(
     requires whole { AllAnswer options.now.line_regexp (map M.whole matchers.old) }
     requires few { length matchers.old ≤ most_patterns }
     requires within { IsWithin change (length matchers.old) }
-    ensures same_expressions { map M.expression matchers.new ≡ map M.expression matchers.old }
-    ensures same_wholes { map M.whole matchers.new ≡ map M.whole matchers.old }
+    ensures same_matchers { SameMatchers M.expression M.whole matchers.old matchers.new }
     ensures ok { IfOk result
         (λ _. (before changed : List Expression) →
         HasChanged change (map M.expression matchers.old) before changed →
@@ -207,8 +202,7 @@ fn change_file<M: LineMatch>(
     requires whole { AllAnswer options.now.line_regexp (map M.whole matchers.old) }
     requires few { length matchers.old ≤ most_patterns }
     requires within { IsWithin change (length matchers.old) }
-    ensures same_expressions { map M.expression matchers.new ≡ map M.expression matchers.old }
-    ensures same_wholes { map M.whole matchers.new ≡ map M.whole matchers.old }
+    ensures same_matchers { SameMatchers M.expression M.whole matchers.old matchers.new }
     ensures ok { IfOk result
         (λ _. (before changed : List Expression) →
         HasChanged change (map M.expression matchers.old) before changed →
@@ -239,8 +233,7 @@ fn change_files<M: LineMatch>(
     requires whole { AllAnswer options.now.line_regexp (map M.whole matchers.old) }
     requires few { length matchers.old ≤ most_patterns }
     requires within { IsWithin change (length matchers.old) }
-    ensures same_expressions { map M.expression matchers.new ≡ map M.expression matchers.old }
-    ensures same_wholes { map M.whole matchers.new ≡ map M.whole matchers.old }
+    ensures same_matchers { SameMatchers M.expression M.whole matchers.old matchers.new }
     ensures ok { IfOk result
         (λ found. (before changed : List Expression) →
         HasChanged change (map M.expression matchers.old) before changed →
@@ -272,9 +265,8 @@ pub fn change_columns(
     requires whole { AllAnswer options.now.line_regexp (map wants_whole matchers.old.items) }
     requires few { length matchers.old.items ≤ most_patterns }
     requires within { IsWithin change (length matchers.old.items) }
-    ensures same_expressions { map matched_expression matchers.new.items ≡
-        map matched_expression matchers.old.items }
-    ensures same_wholes { map wants_whole matchers.new.items ≡ map wants_whole matchers.old.items }
+    ensures same_matchers { SameMatchers matched_expression wants_whole matchers.old.items
+        matchers.new.items }
     ensures room { vec_capacity matchers.new ≡ vec_capacity matchers.old }
     ensures ok { IfOk result
         (λ found. (before changed : List Expression) →

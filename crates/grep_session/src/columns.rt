@@ -3,7 +3,7 @@ ghost use Rattle.std.specs.Prelude.{◌≡◌, ◌≤◌, ◌++◌, List, [], le
 ghost use Rattle.std.specs.Prelude.{IfSome, if◌then◌else◌};
 ghost use Rattle.std.specs.List.{AllZip};
 ghost use Rattle.re_search.specs.Working.Matchers.{matched_expression, wants_whole};
-ghost use Rattle.re_search.specs.Searching.{AllAnswer};
+ghost use Rattle.re_search.specs.Searching.{AllAnswer, SameMatchers};
 ghost use Rattle.re_syntax.specs.Profile.{most_patterns};
 ghost use Rattle.grep_session.specs.Working.Found.{IsRight, IsReady, AddsRight, lines_of_files};
 ghost use Rattle.grep_session.specs.Working.Kept.{SearchesKept, SearchesAllKept, kept_file};
@@ -28,8 +28,7 @@ fn find_parts<M: LineMatch>(
     requires ready { IsReady false (map M.expression matchers.old) options.now line.now }
     ensures ok { IfOk result
         (IsRight (map M.expression matchers.old) options.now line.now.text.items) }
-    ensures same_expressions { map M.expression matchers.new ≡ map M.expression matchers.old }
-    ensures same_wholes { map M.whole matchers.new ≡ map M.whole matchers.old }
+    ensures same_matchers { SameMatchers M.expression M.whole matchers.old matchers.new }
     ensures steps { SearchesKept (map M.expression matchers.old) options.now 0 line.now.text.items
         meter.old meter.new }
 {
@@ -51,8 +50,7 @@ fn find_line<M: LineMatch>(
     requires ready { IsReady anew (map M.expression matchers.old) options.now line.now }
     ensures ok { IfOk result
         (IsRight (map M.expression matchers.old) options.now line.now.text.items) }
-    ensures same_expressions { map M.expression matchers.new ≡ map M.expression matchers.old }
-    ensures same_wholes { map M.whole matchers.new ≡ map M.whole matchers.old }
+    ensures same_matchers { SameMatchers M.expression M.whole matchers.old matchers.new }
     ensures steps { SearchesKept (map M.expression matchers.old) options.now
         (if anew then length matchers.old else 0) line.now.text.items meter.old meter.new }
 {
@@ -87,8 +85,7 @@ fn find_lines<M: LineMatch>(
         (λ _.
         AddsRight (map M.expression matchers.old) options.now (map line_text lines.now)
         found.old.items found.new.items) }
-    ensures same_expressions { map M.expression matchers.new ≡ map M.expression matchers.old }
-    ensures same_wholes { map M.whole matchers.new ≡ map M.whole matchers.old }
+    ensures same_matchers { SameMatchers M.expression M.whole matchers.old matchers.new }
     ensures steps { SearchesAllKept (map M.expression matchers.old) options.now
         (if anew then length matchers.old else 0) (map line_text lines.now) meter.old meter.new }
 {
@@ -117,8 +114,7 @@ fn find_in_file<M: LineMatch>(
         (λ _.
         AddsRight (map M.expression matchers.old) options.now (kept_file file.now).lines
         found.old.items found.new.items) }
-    ensures same_expressions { map M.expression matchers.new ≡ map M.expression matchers.old }
-    ensures same_wholes { map M.whole matchers.new ≡ map M.whole matchers.old }
+    ensures same_matchers { SameMatchers M.expression M.whole matchers.old matchers.new }
     ensures steps { SearchesAllKept (map M.expression matchers.old) options.now
         (if anew then length matchers.old else 0) (kept_file file.now).lines meter.old meter.new }
 {
@@ -147,8 +143,7 @@ pub fn find_all<M: LineMatch>(
         (λ found.
         AllZip (IsRight (map M.expression matchers.old) options.now)
         (lines_of_files (map kept_file files.now)) found.items) }
-    ensures same_expressions { map M.expression matchers.new ≡ map M.expression matchers.old }
-    ensures same_wholes { map M.whole matchers.new ≡ map M.whole matchers.old }
+    ensures same_matchers { SameMatchers M.expression M.whole matchers.old matchers.new }
     ensures steps { SearchesAllKept (map M.expression matchers.old) options.now
         (if anew then length matchers.old else 0) (lines_of_files (map kept_file files.now))
         meter.old meter.new }
@@ -179,9 +174,8 @@ pub fn find_columns(
         (λ found.
         AllZip (IsRight (map matched_expression matchers.old.items) options.now)
         (lines_of_files (map kept_file files.now)) found.items) }
-    ensures same_expressions { map matched_expression matchers.new.items ≡
-        map matched_expression matchers.old.items }
-    ensures same_wholes { map wants_whole matchers.new.items ≡ map wants_whole matchers.old.items }
+    ensures same_matchers { SameMatchers matched_expression wants_whole matchers.old.items
+        matchers.new.items }
     ensures steps { SearchesAllKept (map matched_expression matchers.old.items) options.now
         (if anew then length matchers.old.items else 0) (lines_of_files (map kept_file files.now))
         meter.old meter.new }

@@ -2,7 +2,7 @@
 ghost use Rattle.std.specs.Prelude.{◌≡◌, ℕ, List, ◌+◌, ◌*◌, ◌≤◌, ◌<◌, ◌++◌, length, map, IfOk};
 ghost use Rattle.std.specs.Prelude.{IfErr, IfSome, true, [], ◌∷◌, All};
 ghost use Rattle.re_search.specs.Working.Matchers.{matched_expression, wants_whole};
-ghost use Rattle.re_search.specs.Searching.{AllAnswer, AddsAtMost, FindsPart};
+ghost use Rattle.re_search.specs.Searching.{AllAnswer, AddsAtMost, FindsPart, SameMatchers};
 ghost use Rattle.re_syntax.specs.Parts.{AreParts};
 ghost use Rattle.grep_core.specs.Cost.{search_cost};
 ghost use Rattle.re_syntax.specs.Profile.{most_patterns};
@@ -59,8 +59,7 @@ pub fn add_matching<M: LineMatch>(
         (λ _.
         AddsMatching line.now options.now.line_regexp first (map M.expression matchers.old)
         numbers.old.items numbers.new.items) }
-    ensures same_expressions { map M.expression matchers.new ≡ map M.expression matchers.old }
-    ensures same_wholes { map M.whole matchers.new ≡ map M.whole matchers.old }
+    ensures same_matchers { SameMatchers M.expression M.whole matchers.old matchers.new }
     ensures steps { AddsAtMost (search_cost (length matchers.old) line.now) meter.old meter.new }
 {
     let mut number = first;
@@ -86,8 +85,7 @@ fn add_parts<M: LineMatch>(
         (λ _.
         AreParts (map M.expression matchers.old) line.now options.now.line_regexp
         (map span_places spans.new.items)) }
-    ensures same_expressions { map M.expression matchers.new ≡ map M.expression matchers.old }
-    ensures same_wholes { map M.whole matchers.new ≡ map M.whole matchers.old }
+    ensures same_matchers { SameMatchers M.expression M.whole matchers.old matchers.new }
     ensures steps { (own : ℕ) ×
         PartsCostOf (map M.expression matchers.old) options.now line.now own ×
         AddsAtMost own meter.old meter.new }
@@ -111,8 +109,7 @@ fn parts_of<M: LineMatch>(
     requires whole { AllAnswer options.now.line_regexp (map M.whole matchers.old) }
     ensures ok { IfOk result
         (λ spans. ArePartsKept (map M.expression matchers.old) options.now line.now spans.items) }
-    ensures same_expressions { map M.expression matchers.new ≡ map M.expression matchers.old }
-    ensures same_wholes { map M.whole matchers.new ≡ map M.whole matchers.old }
+    ensures same_matchers { SameMatchers M.expression M.whole matchers.old matchers.new }
     ensures steps { (own : ℕ) ×
         PartsCostOf (map M.expression matchers.old) options.now line.now own ×
         AddsAtMost own meter.old meter.new }
@@ -139,8 +136,7 @@ pub fn find_with_parts<M: LineMatch>(
         (λ found.
         AreMatching line.now options.now.line_regexp 0 (map M.expression matchers.old) numbers.items
         → IsRight (map M.expression matchers.old) options.now line.now found) }
-    ensures same_expressions { map M.expression matchers.new ≡ map M.expression matchers.old }
-    ensures same_wholes { map M.whole matchers.new ≡ map M.whole matchers.old }
+    ensures same_matchers { SameMatchers M.expression M.whole matchers.old matchers.new }
     ensures steps { (own : ℕ) ×
         PartsCostOf (map M.expression matchers.old) options.now line.now own ×
         AddsAtMost own meter.old meter.new }
@@ -163,8 +159,7 @@ pub fn find_anew<M: LineMatch>(
     requires whole { AllAnswer options.now.line_regexp (map M.whole matchers.old) }
     requires few { length matchers.old ≤ most_patterns }
     ensures ok { IfOk result (IsRight (map M.expression matchers.old) options.now line.now) }
-    ensures same_expressions { map M.expression matchers.new ≡ map M.expression matchers.old }
-    ensures same_wholes { map M.whole matchers.new ≡ map M.whole matchers.old }
+    ensures same_matchers { SameMatchers M.expression M.whole matchers.old matchers.new }
     ensures steps { SearchesKept (map M.expression matchers.old) options.now (length matchers.old)
         line.now meter.old meter.new }
 {
@@ -185,8 +180,7 @@ pub fn search_line<M: LineMatch>(
     requires few { length matchers.old ≤ most_patterns }
     ensures ok { IfOk result (IsKept (map M.expression matchers.old) options.now) }
     ensures text { IfOk result (λ line. line.text.items ≡ text.items) }
-    ensures same_expressions { map M.expression matchers.new ≡ map M.expression matchers.old }
-    ensures same_wholes { map M.whole matchers.new ≡ map M.whole matchers.old }
+    ensures same_matchers { SameMatchers M.expression M.whole matchers.old matchers.new }
     ensures steps { SearchesKept (map M.expression matchers.old) options.now (length matchers.old)
         text.items meter.old meter.new }
 {
@@ -216,8 +210,7 @@ pub fn search_lines<M: LineMatch>(
         (λ lines. All (IsKept (map M.expression matchers.old) options.now) lines.items) }
     ensures texts { IfOk result
         (λ lines. map line_text lines.items ≡ map (λ text. text.items) texts.items) }
-    ensures same_expressions { map M.expression matchers.new ≡ map M.expression matchers.old }
-    ensures same_wholes { map M.whole matchers.new ≡ map M.whole matchers.old }
+    ensures same_matchers { SameMatchers M.expression M.whole matchers.old matchers.new }
     ensures memory { texts.items ≡ [] → IfErr result (λ _. ⊥) }
     ensures steps { SearchesAllKept (map M.expression matchers.old) options.now
         (length matchers.old) (map (λ text. text.items) texts.items) meter.old meter.new }
@@ -245,9 +238,8 @@ pub fn search_new(
         All (IsKept (map matched_expression matchers.old.items) options.now) lines.items) }
     ensures texts { IfOk result
         (λ lines. map line_text lines.items ≡ map (λ text. text.items) texts.items) }
-    ensures same_expressions { map matched_expression matchers.new.items ≡
-        map matched_expression matchers.old.items }
-    ensures same_wholes { map wants_whole matchers.new.items ≡ map wants_whole matchers.old.items }
+    ensures same_matchers { SameMatchers matched_expression wants_whole matchers.old.items
+        matchers.new.items }
     ensures memory { texts.items ≡ [] → IfErr result (λ _. ⊥) }
     ensures steps { SearchesAllKept (map matched_expression matchers.old.items) options.now
         (length matchers.old.items) (map (λ text. text.items) texts.items) meter.old meter.new }

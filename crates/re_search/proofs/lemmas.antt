@@ -1,4 +1,4 @@
-pub mod AnyLaws
+pub mod SomeOfJoined
 pub mod BestSpans
 pub mod NeededLaws
 pub mod RunLaws
@@ -12,7 +12,8 @@ pub mod OneText
 pub mod Passing
 pub mod ReadingLaws
 pub mod PartOfBoth
-pub mod Turns
+pub mod OneMatcherMore
+pub mod KeptMatchers
 pub mod SetSteps
 pub mod SetTries
 pub mod SetSearch

@@ -1,6 +1,6 @@
 -- What a search of a line finds, and how many steps it takes.
 use Rattle.std.specs.Prelude.{◌≡◌, ℕ, ◌+◌, ◌-◌, ◌^◌, ◌≤◌, ◌↔◌, Bool, List, min, Option, MatchOption}
-use Rattle.std.specs.Prelude.{All, Any, IsTrue}
+use Rattle.std.specs.Prelude.{All, Any, IsTrue, map}
 use Rattle.re_syntax.specs.Bytes.{Text}
 use Rattle.re_syntax.specs.Expression.{Expression}
 use Rattle.re_syntax.specs.Holds.{Matches}
@@ -32,6 +32,13 @@ FindsPartOfAll es wholes line from found =
 abbrev pub TellsMatchOfAll : List Expression → List Bool → Text → Bool → Type 0
 TellsMatchOfAll es wholes line verdict =
     (whole : Bool) → AllAnswer whole wholes → IsTrue verdict ↔ SomeMatches es line whole
+
+-- the same matchers in the same order: each stands for its expression, and asks for whole lines or
+-- not, as before
+pub record SameMatchers {M : Type 0} (expression : M → Expression) (whole : M → Bool)
+    (old new : List M) : Type 0 where
+  pub same_expressions : map expression new ≡ map expression old
+  pub same_wholes : map whole new ≡ map whole old
 
 -- at most so many steps were counted, and no count fell, each of which stays at the greatest u64
 pub record AddsAtMost (most : ℕ) (old new : Steps) : Type 0 where

@@ -5,7 +5,7 @@ ghost use Rattle.std.specs.Prelude.{map, ⊤};
 ghost use Rattle.re_syntax.specs.Bytes.{Text};
 ghost use Rattle.re_syntax.specs.Expression.{Expression};
 ghost use Rattle.re_search.specs.Searching.{FindsPart, FindsPartOfAll, TellsMatchOfAll, AllAnswer};
-ghost use Rattle.re_search.specs.Searching.{AddsAtMost};
+ghost use Rattle.re_search.specs.Searching.{AddsAtMost, SameMatchers};
 ghost use Rattle.re_search.specs.Working.Blocks.{IsBlock, PassesAll, PassesUnmatchedByAll};
 ghost use Rattle.re_search.specs.Working.Filters.{AreNeeded};
 
@@ -35,8 +35,7 @@ pub fn parts<M: LineMatch>(
     requires alike { (whole : Bool) × AllAnswer whole (map M.whole matchers.old) }
     ensures told { FindsPartOfAll (map M.expression matchers.old) (map M.whole matchers.old)
         line.now from result }
-    ensures same_expressions { map M.expression matchers.new ≡ map M.expression matchers.old }
-    ensures same_wholes { map M.whole matchers.new ≡ map M.whole matchers.old }
+    ensures same_matchers { SameMatchers M.expression M.whole matchers.old matchers.new }
     ensures steps { AddsAtMost (length matchers.old * (length line.now - from + 1)) meter.old
         meter.new }
 {
@@ -76,8 +75,7 @@ pub fn is_matched<M: LineMatch>(matchers: &mut [M], line: &[u8], meter: &mut Met
     requires { (whole : Bool) × AllAnswer whole (map M.whole matchers.old) }
     ensures told { TellsMatchOfAll (map M.expression matchers.old) (map M.whole matchers.old)
         line.now result }
-    ensures same_expressions { map M.expression matchers.new ≡ map M.expression matchers.old }
-    ensures same_wholes { map M.whole matchers.new ≡ map M.whole matchers.old }
+    ensures same_matchers { SameMatchers M.expression M.whole matchers.old matchers.new }
     ensures steps { AddsAtMost (length matchers.old * (length line.now + 1)) meter.old meter.new }
 {
     for matcher in matchers.iter_mut() {

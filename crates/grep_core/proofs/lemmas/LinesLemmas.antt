@@ -23,7 +23,7 @@ use Rattle.grep_core.specs.Cost.{SearchesLine, SearchesLines}
 use Rattle.grep_core.specs.Working.Passed.{PassesUnselected}
 use Rattle.grep_core.specs.Working.OneLine.{IsPlain, LineRowsOf, TakesLine, BreaksLine}
 use Rattle.grep_core.specs.Working.Searched.{leaves_early, summary_as, BreaksSource, StopsSource, SearchesSource}
-use Rattle.grep_core.proofs.lemmas.AnyLaws.{Any-left}
+use Rattle.re_search.proofs.lemmas.SomeOfJoined.{Any-left}
 use Rattle.grep_core.proofs.lemmas.Verdicts.{decided_yes, decided_no, picked}
 use Rattle.grep_core.proofs.lemmas.Decided.{dec_fault_met}
 use Rattle.grep_core.proofs.lemmas.CostLaws.{searched_no_line, searched_one_line, searched_first_lines}

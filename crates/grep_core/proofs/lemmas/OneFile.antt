@@ -10,7 +10,7 @@ use Rattle.grep_core.specs.declared.status.Status.TheVariants.{Selected as selec
 use Rattle.grep_core.specs.Files.{File, Ending, whole, broken, Selected, HasSelected}
 use Rattle.grep_core.specs.Messages.{read_error, FaultMet, Reached, Message, Messages, StatusOf}
 use Rattle.grep_core.specs.Reading.{Reading, not_opened, fails_after, ends_after, up_to_limit, file_of, failures_of}
-use Rattle.grep_core.proofs.lemmas.AnyLaws.{Any-single}
+use Rattle.re_search.proofs.lemmas.SomeOfJoined.{Any-single}
 use Rattle.grep_core.proofs.lemmas.ChooseLaws.{EachGives-one}
 use Rattle.grep_core.proofs.lemmas.StatusLaws.{StatusOf-selected, StatusOf-none, StatusOf-error}
 use Rattle.grep_core.proofs.lemmas.FileLaws.{up_to_limit-behind}

@@ -2,7 +2,7 @@
 ghost use Rattle.std.specs.Prelude.{◌≡◌, ℕ, ◌+◌, ◌-◌, ◌^◌, ◌<◌, [], nat_lt, map, length, Err, IfOk};
 ghost use Rattle.std.specs.Prelude.{IfSome, false, if◌then◌else◌};
 ghost use Rattle.re_search.specs.Working.Filters.{AreNeeded};
-ghost use Rattle.re_search.specs.Searching.{AllAnswer};
+ghost use Rattle.re_search.specs.Searching.{AllAnswer, SameMatchers};
 ghost use Rattle.grep_core.specs.Output.{form};
 ghost use Rattle.grep_core.specs.Reading.{open_source, OneLeft};
 ghost use Rattle.grep_core.specs.Run.{writer};
@@ -146,8 +146,7 @@ fn search_lines<R: CountedRead, M: LineMatch, W: CountedWrite>(
         (R.failures lines.new.lines.reader)
         (writer W.contents W.failures out.old) (writer W.contents W.failures out.new) meter.old
         meter.new }
-    ensures same_expressions { map M.expression matchers.new ≡ map M.expression matchers.old }
-    ensures same_wholes { map M.whole matchers.new ≡ map M.whole matchers.old }
+    ensures same_matchers { SameMatchers M.expression M.whole matchers.old matchers.new }
 {
     let early = wanted.options.leaves_early();
     let mut looks = Looks::new(look_cost(matchers, filter));
@@ -214,8 +213,7 @@ fn search_opened<R: CountedRead, M: LineMatch, W: CountedWrite>(
         (R.failures lines.new.lines.reader)
         (writer W.contents W.failures out.old) (writer W.contents W.failures out.new) meter.old
         meter.new }
-    ensures same_expressions { map M.expression matchers.new ≡ map M.expression matchers.old }
-    ensures same_wholes { map M.whole matchers.new ≡ map M.whole matchers.old }
+    ensures same_matchers { SameMatchers M.expression M.whole matchers.old matchers.new }
 {
     let asked = &setting.asked;
     let Some(context) = wanted.options.shown_around() else {
@@ -264,8 +262,7 @@ pub fn search_file<S: Sources, M: LineMatch, W: CountedWrite>(
         (S.failures sources.old) (S.failures sources.new)
         (writer W.contents W.failures out.old) (writer W.contents W.failures out.new)
         meter.old meter.new }
-    ensures same_expressions { map M.expression matchers.new ≡ map M.expression matchers.old }
-    ensures same_wholes { map M.whole matchers.new ≡ map M.whole matchers.old }
+    ensures same_matchers { SameMatchers M.expression M.whole matchers.old matchers.new }
 {
     let Some(reader) = sources.open(k) else {
         let end = FileEnd::Missing;

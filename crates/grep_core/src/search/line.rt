@@ -1,7 +1,7 @@
 //! One line: whether it is selected, and what is written for it.
 ghost use Rattle.std.specs.Prelude.{◌≡◌, length, map, IfOk, IfSome, OnErr};
 ghost use Rattle.re_search.specs.Working.Filters.{AreNeeded};
-ghost use Rattle.re_search.specs.Searching.{AllAnswer};
+ghost use Rattle.re_search.specs.Searching.{AllAnswer, SameMatchers};
 ghost use Rattle.grep_core.specs.Files.{Selected};
 ghost use Rattle.grep_core.specs.Output.{form, parts};
 ghost use Rattle.grep_core.specs.Run.{writer};
@@ -34,8 +34,7 @@ fn write_parts<M: LineMatch, W: CountedWrite>(
         (BreaksSelected (map M.expression matchers.old) wanted.now.options wanted.now.many
         wanted.now.name.now number line.now (writer W.contents W.failures out.old)
         (writer W.contents W.failures out.new)) }
-    ensures same_expressions { map M.expression matchers.new ≡ map M.expression matchers.old }
-    ensures same_wholes { map M.whole matchers.new ≡ map M.whole matchers.old }
+    ensures same_matchers { SameMatchers M.expression M.whole matchers.old matchers.new }
     ensures steps { AsksParts (map M.expression matchers.old) wanted.now.options
         (length matchers.old) line.now meter.old meter.new }
 {
@@ -65,8 +64,7 @@ fn write_selected<M: LineMatch, W: CountedWrite>(
         (BreaksSelected (map M.expression matchers.old) wanted.now.options wanted.now.many
         wanted.now.name.now number line.now (writer W.contents W.failures out.old)
         (writer W.contents W.failures out.new)) }
-    ensures same_expressions { map M.expression matchers.new ≡ map M.expression matchers.old }
-    ensures same_wholes { map M.whole matchers.new ≡ map M.whole matchers.old }
+    ensures same_matchers { SameMatchers M.expression M.whole matchers.old matchers.new }
     ensures steps { AsksParts (map M.expression matchers.old) wanted.now.options
         (length matchers.old) line.now meter.old meter.new }
 {
@@ -100,8 +98,7 @@ pub fn search_line<M: LineMatch, W: CountedWrite>(
         (BreaksLine (map M.expression matchers.old) wanted.now.options wanted.now.many
         wanted.now.name.now number line.now (writer W.contents W.failures out.old)
         (writer W.contents W.failures out.new)) }
-    ensures same_expressions { map M.expression matchers.new ≡ map M.expression matchers.old }
-    ensures same_wholes { map M.whole matchers.new ≡ map M.whole matchers.old }
+    ensures same_matchers { SameMatchers M.expression M.whole matchers.old matchers.new }
     ensures steps { SearchesLine (map M.expression matchers.old) wanted.now.options
         (length matchers.old) line.now meter.old meter.new }
 {

@@ -1,9 +1,9 @@
 //! Whether a line is selected, and its parts, by several matchers.
-ghost use Rattle.std.specs.Prelude.{◌≡◌, ◌↔◌, ◌<◌, ◌≤◌, IsTrue, IfSome, IsSomeAnd, false, length};
+ghost use Rattle.std.specs.Prelude.{◌↔◌, ◌<◌, ◌≤◌, IsTrue, IfSome, IsSomeAnd, false, length};
 ghost use Rattle.std.specs.Prelude.{map};
 ghost use Rattle.re_search.specs.Working.Filters.{AreNeeded};
 ghost use Rattle.re_search.specs.Working.Literals.{any_literal};
-ghost use Rattle.re_search.specs.Searching.{AllAnswer, AddsAtMost, FindsPart};
+ghost use Rattle.re_search.specs.Searching.{AllAnswer, AddsAtMost, FindsPart, SameMatchers};
 ghost use Rattle.re_syntax.specs.Holds.{Matches};
 ghost use Rattle.grep_core.specs.Cost.{search_cost};
 ghost use Rattle.grep_core.specs.Files.{Selected};
@@ -21,8 +21,7 @@ pub fn is_selected<M: LineMatch>(
 ) -> bool
     requires { AllAnswer options.line_regexp (map M.whole matchers.old) }
     ensures told { IsTrue result ↔ Selected (map M.expression matchers.old) options line.now }
-    ensures same_expressions { map M.expression matchers.new ≡ map M.expression matchers.old }
-    ensures same_wholes { map M.whole matchers.new ≡ map M.whole matchers.old }
+    ensures same_matchers { SameMatchers M.expression M.whole matchers.old matchers.new }
     ensures steps { AddsAtMost (search_cost (length matchers.old) line.now) meter.old meter.new }
 {
     let matched = is_matched(matchers, line, meter);
@@ -54,8 +53,7 @@ pub fn is_selected_behind<M: LineMatch>(
     requires whole { AllAnswer options.line_regexp (map M.whole matchers.old) }
     requires needed { IfSome filter (λ f. AreNeeded f.now (map M.expression matchers.old)) }
     ensures told { IsTrue result ↔ Selected (map M.expression matchers.old) options line.now }
-    ensures same_expressions { map M.expression matchers.new ≡ map M.expression matchers.old }
-    ensures same_wholes { map M.whole matchers.new ≡ map M.whole matchers.old }
+    ensures same_matchers { SameMatchers M.expression M.whole matchers.old matchers.new }
     ensures steps { AddsAtMost (search_cost (length matchers.old) line.now) meter.old meter.new }
 {
     if is_ruled_out(filter, line) {
@@ -79,8 +77,7 @@ pub fn next_part<M: LineMatch>(
     ensures bounds { IfSome result
         (λ part. (part.start < part.end) × (part.end ≤ length line.now)) }
     ensures ahead { IfSome result (λ part. from ≤ part.start) }
-    ensures same_expressions { map M.expression matchers.new ≡ map M.expression matchers.old }
-    ensures same_wholes { map M.whole matchers.new ≡ map M.whole matchers.old }
+    ensures same_matchers { SameMatchers M.expression M.whole matchers.old matchers.new }
     ensures steps { AddsAtMost (search_cost (length matchers.old) line.now) meter.old meter.new }
 {
     parts(matchers, line, from, meter)

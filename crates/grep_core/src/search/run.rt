@@ -1,7 +1,7 @@
 //! The one pass over all sources.
 ghost use Rattle.std.specs.Prelude.{◌≡◌, ◌+◌, ◌<◌, [], map, length, IfSome};
 ghost use Rattle.re_search.specs.Working.Filters.{AreNeeded};
-ghost use Rattle.re_search.specs.Searching.{AllAnswer};
+ghost use Rattle.re_search.specs.Searching.{AllAnswer, SameMatchers};
 ghost use Rattle.grep_core.specs.Output.{form, written};
 ghost use Rattle.grep_core.specs.Run.{writer, RunGives, devices};
 ghost use Rattle.grep_core.specs.Sources.{source_at, GivesBack};
@@ -64,8 +64,7 @@ fn search_source<S: Sources, M: LineMatch, W: CountedWrite, N: CountedWrite>(
         (devices (writer W.contents W.failures out.new) (writer N.contents N.failures messages.new)
         (S.failures sources.new) meter.new)
         result }
-    ensures same_expressions { map M.expression matchers.new ≡ map M.expression matchers.old }
-    ensures same_wholes { map M.whole matchers.new ≡ map M.whole matchers.old }
+    ensures same_matchers { SameMatchers M.expression M.whole matchers.old matchers.new }
 {
     let found = match search_file(setting, sources, k, matchers, out, meter) {
         Ok(found) => found,
@@ -131,8 +130,7 @@ pub fn search_all<S: Sources, M: LineMatch, W: CountedWrite, N: CountedWrite>(
         (devices (writer W.contents W.failures out.new) (writer N.contents N.failures messages.new)
         (S.failures sources.new) meter.new)
         result }
-    ensures same_expressions { map M.expression matchers.new ≡ map M.expression matchers.old }
-    ensures same_wholes { map M.whole matchers.new ≡ map M.whole matchers.old }
+    ensures same_matchers { SameMatchers M.expression M.whole matchers.old matchers.new }
 {
     let asked = Asked {
         alloc,
@@ -170,8 +168,7 @@ pub fn search_filtered<S: Sources, M: LineMatch, W: CountedWrite, N: CountedWrit
         (devices (writer W.contents W.failures out.new) (writer N.contents N.failures messages.new)
         (S.failures sources.new) meter.new)
         result }
-    ensures same_expressions { map M.expression matchers.new ≡ map M.expression matchers.old }
-    ensures same_wholes { map M.whole matchers.new ≡ map M.whole matchers.old }
+    ensures same_matchers { SameMatchers M.expression M.whole matchers.old matchers.new }
 {
     let count = sources.count();
     let many = count >= 2;

@@ -9,12 +9,12 @@ use Rattle.re_syntax.proofs.lemmas.Decisions.{Any-first}
 use Rattle.grep_core.specs.Meters.{Steps}
 use Rattle.grep_core.specs.Choose.{IfHolds, Chosen}
 use Rattle.grep_core.specs.Files.{Inputs, AreMeant, Matched}
-use Rattle.grep_core.proofs.lemmas.AnyLaws.{Any-single}
+use Rattle.re_search.proofs.lemmas.SomeOfJoined.{Any-single}
 use Rattle.grep_session.specs.declared.change.Change.TheVariants.{Dropped}
 use Rattle.grep_session.specs.Working.Changed.{HasChanged, ChangeCost, SearchesEach}
 use Rattle.grep_session.specs.Edits.{DropPattern, with_patterns}
 use Rattle.grep_session.specs.Touched.{TakesSteps, parts_alone, all_lines, pairs_cost}
-use Rattle.grep_session.proofs.lemmas.AgainLemmas.{pairs_cost-none}
+use Rattle.grep_session.proofs.lemmas.AllPatternsRead.{pairs_cost-none}
 use Rattle.grep_session.proofs.lemmas.ChangeLemmas.{CostOfEach-sum}
 use Rattle.grep_session.proofs.lemmas.DroppingLemmas.{AllZip-remove}
 

@@ -20,7 +20,7 @@ use Rattle.re_auto.proofs.lemmas.PositionsTell.{positions_tell}
 use Rattle.re_search.specs.declared.span.Span.{Span}
 use Rattle.re_search.specs.Searching.{FindsPart}
 use Rattle.re_search.specs.Working.Simulations.{places, better_span, IsBestSpan, Carries}
-use Rattle.re_search.proofs.lemmas.AnyLaws.{Any-single}
+use Rattle.re_search.proofs.lemmas.SomeOfJoined.{Any-single}
 
 -- a number is below another, or not
 split : (m n : ℕ) → (m < n) ⊎ (n ≤ m)

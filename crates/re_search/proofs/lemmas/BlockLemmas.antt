@@ -16,7 +16,7 @@ use Rattle.re_search.specs.Working.Literals.{Literals, any_literal}
 use Rattle.re_search.specs.Working.Needles.{IsNeeded, RunIsNeeded}
 use Rattle.re_search.specs.Working.Runs.{RunStandsAt, FindsRun, LacksRun}
 use Rattle.re_search.specs.Searching.{AllAnswer, SomeMatches}
-use Rattle.re_search.proofs.lemmas.AnyLaws.{Any-single}
+use Rattle.re_search.proofs.lemmas.SomeOfJoined.{Any-single}
 use Rattle.re_search.proofs.lemmas.RunLaws.{run_before, run_behind, text_run, finds_text}
 
 -- ---- where lines begin

@@ -12,7 +12,7 @@ use Rattle.re_search.specs.Working.Literals.{any_literal}
 use Rattle.re_search.specs.Working.Needles.{IsNeeded, StandsBetween}
 use Rattle.re_search.specs.Working.Matchers.{matched_expression}
 use Rattle.re_search.specs.Searching.{SomeMatches}
-use Rattle.re_search.proofs.lemmas.AnyLaws.{Any-left, Any-right}
+use Rattle.re_search.proofs.lemmas.SomeOfJoined.{Any-left, Any-right}
 use Rattle.re_search.proofs.lemmas.Occurrences.{occurs-stands}
 use Rattle.re_search.proofs.lemmas.SetMatches.{text_between, stands_choice}
 

@@ -11,7 +11,7 @@ use Rattle.re_syntax.proofs.lemmas.HoldsDecided.{Holds-le}
 use Rattle.memchr.specs.Find.{FindsNeedle}
 use Rattle.re_search.specs.declared.needle.Needle.{Needle}
 use Rattle.re_search.specs.Working.Needles.{StandsBetween, IsNeeded, IsNeedleOf}
-use Rattle.re_search.proofs.lemmas.AnyLaws.{Any-single}
+use Rattle.re_search.proofs.lemmas.SomeOfJoined.{Any-single}
 use Rattle.re_search.proofs.lemmas.Occurrences.{stands-occurs, occurs_rest}
 use Rattle.re_search.proofs.lemmas.OneText.{first_part}
 

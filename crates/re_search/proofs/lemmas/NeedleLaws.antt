@@ -15,7 +15,7 @@ use Rattle.re_search.specs.Working.Runs.{RunStandsAt, FindsRun}
 use Rattle.re_search.specs.Working.Needles.{IsNeeded, RunIsNeeded, IsNeedleOf, run_of}
 use Rattle.re_search.specs.Working.Outlines.{IsOutline}
 use Rattle.re_search.specs.Working.Stages.{IsSettled}
-use Rattle.re_search.proofs.lemmas.AnyLaws.{Any-single}
+use Rattle.re_search.proofs.lemmas.SomeOfJoined.{Any-single}
 use Rattle.re_search.proofs.lemmas.OutlineLaws.{run_needed, just_run}
 use Rattle.re_search.proofs.lemmas.RunLaws.{run_rest, run_whole, run_text, nowhere}
 

@@ -15,7 +15,7 @@ use Rattle.re_syntax.specs.Parts.{IsFound, IsPart}
 use Rattle.re_syntax.proofs.lemmas.Decisions.{Any-first}
 use Rattle.re_syntax.proofs.lemmas.FixedStrings.{stands-holds, holds-stands, stands-matches, matches-stands}
 use Rattle.memchr.specs.Find.{OccursAt, FindsNeedle}
-use Rattle.re_search.proofs.lemmas.AnyLaws.{Any-single}
+use Rattle.re_search.proofs.lemmas.SomeOfJoined.{Any-single}
 use Rattle.re_search.proofs.lemmas.Occurrences.{occurs-stands, stands-occurs}
 
 -- the place behind a text that stands at a place

@@ -13,7 +13,7 @@ use Rattle.re_search.specs.declared.span.Span.{Span}
 use Rattle.re_search.specs.Working.FixedSets.{IsString, Occurs, IsBestOccurrence}
 use Rattle.re_search.specs.Working.Literals.{Literals, any_literal, key, keys}
 use Rattle.re_search.specs.Searching.{FindsPart}
-use Rattle.re_search.proofs.lemmas.AnyLaws.{Any-single}
+use Rattle.re_search.proofs.lemmas.SomeOfJoined.{Any-single}
 use Rattle.re_search.proofs.lemmas.SetBranches.{begins_take}
 use Rattle.re_search.proofs.lemmas.SetFolded.{choice_keys}
 use Rattle.re_search.proofs.lemmas.SetSearch.{all_read}

@@ -11,8 +11,13 @@ add_matching-requires-clause-whole g c =
 pub returns-clause-ok : goal.returns-clause-ok
 returns-clause-ok g c = rw (map_lent g.M.LineMatch.expression c.args.matchers.now c.args.first) at (c.add_matching.ensures.ok)
 
-pub returns-clause-same_expressions : goal.returns-clause-same_expressions
-returns-clause-same_expressions g c = map_back g.M.LineMatch.expression c.args.matchers.now c.add_matching.new.matchers c.args.first (length c.args.matchers.now - c.args.first) c.add_matching.ensures.same_expressions
-
-pub returns-clause-same_wholes : goal.returns-clause-same_wholes
-returns-clause-same_wholes g c = map_back g.M.LineMatch.whole c.args.matchers.now c.add_matching.new.matchers c.args.first (length c.args.matchers.now - c.args.first) c.add_matching.ensures.same_wholes
+pub returns-clause-same_matchers : goal.returns-clause-same_matchers
+returns-clause-same_matchers g c =
+    let old = c.args.matchers.now in
+    let now = c.add_matching.new.matchers in
+    let later = length old - c.args.first in
+    let same = c.add_matching.ensures.same_matchers in
+    record {
+      same_expressions = map_back g.M.LineMatch.expression old now c.args.first later same.same_expressions;
+      same_wholes = map_back g.M.LineMatch.whole old now c.args.first later same.same_wholes;
+    }

@@ -1,5 +1,6 @@
-use Rattle.std.proofs.Common.{map, ◌∙◌, sym, refl, subst, []}
+use Rattle.std.proofs.Common.{map, sym, refl, subst, []}
 use Rattle.std.specs.List.{AllZip}
+use Rattle.re_search.proofs.lemmas.KeptMatchers.{none_asked, same_over}
 use Rattle.grep_core.proofs.lemmas.CostLaws.{same_length}
 use Rattle.grep_session.specs.Working.Changed.{ChangeCost, IsWithin}
 use Rattle.grep_session.specs.Working.Found.{IsRight}
@@ -11,19 +12,18 @@ use Rattle.grep_session.proofs.changing.change_files.Goals as goal
 pub loop-file-init : goal.loop-file-init
 loop-file-init g c = record {
   found = λ before changed h k. subst (AllZip (IsRight (map g.M.LineMatch.expression c.args.matchers.now) c.args.options.now) []) (sym c.new-found.ensures.items) tt;
-  same_expressions = refl;
-  same_wholes = refl;
+  same_matchers = none_asked;
   steps = λ before changed h k. each_none _ _;
 }
 
 pub change_file-requires-clause-within : goal.change_file-requires-clause-within
-change_file-requires-clause-within g c = subst (IsWithin c.args.change) (sym (same_length g.M.LineMatch.expression _ _ c.loop-file.invariant.same_expressions)) c.requires.within
+change_file-requires-clause-within g c = subst (IsWithin c.args.change) (sym (same_length g.M.LineMatch.expression _ _ c.loop-file.invariant.same_matchers.same_expressions)) c.requires.within
 
 pub returns-in_err-change_file-clause-steps : goal.returns-in_err-change_file-clause-steps
 returns-in_err-change_file-clause-steps g c = λ before changed h k.
     let s = c.loop-file.invariant in
     let x = c.file-item.result in
-    let spent = rw s.same_expressions at c.change_file.ensures.steps in
+    let spent = rw s.same_matchers.same_expressions at c.change_file.ensures.steps in
     each_front (ChangeCost c.args.change changed (map g.M.LineMatch.expression c.args.matchers.now) c.args.options.now) (ChangeCost-exists c.args.change changed _ c.args.options.now) _ _ _ _ _
     (files_parted kept_file c.args.files.now c.loop-file.file-index x c.loop-file-test.true c.file-item.is)
     (each_both (ChangeCost c.args.change changed (map g.M.LineMatch.expression c.args.matchers.now) c.args.options.now) _ _ _ _ _ _ refl (s.steps before changed h k)
@@ -34,13 +34,12 @@ loop-file-preserved g c =
     let s = c.loop-file.invariant in
     let x = c.file-item.result in
     let next = files_next kept_file c.args.files.now c.loop-file.file-index x c.loop-file-test.true c.file-item.is in
-    let spent = rw s.same_expressions at c.change_file.ensures.steps in
-    let right = rw s.same_expressions at c.in_ok-change_file.ensures.ok in
+    let spent = rw s.same_matchers.same_expressions at c.change_file.ensures.steps in
+    let right = rw s.same_matchers.same_expressions at c.in_ok-change_file.ensures.ok in
     record {
       found = λ before changed h k. right_more _ c.args.options.now _ _ _ _ _ next (s.found before changed h k)
           (right before changed h (kept_at (IsFileKept before c.args.options.now) c.args.files.now c.loop-file.file-index x c.loop-file-test.true c.file-item.is k));
-      same_expressions = c.change_file.ensures.same_expressions ∙ s.same_expressions;
-      same_wholes = c.change_file.ensures.same_wholes ∙ s.same_wholes;
+      same_matchers = same_over c.change_file.ensures.same_matchers s.same_matchers;
       steps = λ before changed h k. each_both (ChangeCost c.args.change changed (map g.M.LineMatch.expression c.args.matchers.now) c.args.options.now) _ _ _ _ _ _ next (s.steps before changed h k)
           (spent before changed h (kept_at (IsFileKept before c.args.options.now) c.args.files.now c.loop-file.file-index x c.loop-file-test.true c.file-item.is k));
     }

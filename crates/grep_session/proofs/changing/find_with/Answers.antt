@@ -16,7 +16,7 @@ pub returns-clause-steps : goal.returns-clause-steps
 returns-clause-steps g c = λ before changed h k.
     let few = came_steps g.M.LineMatch.expression c.args.matchers.now c.args.first changed c.args.line.now.text.items _ _ h.1 (rw c.deref.ensures.value at c.add_later.ensures.steps) in
     let came = rw (c.deref.ensures.value, c.in_ok-numbers.ensures.items, c.numbers.ensures) at c.in_ok-add_later.ensures.ok in
-    let parts = rw (c.has_grown-anew.ensures, c.numbers-2.ensures, c.deref-2.ensures.value, c.add_later.ensures.same_expressions) at c.find_again.ensures.steps in
+    let parts = rw (c.has_grown-anew.ensures, c.numbers-2.ensures, c.deref-2.ensures.value, c.add_later.ensures.same_matchers.same_expressions) at c.find_again.ensures.steps in
     changed_with_parts (Added c.args.first) changed (map g.M.LineMatch.expression c.args.matchers.now) c.args.options.now c.args.line.now.text.items _ _ _ _
     (came_verdict c.args.first (map g.M.LineMatch.expression c.args.matchers.now) before changed c.args.options.now c.args.line.now h k _ came) few parts
 
@@ -25,4 +25,4 @@ returns-clause-ok g c =
     let came = rw (c.deref.ensures.value, c.in_ok-numbers.ensures.items, c.numbers.ensures) at c.in_ok-add_later.ensures.ok in
     comes_right c.args.first (map g.M.LineMatch.expression c.args.matchers.now) c.args.options.now c.args.line.now c.add_later.new.numbers.items c.find_again.result
     (omega (arith, c.requires.within, length-map c.args.matchers.now g.M.LineMatch.expression)) came
-    (rw (c.has_grown-anew.ensures, c.numbers-2.ensures, c.deref-2.ensures.value, c.add_later.ensures.same_expressions) at c.find_again.ensures.ok)
+    (rw (c.has_grown-anew.ensures, c.numbers-2.ensures, c.deref-2.ensures.value, c.add_later.ensures.same_matchers.same_expressions) at c.find_again.ensures.ok)

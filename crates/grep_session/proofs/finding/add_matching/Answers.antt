@@ -1,6 +1,7 @@
-use Rattle.std.proofs.Common.{◌≡◌, ◌+◌, ◌≤◌, length, map, take, arith, sym, refl, ◌∙◌, take_all, length-take}
+use Rattle.std.proofs.Common.{◌≡◌, ◌+◌, ◌≤◌, length, map, take, arith, sym, ◌∙◌, take_all, length-take}
 use Rattle.std.proofs.lemmas.List.{length-map}
-use Rattle.re_search.proofs.lemmas.Turns.{same_after, one_more, value_at, within, steps_more}
+use Rattle.re_search.proofs.lemmas.OneMatcherMore.{one_more, value_at, within, steps_more}
+use Rattle.re_search.proofs.lemmas.KeptMatchers.{none_asked, one_asked}
 use Rattle.grep_core.proofs.lemmas.CostLaws.{adds_none, adds_for_more}
 use Rattle.grep_session.proofs.lemmas.FindingLemmas.{adds_none_matching, adds_more_matching}
 use Rattle.grep_session.proofs.finding.add_matching.Goals as goal
@@ -9,8 +10,7 @@ pub loop-matcher-init : goal.loop-matcher-init
 loop-matcher-init g c = record {
   found = adds_none_matching _ _ _ _;
   number = omega arith;
-  same_expressions = refl;
-  same_wholes = refl;
+  same_matchers = none_asked;
   steps = adds_none _ _;
 }
 
@@ -21,7 +21,7 @@ note_matching-requires g c =
     let now = c.loop-matcher.matchers in
     let i = c.loop-matcher.matcher-index in
     let d = c.matcher-item.result in
-    let ws = c.loop-matcher.invariant.same_wholes in
+    let ws = c.loop-matcher.invariant.same_matchers.same_wholes in
     let h = c.loop-matcher-test.true in
     let answer = c.args.options.now.line_regexp in
     sym (value_at whole old now ws i d h answer) ∙ c.requires.whole i answer (within whole old now ws i d h).1
@@ -29,31 +29,24 @@ note_matching-requires g c =
 pub loop-matcher-preserved : goal.loop-matcher-preserved
 loop-matcher-preserved g c =
     let expression = g.M.LineMatch.expression in
-    let whole = g.M.LineMatch.whole in
     let old = c.args.matchers.now in
     let now = c.loop-matcher.matchers in
     let i = c.loop-matcher.matcher-index in
     let d = c.matcher-item.result in
-    let es = c.loop-matcher.invariant.same_expressions in
-    let ws = c.loop-matcher.invariant.same_wholes in
+    let same = c.loop-matcher.invariant.same_matchers in
+    let es = same.same_expressions in
     let h = c.loop-matcher-test.true in
     let inside = (within expression old now es i d h).1 in
     let place : c.loop-matcher.number ≡ c.args.first + length (take i (map expression old)) = omega (arith, c.loop-matcher.invariant.number, length-take i (map expression old)) in
     record {
       found = adds_more_matching _ _ _ _ _ _ _ _ _ _ place (one_more expression old now es i d h) c.loop-matcher.invariant.found c.in_ok-note_matching.ensures.ok;
       number = omega (arith, c.loop-matcher.invariant.number);
-      same_expressions = same_after expression old now es i d _ c.note_matching.ensures.same_expression;
-      same_wholes = same_after whole old now ws i d _ c.note_matching.ensures.same_whole;
+      same_matchers = one_asked same i d _ c.note_matching.ensures.same_expression c.note_matching.ensures.same_whole;
       steps = steps_more i _ _ _ _ c.loop-matcher.invariant.steps c.note_matching.ensures.steps;
     }
 
-pub returns-in_err-note_matching-clause-same_expressions : goal.returns-in_err-note_matching-clause-same_expressions
-returns-in_err-note_matching-clause-same_expressions g c =
-    same_after g.M.LineMatch.expression _ _ c.loop-matcher.invariant.same_expressions _ c.matcher-item.result _ c.note_matching.ensures.same_expression
-
-pub returns-in_err-note_matching-clause-same_wholes : goal.returns-in_err-note_matching-clause-same_wholes
-returns-in_err-note_matching-clause-same_wholes g c =
-    same_after g.M.LineMatch.whole _ _ c.loop-matcher.invariant.same_wholes _ c.matcher-item.result _ c.note_matching.ensures.same_whole
+pub returns-in_err-note_matching-clause-same_matchers : goal.returns-in_err-note_matching-clause-same_matchers
+returns-in_err-note_matching-clause-same_matchers g c = one_asked c.loop-matcher.invariant.same_matchers _ c.matcher-item.result _ c.note_matching.ensures.same_expression c.note_matching.ensures.same_whole
 
 pub returns-in_err-note_matching-clause-steps : goal.returns-in_err-note_matching-clause-steps
 returns-in_err-note_matching-clause-steps g c =

@@ -13,7 +13,7 @@ returns-clause-ok g c =
     let found = c.in_ok-add_matching.ensures.ok in
     let numbers : c.add_matching.new.numbers.items ≡ found.found = found.added ∙ ap (λ l. l ++ found.found) c.new-numbers.ensures.items in
     let matching = subst (AreMatching c.args.line.now c.args.options.now.line_regexp 0 es) (sym numbers) found.are_found in
-    right_there es c.args.options.now c.args.line.now c.add_matching.new.numbers.items c.find_with_parts.result matching (rw c.add_matching.ensures.same_expressions at c.find_with_parts.ensures.ok)
+    right_there es c.args.options.now c.args.line.now c.add_matching.new.numbers.items c.find_with_parts.result matching (rw c.add_matching.ensures.same_matchers.same_expressions at c.find_with_parts.ensures.ok)
 
 pub returns-clause-steps : goal.returns-clause-steps
-returns-clause-steps g c = searched_for_parts _ _ _ _ _ _ _ c.add_matching.ensures.steps (rw c.add_matching.ensures.same_expressions at c.find_with_parts.ensures.steps)
+returns-clause-steps g c = searched_for_parts _ _ _ _ _ _ _ c.add_matching.ensures.steps (rw c.add_matching.ensures.same_matchers.same_expressions at c.find_with_parts.ensures.steps)

@@ -4,7 +4,7 @@ use Rattle.std.proofs.lemmas.List.{length-map}
 use Rattle.std.proofs.lemmas.List.Elements.{AllWithin-more_set, All-from_all_within}
 use Rattle.std.specs.List.{AllZip, AllWithin}
 use Rattle.std.specs.Vec.Iter.{into_iter_items}
-use Rattle.re_search.proofs.lemmas.Turns.{value_at}
+use Rattle.re_search.proofs.lemmas.OneMatcherMore.{value_at}
 use Rattle.grep_session.specs.Working.Kept.{IsFileKept, kept_file}
 use Rattle.grep_session.specs.Working.Found.{IsRight, lines_of_files}
 use Rattle.grep_session.proofs.lemmas.FoundLemmas.{same_file, right_next}

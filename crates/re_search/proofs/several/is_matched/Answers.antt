@@ -1,7 +1,8 @@
 use Rattle.std.proofs.Common.{◌≡◌, map, take, arith, refl, take_all}
 use Rattle.std.proofs.lemmas.Bool.{false≢true}
 use Rattle.std.proofs.lemmas.List.{length-map}
-use Rattle.re_search.proofs.lemmas.Turns.{same_after, one_more, value_at, within, none_more, one_matches, steps_more}
+use Rattle.re_search.proofs.lemmas.OneMatcherMore.{one_more, value_at, within, none_more, one_matches, steps_more}
+use Rattle.re_search.proofs.lemmas.KeptMatchers.{one_asked}
 use Rattle.re_search.proofs.several.is_matched.Goals as goal
 
 pub loop-matcher-preserved : goal.loop-matcher-preserved
@@ -12,14 +13,14 @@ loop-matcher-preserved g c =
     let now = c.loop-matcher.matchers in
     let i = c.loop-matcher.matcher-index in
     let d = c.matcher-item.result in
-    let es = c.loop-matcher.invariant.same_expressions in
-    let ws = c.loop-matcher.invariant.same_wholes in
+    let same = c.loop-matcher.invariant.same_matchers in
+    let es = same.same_expressions in
+    let ws = same.same_wholes in
     let h = c.loop-matcher-test.true in
     record {
       told = none_more _ _ _ i _ _ (within whole old now ws i d h).1 (value_at whole old now ws i d h _) (one_more expression old now es i d h)
           c.loop-matcher.invariant.told (λ m. false≢true (c.if-is_match.ensures.told.1 m));
-      same_expressions = same_after expression old now es i d _ c.is_match.ensures.same_expression;
-      same_wholes = same_after whole old now ws i d _ c.is_match.ensures.same_whole;
+      same_matchers = one_asked same i d _ c.is_match.ensures.same_expression c.is_match.ensures.same_whole;
       steps = steps_more i _ _ _ _ c.loop-matcher.invariant.steps c.is_match.ensures.steps;
     }
 
@@ -31,19 +32,14 @@ returns-then-is_match-clause-told g c =
     let now = c.loop-matcher.matchers in
     let i = c.loop-matcher.matcher-index in
     let d = c.matcher-item.result in
-    let es = c.loop-matcher.invariant.same_expressions in
-    let ws = c.loop-matcher.invariant.same_wholes in
+    let es = c.loop-matcher.invariant.same_matchers.same_expressions in
+    let ws = c.loop-matcher.invariant.same_matchers.same_wholes in
     let h = c.loop-matcher-test.true in
     one_matches _ _ _ i _ _ (within whole old now ws i d h).1 (value_at whole old now ws i d h _) (within expression old now es i d h).1 (value_at expression old now es i d h _)
     (c.if-is_match.ensures.told.0 refl)
 
-pub returns-then-is_match-clause-same_expressions : goal.returns-then-is_match-clause-same_expressions
-returns-then-is_match-clause-same_expressions g c =
-    same_after g.M.LineMatch.expression _ _ c.loop-matcher.invariant.same_expressions _ c.matcher-item.result _ c.is_match.ensures.same_expression
-
-pub returns-then-is_match-clause-same_wholes : goal.returns-then-is_match-clause-same_wholes
-returns-then-is_match-clause-same_wholes g c =
-    same_after g.M.LineMatch.whole _ _ c.loop-matcher.invariant.same_wholes _ c.matcher-item.result _ c.is_match.ensures.same_whole
+pub returns-then-is_match-clause-same_matchers : goal.returns-then-is_match-clause-same_matchers
+returns-then-is_match-clause-same_matchers g c = one_asked c.loop-matcher.invariant.same_matchers _ c.matcher-item.result _ c.is_match.ensures.same_expression c.is_match.ensures.same_whole
 
 pub returns-clause-told : goal.returns-clause-told
 returns-clause-told g c =

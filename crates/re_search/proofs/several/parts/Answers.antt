@@ -1,6 +1,7 @@
 use Rattle.std.proofs.Common.{◌≡◌, map, take, arith, take_all}
 use Rattle.std.proofs.lemmas.List.{length-map}
-use Rattle.re_search.proofs.lemmas.Turns.{same_after, one_more, value_at, within, part_more, steps_more}
+use Rattle.re_search.proofs.lemmas.OneMatcherMore.{one_more, value_at, within, part_more, steps_more}
+use Rattle.re_search.proofs.lemmas.KeptMatchers.{one_asked}
 use Rattle.re_search.proofs.several.parts.Goals as goal
 
 pub loop-matcher-preserved : goal.loop-matcher-preserved
@@ -11,14 +12,14 @@ loop-matcher-preserved g c =
     let now = c.loop-matcher.matchers in
     let i = c.loop-matcher.matcher-index in
     let d = c.matcher-item.result in
-    let es = c.loop-matcher.invariant.same_expressions in
-    let ws = c.loop-matcher.invariant.same_wholes in
+    let same = c.loop-matcher.invariant.same_matchers in
+    let es = same.same_expressions in
+    let ws = same.same_wholes in
     let h = c.loop-matcher-test.true in
     record {
       told = part_more _ _ _ i _ _ (within whole old now ws i d h).1 (value_at whole old now ws i d h _) _ _ _ _ (one_more expression old now es i d h) c.better-best.ensures
           c.loop-matcher.invariant.told c.find-found.ensures.told;
-      same_expressions = same_after expression old now es i d _ c.find-found.ensures.same_expression;
-      same_wholes = same_after whole old now ws i d _ c.find-found.ensures.same_whole;
+      same_matchers = one_asked same i d _ c.find-found.ensures.same_expression c.find-found.ensures.same_whole;
       steps = steps_more i _ _ _ _ c.loop-matcher.invariant.steps c.find-found.ensures.steps;
     }
 

@@ -1,5 +1,6 @@
 use Rattle.std.proofs.Common.{◌≡◌, ℕ, [], Bool, Result, Err, length, map, refl, sym, ap, ◌∙◌, subst, arith}
 use Rattle.std.specs.Result.{IsErrAnd}
+use Rattle.re_search.proofs.lemmas.KeptMatchers.{none_asked, same_over}
 use Rattle.grep_core.specs.declared.input.lines.ReadFault.{ReadFault}
 use Rattle.grep_core.specs.declared.search.file.SearchFault.{SearchFault}
 use Rattle.grep_core.specs.declared.search.file.SearchFault.TheVariants.{Memory}
@@ -29,8 +30,7 @@ loop-behind-init g c =
     record {
       so_far = rw c.new-progress.ensures (followed_none g.R.CountedRead.remaining g.R.CountedRead.failures es w.options w.many c.args.shown w.name.now reader c.args.context c.requires.is_asked c.args.lines.now _ _ c.new-behind.result.lines refl c.requires.none_ahead c.requires.still_open c.requires.none_numbered (ap (λ (h : LastLines). h.lines) c.new-behind.ensures));
       limit = ap (λ (h : LastLines). h.limit) c.new-behind.ensures;
-      same_expressions = refl;
-      same_wholes = refl;
+      same_matchers = none_asked;
     }
 
 pub returns-in_err-send_before_read-clause-write : goal.returns-in_err-send_before_read-clause-write
@@ -40,17 +40,17 @@ returns-in_err-send_before_read-clause-write g c = λ is_write.
     let reader = c.args.lines.now.lines.reader in
     let i = c.loop-behind.invariant in
     let before = i.so_far in
-    let skipped = rw i.same_expressions at (c.in_ok-pass_waiting.ensures.ok reader before.lines before.handed) in
+    let skipped = rw i.same_matchers.same_expressions at (c.in_ok-pass_waiting.ensures.ok reader before.lines before.handed) in
     let p = followed_passed g.R.CountedRead.remaining g.R.CountedRead.failures es w.options w.many c.args.shown w.name.now reader c.args.context c.requires.is_asked c.loop-behind.lines c.pass_waiting.new.lines _ _ _ _ c.loop-behind.selected c.loop-behind.progress c.pass_waiting.new.progress c.loop-behind.behind c.pass_waiting.new.behind i.limit before skipped in
     let unsent = c.in_err-send_before_read.ensures in
     followed_unsent g.R.CountedRead.remaining g.R.CountedRead.failures es w.options w.many c.args.shown w.name.now reader c.args.context c.requires.is_asked c.pass_waiting.new.lines c.pass_waiting.new.lines _ _ _ _ c.loop-behind.selected c.pass_waiting.new.progress c.pass_waiting.new.behind.lines p _
     (TakesFront-written g.W.CountedWrite.contents g.W.CountedWrite.failures c.loop-behind.out c.send_before_read.new.out [] unsent) unsent.counted
 
 pub pass_waiting-requires-clause-needed : goal.pass_waiting-requires-clause-needed
-pass_waiting-requires-clause-needed g c = rw c.loop-behind.invariant.same_expressions c.requires.needed
+pass_waiting-requires-clause-needed g c = rw c.loop-behind.invariant.same_matchers.same_expressions c.requires.needed
 
 pub is_selected_behind-found-requires-clause-needed : goal.is_selected_behind-found-requires-clause-needed
-is_selected_behind-found-requires-clause-needed g c = rw c.loop-behind.invariant.same_expressions c.requires.needed
+is_selected_behind-found-requires-clause-needed g c = rw c.loop-behind.invariant.same_matchers.same_expressions c.requires.needed
 
 pub step-at-requires : goal.step-at-requires
 step-at-requires g c =
@@ -59,7 +59,7 @@ step-at-requires g c =
     let reader = c.args.lines.now.lines.reader in
     let i = c.loop-behind.invariant in
     let before = i.so_far in
-    let skipped = rw i.same_expressions at (c.in_ok-pass_waiting.ensures.ok reader before.lines before.handed) in
+    let skipped = rw i.same_matchers.same_expressions at (c.in_ok-pass_waiting.ensures.ok reader before.lines before.handed) in
     let p = followed_passed g.R.CountedRead.remaining g.R.CountedRead.failures es w.options w.many c.args.shown w.name.now reader c.args.context c.requires.is_asked c.loop-behind.lines c.pass_waiting.new.lines _ _ _ _ c.loop-behind.selected c.loop-behind.progress c.pass_waiting.new.progress c.loop-behind.behind c.pass_waiting.new.behind i.limit before skipped in
     record { few = followed_few g.R.CountedRead.remaining g.R.CountedRead.failures es w.options w.many c.args.shown w.name.now reader c.args.context c.requires.is_asked c.pass_waiting.new.lines c.pass_waiting.new.lines _ _ _ _ c.loop-behind.selected c.pass_waiting.new.progress c.pass_waiting.new.behind.lines p }
 
@@ -70,7 +70,7 @@ write_shown-requires g c =
     let reader = c.args.lines.now.lines.reader in
     let i = c.loop-behind.invariant in
     let before = i.so_far in
-    let skipped = rw i.same_expressions at (c.in_ok-pass_waiting.ensures.ok reader before.lines before.handed) in
+    let skipped = rw i.same_matchers.same_expressions at (c.in_ok-pass_waiting.ensures.ok reader before.lines before.handed) in
     let p = followed_passed g.R.CountedRead.remaining g.R.CountedRead.failures es w.options w.many c.args.shown w.name.now reader c.args.context c.requires.is_asked c.loop-behind.lines c.pass_waiting.new.lines _ _ _ _ c.loop-behind.selected c.loop-behind.progress c.pass_waiting.new.progress c.loop-behind.behind c.pass_waiting.new.behind i.limit before skipped in
     let s = followed_sent g.R.CountedRead.remaining g.R.CountedRead.failures es w.options w.many c.args.shown w.name.now reader c.args.context c.requires.is_asked c.pass_waiting.new.lines _ _ _ _ _ c.loop-behind.selected c.pass_waiting.new.progress c.pass_waiting.new.behind.lines p (TakesAll-written g.W.CountedWrite.contents g.W.CountedWrite.failures c.loop-behind.out c.send_before_read.new.out [] c.in_ok-send_before_read.ensures) in
     let handed = rw c.in-Ok-true.field-0-test at c.in-Ok-true.ensures.next in
@@ -84,14 +84,14 @@ returns-in_err-write_shown-in-Ok-true-clause-write g c = λ is_write.
     let reader = c.args.lines.now.lines.reader in
     let i = c.loop-behind.invariant in
     let before = i.so_far in
-    let skipped = rw i.same_expressions at (c.in_ok-pass_waiting.ensures.ok reader before.lines before.handed) in
+    let skipped = rw i.same_matchers.same_expressions at (c.in_ok-pass_waiting.ensures.ok reader before.lines before.handed) in
     let p = followed_passed g.R.CountedRead.remaining g.R.CountedRead.failures es w.options w.many c.args.shown w.name.now reader c.args.context c.requires.is_asked c.loop-behind.lines c.pass_waiting.new.lines _ _ _ _ c.loop-behind.selected c.loop-behind.progress c.pass_waiting.new.progress c.loop-behind.behind c.pass_waiting.new.behind i.limit before skipped in
     let s = followed_sent g.R.CountedRead.remaining g.R.CountedRead.failures es w.options w.many c.args.shown w.name.now reader c.args.context c.requires.is_asked c.pass_waiting.new.lines _ _ _ _ _ c.loop-behind.selected c.pass_waiting.new.progress c.pass_waiting.new.behind.lines p (TakesAll-written g.W.CountedWrite.contents g.W.CountedWrite.failures c.loop-behind.out c.send_before_read.new.out [] c.in_ok-send_before_read.ensures) in
     let handed = rw c.in-Ok-true.field-0-test at c.in-Ok-true.ensures.next in
     let next = handed reader s.lines s.handed in
-    let told = rw i.same_expressions at c.is_selected_behind-found.ensures.told in
+    let told = rw i.same_matchers.same_expressions at c.is_selected_behind-found.ensures.told in
     let once = searched_once (map g.M.LineMatch.expression c.loop-behind.matchers) w.options c.line-line.result.now (length c.loop-behind.matchers) _ _ c.is_selected_behind-found.ensures.steps in
-    let spent = as_expressions g.M.LineMatch.expression c.loop-behind.matchers es w.options c.line-line.result.now _ _ i.same_expressions once in
+    let spent = as_expressions g.M.LineMatch.expression c.loop-behind.matchers es w.options c.line-line.result.now _ _ i.same_matchers.same_expressions once in
     let broke = rw c.step-at.ensures.shown at c.in_err-write_shown-in-Ok-true.ensures in
     followed_breaks g.R.CountedRead.remaining g.R.CountedRead.failures es w.options w.many c.args.shown w.name.now reader c.args.context c.requires.is_asked c.pass_waiting.new.lines c.next_line.new.self _ _ _ _ c.loop-behind.selected c.pass_waiting.new.progress c.pass_waiting.new.behind.lines s next c.number-count.result c.number-count.ensures c.line-line.result.now c.line-line.ensures c.is_selected_behind-found.result told _ spent _ (TakesFront-written g.W.CountedWrite.contents g.W.CountedWrite.failures c.send_before_read.new.out c.write_shown.new.out _ broke) broke.counted
 
@@ -102,14 +102,14 @@ returns-then-is_err-clause-memory g c = λ count is.
     let reader = c.args.lines.now.lines.reader in
     let i = c.loop-behind.invariant in
     let before = i.so_far in
-    let skipped = rw i.same_expressions at (c.in_ok-pass_waiting.ensures.ok reader before.lines before.handed) in
+    let skipped = rw i.same_matchers.same_expressions at (c.in_ok-pass_waiting.ensures.ok reader before.lines before.handed) in
     let p = followed_passed g.R.CountedRead.remaining g.R.CountedRead.failures es w.options w.many c.args.shown w.name.now reader c.args.context c.requires.is_asked c.loop-behind.lines c.pass_waiting.new.lines _ _ _ _ c.loop-behind.selected c.loop-behind.progress c.pass_waiting.new.progress c.loop-behind.behind c.pass_waiting.new.behind i.limit before skipped in
     let s = followed_sent g.R.CountedRead.remaining g.R.CountedRead.failures es w.options w.many c.args.shown w.name.now reader c.args.context c.requires.is_asked c.pass_waiting.new.lines _ _ _ _ _ c.loop-behind.selected c.pass_waiting.new.progress c.pass_waiting.new.behind.lines p (TakesAll-written g.W.CountedWrite.contents g.W.CountedWrite.failures c.loop-behind.out c.send_before_read.new.out [] c.in_ok-send_before_read.ensures) in
     let handed = rw c.in-Ok-true.field-0-test at c.in-Ok-true.ensures.next in
     let next = handed reader s.lines s.handed in
-    let told = rw i.same_expressions at c.is_selected_behind-found.ensures.told in
+    let told = rw i.same_matchers.same_expressions at c.is_selected_behind-found.ensures.told in
     let once = searched_once (map g.M.LineMatch.expression c.loop-behind.matchers) w.options c.line-line.result.now (length c.loop-behind.matchers) _ _ c.is_selected_behind-found.ensures.steps in
-    let spent = as_expressions g.M.LineMatch.expression c.loop-behind.matchers es w.options c.line-line.result.now _ _ i.same_expressions once in
+    let spent = as_expressions g.M.LineMatch.expression c.loop-behind.matchers es w.options c.line-line.result.now _ _ i.same_matchers.same_expressions once in
     let same : c.number-count.result ≡ count = cc in
     let went = rw c.step-at.ensures.shown at c.in_ok-write_shown-in-Ok-true.ensures in
     rw (← same) (followed_refused g.R.CountedRead.remaining g.R.CountedRead.failures es w.options w.many c.args.shown w.name.now reader c.args.context c.requires.is_asked c.pass_waiting.new.lines c.next_line.new.self _ _ _ _ c.loop-behind.selected c.pass_waiting.new.progress c.pass_waiting.new.behind.lines s next c.number-count.result c.number-count.ensures c.line-line.result.now c.line-line.ensures c.is_selected_behind-found.result told _ spent _ (TakesAll-written g.W.CountedWrite.contents g.W.CountedWrite.failures c.send_before_read.new.out c.write_shown.new.out _ went))
@@ -121,7 +121,7 @@ count_found-selected-requires g c =
     let reader = c.args.lines.now.lines.reader in
     let i = c.loop-behind.invariant in
     let before = i.so_far in
-    let skipped = rw i.same_expressions at (c.in_ok-pass_waiting.ensures.ok reader before.lines before.handed) in
+    let skipped = rw i.same_matchers.same_expressions at (c.in_ok-pass_waiting.ensures.ok reader before.lines before.handed) in
     let p = followed_passed g.R.CountedRead.remaining g.R.CountedRead.failures es w.options w.many c.args.shown w.name.now reader c.args.context c.requires.is_asked c.loop-behind.lines c.pass_waiting.new.lines _ _ _ _ c.loop-behind.selected c.loop-behind.progress c.pass_waiting.new.progress c.loop-behind.behind c.pass_waiting.new.behind i.limit before skipped in
     let s = followed_sent g.R.CountedRead.remaining g.R.CountedRead.failures es w.options w.many c.args.shown w.name.now reader c.args.context c.requires.is_asked c.pass_waiting.new.lines _ _ _ _ _ c.loop-behind.selected c.pass_waiting.new.progress c.pass_waiting.new.behind.lines p (TakesAll-written g.W.CountedWrite.contents g.W.CountedWrite.failures c.loop-behind.out c.send_before_read.new.out [] c.in_ok-send_before_read.ensures) in
     let handed = rw c.in-Ok-true.field-0-test at c.in-Ok-true.ensures.next in
@@ -135,7 +135,7 @@ loop-behind-smaller g c =
     let reader = c.args.lines.now.lines.reader in
     let i = c.loop-behind.invariant in
     let before = i.so_far in
-    let skipped = rw i.same_expressions at (c.in_ok-pass_waiting.ensures.ok reader before.lines before.handed) in
+    let skipped = rw i.same_matchers.same_expressions at (c.in_ok-pass_waiting.ensures.ok reader before.lines before.handed) in
     let p = followed_passed g.R.CountedRead.remaining g.R.CountedRead.failures es w.options w.many c.args.shown w.name.now reader c.args.context c.requires.is_asked c.loop-behind.lines c.pass_waiting.new.lines _ _ _ _ c.loop-behind.selected c.loop-behind.progress c.pass_waiting.new.progress c.loop-behind.behind c.pass_waiting.new.behind i.limit before skipped in
     let s = followed_sent g.R.CountedRead.remaining g.R.CountedRead.failures es w.options w.many c.args.shown w.name.now reader c.args.context c.requires.is_asked c.pass_waiting.new.lines _ _ _ _ _ c.loop-behind.selected c.pass_waiting.new.progress c.pass_waiting.new.behind.lines p (TakesAll-written g.W.CountedWrite.contents g.W.CountedWrite.failures c.loop-behind.out c.send_before_read.new.out [] c.in_ok-send_before_read.ensures) in
     let handed = rw c.in-Ok-true.field-0-test at c.in-Ok-true.ensures.next in
@@ -149,14 +149,14 @@ loop-behind-preserved g c =
     let reader = c.args.lines.now.lines.reader in
     let i = c.loop-behind.invariant in
     let before = i.so_far in
-    let skipped = rw i.same_expressions at (c.in_ok-pass_waiting.ensures.ok reader before.lines before.handed) in
+    let skipped = rw i.same_matchers.same_expressions at (c.in_ok-pass_waiting.ensures.ok reader before.lines before.handed) in
     let p = followed_passed g.R.CountedRead.remaining g.R.CountedRead.failures es w.options w.many c.args.shown w.name.now reader c.args.context c.requires.is_asked c.loop-behind.lines c.pass_waiting.new.lines _ _ _ _ c.loop-behind.selected c.loop-behind.progress c.pass_waiting.new.progress c.loop-behind.behind c.pass_waiting.new.behind i.limit before skipped in
     let s = followed_sent g.R.CountedRead.remaining g.R.CountedRead.failures es w.options w.many c.args.shown w.name.now reader c.args.context c.requires.is_asked c.pass_waiting.new.lines _ _ _ _ _ c.loop-behind.selected c.pass_waiting.new.progress c.pass_waiting.new.behind.lines p (TakesAll-written g.W.CountedWrite.contents g.W.CountedWrite.failures c.loop-behind.out c.send_before_read.new.out [] c.in_ok-send_before_read.ensures) in
     let handed = rw c.in-Ok-true.field-0-test at c.in-Ok-true.ensures.next in
     let next = handed reader s.lines s.handed in
-    let told = rw i.same_expressions at c.is_selected_behind-found.ensures.told in
+    let told = rw i.same_matchers.same_expressions at c.is_selected_behind-found.ensures.told in
     let once = searched_once (map g.M.LineMatch.expression c.loop-behind.matchers) w.options c.line-line.result.now (length c.loop-behind.matchers) _ _ c.is_selected_behind-found.ensures.steps in
-    let spent = as_expressions g.M.LineMatch.expression c.loop-behind.matchers es w.options c.line-line.result.now _ _ i.same_expressions once in
+    let spent = as_expressions g.M.LineMatch.expression c.loop-behind.matchers es w.options c.line-line.result.now _ _ i.same_matchers.same_expressions once in
     let went = rw c.step-at.ensures.shown at c.in_ok-write_shown-in-Ok-true.ensures in
     let limit = passed_limit g.R.CountedRead.remaining g.R.CountedRead.failures es w.options w.many c.args.shown w.name.now reader c.args.context c.requires.is_asked c.pass_waiting.new.lines c.loop-behind.progress c.pass_waiting.new.progress c.loop-behind.behind c.pass_waiting.new.behind before.lines skipped i.limit in
     let kept = rw c.step-at.ensures.shown at (rw limit at (if_kept c.keep.result c.is_err.result c.is_err.ensures.value c.if-is_err.false c.keep.ensures.lines)) in
@@ -165,8 +165,7 @@ loop-behind-preserved g c =
           rw c.step-at.ensures.now
           (followed_line g.R.CountedRead.remaining g.R.CountedRead.failures es w.options w.many c.args.shown w.name.now reader c.args.context c.requires.is_asked c.pass_waiting.new.lines c.next_line.new.self _ _ _ _ c.loop-behind.selected c.pass_waiting.new.progress c.pass_waiting.new.behind.lines s next c.number-count.result c.number-count.ensures c.line-line.result.now c.line-line.ensures c.is_selected_behind-found.result told _ spent _ c.count_found-selected.result c.keep.new.behind.lines (TakesAll-written g.W.CountedWrite.contents g.W.CountedWrite.failures c.send_before_read.new.out c.write_shown.new.out _ went) c.count_found-selected.ensures kept);
       limit = c.keep.ensures.same_limit ∙ limit;
-      same_expressions = c.is_selected_behind-found.ensures.same_expressions ∙ i.same_expressions;
-      same_wholes = c.is_selected_behind-found.ensures.same_wholes ∙ i.same_wholes;
+      same_matchers = same_over c.is_selected_behind-found.ensures.same_matchers i.same_matchers;
     }
 
 pub returns-in-Ok-false-clause-ok : goal.returns-in-Ok-false-clause-ok
@@ -176,7 +175,7 @@ returns-in-Ok-false-clause-ok g c =
     let reader = c.args.lines.now.lines.reader in
     let i = c.loop-behind.invariant in
     let before = i.so_far in
-    let skipped = rw i.same_expressions at (c.in_ok-pass_waiting.ensures.ok reader before.lines before.handed) in
+    let skipped = rw i.same_matchers.same_expressions at (c.in_ok-pass_waiting.ensures.ok reader before.lines before.handed) in
     let p = followed_passed g.R.CountedRead.remaining g.R.CountedRead.failures es w.options w.many c.args.shown w.name.now reader c.args.context c.requires.is_asked c.loop-behind.lines c.pass_waiting.new.lines _ _ _ _ c.loop-behind.selected c.loop-behind.progress c.pass_waiting.new.progress c.loop-behind.behind c.pass_waiting.new.behind i.limit before skipped in
     let s = followed_sent g.R.CountedRead.remaining g.R.CountedRead.failures es w.options w.many c.args.shown w.name.now reader c.args.context c.requires.is_asked c.pass_waiting.new.lines _ _ _ _ _ c.loop-behind.selected c.pass_waiting.new.progress c.pass_waiting.new.behind.lines p (TakesAll-written g.W.CountedWrite.contents g.W.CountedWrite.failures c.loop-behind.out c.send_before_read.new.out [] c.in_ok-send_before_read.ensures) in
     let next = rw c.in-Ok-false.field-0-test at c.in-Ok-false.ensures.next in
@@ -189,7 +188,7 @@ returns-in-Err-Device-clause-ok g c =
     let reader = c.args.lines.now.lines.reader in
     let i = c.loop-behind.invariant in
     let before = i.so_far in
-    let skipped = rw i.same_expressions at (c.in_ok-pass_waiting.ensures.ok reader before.lines before.handed) in
+    let skipped = rw i.same_matchers.same_expressions at (c.in_ok-pass_waiting.ensures.ok reader before.lines before.handed) in
     let p = followed_passed g.R.CountedRead.remaining g.R.CountedRead.failures es w.options w.many c.args.shown w.name.now reader c.args.context c.requires.is_asked c.loop-behind.lines c.pass_waiting.new.lines _ _ _ _ c.loop-behind.selected c.loop-behind.progress c.pass_waiting.new.progress c.loop-behind.behind c.pass_waiting.new.behind i.limit before skipped in
     let s = followed_sent g.R.CountedRead.remaining g.R.CountedRead.failures es w.options w.many c.args.shown w.name.now reader c.args.context c.requires.is_asked c.pass_waiting.new.lines _ _ _ _ _ c.loop-behind.selected c.pass_waiting.new.progress c.pass_waiting.new.behind.lines p (TakesAll-written g.W.CountedWrite.contents g.W.CountedWrite.failures c.loop-behind.out c.send_before_read.new.out [] c.in_ok-send_before_read.ensures) in
     let next = subst (λ (r : Result Bool ReadFault). NextIs g.R.CountedRead.remaining g.R.CountedRead.failures reader s.lines c.next_line.new.self r) (ap Err c.in-Err-Device.field-0-is) (c.in-Err-Device.ensures.next reader s.lines s.handed) in
@@ -203,7 +202,7 @@ returns-in-Err-Memory-clause-memory g c = λ count is.
     let reader = c.args.lines.now.lines.reader in
     let i = c.loop-behind.invariant in
     let before = i.so_far in
-    let skipped = rw i.same_expressions at (c.in_ok-pass_waiting.ensures.ok reader before.lines before.handed) in
+    let skipped = rw i.same_matchers.same_expressions at (c.in_ok-pass_waiting.ensures.ok reader before.lines before.handed) in
     let p = followed_passed g.R.CountedRead.remaining g.R.CountedRead.failures es w.options w.many c.args.shown w.name.now reader c.args.context c.requires.is_asked c.loop-behind.lines c.pass_waiting.new.lines _ _ _ _ c.loop-behind.selected c.loop-behind.progress c.pass_waiting.new.progress c.loop-behind.behind c.pass_waiting.new.behind i.limit before skipped in
     let s = followed_sent g.R.CountedRead.remaining g.R.CountedRead.failures es w.options w.many c.args.shown w.name.now reader c.args.context c.requires.is_asked c.pass_waiting.new.lines _ _ _ _ _ c.loop-behind.selected c.pass_waiting.new.progress c.pass_waiting.new.behind.lines p (TakesAll-written g.W.CountedWrite.contents g.W.CountedWrite.failures c.loop-behind.out c.send_before_read.new.out [] c.in_ok-send_before_read.ensures) in
     let next = subst (λ (r : Result Bool ReadFault). NextIs g.R.CountedRead.remaining g.R.CountedRead.failures reader s.lines c.next_line.new.self r) (ap Err c.in-Err-Memory.field-0-is) (c.in-Err-Memory.ensures.next reader s.lines s.handed) in

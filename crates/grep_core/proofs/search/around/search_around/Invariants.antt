@@ -1,4 +1,5 @@
 use Rattle.std.proofs.Common.{◌≡◌, ◌-◌, ◌^◌, map}
+use Rattle.re_search.specs.Searching.{SameMatchers}
 use Rattle.grep_core.specs.Run.{writer}
 use Rattle.grep_core.proofs.lemmas.AroundSearch.{FollowedSoFar}
 use Rattle.grep_core.proofs.search.around.search_around.Given as goal
@@ -9,8 +10,7 @@ invariant-loop-behind g l = record {
   so_far : FollowedSoFar g.R.CountedRead.remaining g.R.CountedRead.failures (map g.M.LineMatch.expression l.fn.matchers) l.wanted.options l.wanted.many l.shown l.wanted.name.now
       l.fn.lines.lines.reader l.fn.context l.lines (writer g.W.CountedWrite.contents g.W.CountedWrite.failures l.fn.out) (writer g.W.CountedWrite.contents g.W.CountedWrite.failures l.out) l.fn.meter l.meter l.selected l.progress l.behind.lines;
   limit : l.behind.limit ≡ l.fn.context.before;
-  same_expressions : map g.M.LineMatch.expression l.matchers ≡ map g.M.LineMatch.expression l.fn.matchers;
-  same_wholes : map g.M.LineMatch.whole l.matchers ≡ map g.M.LineMatch.whole l.fn.matchers;
+  same_matchers : SameMatchers g.M.LineMatch.expression g.M.LineMatch.whole l.fn.matchers l.matchers;
 }
 
 abbrev pub decreases-loop-behind : goal.decreases-loop-behind

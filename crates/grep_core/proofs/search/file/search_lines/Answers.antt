@@ -1,4 +1,5 @@
-use Rattle.std.proofs.Common.{◌≡◌, [], Bool, false, Result, Err, map, refl, ap, ◌∙◌, subst, arith}
+use Rattle.std.proofs.Common.{◌≡◌, [], Bool, false, Result, Err, map, refl, ap, subst, arith}
+use Rattle.re_search.proofs.lemmas.KeptMatchers.{none_asked, same_over}
 use Rattle.grep_core.specs.declared.input.lines.ReadFault.{ReadFault}
 use Rattle.grep_core.specs.Working.Numbered.{NextIs}
 use Rattle.grep_core.proofs.lemmas.CostLaws.{as_expressions}
@@ -10,8 +11,7 @@ use Rattle.grep_core.proofs.search.file.search_lines.Goals as goal
 pub loop-lines-init : goal.loop-lines-init
 loop-lines-init g c = record {
   so_far = searched_none _ _ _ _ _ _ _ _ (written_plain _ _ _ _ _ _ c.requires.plain [] [] (rows_none _ _ _ _ _)) c.args.lines.now _ _ refl c.requires.none_ahead c.requires.still_open c.requires.none_numbered;
-  same_expressions = refl;
-  same_wholes = refl;
+  same_matchers = none_asked;
   is_early = c.leaves_early-early.ensures;
 }
 
@@ -22,7 +22,7 @@ returns-in_err-send_before_read-clause-write g c = λ is_write.
     let i = c.loop-lines.invariant in
     let unsent = c.in_err-send_before_read.ensures in
     let before = i.so_far in
-    let skipped = rw i.same_expressions at (c.pass_unselected.ensures.passed c.args.lines.now.lines.reader before.lines before.handed) in
+    let skipped = rw i.same_matchers.same_expressions at (c.pass_unselected.ensures.passed c.args.lines.now.lines.reader before.lines before.handed) in
     let p = searched_passed g.R.CountedRead.remaining g.R.CountedRead.failures es w.options w.many false w.name.now c.args.lines.now.lines.reader c.requires.plain c.loop-lines.lines c.pass_unselected.new.lines _ _ _ _ c.loop-lines.selected before skipped in
     breaks_sending g.R.CountedRead.remaining g.R.CountedRead.failures es w.options w.many false w.name.now c.args.lines.now.lines.reader c.pass_unselected.new.lines _ _ _ _ _ c.loop-lines.selected p
     (TakesFront-written g.W.CountedWrite.contents g.W.CountedWrite.failures c.loop-lines.out c.send_before_read.new.out [] unsent) unsent.counted
@@ -33,27 +33,26 @@ loop-lines-preserved g c =
     let es = map g.M.LineMatch.expression c.args.matchers.now in
     let i = c.loop-lines.invariant in
     let before = i.so_far in
-    let skipped = rw i.same_expressions at (c.pass_unselected.ensures.passed c.args.lines.now.lines.reader before.lines before.handed) in
+    let skipped = rw i.same_matchers.same_expressions at (c.pass_unselected.ensures.passed c.args.lines.now.lines.reader before.lines before.handed) in
     let p = searched_passed g.R.CountedRead.remaining g.R.CountedRead.failures es w.options w.many false w.name.now c.args.lines.now.lines.reader c.requires.plain c.loop-lines.lines c.pass_unselected.new.lines _ _ _ _ c.loop-lines.selected before skipped in
     let s = searched_sent g.R.CountedRead.remaining g.R.CountedRead.failures es w.options w.many false w.name.now c.args.lines.now.lines.reader c.pass_unselected.new.lines _ _ _ _ _ c.loop-lines.selected p (TakesAll-written g.W.CountedWrite.contents g.W.CountedWrite.failures c.loop-lines.out c.send_before_read.new.out [] c.in_ok-send_before_read.ensures) in
     let next = rw c.in-Ok-true.field-0-test at c.in-Ok-true.ensures.next in
     let found = c.in_ok-found-in-Ok-true.found in
-    let took = rw i.same_expressions at c.in_ok-found-in-Ok-true.ensures.ok in
-    let spent = as_expressions g.M.LineMatch.expression c.loop-lines.matchers es w.options c.line.result.now _ _ i.same_expressions c.in_ok-found-in-Ok-true.ensures.steps in
+    let took = rw i.same_matchers.same_expressions at c.in_ok-found-in-Ok-true.ensures.ok in
+    let spent = as_expressions g.M.LineMatch.expression c.loop-lines.matchers es w.options c.line.result.now _ _ i.same_matchers.same_expressions c.in_ok-found-in-Ok-true.ensures.steps in
     record {
       so_far =
           searched_line g.R.CountedRead.remaining g.R.CountedRead.failures es w.options w.many false w.name.now c.args.lines.now.lines.reader c.pass_unselected.new.lines c.next_line.new.self _ _ _ _ c.loop-lines.selected s (next c.args.lines.now.lines.reader s.lines s.handed) _ _
           c.line.result.now c.line.ensures c.number-count.result c.number-count.ensures c.requires.plain found c.count_found-selected.result took spent c.count_found-selected.ensures (goes_on found _ _ i.is_early c.if-found-early.false);
-      same_expressions = c.in_ok-found-in-Ok-true.ensures.same_expressions ∙ i.same_expressions;
-      same_wholes = c.in_ok-found-in-Ok-true.ensures.same_wholes ∙ i.same_wholes;
+      same_matchers = same_over c.in_ok-found-in-Ok-true.ensures.same_matchers i.same_matchers;
       is_early = i.is_early;
     }
 
 pub pass_unselected-requires-clause-needed : goal.pass_unselected-requires-clause-needed
-pass_unselected-requires-clause-needed g c = rw c.loop-lines.invariant.same_expressions c.requires.needed
+pass_unselected-requires-clause-needed g c = rw c.loop-lines.invariant.same_matchers.same_expressions c.requires.needed
 
 pub search_line-requires-clause-needed : goal.search_line-requires-clause-needed
-search_line-requires-clause-needed g c = rw c.loop-lines.invariant.same_expressions c.requires.needed
+search_line-requires-clause-needed g c = rw c.loop-lines.invariant.same_matchers.same_expressions c.requires.needed
 
 pub count_found-selected-requires : goal.count_found-selected-requires
 count_found-selected-requires g c =
@@ -61,7 +60,7 @@ count_found-selected-requires g c =
     let es = map g.M.LineMatch.expression c.args.matchers.now in
     let i = c.loop-lines.invariant in
     let before = i.so_far in
-    let skipped = rw i.same_expressions at (c.pass_unselected.ensures.passed c.args.lines.now.lines.reader before.lines before.handed) in
+    let skipped = rw i.same_matchers.same_expressions at (c.pass_unselected.ensures.passed c.args.lines.now.lines.reader before.lines before.handed) in
     let p = searched_passed g.R.CountedRead.remaining g.R.CountedRead.failures es w.options w.many false w.name.now c.args.lines.now.lines.reader c.requires.plain c.loop-lines.lines c.pass_unselected.new.lines _ _ _ _ c.loop-lines.selected before skipped in
     let s = searched_sent g.R.CountedRead.remaining g.R.CountedRead.failures es w.options w.many false w.name.now c.args.lines.now.lines.reader c.pass_unselected.new.lines _ _ _ _ _ c.loop-lines.selected p (TakesAll-written g.W.CountedWrite.contents g.W.CountedWrite.failures c.loop-lines.out c.send_before_read.new.out [] c.in_ok-send_before_read.ensures) in
     let next = rw c.in-Ok-true.field-0-test at c.in-Ok-true.ensures.next in
@@ -73,7 +72,7 @@ loop-lines-smaller g c =
     let es = map g.M.LineMatch.expression c.args.matchers.now in
     let i = c.loop-lines.invariant in
     let before = i.so_far in
-    let skipped = rw i.same_expressions at (c.pass_unselected.ensures.passed c.args.lines.now.lines.reader before.lines before.handed) in
+    let skipped = rw i.same_matchers.same_expressions at (c.pass_unselected.ensures.passed c.args.lines.now.lines.reader before.lines before.handed) in
     let p = searched_passed g.R.CountedRead.remaining g.R.CountedRead.failures es w.options w.many false w.name.now c.args.lines.now.lines.reader c.requires.plain c.loop-lines.lines c.pass_unselected.new.lines _ _ _ _ c.loop-lines.selected before skipped in
     let s = searched_sent g.R.CountedRead.remaining g.R.CountedRead.failures es w.options w.many false w.name.now c.args.lines.now.lines.reader c.pass_unselected.new.lines _ _ _ _ _ c.loop-lines.selected p (TakesAll-written g.W.CountedWrite.contents g.W.CountedWrite.failures c.loop-lines.out c.send_before_read.new.out [] c.in_ok-send_before_read.ensures) in
     let next = rw c.in-Ok-true.field-0-test at c.in-Ok-true.ensures.next in
@@ -86,12 +85,12 @@ returns-then-found-early-clause-ok g c =
     let es = map g.M.LineMatch.expression c.args.matchers.now in
     let i = c.loop-lines.invariant in
     let before = i.so_far in
-    let skipped = rw i.same_expressions at (c.pass_unselected.ensures.passed c.args.lines.now.lines.reader before.lines before.handed) in
+    let skipped = rw i.same_matchers.same_expressions at (c.pass_unselected.ensures.passed c.args.lines.now.lines.reader before.lines before.handed) in
     let p = searched_passed g.R.CountedRead.remaining g.R.CountedRead.failures es w.options w.many false w.name.now c.args.lines.now.lines.reader c.requires.plain c.loop-lines.lines c.pass_unselected.new.lines _ _ _ _ c.loop-lines.selected before skipped in
     let s = searched_sent g.R.CountedRead.remaining g.R.CountedRead.failures es w.options w.many false w.name.now c.args.lines.now.lines.reader c.pass_unselected.new.lines _ _ _ _ _ c.loop-lines.selected p (TakesAll-written g.W.CountedWrite.contents g.W.CountedWrite.failures c.loop-lines.out c.send_before_read.new.out [] c.in_ok-send_before_read.ensures) in
     let next = rw c.in-Ok-true.field-0-test at c.in-Ok-true.ensures.next in
-    let took = rw i.same_expressions at c.in_ok-found-in-Ok-true.ensures.ok in
-    let spent = as_expressions g.M.LineMatch.expression c.loop-lines.matchers es w.options c.line.result.now _ _ i.same_expressions c.in_ok-found-in-Ok-true.ensures.steps in
+    let took = rw i.same_matchers.same_expressions at c.in_ok-found-in-Ok-true.ensures.ok in
+    let spent = as_expressions g.M.LineMatch.expression c.loop-lines.matchers es w.options c.line.result.now _ _ i.same_matchers.same_expressions c.in_ok-found-in-Ok-true.ensures.steps in
     leaves_at g.R.CountedRead.remaining g.R.CountedRead.failures es w.options w.many false w.name.now c.args.lines.now.lines.reader c.pass_unselected.new.lines c.next_line.new.self _ _ _ _ c.loop-lines.selected s (next c.args.lines.now.lines.reader s.lines s.handed) _ _
     c.line.result.now c.line.ensures c.number-count.result c.number-count.ensures c.requires.plain c.in_ok-found-in-Ok-true.found _ c.count_found-selected.result took spent c.count_found-selected.ensures i.is_early c.if-found-early.true
 
@@ -101,12 +100,12 @@ returns-in_err-found-in-Ok-true-clause-write g c = λ is_write.
     let es = map g.M.LineMatch.expression c.args.matchers.now in
     let i = c.loop-lines.invariant in
     let before = i.so_far in
-    let skipped = rw i.same_expressions at (c.pass_unselected.ensures.passed c.args.lines.now.lines.reader before.lines before.handed) in
+    let skipped = rw i.same_matchers.same_expressions at (c.pass_unselected.ensures.passed c.args.lines.now.lines.reader before.lines before.handed) in
     let p = searched_passed g.R.CountedRead.remaining g.R.CountedRead.failures es w.options w.many false w.name.now c.args.lines.now.lines.reader c.requires.plain c.loop-lines.lines c.pass_unselected.new.lines _ _ _ _ c.loop-lines.selected before skipped in
     let s = searched_sent g.R.CountedRead.remaining g.R.CountedRead.failures es w.options w.many false w.name.now c.args.lines.now.lines.reader c.pass_unselected.new.lines _ _ _ _ _ c.loop-lines.selected p (TakesAll-written g.W.CountedWrite.contents g.W.CountedWrite.failures c.loop-lines.out c.send_before_read.new.out [] c.in_ok-send_before_read.ensures) in
     let next = rw c.in-Ok-true.field-0-test at c.in-Ok-true.ensures.next in
-    let broke = rw i.same_expressions at c.in_err-found-in-Ok-true.ensures.err in
-    let spent = as_expressions g.M.LineMatch.expression c.loop-lines.matchers es w.options c.line.result.now _ _ i.same_expressions c.in_err-found-in-Ok-true.ensures.steps in
+    let broke = rw i.same_matchers.same_expressions at c.in_err-found-in-Ok-true.ensures.err in
+    let spent = as_expressions g.M.LineMatch.expression c.loop-lines.matchers es w.options c.line.result.now _ _ i.same_matchers.same_expressions c.in_err-found-in-Ok-true.ensures.steps in
     breaks_at g.R.CountedRead.remaining g.R.CountedRead.failures es w.options w.many false w.name.now c.args.lines.now.lines.reader c.pass_unselected.new.lines c.next_line.new.self _ _ _ _ c.loop-lines.selected s (next c.args.lines.now.lines.reader s.lines s.handed) _ _
     c.line.result.now c.line.ensures c.number-count.result c.number-count.ensures c.requires.plain broke spent
 
@@ -116,7 +115,7 @@ returns-in-Ok-false-clause-ok g c =
     let es = map g.M.LineMatch.expression c.args.matchers.now in
     let i = c.loop-lines.invariant in
     let before = i.so_far in
-    let skipped = rw i.same_expressions at (c.pass_unselected.ensures.passed c.args.lines.now.lines.reader before.lines before.handed) in
+    let skipped = rw i.same_matchers.same_expressions at (c.pass_unselected.ensures.passed c.args.lines.now.lines.reader before.lines before.handed) in
     let p = searched_passed g.R.CountedRead.remaining g.R.CountedRead.failures es w.options w.many false w.name.now c.args.lines.now.lines.reader c.requires.plain c.loop-lines.lines c.pass_unselected.new.lines _ _ _ _ c.loop-lines.selected before skipped in
     let s = searched_sent g.R.CountedRead.remaining g.R.CountedRead.failures es w.options w.many false w.name.now c.args.lines.now.lines.reader c.pass_unselected.new.lines _ _ _ _ _ c.loop-lines.selected p (TakesAll-written g.W.CountedWrite.contents g.W.CountedWrite.failures c.loop-lines.out c.send_before_read.new.out [] c.in_ok-send_before_read.ensures) in
     let next = rw c.in-Ok-false.field-0-test at c.in-Ok-false.ensures.next in
@@ -128,7 +127,7 @@ returns-in-Err-Device-clause-ok g c =
     let es = map g.M.LineMatch.expression c.args.matchers.now in
     let i = c.loop-lines.invariant in
     let before = i.so_far in
-    let skipped = rw i.same_expressions at (c.pass_unselected.ensures.passed c.args.lines.now.lines.reader before.lines before.handed) in
+    let skipped = rw i.same_matchers.same_expressions at (c.pass_unselected.ensures.passed c.args.lines.now.lines.reader before.lines before.handed) in
     let p = searched_passed g.R.CountedRead.remaining g.R.CountedRead.failures es w.options w.many false w.name.now c.args.lines.now.lines.reader c.requires.plain c.loop-lines.lines c.pass_unselected.new.lines _ _ _ _ c.loop-lines.selected before skipped in
     let s = searched_sent g.R.CountedRead.remaining g.R.CountedRead.failures es w.options w.many false w.name.now c.args.lines.now.lines.reader c.pass_unselected.new.lines _ _ _ _ _ c.loop-lines.selected p (TakesAll-written g.W.CountedWrite.contents g.W.CountedWrite.failures c.loop-lines.out c.send_before_read.new.out [] c.in_ok-send_before_read.ensures) in
     let reader = c.args.lines.now.lines.reader in
@@ -141,7 +140,7 @@ returns-in-Err-Memory-clause-memory g c = λ count is.
     let es = map g.M.LineMatch.expression c.args.matchers.now in
     let i = c.loop-lines.invariant in
     let before = i.so_far in
-    let skipped = rw i.same_expressions at (c.pass_unselected.ensures.passed c.args.lines.now.lines.reader before.lines before.handed) in
+    let skipped = rw i.same_matchers.same_expressions at (c.pass_unselected.ensures.passed c.args.lines.now.lines.reader before.lines before.handed) in
     let p = searched_passed g.R.CountedRead.remaining g.R.CountedRead.failures es w.options w.many false w.name.now c.args.lines.now.lines.reader c.requires.plain c.loop-lines.lines c.pass_unselected.new.lines _ _ _ _ c.loop-lines.selected before skipped in
     let s = searched_sent g.R.CountedRead.remaining g.R.CountedRead.failures es w.options w.many false w.name.now c.args.lines.now.lines.reader c.pass_unselected.new.lines _ _ _ _ _ c.loop-lines.selected p (TakesAll-written g.W.CountedWrite.contents g.W.CountedWrite.failures c.loop-lines.out c.send_before_read.new.out [] c.in_ok-send_before_read.ensures) in
     let reader = c.args.lines.now.lines.reader in

@@ -1,5 +1,5 @@
-use Rattle.std.proofs.Common.{◌≡◌, ◌-◌, ◌*◌, map, length}
-use Rattle.re_search.specs.Searching.{AddsAtMost}
+use Rattle.std.proofs.Common.{◌-◌, ◌*◌, map, length}
+use Rattle.re_search.specs.Searching.{AddsAtMost, SameMatchers}
 use Rattle.grep_core.specs.Run.{writer}
 use Rattle.grep_core.specs.Cost.{search_cost}
 use Rattle.grep_core.proofs.lemmas.PartsLemmas.{PartsSoFar}
@@ -10,8 +10,7 @@ abbrev pub invariant-loop-part : goal.invariant-loop-part
 invariant-loop-part g l = record {
   parts : (s : PartsSoFar (map g.M.LineMatch.expression l.fn.matchers) l.wanted.options l.wanted.many l.wanted.name.now l.number l.line l.from
       (writer g.W.CountedWrite.contents g.W.CountedWrite.failures l.fn.out) (writer g.W.CountedWrite.contents g.W.CountedWrite.failures l.out)) × AddsAtMost (length s.done * search_cost (length l.fn.matchers) l.line) l.fn.meter l.meter;
-  same_expressions : map g.M.LineMatch.expression l.matchers ≡ map g.M.LineMatch.expression l.fn.matchers;
-  same_wholes : map g.M.LineMatch.whole l.matchers ≡ map g.M.LineMatch.whole l.fn.matchers;
+  same_matchers : SameMatchers g.M.LineMatch.expression g.M.LineMatch.whole l.fn.matchers l.matchers;
 }
 
 abbrev pub decreases-loop-part : goal.decreases-loop-part

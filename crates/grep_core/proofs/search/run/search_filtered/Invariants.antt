@@ -1,4 +1,5 @@
 use Rattle.std.proofs.Common.{◌≡◌, ◌≤◌, length, map, take}
+use Rattle.re_search.specs.Searching.{SameMatchers}
 use Rattle.grep_core.specs.Run.{writer}
 use Rattle.grep_core.specs.Sources.{GivesBack}
 use Rattle.grep_core.proofs.lemmas.RunLaws.{RunSoFar}
@@ -24,6 +25,5 @@ invariant-loop-k g l = record {
   within : l.k ≤ length (g.S.Sources.listed l.fn.sources);
   in_order : g.S.Sources.stands_at l.sources l.k;
   same_loan : g.S.Sources.loan l.sources ≡ g.S.Sources.loan l.fn.sources;
-  same_expressions : map g.M.LineMatch.expression l.matchers ≡ map g.M.LineMatch.expression l.fn.matchers;
-  same_wholes : map g.M.LineMatch.whole l.matchers ≡ map g.M.LineMatch.whole l.fn.matchers;
+  same_matchers : SameMatchers g.M.LineMatch.expression g.M.LineMatch.whole l.fn.matchers l.matchers;
 }

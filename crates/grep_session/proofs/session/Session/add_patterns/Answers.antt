@@ -44,8 +44,8 @@ invariant_of-self-in-Err-change_columns c =
     let both : all ≡ s.matchers.items ++ more = c.in-Ok-add_matchers.ensures.ok in
     let at : c.len-first.result ≡ length s.matchers.items = omega (arith, c.len-first.ensures, s.matchers.ok.0) in
     let now = c.change_columns.new.matchers.items in
-    let expressions = taken_off matched_expression s.matchers.items more all c.len-first.result both at now c.truncate.new.self.items c.change_columns.ensures.same_expressions c.truncate.ensures.items in
-    let wholes = taken_off wants_whole s.matchers.items more all c.len-first.result both at now c.truncate.new.self.items c.change_columns.ensures.same_wholes c.truncate.ensures.items in
+    let expressions = taken_off matched_expression s.matchers.items more all c.len-first.result both at now c.truncate.new.self.items c.change_columns.ensures.same_matchers.same_expressions c.truncate.ensures.items in
+    let wholes = taken_off wants_whole s.matchers.items more all c.len-first.result both at now c.truncate.new.self.items c.change_columns.ensures.same_matchers.same_wholes c.truncate.ensures.items in
     record {
       matchers = subst (λ ts. AreMatchers s.syntax s.options (map (λ text. text.items) ts) c.truncate.new.self.items) (sym c.reserve_texts.ensures.items) (AreMatchers-same s.syntax s.options _ s.matchers.items _ c.self.invariant.matchers expressions wholes);
       few = subst (λ n. n ≤ most_patterns) (sym (same_length matched_expression _ _ expressions)) c.self.invariant.few;
@@ -126,7 +126,7 @@ invariant_of-self-2 c =
     let changed : HasChanged (Added c.len-first.result) (map matched_expression all) before (map matched_expression more) = (were_there matched_expression s.matchers.items more all c.len-first.result both at, have_come matched_expression s.matchers.items more all c.len-first.result both at) in
     let joined = AreMatchers-append s.syntax s.options (map (λ text. text.items) s.texts.items) (map (λ text. text.items) texts) s.matchers.items more all both c.self.invariant.matchers made in
     let now = c.change_columns.new.matchers.items in
-    let same = c.change_columns.ensures.same_expressions in
+    let same = c.change_columns.ensures.same_matchers.same_expressions in
     let right = rw c.deref-2.ensures.value at c.in-Ok-change_columns.ensures.ok in
     let all_texts : map (λ text. text.items) c.add_texts.new.texts.items ≡ map (λ text. text.items) s.texts.items ++ map (λ text. text.items) texts =
     ap (map (λ text. text.items)) (c.add_texts.ensures ∙ ap (λ l. l ++ texts) c.reserve_texts.ensures.items) ∙ map-append (λ text. text.items) s.texts.items texts in
@@ -134,7 +134,7 @@ invariant_of-self-2 c =
     let sum : length all ≡ length s.matchers.items + length more = ap length both ∙ length-append s.matchers.items more in
     let came : length more ≡ length texts = made.counted ∙ length-map texts (λ text. text.items) in
     record {
-      matchers = AreMatchers-same s.syntax s.options _ all now (subst (λ ts. AreMatchers s.syntax s.options ts all) (sym all_texts) joined) same c.change_columns.ensures.same_wholes;
+      matchers = AreMatchers-same s.syntax s.options _ all now (subst (λ ts. AreMatchers s.syntax s.options ts all) (sym all_texts) joined) same c.change_columns.ensures.same_matchers.same_wholes;
       few = (let less : length now ≤ most_patterns = omega (arith, as_many, sum, came, bound) in less);
       kept = c.put_columns.ensures.right (map matched_expression now) s.options (subst (λ es. AllZip (IsRight es s.options) (lines_of_files (map kept_file s.files.items)) c.in-Ok-change_columns.found.items) (sym same) (right before (map matched_expression more) changed c.self.invariant.kept));
       some_states = c.self.invariant.some_states;

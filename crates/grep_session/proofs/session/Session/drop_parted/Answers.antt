@@ -32,9 +32,9 @@ invariant_of-self c =
     let left = c.remove-gone.new.self.items in
     let now = c.change_columns.new.matchers.items in
     let expressions = put_back_same matched_expression s.matchers.items now c.put_back.new.matchers.items p c.remove-gone.result within c.remove-gone.ensures.value
-    (c.change_columns.ensures.same_expressions ∙ map-remove matched_expression s.matchers.items left p c.remove-gone.ensures.items) c.put_back.ensures in
+    (c.change_columns.ensures.same_matchers.same_expressions ∙ map-remove matched_expression s.matchers.items left p c.remove-gone.ensures.items) c.put_back.ensures in
     let wholes = put_back_same wants_whole s.matchers.items now c.put_back.new.matchers.items p c.remove-gone.result within c.remove-gone.ensures.value
-    (c.change_columns.ensures.same_wholes ∙ map-remove wants_whole s.matchers.items left p c.remove-gone.ensures.items) c.put_back.ensures in
+    (c.change_columns.ensures.same_matchers.same_wholes ∙ map-remove wants_whole s.matchers.items left p c.remove-gone.ensures.items) c.put_back.ensures in
     record {
       matchers = AreMatchers-same s.syntax s.options _ s.matchers.items _ c.self.invariant.matchers expressions wholes;
       few = subst (λ n. n ≤ most_patterns) (sym (same_length matched_expression _ _ expressions)) c.self.invariant.few;
@@ -93,12 +93,12 @@ invariant_of-self-2 c =
     let fewer : length left.items + 1 ≡ length s.matchers.items = omega (arith, c.remove-gone.ensures.len, left.ok.0, s.matchers.ok.0) in
     let fewer_texts : length texts.items + 1 ≡ length s.texts.items = omega (arith, c.remove.ensures.len, texts.ok.0, s.texts.ok.0) in
     let many : length left.items ≡ length (map (λ text. text.items) texts.items) = omega (arith, fewer, fewer_texts, counted, length-map texts.items (λ text. text.items)) in
-    let same = c.change_columns.ensures.same_expressions in
+    let same = c.change_columns.ensures.same_matchers.same_expressions in
     let right = rw c.deref.ensures.value at c.in-Ok.ensures.ok in
     let rest = AreMatchers-remove s.syntax s.options _ _ s.matchers.items left.items p (map-remove (λ text. text.items) s.texts.items texts.items p c.remove.ensures.items) c.remove-gone.ensures.items many c.self.invariant.matchers in
     let fewer_now : length now.items ≡ length left.items = same_length matched_expression _ _ same in
     record {
-      matchers = AreMatchers-same s.syntax s.options _ left.items now.items rest same c.change_columns.ensures.same_wholes;
+      matchers = AreMatchers-same s.syntax s.options _ left.items now.items rest same c.change_columns.ensures.same_matchers.same_wholes;
       few = (let less : length now.items ≤ most_patterns = omega (arith, fewer_now, fewer, c.self.invariant.few) in less);
       kept = c.put_columns.ensures.right (map matched_expression now.items) s.options (subst (λ es. AllZip (IsRight es s.options) (lines_of_files (map kept_file s.files.items)) c.in-Ok.found.items) (sym same) (right before (matched_expression gone ∷ []) changed c.self.invariant.kept));
       some_states = c.self.invariant.some_states;

@@ -10,7 +10,7 @@ use Rattle.grep_session.specs.Working.Found.{IsRight, lines_of_files}
 use Rattle.grep_session.specs.Working.Kept.{kept_file}
 use Rattle.grep_session.specs.Working.Sessions.{inputs_of}
 use Rattle.grep_session.proofs.lemmas.EditLemmas.{AreMatchers-same}
-use Rattle.grep_session.proofs.lemmas.AgainLemmas.{takes_parts, ready_files, AreMatchers-options}
+use Rattle.grep_session.proofs.lemmas.AllPatternsRead.{takes_parts, ready_files, AreMatchers-options}
 use Rattle.grep_session.proofs.session.Session.part_again.Goals as goal
 
 pub find_columns-requires-clause-whole : goal.find_columns-requires-clause-whole
@@ -52,9 +52,9 @@ invariant_of-self-2 c =
     let case : c.args.options.ignore_case ≡ s.options.ignore_case = c.requires.same_case ∙ sym (ap (λ (i : Inputs). i.options.ignore_case) c.self.view_is) in
     let made = AreMatchers-options s.syntax s.options c.args.options _ s.matchers.items whole case c.self.invariant.matchers in
     let right = rw c.deref.ensures.value at c.in-Ok.ensures.ok in
-    let same = c.find_columns.ensures.same_expressions in
+    let same = c.find_columns.ensures.same_matchers.same_expressions in
     record {
-      matchers = AreMatchers-same s.syntax c.args.options _ s.matchers.items _ made same c.find_columns.ensures.same_wholes;
+      matchers = AreMatchers-same s.syntax c.args.options _ s.matchers.items _ made same c.find_columns.ensures.same_matchers.same_wholes;
       few = subst (λ n. n ≤ most_patterns) (sym (same_length matched_expression _ _ same)) c.self.invariant.few;
       kept = c.put_columns.ensures.right (map matched_expression c.find_columns.new.matchers.items) c.args.options (subst (λ es. AllZip (IsRight es c.args.options) (lines_of_files (map kept_file s.files.items)) c.in-Ok.found.items) (sym same) right);
       some_states = c.self.invariant.some_states;

@@ -1,7 +1,7 @@
 use Rattle.std.proofs.Common.{◌≡◌, IsTrue, map, sym, ap, subst, ◌∙◌}
 use Rattle.re_search.specs.Working.Matchers.{matched_expression}
 use Rattle.grep_core.specs.Files.{Inputs}
-use Rattle.grep_session.proofs.lemmas.AgainLemmas.{kept_files, AreMatchers-options}
+use Rattle.grep_session.proofs.lemmas.AllPatternsRead.{kept_files, AreMatchers-options}
 use Rattle.grep_session.proofs.session.Session.put_options.Goals as goal
 
 pub invariant_of-self : goal.invariant_of-self

@@ -8,7 +8,7 @@ use Rattle.grep_session.specs.Working.Found.{IsRight, lines_of_files}
 use Rattle.grep_session.specs.Working.Kept.{kept_file}
 use Rattle.grep_session.specs.Working.Sessions.{inputs_of}
 use Rattle.grep_session.proofs.lemmas.EditLemmas.{AreMatchers-same}
-use Rattle.grep_session.proofs.lemmas.AgainLemmas.{takes_all, refuses_again}
+use Rattle.grep_session.proofs.lemmas.AllPatternsRead.{takes_all, refuses_again}
 use Rattle.grep_session.proofs.session.Session.read_again.Goals as goal
 
 pub returns-in-Err-clause-gives : goal.returns-in-Err-clause-gives
@@ -35,10 +35,10 @@ invariant_of-self c =
     let s = c.self.inside in
     let made = rw c.deref.ensures.value at c.in-Ok.ensures.ok in
     let right = rw c.deref-2.ensures.value at c.in-Ok-find_columns.ensures.ok in
-    let same = c.find_columns.ensures.same_expressions in
+    let same = c.find_columns.ensures.same_matchers.same_expressions in
     let many : length c.find_columns.new.matchers.items ≡ length s.matchers.items = same_length matched_expression _ _ same ∙ made.counted ∙ sym c.self.invariant.matchers.counted in
     record {
-      matchers = AreMatchers-same c.args.syntax c.args.options _ c.in-Ok.matchers.items _ made same c.find_columns.ensures.same_wholes;
+      matchers = AreMatchers-same c.args.syntax c.args.options _ c.in-Ok.matchers.items _ made same c.find_columns.ensures.same_matchers.same_wholes;
       few = subst (λ n. n ≤ most_patterns) (sym many) c.self.invariant.few;
       kept = c.put_columns.ensures.right (map matched_expression c.find_columns.new.matchers.items) c.args.options (subst (λ es. AllZip (IsRight es c.args.options) (lines_of_files (map kept_file s.files.items)) c.in-Ok-find_columns.found.items) (sym same) right);
       some_states = c.self.invariant.some_states;

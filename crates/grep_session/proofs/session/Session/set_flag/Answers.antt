@@ -7,7 +7,7 @@ use Rattle.grep_session.specs.Working.Again.{ReadsAgain, AreReadable, read_as}
 use Rattle.grep_session.specs.Edits.{Edit, SetFlag, Applies, option_of, with_option}
 use Rattle.grep_session.specs.Working.Sessions.{inputs_of}
 use Rattle.grep_session.specs.Touched.{TakesSteps, Touches, searched_by, parts_alone, all_lines, touched_by_flag}
-use Rattle.grep_session.proofs.lemmas.AgainLemmas.{sets_flag, applies_same, applies_flag}
+use Rattle.grep_session.proofs.lemmas.AllPatternsRead.{sets_flag, applies_same, applies_flag}
 use Rattle.grep_session.proofs.session.Session.set_flag.Goals as goal
 
 pub returns-then-option_of-on-clause-gives : goal.returns-then-option_of-on-clause-gives

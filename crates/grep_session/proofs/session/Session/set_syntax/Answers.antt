@@ -5,7 +5,7 @@ use Rattle.grep_session.specs.Working.Again.{ReadsAgain, AreReadable, read_as}
 use Rattle.grep_session.specs.Edits.{Edit, SetSyntax, Applies}
 use Rattle.grep_session.specs.Touched.{TakesSteps, Touches, searched_by, all_lines}
 use Rattle.grep_session.specs.Working.Sessions.{inputs_of}
-use Rattle.grep_session.proofs.lemmas.AgainLemmas.{sets_syntax}
+use Rattle.grep_session.proofs.lemmas.AllPatternsRead.{sets_syntax}
 use Rattle.grep_session.proofs.session.Session.set_syntax.Goals as goal
 
 pub returns-then-is_same-clause-gives : goal.returns-then-is_same-clause-gives

@@ -54,9 +54,9 @@ invariant_of-self-2 c =
     let within = in_kept s.files.items c.args.k place.in_files in
     let before : IfSome (kept_lines d) (All (IsKept es s.options)) = subst (λ (f : KeptFile). IsFileKept es s.options f) (sym at) (c.self.invariant.kept c.args.k d within) in
     let kept = files_kept es s.options s.files.items c.args.k c.put_in.new.file _ c.self.invariant.kept c.in-Ok-put_in.ensures.ok (kept_put c.args.start c.args.count c.in-Ok-search_new.kept.items es s.options (kept_lines d) before c.in-Ok-search_new.ensures.ok) in
-    let same = c.search_new.ensures.same_expressions in
+    let same = c.search_new.ensures.same_matchers.same_expressions in
     record {
-      matchers = AreMatchers-same s.syntax s.options _ s.matchers.items _ c.self.invariant.matchers same c.search_new.ensures.same_wholes;
+      matchers = AreMatchers-same s.syntax s.options _ s.matchers.items _ c.self.invariant.matchers same c.search_new.ensures.same_matchers.same_wholes;
       few = subst (λ n. n ≤ most_patterns) (sym (same_length matched_expression _ _ same)) c.self.invariant.few;
       kept = subst (λ es. All (IsFileKept es s.options) (slice_set s.files.items c.args.k c.put_in.new.file)) (sym same) kept;
       some_states = c.self.invariant.some_states;
