@@ -7,13 +7,14 @@ ghost use Rattle.re_search.specs.Working.Needles.{IsNeedleFor};
 ghost use Rattle.re_search.specs.Working.Outlines.{IsOutline, shown};
 
 mod choice;
-mod few;
+mod cover;
 mod outline;
+mod probes;
 mod run_finder;
 mod set_finder;
+mod survey;
 
-use choice::{RunOf, run_start};
-use few::Few;
+use choice::{RunOf, mark_rank, run_start};
 use memchr::memmem::Finder;
 use outline::{Mark, add_outline};
 use re_syntax::{ByteSet, Tree};
@@ -93,6 +94,9 @@ fn set_needle(alloc: Global, marks: &[Mark], start: usize) -> Result<Option<Need
     let Some(finder) = SetFinder::new(sets) else {
         return Ok(None);
     };
+    if !is_all && !finder.is_selective() {
+        return Ok(None);
+    }
     Ok(Some(Needle {
         finder: RunFinder::Sets(finder),
         is_all,
@@ -148,18 +152,11 @@ fn small_set(mark: &Mark, before: usize) -> Option<ByteSet>
     if before >= MOST_SETS {
         return None;
     }
+    mark_rank(mark, RunOf::Sets)?;
     match mark {
-        Mark::Set(set) => is_small(set),
+        Mark::Set(set) => Some(*set),
         Mark::Stretch => None,
     }
-}
-
-// The set, where it has one, two or three bytes.
-fn is_small(set: &ByteSet) -> Option<ByteSet>
-    ensures { IfSome result (λ same. same ≡ set.now) }
-{
-    Few::of(set)?;
-    Some(*set)
 }
 
 // The byte that the tree takes, where it takes one byte and no other.

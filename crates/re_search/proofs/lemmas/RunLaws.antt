@@ -1,15 +1,14 @@
--- Where a run of sets stands in a line, and what a search for its rarest set tells.
+-- Where a run of sets stands in a line, and what the tests of its probes tell.
 use Rattle.std.proofs.Common.{◌≡◌, ℕ, zero, suc, ◌+◌, ◌-◌, ◌<◌, ◌≤◌, ◌⊎◌, inl, inr, IsTrue, List, [], ◌∷◌, ◌++◌, length, map, drop, get_or, slice_index, Option, None, Some, refl, sym, ap, ◌∙◌, subst, arith, eq-eqb, length-append, length-drop}
 use Rattle.std.proofs.lemmas.Bool.{eqb-true}
 use Rattle.std.proofs.lemmas.List.{get_or-drop, get_or-map, get_or_append_left, get_or-append-add, length-map}
 use Rattle.re_syntax.specs.Bytes.{Bytes, Text, nothing, only}
 use Rattle.re_syntax.specs.Sets.{members}
 use Rattle.re_syntax.specs.declared.bytes.ByteSet.{ByteSet}
-use Rattle.re_auto.proofs.lemmas.BeginningLemmas.{tells_two, tells_three}
-use Rattle.memchr.specs.Find.{OccursAt, FindsNeedle, IsFirstByte}
-use Rattle.re_search.specs.declared.needle.few.Few.{Few}
-use Rattle.re_search.specs.declared.needle.few.Few.TheVariants.{One, Two, Three}
-use Rattle.re_search.specs.Working.Runs.{RunStandsAt, FindsRun, Covers, set_at, is_few}
+use Rattle.memchr.specs.Find.{OccursAt, FindsNeedle}
+use Rattle.re_search.specs.declared.needle.probes.Probe.{Probe}
+use Rattle.re_search.specs.declared.needle.probes.Probes.{Probes}
+use Rattle.re_search.specs.Working.Runs.{RunStandsAt, FindsRun, set_at, PassesAt, AllPass, HaveRoom, IsProbeOf, AreProbesOf}
 
 -- ---- in a longer line, and in the rest of one
 
@@ -122,30 +121,30 @@ none_left run line start some end before k o = let fits : k + length run ≤ len
 pub found_at : (run : List Bytes) (line : Text) (at : ℕ) → at < length line → ((k : ℕ) → k < at → ¬ RunStandsAt line run k) → RunStandsAt line run at → FindsRun line run (Some at)
 found_at run line at within before stands = (record { low = omega arith; high = omega (arith, within); before = λ k low lt. before k lt }, stands)
 
--- ---- by the bytes of the rarest set
+-- ---- by the tests of its probes
 
-covered : (few : Few) (set : Bytes) (x : ℕ) → Covers few set → x < 256 → IsTrue (set x) → IsTrue (is_few few x)
-covered (One a) set x covers small has = eq-eqb x a (covers x small has)
-covered (Two a b) set x covers small has = (tells_two a b x).0 (covers x small has)
-covered (Three a b c) set x covers small has = (tells_three a b c x).0 (covers x small has)
+-- where the run stands the test of a probe for it is passed
+passes : (run : List Bytes) (line : Text) (probe : Probe) (k : ℕ) → ((x : ℕ) → slice_index line x < 256) → IsProbeOf probe run → RunStandsAt line run k → PassesAt probe line k
+passes run line probe k small (within, covers) o = covers (slice_index line (k + probe.at)) (small (k + probe.at)) (o.takes probe.at within)
 
--- a run reaches behind its rarest set
-pub too_far : (run : List Bytes) (line : Text) (rare from : ℕ) → rare < length run → length line - from ≤ rare → (k : ℕ) → from ≤ k → ¬ RunStandsAt line run k
-too_far run line rare from within far k low o = let fits : k + length run ≤ length line = o.fits in absurd (omega (arith, within, far, low, fits))
+-- and those of all probes
+pub all_pass : (run : List Bytes) (line : Text) (probes : Probes) (k : ℕ) → ((x : ℕ) → slice_index line x < 256) → AreProbesOf probes run → RunStandsAt line run k → AllPass probes line k
+all_pass run line probes k small are o = record {
+  first = passes run line probes.first k small are.first o;
+  second = passes run line probes.second k small are.second o;
+  third = passes run line probes.third k small are.third o;
+  fourth = passes run line probes.fourth k small are.fourth o;
+}
 
-module _ (run : List Bytes) (line : Text) (few : Few) (rare from : ℕ) (within : rare < length run) (covers : Covers few (set_at run rare)) (small : (x : ℕ) → slice_index line x < 256) where
-  has_rare : (k : ℕ) → from ≤ k → RunStandsAt line run k → IsTrue (is_few few (slice_index (drop (from + rare) line) (k - from)))
-  has_rare k low o =
-      let place : from + rare + (k - from) ≡ k + rare = omega (arith, low) in
-      let same : slice_index line (k + rare) ≡ slice_index (drop (from + rare) line) (k - from) = sym (get_or-drop (from + rare) line (k - from) 0 ∙ ap (λ n. get_or line n 0) place) in
-      subst (λ b. IsTrue (is_few few b)) same (covered few (set_at run rare) (slice_index line (k + rare)) covers (small (k + rare)) (o.takes rare within))
+-- before places behind which the run has room the probes have
+pub have_room : (run : List Bytes) (line : Text) (probes : Probes) (past : ℕ) → AreProbesOf probes run → past + length run ≤ length line + 1 → HaveRoom probes line past
+have_room run line probes past are fits = record {
+  first = omega (arith, fits, are.first.0);
+  second = omega (arith, fits, are.second.0);
+  third = omega (arith, fits, are.third.0);
+  fourth = omega (arith, fits, are.fourth.0);
+}
 
-  -- where its bytes stand nowhere the run doesn't
-  pub none_passes : IsFirstByte (is_few few) (drop (from + rare) line) None → (k : ℕ) → from ≤ k → ¬ RunStandsAt line run k
-  none_passes none k low o =
-      let fits : k + length run ≤ length line = o.fits in
-      none (k - from) (omega arith) (omega (arith, low, fits, within, length-drop (from + rare) line)) (has_rare k low o)
-
-  -- nor before the first of them
-  pub some_passes : (n : ℕ) → IsFirstByte (is_few few) (drop (from + rare) line) (Some n) → (k : ℕ) → from ≤ k → k < from + n → ¬ RunStandsAt line run k
-  some_passes n (first, has) k low lt o = first.before (k - from) (omega arith) (omega (arith, low, lt)) (has_rare k low o)
+-- a run has no room from the last place on behind which it has
+pub no_room : (run : List Bytes) (line : Text) (k : ℕ) → length line + 1 ≤ k + length run → ¬ RunStandsAt line run k
+no_room run line k short o = let fits : k + length run ≤ length line = o.fits in absurd (omega (arith, short, fits))

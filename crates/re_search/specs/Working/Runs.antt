@@ -1,10 +1,11 @@
--- Runs of sets of bytes: where one stands in a line, and small sets by their bytes.
-use Rattle.std.specs.Prelude.{◌≡◌, ℕ, ◌+◌, ◌<◌, ◌≤◌, ◌⊎◌, Bool, IsTrue, List, Option, length}
+-- Runs of sets of bytes: where one stands in a line, and tests that its bytes pass.
+use Rattle.std.specs.Prelude.{◌≡◌, ℕ, ◌+◌, ◌<◌, ◌≤◌, ◌⊎◌, IsTrue, List, Option, length}
 use Rattle.std.specs.Prelude.{get_or, slice_index}
 use Rattle.re_syntax.specs.Bytes.{Bytes, Text, nothing}
-use Rattle.memchr.specs.Find.{IsFirst, is_byte, is_byte2, is_byte3}
-use Rattle.re_search.specs.declared.needle.few.Few.{Few}
-use Rattle.re_search.specs.declared.needle.few.Few.TheVariants.{One, Two, Three}
+use Rattle.memchr.specs.Find.{IsFirst}
+use Rattle.re_search.specs.declared.needle.cover.Cover.{Cover}
+use Rattle.re_search.specs.declared.needle.probes.Probe.{Probe}
+use Rattle.re_search.specs.declared.needle.probes.Probes.{Probes}
 
 -- the set at a place of a run
 abbrev pub set_at : List Bytes → ℕ → Bytes
@@ -23,19 +24,39 @@ FindsRun line run r = IsFirst (λ k. RunStandsAt line run k) 0 (length line + 1)
 abbrev pub LacksRun : List Bytes → Text → Type 0
 LacksRun run line = (k : ℕ) → ¬ RunStandsAt line run k
 
--- the test that a byte is one of these
-abbrev pub is_few : Few → ℕ → Bool
-is_few (One a) = is_byte a
-is_few (Two a b) = is_byte2 a b
-is_few (Three a b c) = is_byte3 a b c
+-- the byte is in the range of the cover, or one of its two
+abbrev pub IsCovered : Cover → ℕ → Type 0
+IsCovered cover x = ((cover.low ≤ x) × (x ≤ cover.high)) ⊎ (x ≡ cover.one) ⊎ (x ≡ cover.other)
 
--- all bytes of the set are among these
-abbrev pub Covers : Few → Bytes → Type 0
-Covers (One a) set = (x : ℕ) → x < 256 → IsTrue (set x) → x ≡ a
-Covers (Two a b) set = (x : ℕ) → x < 256 → IsTrue (set x) → (x ≡ a) ⊎ (x ≡ b)
-Covers (Three a b c) set = (x : ℕ) → x < 256 → IsTrue (set x) → (x ≡ a) ⊎ (x ≡ b) ⊎ (x ≡ c)
+-- all bytes of the set are
+abbrev pub Covers : Cover → Bytes → Type 0
+Covers cover set = (x : ℕ) → x < 256 → IsTrue (set x) → IsCovered cover x
 
--- no byte of the set stands from one on before the result, which is 256 at most
-pub record IsNextMember (set : Bytes) (from result : ℕ) : Type 0 where
-  pub on : (from ≤ result) × (result ≤ 256)
-  pub passed : (x : ℕ) → from ≤ x → x < result → ¬ IsTrue (set x)
+-- the byte that stands as far behind place k as the probe asks passes its test
+abbrev pub PassesAt : Probe → Text → ℕ → Type 0
+PassesAt probe line k = IsCovered probe.cover (slice_index line (k + probe.at))
+
+-- all four do
+pub record AllPass (probes : Probes) (line : Text) (k : ℕ) : Type 0 where
+  pub first : PassesAt probes.first line k
+  pub second : PassesAt probes.second line k
+  pub third : PassesAt probes.third line k
+  pub fourth : PassesAt probes.fourth line k
+
+-- as far behind each place before this one as the probes ask there is a byte
+pub record HaveRoom (probes : Probes) (line : Text) (past : ℕ) : Type 0 where
+  pub first : past + probes.first.at ≤ length line
+  pub second : past + probes.second.at ≤ length line
+  pub third : past + probes.third.at ≤ length line
+  pub fourth : past + probes.fourth.at ≤ length line
+
+-- the probe is for a set of the run
+abbrev pub IsProbeOf : Probe → List Bytes → Type 0
+IsProbeOf probe run = (probe.at < length run) × Covers probe.cover (set_at run probe.at)
+
+-- all four are
+pub record AreProbesOf (probes : Probes) (run : List Bytes) : Type 0 where
+  pub first : IsProbeOf probes.first run
+  pub second : IsProbeOf probes.second run
+  pub third : IsProbeOf probes.third run
+  pub fourth : IsProbeOf probes.fourth run

@@ -348,7 +348,7 @@ const RARE: Pattern = (Syntax::Basic, b"the.*qz", false, false);
 
 const SETS: Pattern = (Syntax::Basic, b"[abc][xyz]", false, false);
 
-const SOME_SETS: Pattern = (Syntax::Basic, b"[ab][cd][0-9]", false, false);
+const SOME_SETS: Pattern = (Syntax::Basic, b"[qz][jx][^a]", false, false);
 
 static NEEDED: [Needed; 28] = [
     (REPEATED, b"xxxaxb", 0, None, true),
@@ -404,9 +404,9 @@ static NEEDED: [Needed; 28] = [
     (SETS, b"ccaabcy", 0, Some((5, 7)), true),
     (SETS, b"aybx", 1, Some((2, 4)), true),
     (SETS, b"xyabc", 0, None, true),
-    (SOME_SETS, b"ad-bc", 0, None, false),
-    (SOME_SETS, b"a-bc1", 0, Some((2, 5)), false),
-    (SOME_SETS, b"a-b1c", 0, None, true),
+    (SOME_SETS, b"qja-zx", 0, None, false),
+    (SOME_SETS, b"q-zx1", 0, Some((2, 5)), false),
+    (SOME_SETS, b"q-z1x", 0, None, true),
     (
         (Syntax::Basic, b"ab*c", true, false),
         b"aAa",

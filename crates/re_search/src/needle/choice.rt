@@ -1,8 +1,8 @@
 //! Which run of an outline is looked for. No contract rests on the choice.
 ghost use Rattle.std.specs.Prelude.{◌≡◌, ◌≤◌, length};
 
-use crate::needle::few::{Few, rank_of};
 use crate::needle::outline::Mark;
+use crate::needle::survey::{Survey, rank_of};
 
 // From how many bytes on a run is long: of long runs the longest is taken, of others one that is
 // much rarer before a longer one.
@@ -11,12 +11,15 @@ const LONG: usize = 4;
 // By how many ranks a byte is much rarer than another.
 const MUCH: u8 = 32;
 
+// A set is small that about so many of 65,536 bytes of most texts are in, or fewer.
+const SMALL: u32 = 16_384;
+
 /// What the marks of a run are.
 #[derive(Clone, Copy)]
 pub enum RunOf {
     /// Single bytes.
     Bytes,
-    /// Sets of at most three bytes.
+    /// Sets that few bytes of most texts are in.
     Sets,
 }
 
@@ -82,13 +85,21 @@ pub fn run_start(marks: &[Mark], of: RunOf) -> usize
     best.start
 }
 
-// How common the bytes of the mark are, where it may be one of such a run.
-fn mark_rank(mark: &Mark, of: RunOf) -> Option<u8> {
+/// How common the bytes of the mark are, where it may be one of such a run.
+pub fn mark_rank(mark: &Mark, of: RunOf) -> Option<u8> {
     let Mark::Set(set) = mark else {
         return None;
     };
     match of {
         RunOf::Bytes => Some(rank_of(set.one_byte()?)),
-        RunOf::Sets => Some(Few::of(set)?.rank()),
+        RunOf::Sets => rank_of_small(&Survey::of(set)?),
     }
+}
+
+// How common the set's bytes are, where it is small.
+fn rank_of_small(survey: &Survey) -> Option<u8> {
+    if survey.share > SMALL {
+        return None;
+    }
+    Some(survey.rank)
 }

@@ -2,47 +2,92 @@
 ghost use Rattle.std.specs.Prelude.{◌≡◌, ◌<◌, ◌≤◌, ◌↔◌, ℕ, IsTrue, IfSome, MatchOption, length};
 ghost use Rattle.std.specs.Prelude.{map};
 ghost use Rattle.re_syntax.specs.Sets.{members};
-ghost use Rattle.re_search.specs.Working.Runs.{FindsRun, RunStandsAt, set_at};
+ghost use Rattle.re_search.specs.Working.Runs.{FindsRun, IsProbeOf, RunStandsAt, set_at};
 
-use crate::needle::few::Few;
+use crate::needle::cover::Cover;
+use crate::needle::probes::{Probe, Probes};
+use crate::needle::survey::Survey;
 use re_syntax::ByteSet;
 use std::marker::Model;
 
-/// Looks for a run of sets, one byte of each in turn: for a byte of the rarest by `memchr`, around
-/// which the others are compared. Contracts see it as the sets.
+// How many places are tried at a time.
+const PORTION: usize = 64;
+
+// At about so many places in 65,536 bytes of most texts the probes of a selective search are passed
+// at most.
+const MOST_STOPS: u64 = 128;
+
+// The place of a set that there is not.
+const NOWHERE: usize = usize::MAX;
+
+/// Looks for a run of sets, one byte of each in turn: for a byte of each of the four rarest at once,
+/// around which the others are compared. Contracts see it as the sets.
 #[derive(Drop)]
 pub struct SetFinder {
     sets: Vec<ByteSet>,
-    rare: usize,
-    few: Few,
+    probes: Probes,
 }
 
 impl Model for SetFinder {
-    ghost use Rattle.std.specs.Prelude.{◌<◌, List, length, map};
+    ghost use Rattle.std.specs.Prelude.{List, map};
     ghost use Rattle.re_syntax.specs.declared.bytes.ByteSet.{ByteSet};
     ghost use Rattle.re_syntax.specs.Sets.{members};
-    ghost use Rattle.re_search.specs.Working.Runs.{Covers, set_at};
+    ghost use Rattle.re_search.specs.Working.Runs.{AreProbesOf};
 
     ghost Value = { List ByteSet };
 
     ghost view = { λ f. f.sets.items };
 
-    ghost invariant = { λ f. (f.rare < length f.sets.items) ×
-        Covers f.few (set_at (map members f.sets.items) f.rare) };
+    ghost invariant = { λ f. AreProbesOf f.probes (map members f.sets.items) };
 }
 
 impl SetFinder {
-    /// The search for these sets; `None` where there is none, or the rarest has more than three
-    /// bytes.
+    /// The search for these sets; `None` where there are fewer than two.
     pub fn new(sets: Vec<ByteSet>) -> Option<SetFinder>
         ensures { IfSome result (λ f. f ≡ sets.items) }
     {
-        let rare = rarest(&sets);
-        if rare >= sets.len() {
-            return None;
+        let first = rarest_probe(&sets, NOWHERE, NOWHERE, NOWHERE)?;
+        let second = rarest_probe(&sets, first.at, NOWHERE, NOWHERE)?;
+        let third = match rarest_probe(&sets, first.at, second.at, NOWHERE) {
+            Some(probe) => probe,
+            None => second,
+        };
+        let fourth = match rarest_probe(&sets, first.at, second.at, third.at) {
+            Some(probe) => probe,
+            None => third,
+        };
+        let probes = Probes {
+            first,
+            second,
+            third,
+            fourth,
+        };
+        Some(SetFinder { sets, probes })
+    }
+
+    /// Whether such runs stand in most texts so seldom that it is worth while to look for them before
+    /// something else.
+    pub fn is_selective(&self) -> bool {
+        let first = self.share_at(self.probes.first.at);
+        let second = self.share_at(self.probes.second.at);
+        let third = self.share_at(self.probes.third.at);
+        let fourth = self.share_at(self.probes.fourth.at);
+        let mut stops = first.saturating_mul(second) >> 16;
+        if self.probes.third.at != self.probes.second.at {
+            stops = stops.saturating_mul(third) >> 16;
         }
-        let few = Few::of(&sets[rare])?;
-        Some(SetFinder { sets, rare, few })
+        if self.probes.fourth.at != self.probes.third.at {
+            stops = stops.saturating_mul(fourth) >> 16;
+        }
+        stops <= MOST_STOPS
+    }
+
+    // About how many of 65,536 bytes of most texts are in the set at a place of the run.
+    fn share_at(&self, place: usize) -> u64 {
+        match self.sets.get(place) {
+            Some(set) => u64::from(share_of(set)),
+            None => 0,
+        }
     }
 
     /// How many sets there are.
@@ -69,8 +114,7 @@ impl SetFinder {
         None
     }
 
-    // The first place from one on at which the run may stand, by its rarest set.
-    #[inline(always)]
+    // The first place from one on at which the run may stand, by the probes.
     fn candidate(&self, line: &[u8], from: usize) -> Option<usize>
         requires { from < length line.now }
         ensures { MatchOption result
@@ -78,11 +122,19 @@ impl SetFinder {
             (λ at. (from ≤ at) × (at < length line.now) ×
             ((k : ℕ) → from ≤ k → k < at → ¬ RunStandsAt line.now (map members self.now) k)) }
     {
-        if self.rare >= line.len() - from {
+        if line.len() < self.sets.len() {
             return None;
         }
-        let passed = self.few.find(&line[from + self.rare..])?;
-        Some(from + passed)
+        let end = line.len() - self.sets.len() + 1;
+        let mut start = from;
+        'portions: while start < end {
+            let past = start + PORTION.min(end - start);
+            if let Some(place) = self.probes.first_between(line, start, past) {
+                return Some(place);
+            }
+            start = past;
+        }
+        None
     }
 }
 
@@ -112,24 +164,38 @@ fn takes(sets: &[ByteSet], j: usize, byte: u8) -> bool
     sets[j].has(byte)
 }
 
-// The place of the set that is rarest in most texts, the first of several.
-fn rarest(sets: &[ByteSet]) -> usize {
-    let mut rare = 0;
-    let mut least = u8::MAX;
+// The test for the rarest set that is not at one of these places; `None` where there is none.
+fn rarest_probe(sets: &[ByteSet], first: usize, second: usize, third: usize) -> Option<Probe>
+    ensures { IfSome result (λ probe. IsProbeOf probe (map members sets.now)) }
+{
+    let at = rarest_but(sets, first, second, third);
+    if at >= sets.len() {
+        return None;
+    }
+    let cover = Cover::of(&sets[at])?;
+    Some(Probe { at, cover })
+}
+
+// The place of the set that is rarest in most texts, of those that are not at one of these.
+fn rarest_but(sets: &[ByteSet], first: usize, second: usize, third: usize) -> usize {
+    let mut rare = NOWHERE;
+    let mut least = u32::MAX;
     for place in 0..sets.len() {
-        let rank = rank_of_set(&sets[place]);
-        if rank < least {
-            least = rank;
-            rare = place;
+        if place != first && place != second && place != third {
+            let share = share_of(&sets[place]);
+            if share < least {
+                least = share;
+                rare = place;
+            }
         }
     }
     rare
 }
 
-// How common the set's bytes are in most texts; 255 where it has more than three.
-fn rank_of_set(set: &ByteSet) -> u8 {
-    match Few::of(set) {
-        Some(few) => few.rank(),
-        None => u8::MAX,
+// About how many of 65,536 bytes of most texts are in the set.
+fn share_of(set: &ByteSet) -> u32 {
+    match Survey::of(set) {
+        Some(survey) => survey.share,
+        None => u32::MAX,
     }
 }

@@ -1,27 +1,47 @@
-use Rattle.std.proofs.Common.{rules, ◌<◌, ℕ, ◌+◌, ◌-◌, length, map, slice_index, arith, length-drop}
-use Rattle.std.proofs.lemmas.List.{take_rest, length-map}
+use Rattle.std.proofs.Common.{rules, ◌≡◌, ℕ, ◌+◌, ◌-◌, ◌<◌, ◌≤◌, ◌⊎◌, inl, inr, length, map, slice_index, sym, ap, subst, arith}
+use Rattle.std.proofs.lemmas.List.{length-map}
 use Rattle.re_syntax.specs.Sets.{members}
-use Rattle.re_search.proofs.lemmas.RunLaws.{none_passes, some_passes}
+use Rattle.re_search.specs.Working.Runs.{RunStandsAt}
+use Rattle.re_search.proofs.lemmas.RunLaws.{all_pass, no_room}
 use Rattle.re_search.proofs.needle.set_finder.SetFinder.candidate.Goals as goal
 
-pub returns-in_err-passed : goal.returns-in_err-passed
-returns-in_err-passed c =
+either : (k n : ℕ) → (k < n) ⊎ (n ≤ k)
+either k n = search arith
+
+pub returns-in-Some : goal.returns-in-Some
+returns-in-Some c =
     let a = c.self.inside in
-    let within : a.rare < length (map members a.sets.items) = omega (arith, c.self.invariant.0, length-map a.sets.items members) in
+    let run = map members c.args.self.now in
     let small : (x : ℕ) → slice_index c.args.line.now x < 256 = search rules in
-    rw (c.from_residual.ensures, ← c.self.view_is)
-    (none_passes (map members a.sets.items) c.args.line.now a.few a.rare c.args.from within c.self.invariant.1 small (rw take_rest at (c.in_err-passed.ensures)))
+    let are = rw c.self.view_is at c.self.invariant in
+    let stops = c.in-Some.ensures in
+    let some : 1 ≤ length run = omega (arith, are.first.0) in (
+      omega (arith, stops.0, c.portions.invariant.on),
+      omega (arith, stops.1, c.min.ensures, c.portions-test.true, some, length-map c.args.self.now members, c.len-2.ensures, ap length c.self.view_is),
+      λ k low lt o. elim (either k c.portions.start) [
+        | inl before ↦ c.portions.invariant.passed k low before o
+        | inr behind ↦ stops.2 k behind lt (all_pass run c.args.line.now a.probes k small are o)
+      ],
+    )
+
+pub portions-preserved : goal.portions-preserved
+portions-preserved c =
+    let a = c.self.inside in
+    let run = map members c.args.self.now in
+    let small : (x : ℕ) → slice_index c.args.line.now x < 256 = search rules in
+    let are = rw c.self.view_is at c.self.invariant in
+    record {
+      on = omega (arith, c.portions.invariant.on);
+      passed = λ k low lt o. elim (either k c.portions.start) [
+        | inl before ↦ c.portions.invariant.passed k low before o
+        | inr behind ↦ c.in_default.ensures k behind lt (all_pass run c.args.line.now a.probes k small are o)
+      ];
+    }
 
 pub returns : goal.returns
 returns c =
-    let a = c.self.inside in
-    let passed = c.in_ok-passed.passed in
-    let within : a.rare < length (map members a.sets.items) = omega (arith, c.self.invariant.0, length-map a.sets.items members) in
-    let small : (x : ℕ) → slice_index c.args.line.now x < 256 = search rules in
-    let first = rw take_rest at (c.in_ok-passed.ensures) in
-    let high : passed < length c.args.line.now - (c.args.from + a.rare) = omega (arith, first.0.high, length-drop (c.args.from + a.rare) c.args.line.now) in
-    rw (← c.self.view_is) (
-      omega arith,
-      omega (arith, high),
-      some_passes (map members a.sets.items) c.args.line.now a.few a.rare c.args.from within c.self.invariant.1 small passed first,
-    )
+    let run = map members c.args.self.now in
+    λ k low o. elim (either k c.portions.start) [
+      | inl before ↦ c.portions.invariant.passed k low before o
+      | inr behind ↦ no_room run c.args.line.now k (omega (arith, behind, c.portions-test.false, length-map c.args.self.now members, c.len-2.ensures, ap length c.self.view_is)) o
+    ]

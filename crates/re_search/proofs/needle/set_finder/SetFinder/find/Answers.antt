@@ -32,5 +32,6 @@ places-preserved c =
 pub returns : goal.returns
 returns c =
     let run = map members c.args.self.now in
-    let some : 1 ≤ length run = omega (arith, c.self.invariant.0, ap length c.self.view_is, length-map c.args.self.now members) in
+    let are = rw c.self.view_is at c.self.invariant in
+    let some : 1 ≤ length run = omega (arith, are.first.0) in
     λ k low lt. none_left run c.args.line.now c.places.start some (omega (arith, c.places-test.false)) c.places.invariant.passed k

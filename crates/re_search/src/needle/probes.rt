@@ -1,0 +1,96 @@
+//! Search for a place behind which a byte of each of four sets stands, by tests of one form.
+ghost use Rattle.std.specs.Prelude.{◌≡◌, ◌+◌, ◌<◌, ◌≤◌, ℕ, false, MatchOption, length};
+ghost use Rattle.re_search.specs.Working.Runs.{AllPass, HaveRoom, PassesAt};
+
+use crate::needle::cover::Cover;
+
+/// A test for the byte that stands so many bytes behind a place.
+#[derive(Clone, Copy, Drop)]
+pub struct Probe {
+    /// How far behind.
+    pub at: usize,
+    /// The test.
+    pub cover: Cover,
+}
+
+impl Probe {
+    // Whether the byte behind the place passes the test.
+    #[inline(always)]
+    fn passes_at(self, line: &[u8], place: usize) -> bool
+        requires { place + self.at < length line.now }
+        ensures { result ≡ false → ¬ PassesAt self line.now place }
+    {
+        self.cover.passes(line[place + self.at])
+    }
+}
+
+/// Four tests, of which some may be the same.
+#[derive(Clone, Copy, Drop)]
+pub struct Probes {
+    /// The first, which the fewest bytes pass.
+    pub first: Probe,
+    /// The second.
+    pub second: Probe,
+    /// The third.
+    pub third: Probe,
+    /// The fourth.
+    pub fourth: Probe,
+}
+
+impl Probes {
+    /// The first place from one on and before another where all tests are passed.
+    #[inline(always)]
+    pub fn first_between(&self, line: &[u8], from: usize, past: usize) -> Option<usize>
+        requires ordered { from ≤ past }
+        requires room { HaveRoom self.now line.now past }
+        ensures { MatchOption result
+            ((k : ℕ) → from ≤ k → k < past → ¬ AllPass self.now line.now k)
+            (λ at. (from ≤ at) × (at < past) ×
+            ((k : ℕ) → from ≤ k → k < at → ¬ AllPass self.now line.now k)) }
+    {
+        if !self.pass_between(line, from, past) {
+            return None;
+        }
+        'places: for place in from..past {
+            if self.pass_at(line, place) {
+                return Some(place);
+            }
+        }
+        None
+    }
+
+    // Whether all tests are passed at some of the places: without a branch for each, so that many
+    // are tried at once.
+    fn pass_between(&self, line: &[u8], from: usize, past: usize) -> bool
+        requires ordered { from ≤ past }
+        requires room { HaveRoom self.now line.now past }
+        ensures { result ≡ false → (k : ℕ) → from ≤ k → k < past → ¬ AllPass self.now line.now k }
+    {
+        let Probes {
+            first,
+            second,
+            third,
+            fourth,
+        } = *self;
+        let mut some = false;
+        'places: for place in from..past {
+            some |= first.passes_at(line, place)
+                & second.passes_at(line, place)
+                & third.passes_at(line, place)
+                & fourth.passes_at(line, place);
+        }
+        some
+    }
+
+    // Whether all tests are passed at the place.
+    #[inline(always)]
+    fn pass_at(&self, line: &[u8], place: usize) -> bool
+        requires { HaveRoom self.now line.now (place + 1) }
+        ensures { result ≡ false → ¬ AllPass self.now line.now place }
+    {
+        self.first.passes_at(line, place)
+            && self.second.passes_at(line, place)
+            && self.third.passes_at(line, place)
+            && self.fourth.passes_at(line, place)
+    }
+}
