@@ -1,5 +1,5 @@
 //! The matchers of a request's patterns.
-ghost use Rattle.std.specs.Prelude.{◌≡◌, ◌⊎◌, [], ◌∷◌, ◌++◌, IfOk, IfErr};
+ghost use Rattle.std.specs.Prelude.{◌≡◌, ◌≤◌, ◌⊎◌, [], ◌∷◌, ◌++◌, IfOk, IfErr};
 ghost use Rattle.re_syntax.specs.Lines.{lines_of};
 ghost use Rattle.re_search.specs.Reading.{IsOutOfMemory};
 ghost use Rattle.grep_core.specs.Matchers.{IsFirstRefused};
@@ -10,8 +10,29 @@ use re_search::Matcher;
 use re_syntax::{FaultKind, PatternFault, Syntax, split_file};
 use std::alloc::{AllocError, Global};
 
-/// How many states the cache of a matcher may keep.
-const STATES: usize = 256;
+// How many entries all caches may have together, where each has no less than the least.
+const ALL_STATES: usize = 65_536;
+
+// How many entries the cache of a matcher may have at least, and at most.
+const LEAST_STATES: usize = 256;
+const MOST_STATES: usize = 4_096;
+
+/// How many entries the cache of a matcher may have, where there are so many patterns.
+fn states_for(patterns: usize) -> usize
+    ensures { (1 ≤ result) × (result ≤ 4096) }
+{
+    let share = ALL_STATES / patterns.max(1);
+    share.max(LEAST_STATES).min(MOST_STATES)
+}
+
+// How many patterns there are.
+fn count_patterns(texts: &[u8]) -> usize {
+    let mut count: usize = 0;
+    for _ in split_file(texts) {
+        count = count.saturating_add(1);
+    }
+    count
+}
 
 /// Adds a matcher.
 fn add_matcher(matchers: &mut Vec<Matcher>, matcher: Matcher) -> Result<(), AllocError>
@@ -40,9 +61,10 @@ pub fn matchers_of(
 {
     let fold = options.ignore_case;
     let whole = options.line_regexp;
+    let states = states_for(count_patterns(texts));
     let mut matchers = Vec::new(alloc);
     for text in split_file(texts) {
-        let matcher = match Matcher::new(alloc, text, syntax, fold, whole, STATES) {
+        let matcher = match Matcher::new(alloc, text, syntax, fold, whole, states) {
             Ok(matcher) => matcher,
             Err(fault) => return Err((matchers.len(), fault)),
         };
