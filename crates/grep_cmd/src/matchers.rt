@@ -15,6 +15,7 @@ const ALL_STATES: usize = 65_536;
 
 // How many entries the cache of a matcher may have at least, and at most.
 const LEAST_STATES: usize = 256;
+
 const MOST_STATES: usize = 4_096;
 
 /// How many entries the cache of a matcher may have, where there are so many patterns.

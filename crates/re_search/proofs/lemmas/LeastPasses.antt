@@ -11,8 +11,8 @@ use Rattle.re_syntax.proofs.lemmas.Decisions.{Any-none}
 use Rattle.re_syntax.proofs.lemmas.LinesLaws.{lines_of-line, lines_of-terminated, all_head, all_tail}
 use Rattle.re_search.specs.Working.Blocks.{IsBlock, PassesAll, PassesUnmatched, PassesUnmatchedByAll}
 use Rattle.re_search.specs.Searching.{SomeMatches}
-use Rattle.re_search.proofs.lemmas.AnyLaws.{Any-append-cases, Any-single}
-use Rattle.re_search.proofs.lemmas.Turns.{answer_of}
+use Rattle.re_search.proofs.lemmas.SomeOfJoined.{Any-append-cases, Any-single}
+use Rattle.re_search.proofs.lemmas.OneMatcherMore.{answer_of}
 
 -- ---- the first lines of a block
 

@@ -2,7 +2,7 @@ use Rattle.std.proofs.Common.{◌≡◌, ◌+◌, ◌++◌, ◌∷◌, [], ◌�
 use Rattle.std.specs.Prelude.{⊤}
 use Rattle.std.proofs.lemmas.List.{length-map}
 use Rattle.re_search.specs.Working.Blocks.{PassesAll}
-use Rattle.re_search.proofs.lemmas.Turns.{one_more, value_at, within}
+use Rattle.re_search.proofs.lemmas.OneMatcherMore.{one_more, value_at, within}
 use Rattle.re_search.proofs.lemmas.LeastPasses.{least_more, passes_fewer, passed_within, passed_block}
 use Rattle.re_search.proofs.several.least_candidate.Goals as goal
 
