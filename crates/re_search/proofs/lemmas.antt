@@ -3,6 +3,7 @@ pub mod BestSpans
 pub mod NeededLaws
 pub mod RunLaws
 pub mod OutlineLaws
+pub mod ChoiceOutlines
 pub mod NeedleLaws
 pub mod BlockLemmas
 pub mod LeastPasses

@@ -8,22 +8,21 @@ ghost use Rattle.re_search.specs.Working.Outlines.{IsOutline, shown};
 
 mod choice;
 mod cover;
+mod leading;
 mod outline;
 mod probes;
 mod run_finder;
 mod set_finder;
 mod survey;
 
-use choice::{RunOf, mark_rank, run_start};
+use choice::{RunOf, run_start};
+use leading::leading_sets;
 use memchr::memmem::Finder;
 use outline::{Mark, add_outline};
 use re_syntax::{ByteSet, Tree};
 pub use run_finder::RunFinder;
 use set_finder::SetFinder;
 use std::alloc::{AllocError, Global};
-
-// How many sets are looked for at most: around each byte of the rarest so many may be compared.
-const MOST_SETS: usize = 32;
 
 /// A run of bytes, or of sets of bytes, that every match of an expression has in it.
 #[derive(Drop)]
@@ -36,14 +35,15 @@ pub struct Needle {
 
 impl Needle {
     /// A run of single bytes that is needed, through groups and what is repeated once or more; a
-    /// run of small sets where no two such bytes stand in a row; the first such byte where no two
-    /// sets do either. `None` where there is none of these. The one error is that memory was
-    /// refused.
+    /// run of small sets where no two such bytes stand in a row, if it is all there is or stands in
+    /// most texts seldom; the first such byte where there is no such run either. A choice has the
+    /// sets of what its branches begin with. `None` where there is none of these. The one error is
+    /// that memory was refused.
     pub fn of(alloc: Global, tree: &Tree) -> Result<Option<Needle>, AllocError>
         ensures { IfOk result (IsNeedleFor (expression_of tree.now)) }
     {
         let mut marks = Vec::new(alloc);
-        add_outline(tree, &mut marks)?;
+        add_outline(alloc, tree, &mut marks)?;
         let start = run_start(&marks, RunOf::Bytes);
         if let Some(needle) = text_needle(alloc, &marks, start, 2)? {
             return Ok(Some(needle));
@@ -119,42 +119,12 @@ fn leading_bytes(alloc: Global, marks: &[Mark]) -> Result<Vec<u8>, AllocError>
     Ok(bytes)
 }
 
-// The sets of the marks before the first that isn't a small set, or so many as are looked for.
-fn leading_sets(alloc: Global, marks: &[Mark]) -> Result<Vec<ByteSet>, AllocError>
-    ensures { IfOk result
-        (λ sets. (rest : List (Option Bytes)) ×
-        (map shown marks.now ≡ map Some (map members sets.items) ++ rest)) }
-{
-    let mut sets = Vec::new(alloc);
-    'marks: for mark in marks {
-        let Some(set) = small_set(mark, sets.len()) else {
-            return Ok(sets);
-        };
-        sets.push(set)?;
-    }
-    Ok(sets)
-}
-
 // The byte of the mark, where it is one byte.
 fn byte_of(mark: &Mark) -> Option<u8>
     ensures { IfSome result (λ b. shown mark.now ≡ Some (only b)) }
 {
     match mark {
         Mark::Set(set) => set.one_byte(),
-        Mark::Stretch => None,
-    }
-}
-
-// The set of the mark, where it is small and there are not yet so many as are looked for.
-fn small_set(mark: &Mark, before: usize) -> Option<ByteSet>
-    ensures { IfSome result (λ set. shown mark.now ≡ Some (members set)) }
-{
-    if before >= MOST_SETS {
-        return None;
-    }
-    mark_rank(mark, RunOf::Sets)?;
-    match mark {
-        Mark::Set(set) => Some(*set),
         Mark::Stretch => None,
     }
 }

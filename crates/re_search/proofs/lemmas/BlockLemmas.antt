@@ -7,7 +7,7 @@ use Rattle.re_syntax.specs.Bytes.{Bytes, Text, only}
 use Rattle.re_syntax.specs.Expression.{Expression}
 use Rattle.re_syntax.specs.Holds.{Matches}
 use Rattle.re_syntax.specs.Lines.{newline, terminated, HasNoNewline, ended_lines_of}
-use Rattle.re_syntax.proofs.lemmas.LinesLaws.{all_none, all_tail}
+use Rattle.re_syntax.proofs.lemmas.LinesLaws.{all_none}
 use Rattle.re_syntax.proofs.lemmas.EndedLinesLaws.{AreEndedLines-ended_lines_of}
 use Rattle.memchr.specs.Find.{FindsNeedle}
 use Rattle.re_search.specs.Working.Blocks.{IsBlock, Lacks, PassesAll, PassesUnmatched, PassesUnmatchedByAll}

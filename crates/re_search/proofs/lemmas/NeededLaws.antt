@@ -1,19 +1,13 @@
 -- Strings that a sequence of bytes needs.
-use Rattle.std.proofs.Common.{◌≡◌, ℕ, zero, suc, ◌+◌, ◌-◌, ◌≤◌, Bool, true, false, IsTrue, ◌&&◌, nat_lt, nat_eq, ltb-true, List, [], ◌∷◌, ◌++◌, length, map, drop, Some, None, refl, sym, ap, ◌∙◌, subst, arith, length-append, length-drop}
-use Rattle.std.proofs.lemmas.Bool.{eqb-true, false≢true}
-use Rattle.std.proofs.lemmas.List.{length-map, append-nil}
+use Rattle.std.proofs.Common.{◌≡◌, ℕ, ◌+◌, ◌≤◌, List, [], ◌∷◌, ◌++◌, length, map, drop, refl, sym, subst, arith}
+use Rattle.std.proofs.lemmas.List.{append-nil}
 use Rattle.re_syntax.specs.Bytes.{Text}
 use Rattle.re_syntax.specs.Expression.{Expression, byte, cat, sequence}
 use Rattle.re_syntax.specs.Holds.{Holds}
-use Rattle.re_syntax.specs.Parts.{IsFound, IsPart}
 use Rattle.re_syntax.proofs.lemmas.FixedStrings.{cat-sequence, sequence-cat, holds-stands}
 use Rattle.re_syntax.proofs.lemmas.HoldsDecided.{Holds-le}
-use Rattle.memchr.specs.Find.{FindsNeedle}
-use Rattle.re_search.specs.declared.needle.Needle.{Needle}
-use Rattle.re_search.specs.Working.Needles.{StandsBetween, IsNeeded, IsNeedleOf}
-use Rattle.re_search.proofs.lemmas.SomeOfJoined.{Any-single}
-use Rattle.re_search.proofs.lemmas.Occurrences.{stands-occurs, occurs_rest}
-use Rattle.re_search.proofs.lemmas.OneText.{first_part}
+use Rattle.re_search.specs.Working.Needles.{StandsBetween, IsNeeded}
+use Rattle.re_search.proofs.lemmas.Occurrences.{stands-occurs}
 
 -- a sequence of two lists of members is cut between them
 pub cat_cut : (line : Text) (xs ys : List Expression) (i j : ℕ) → Holds line (cat (xs ++ ys)) i j → (k : ℕ) × Holds line (cat xs) i k × Holds line (cat ys) k j

@@ -1,5 +1,5 @@
 -- Needles, and what their places tell of a line.
-use Rattle.std.proofs.Common.{◌≡◌, ℕ, ◌+◌, ◌-◌, ◌<◌, ◌≤◌, inl, inr, Bool, true, false, IsTrue, List, [], ◌∷◌, ◌++◌, length, map, drop, Option, Some, None, refl, sym, ap, ◌∙◌, subst, arith, length-drop, length-append}
+use Rattle.std.proofs.Common.{◌≡◌, ℕ, ◌+◌, ◌-◌, ◌≤◌, inl, inr, Bool, true, false, IsTrue, List, [], ◌∷◌, ◌++◌, length, map, drop, Option, Some, None, refl, sym, subst, arith}
 use Rattle.std.specs.Option.{is_some}
 use Rattle.std.proofs.lemmas.Bool.{false≢true}
 use Rattle.std.proofs.lemmas.List.{length-map}
@@ -11,7 +11,7 @@ use Rattle.re_syntax.specs.Parts.{IsFound, IsPart}
 use Rattle.re_syntax.proofs.lemmas.Decisions.{Any-first}
 use Rattle.re_search.specs.declared.needle.Needle.{Needle}
 use Rattle.re_search.specs.declared.needle.run_finder.RunFinder.{RunFinder}
-use Rattle.re_search.specs.Working.Runs.{RunStandsAt, FindsRun}
+use Rattle.re_search.specs.Working.Runs.{FindsRun}
 use Rattle.re_search.specs.Working.Needles.{IsNeeded, RunIsNeeded, IsNeedleOf, run_of}
 use Rattle.re_search.specs.Working.Outlines.{IsOutline}
 use Rattle.re_search.specs.Working.Stages.{IsSettled}

@@ -1,9 +1,9 @@
 -- Outlines of expressions, and the runs of sets that they make needed.
-use Rattle.std.proofs.Common.{◌≡◌, ℕ, zero, suc, ◌+◌, ◌-◌, ◌<◌, ◌≤◌, IsTrue, List, [], ◌∷◌, ◌++◌, length, map, take, drop, get_or, slice_get, slice_index, Option, None, Some, Result, Ok, Err, IfOk, refl, sym, ap, ◌∙◌, subst, arith, append_assoc, length-append, length-drop, take-append-drop}
+use Rattle.std.proofs.Common.{◌≡◌, ℕ, zero, suc, ◌+◌, ◌-◌, ◌<◌, ◌≤◌, IsTrue, List, [], ◌∷◌, ◌++◌, length, map, take, drop, get_or, slice_index, Option, None, Some, Result, Ok, Err, IfOk, refl, sym, ap, ◌∙◌, subst, arith, append_assoc, length-append, length-drop, take-append-drop}
 use Rattle.std.proofs.lemmas.List.{length-map, append-nil, map-append, take_more}
-use Rattle.std.proofs.lemmas.Option.{get_or_from_slice_get, slice_get-get_or, slice_get_within}
+use Rattle.std.proofs.lemmas.Option.{get_or_from_slice_get, slice_get-get_or}
 use Rattle.re_syntax.specs.Bytes.{Bytes, Text}
-use Rattle.re_syntax.specs.Expression.{Expression, one_of, cat, cat_none, cat_more, repeat, expression_of}
+use Rattle.re_syntax.specs.Expression.{Expression, one_of, cat, repeat, expression_of}
 use Rattle.re_syntax.specs.Holds.{Holds, Turns}
 use Rattle.re_syntax.specs.Sets.{members}
 use Rattle.re_syntax.specs.declared.bytes.ByteSet.{ByteSet}
@@ -12,7 +12,7 @@ use Rattle.re_syntax.proofs.lemmas.HoldsDecided.{Holds-le, Turns-le}
 use Rattle.re_search.specs.declared.needle.outline.Mark.{Mark}
 use Rattle.re_search.specs.declared.needle.outline.Mark.TheVariants as m
 use Rattle.re_search.specs.Working.Runs.{RunStandsAt, set_at}
-use Rattle.re_search.specs.Working.Outlines.{shown, MarkFits, Fits, IsSetMark, AreSetMarks, IsOutline, AddsOutline}
+use Rattle.re_search.specs.Working.Outlines.{shown, MarkFits, Fits, AreSetMarks, IsOutline, AddsOutline}
 use Rattle.re_search.specs.Working.Needles.{RunIsNeeded, IsJustRun}
 use Rattle.re_search.proofs.lemmas.NeededLaws.{cat_cut}
 
@@ -22,7 +22,7 @@ mark_le : (line : Text) (mark : Option Bytes) (i j : ℕ) → MarkFits line mark
 mark_le line (Some set) i j h = omega (arith, h.3)
 mark_le line None i j h = h
 
-fits_le : (line : Text) (marks : List (Option Bytes)) (i j : ℕ) → Fits line marks i j → i ≤ j
+pub fits_le : (line : Text) (marks : List (Option Bytes)) (i j : ℕ) → Fits line marks i j → i ≤ j
 fits_le line [] i j same = omega (arith, same)
 fits_le line (mark ∷ marks) i j (k, first, later) = omega (arith, mark_le line mark i k first, fits_le line marks k j later)
 
@@ -34,7 +34,7 @@ fits_join : (line : Text) (xs ys : List (Option Bytes)) (i k j : ℕ) → Fits l
 fits_join line [] ys i k j same h = subst (λ n. Fits line ys n j) (sym same) h
 fits_join line (x ∷ xs) ys i k j (m, first, later) h = (m, first, fits_join line xs ys m k j later h)
 
-sets_cut : (xs ys : List (Option Bytes)) → AreSetMarks (xs ++ ys) → AreSetMarks xs × AreSetMarks ys
+pub sets_cut : (xs ys : List (Option Bytes)) → AreSetMarks (xs ++ ys) → AreSetMarks xs × AreSetMarks ys
 sets_cut [] ys h = (tt, h)
 sets_cut (x ∷ xs) ys h = let rest = sets_cut xs ys h.1 in ((h.0, rest.0), rest.1)
 

@@ -1,5 +1,5 @@
 -- Where a run of sets stands in a line, and what the tests of its probes tell.
-use Rattle.std.proofs.Common.{◌≡◌, ℕ, zero, suc, ◌+◌, ◌-◌, ◌<◌, ◌≤◌, ◌⊎◌, inl, inr, IsTrue, List, [], ◌∷◌, ◌++◌, length, map, drop, get_or, slice_index, Option, None, Some, refl, sym, ap, ◌∙◌, subst, arith, eq-eqb, length-append, length-drop}
+use Rattle.std.proofs.Common.{◌≡◌, ℕ, ◌+◌, ◌-◌, ◌<◌, ◌≤◌, ◌⊎◌, inl, inr, IsTrue, List, ◌++◌, length, map, drop, get_or, slice_index, Option, None, Some, sym, ap, ◌∙◌, subst, arith, eq-eqb, length-append, length-drop}
 use Rattle.std.proofs.lemmas.Bool.{eqb-true}
 use Rattle.std.proofs.lemmas.List.{get_or-drop, get_or-map, get_or_append_left, get_or-append-add, length-map}
 use Rattle.re_syntax.specs.Bytes.{Bytes, Text, nothing, only}

@@ -1,12 +1,14 @@
 -- Outlines of expressions: sets of bytes one after another, with stretches between of which nothing
 -- is told.
-use Rattle.std.specs.Prelude.{◌≡◌, ℕ, ◌≤◌, ⊤, List, [], ◌∷◌, ◌++◌, map, Option, None, Some}
+use Rattle.std.specs.Prelude.{◌≡◌, ℕ, ◌+◌, ◌<◌, ◌≤◌, ⊤, IsTrue, List, [], ◌∷◌, ◌++◌, length, map}
+use Rattle.std.specs.Prelude.{slice_get, Option, None, Some}
 use Rattle.re_syntax.specs.Bytes.{Bytes, Text}
 use Rattle.re_syntax.specs.Expression.{Expression, one_of}
 use Rattle.re_syntax.specs.Holds.{Holds}
 use Rattle.re_syntax.specs.Sets.{members}
 use Rattle.re_search.specs.declared.needle.outline.Mark.{Mark}
 use Rattle.re_search.specs.declared.needle.outline.Mark.TheVariants as m
+use Rattle.re_search.specs.Working.Runs.{set_at}
 
 -- a mark of an outline: a set, or any stretch
 abbrev pub shown : Mark → Option Bytes
@@ -41,3 +43,23 @@ pub record IsOutline (marks : List (Option Bytes)) (e : Expression) : Type 0 whe
 -- behind the old marks stand those that are an outline of the expression
 abbrev pub AddsOutline : List Mark → Expression → List Mark → Type 0
 AddsOutline old e new = (more : List Mark) × (new ≡ old ++ more) × IsOutline (map shown more) e
+
+-- behind the old marks stand those of these sets
+abbrev pub AddsSets : List Mark → List Bytes → List Mark → Type 0
+AddsSets old sets new = (more : List Mark) × (new ≡ old ++ more) × (map shown more ≡ map Some sets)
+
+-- the sets begin each stretch from i to j on the line on which the expression holds: a byte of each
+-- stands there in turn
+pub record Leads (sets : List Bytes) (line : Text) (i j : ℕ) : Type 0 where
+  pub within : i + length sets ≤ j
+  pub takes : (k : ℕ) → k < length sets →
+      (b : ℕ) × (slice_get line (i + k) ≡ Some b) × IsTrue (set_at sets k b)
+
+abbrev pub BeginsWith : List Bytes → Expression → Type 0
+BeginsWith sets e = (line : Text) (i j : ℕ) → Holds line e i j → Leads sets line i j
+
+-- each set of the third list has all bytes of the sets at its place in the first two
+pub record AreJoined (one other both : List Bytes) : Type 0 where
+  pub few : (length both ≤ length one) × (length both ≤ length other)
+  pub first : (k x : ℕ) → k < length both → IsTrue (set_at one k x) → IsTrue (set_at both k x)
+  pub second : (k x : ℕ) → k < length both → IsTrue (set_at other k x) → IsTrue (set_at both k x)

@@ -350,7 +350,9 @@ const SETS: Pattern = (Syntax::Basic, b"[abc][xyz]", false, false);
 
 const SOME_SETS: Pattern = (Syntax::Basic, b"[qz][jx][^a]", false, false);
 
-static NEEDED: [Needed; 28] = [
+const BRANCHES: Pattern = (Syntax::Extended, b"queue|zebra|jukebox", false, false);
+
+static NEEDED: [Needed; 31] = [
     (REPEATED, b"xxxaxb", 0, None, true),
     (REPEATED, b"abxx", 1, None, true),
     (REPEATED, b"cxxab", 0, Some((1, 5)), false),
@@ -404,6 +406,9 @@ static NEEDED: [Needed; 28] = [
     (SETS, b"ccaabcy", 0, Some((5, 7)), true),
     (SETS, b"aybx", 1, Some((2, 4)), true),
     (SETS, b"xyabc", 0, None, true),
+    (BRANCHES, b"que zeb juk", 0, None, true),
+    (BRANCHES, b"zueue", 0, None, false),
+    (BRANCHES, b"a jukebox", 0, Some((2, 9)), false),
     (SOME_SETS, b"qja-zx", 0, None, false),
     (SOME_SETS, b"q-zx1", 0, Some((2, 5)), false),
     (SOME_SETS, b"q-z1x", 0, None, true),

@@ -12,7 +12,7 @@ const LONG: usize = 4;
 const MUCH: u8 = 32;
 
 // A set is small that about so many of 65,536 bytes of most texts are in, or fewer.
-const SMALL: u32 = 16_384;
+const SMALL: u32 = 24_576;
 
 /// What the marks of a run are.
 #[derive(Clone, Copy)]

@@ -15,7 +15,7 @@ const PORTION: usize = 64;
 
 // At about so many places in 65,536 bytes of most texts the probes of a selective search are passed
 // at most.
-const MOST_STOPS: u64 = 128;
+const MOST_STOPS: u64 = 256;
 
 // The place of a set that there is not.
 const NOWHERE: usize = usize::MAX;

@@ -7,7 +7,7 @@ use re_syntax::ByteSet;
 const COMMONEST: u32 = 8_192;
 
 // Behind so many ranks a byte is half as common.
-const HALVED: u8 = 12;
+const HALVED: u8 = 10;
 
 /// The outermost bytes of a set, in a small set some of them the same, and how common its bytes are.
 #[derive(Clone, Copy, Drop)]
@@ -91,7 +91,8 @@ fn with(before: Survey, byte: u8) -> Survey {
 // About how many of 65,536 bytes of most texts are this one.
 fn share_of(byte: u8) -> u32 {
     let behind = u8::MAX - rank_of(byte);
-    COMMONEST >> (behind / HALVED)
+    let share = COMMONEST >> (behind / HALVED);
+    share - share / u32::from(2 * HALVED) * u32::from(behind % HALVED)
 }
 
 /// How common the byte is in most texts, from 0 for the rarest to 255.

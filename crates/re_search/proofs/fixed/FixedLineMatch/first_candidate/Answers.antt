@@ -1,4 +1,4 @@
-use Rattle.re_search.specs.Working.Literals.{Literal, literal_expression}
+use Rattle.re_search.specs.Working.Literals.{literal_expression}
 use Rattle.re_search.proofs.lemmas.NeededLaws.{sequence_needed}
 use Rattle.re_search.proofs.lemmas.BlockLemmas.{passes_unmatched}
 use Rattle.re_search.proofs.fixed.FixedLineMatch.first_candidate.Goals as goal

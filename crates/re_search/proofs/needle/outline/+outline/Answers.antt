@@ -1,7 +1,12 @@
-use Rattle.std.proofs.Common.{rules, sym, ap, ◌∙◌, arith}
-use Rattle.re_syntax.specs.Expression.{expression_of}
+use Rattle.std.proofs.Common.{rules, ◌≡◌, map, take, refl, sym, ap, subst, ◌∙◌, arith}
+use Rattle.std.proofs.lemmas.List.{take_all}
+use Rattle.re_syntax.specs.Expression.{alt, expression_of}
+use Rattle.re_syntax.specs.Sets.{members}
 use Rattle.re_syntax.proofs.lemmas.ExpressionLaws.{expression-Set, expression-Repeat}
 use Rattle.re_search.proofs.lemmas.OutlineLaws.{adds_set, adds_stretch, adds_repeat, adds_more, ok_with}
+use Rattle.re_search.specs.Working.Outlines.{BeginsWith}
+use Rattle.re_search.proofs.lemmas.ChoiceOutlines.{adds_choice, begins_branch, joined_first, joined_second, no_branch, parts_more}
+use Rattle.re_search.proofs.needle.outline.+outline.Goals.{add_choice-then-i-eq0, add_choice-else-i-eq0}
 use Rattle.re_search.proofs.needle.outline.+outline.Goals as goal
 
 pub add_all-parts-preserved : goal.add_all-parts-preserved
@@ -27,3 +32,38 @@ add_outline-returns-in_ok-add_outline-in-Repeat t c =
 pub add_outline-returns-in_default : goal.add_outline-returns-in_default
 add_outline-returns-in_default t c =
     ok_with c.add_mark-in_default.result (adds_stretch c.args.marks.now.items c.add_mark-in_default.new.marks.items (expression_of c.args.tree.now)) c.add_mark-in_default.ensures
+
+pub add_choice-parts-preserved : goal.add_choice-parts-preserved
+add_choice-parts-preserved t c =
+    let parts = c.args.parts.now in
+    let part = c.index-parts-i.result in
+    let e = expression_of part in
+    let sets = map members c.in_ok-sets.sets.items in
+    let front = map members c.if-i-eq0.front.items in
+    let before = map members c.parts.front.items in
+    let begins : BeginsWith sets e =
+    begins_branch c.new-branch.result.items c.add_outline.new.marks.items sets e c.new-branch.ensures.items c.in_ok-add_outline.ensures (rw c.deref.ensures.value at c.in_ok-sets.ensures) in
+    parts_more front parts c.parts.i part c.parts-test.true c.index-parts-i.is
+    (elim c.if-i-eq0.branch [
+      | add_choice-then-i-eq0 w ↦ subst (λ n. BeginsWith front (alt (map expression_of (take n parts)))) (sym w.if-i-eq0.true) (no_branch front)
+      | add_choice-else-i-eq0 w ↦
+          subst (λ v. BeginsWith (map members v.items) (alt (map expression_of (take c.parts.i parts)))) (sym w.front-is)
+          (joined_first before sets (map members w.join.new.front.items) (alt (map expression_of (take c.parts.i parts))) (rw w.deref-else-i-eq0.ensures.value at w.join.ensures) c.parts.invariant)
+    ])
+    (elim c.if-i-eq0.branch [
+      | add_choice-then-i-eq0 w ↦ subst (λ v. BeginsWith (map members v.items) e) (sym w.front-is) begins
+      | add_choice-else-i-eq0 w ↦
+          subst (λ v. BeginsWith (map members v.items) e) (sym w.front-is)
+          (joined_second before sets (map members w.join.new.front.items) e (rw w.deref-else-i-eq0.ensures.value at w.join.ensures) begins)
+    ])
+
+pub add_choice-returns : goal.add_choice-returns
+add_choice-returns t c =
+    let parts = c.args.parts.now in
+    let choice = alt (map expression_of parts) in
+    let whole : take c.parts.i parts ≡ parts = take_all c.parts.i parts (omega (arith, c.parts-test.false)) in
+    let begins : BeginsWith (map members c.parts.front.items) choice =
+    subst (λ l. BeginsWith (map members c.parts.front.items) (alt (map expression_of l))) whole c.parts.invariant in
+    ok_with c.add_mark.result
+    (adds_choice c.args.marks.now.items c.add_sets.new.marks.items c.add_mark.new.marks.items (map members c.parts.front.items) choice choice refl begins (rw c.deref-2.ensures.value at c.in_ok-add_sets.ensures))
+    c.add_mark.ensures

@@ -1,4 +1,4 @@
-use Rattle.std.proofs.Common.{arith, ◌≡◌, ◌<◌, refl}
+use Rattle.std.proofs.Common.{arith, refl}
 use Rattle.std.proofs.lemmas.Option.{slice_get_within}
 use Rattle.re_syntax.specs.Expression.{expression_of}
 use Rattle.re_search.proofs.lemmas.RowLaws.{tells_cell, row_small}

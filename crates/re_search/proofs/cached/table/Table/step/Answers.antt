@@ -1,5 +1,5 @@
-use Rattle.std.proofs.Common.{arith, ◌≡◌, ◌<◌, ℕ, List, [], Option, None, Some, IfSome, refl, sym, ◌∙◌, subst}
-use Rattle.std.specs.Prelude.{IfNone, ⊤}
+use Rattle.std.proofs.Common.{arith, ◌≡◌, ◌<◌, [], Option, None, Some, IfSome, refl, sym, ◌∙◌, subst}
+use Rattle.std.specs.Prelude.{IfNone}
 use Rattle.re_syntax.specs.Expression.{expression_of}
 use Rattle.re_search.specs.Working.Pairs.{unknown}
 use Rattle.re_search.specs.Working.Rows.{Lands, IsRow, IsRight, TellsNext, cell_at, cache_of, row_under}

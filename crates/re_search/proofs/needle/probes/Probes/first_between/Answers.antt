@@ -1,4 +1,4 @@
-use Rattle.std.proofs.Common.{◌≡◌, ℕ, ◌+◌, ◌<◌, ◌≤◌, ◌⊎◌, inl, inr, refl, subst, arith}
+use Rattle.std.proofs.Common.{◌≡◌, ℕ, ◌+◌, ◌<◌, ◌⊎◌, inl, inr, refl, subst, arith}
 use Rattle.re_search.specs.Working.Runs.{AllPass}
 use Rattle.re_search.proofs.needle.probes.Probes.first_between.Goals as goal
 

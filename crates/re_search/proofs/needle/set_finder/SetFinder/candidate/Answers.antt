@@ -1,7 +1,6 @@
-use Rattle.std.proofs.Common.{rules, ◌≡◌, ℕ, ◌+◌, ◌-◌, ◌<◌, ◌≤◌, ◌⊎◌, inl, inr, length, map, slice_index, sym, ap, subst, arith}
+use Rattle.std.proofs.Common.{rules, ℕ, ◌<◌, ◌≤◌, ◌⊎◌, inl, inr, length, map, slice_index, ap, arith}
 use Rattle.std.proofs.lemmas.List.{length-map}
 use Rattle.re_syntax.specs.Sets.{members}
-use Rattle.re_search.specs.Working.Runs.{RunStandsAt}
 use Rattle.re_search.proofs.lemmas.RunLaws.{all_pass, no_room}
 use Rattle.re_search.proofs.needle.set_finder.SetFinder.candidate.Goals as goal
 

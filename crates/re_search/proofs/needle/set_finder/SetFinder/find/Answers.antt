@@ -1,8 +1,6 @@
-use Rattle.std.proofs.Common.{◌≡◌, ◌+◌, ◌<◌, ◌≤◌, ℕ, length, map, refl, sym, ap, ◌∙◌, subst, arith}
+use Rattle.std.proofs.Common.{◌≡◌, ◌+◌, ◌≤◌, ℕ, length, map, refl, sym, ◌∙◌, subst, arith}
 use Rattle.std.proofs.lemmas.Bool.{false≢true}
-use Rattle.std.proofs.lemmas.List.{length-map}
 use Rattle.re_syntax.specs.Sets.{members}
-use Rattle.re_syntax.specs.declared.bytes.ByteSet.{ByteSet}
 use Rattle.re_search.specs.Working.Runs.{RunStandsAt}
 use Rattle.re_search.proofs.lemmas.RunLaws.{passed_on, passed_over, none_left, found_at}
 use Rattle.re_search.proofs.needle.set_finder.SetFinder.find.Goals as goal
