@@ -16,11 +16,11 @@ const ALL_STATES: usize = 65_536;
 // How many entries the cache of a matcher may have at least, and at most.
 const LEAST_STATES: usize = 256;
 
-const MOST_STATES: usize = 4_096;
+const MOST_STATES: usize = 16_384;
 
 /// How many entries the cache of a matcher may have, where there are so many patterns.
 fn states_for(patterns: usize) -> usize
-    ensures { (1 ≤ result) × (result ≤ 4096) }
+    ensures { (1 ≤ result) × (result ≤ 16384) }
 {
     let share = ALL_STATES / patterns.max(1);
     share.max(LEAST_STATES).min(MOST_STATES)
