@@ -24,6 +24,9 @@ impl Probe {
     }
 }
 
+// So many places at least are tried at once, before they are tried one by one.
+const MANY: usize = 32;
+
 /// Four tests, of which some may be the same.
 #[derive(Clone, Copy, Drop)]
 pub struct Probes {
@@ -35,6 +38,8 @@ pub struct Probes {
     pub third: Probe,
     /// The fourth.
     pub fourth: Probe,
+    /// Whether the first two are passed seldom enough, so that the others are not asked before.
+    pub two_are_enough: bool,
 }
 
 impl Probes {
@@ -48,7 +53,7 @@ impl Probes {
             (λ at. (from ≤ at) × (at < past) ×
             ((k : ℕ) → from ≤ k → k < at → ¬ AllPass self.now line.now k)) }
     {
-        if !self.pass_between(line, from, past) {
+        if past - from >= MANY && !self.may_pass_between(line, from, past) {
             return None;
         }
         'places: for place in from..past {
@@ -59,9 +64,39 @@ impl Probes {
         None
     }
 
-    // Whether all tests are passed at some of the places: without a branch for each, so that many
-    // are tried at once.
-    fn pass_between(&self, line: &[u8], from: usize, past: usize) -> bool
+    // Whether all tests may be passed at some of the places.
+    #[inline(always)]
+    fn may_pass_between(&self, line: &[u8], from: usize, past: usize) -> bool
+        requires ordered { from ≤ past }
+        requires room { HaveRoom self.now line.now past }
+        ensures { result ≡ false → (k : ℕ) → from ≤ k → k < past → ¬ AllPass self.now line.now k }
+    {
+        if self.two_are_enough {
+            return self.two_pass_between(line, from, past);
+        }
+        self.all_pass_between(line, from, past)
+    }
+
+    // Whether the first two tests are passed at some of the places: without a branch for each, so
+    // that many are tried at once.
+    #[inline(never)]
+    fn two_pass_between(&self, line: &[u8], from: usize, past: usize) -> bool
+        requires ordered { from ≤ past }
+        requires room { HaveRoom self.now line.now past }
+        ensures { result ≡ false → (k : ℕ) → from ≤ k → k < past → ¬ AllPass self.now line.now k }
+    {
+        let first = self.first;
+        let second = self.second;
+        let mut some = false;
+        'places: for place in from..past {
+            some |= first.passes_at(line, place) & second.passes_at(line, place);
+        }
+        some
+    }
+
+    // Whether all tests are passed at some of the places, in the same way.
+    #[inline(never)]
+    fn all_pass_between(&self, line: &[u8], from: usize, past: usize) -> bool
         requires ordered { from ≤ past }
         requires room { HaveRoom self.now line.now past }
         ensures { result ≡ false → (k : ℕ) → from ≤ k → k < past → ¬ AllPass self.now line.now k }
@@ -71,6 +106,7 @@ impl Probes {
             second,
             third,
             fourth,
+            two_are_enough: _,
         } = *self;
         let mut some = false;
         'places: for place in from..past {

@@ -11,10 +11,10 @@ use re_syntax::ByteSet;
 use std::marker::Model;
 
 // How many places are tried at a time.
-const PORTION: usize = 64;
+const PORTION: usize = 192;
 
-// At about so many places in 65,536 bytes of most texts the probes of a selective search are passed
-// at most.
+// At about so many places in 65,536 bytes of most texts probes that are passed seldom are passed at
+// most.
 const MOST_STOPS: u64 = 256;
 
 // The place of a set that there is not.
@@ -61,6 +61,7 @@ impl SetFinder {
             second,
             third,
             fourth,
+            two_are_enough: stops_of(&sets, &first, &second) <= MOST_STOPS,
         };
         Some(SetFinder { sets, probes })
     }
@@ -68,26 +69,21 @@ impl SetFinder {
     /// Whether such runs stand in most texts so seldom that it is worth while to look for them before
     /// something else.
     pub fn is_selective(&self) -> bool {
-        let first = self.share_at(self.probes.first.at);
-        let second = self.share_at(self.probes.second.at);
-        let third = self.share_at(self.probes.third.at);
-        let fourth = self.share_at(self.probes.fourth.at);
-        let mut stops = first.saturating_mul(second) >> 16;
-        if self.probes.third.at != self.probes.second.at {
-            stops = stops.saturating_mul(third) >> 16;
+        let Probes {
+            first,
+            second,
+            third,
+            fourth,
+            two_are_enough: _,
+        } = self.probes;
+        let mut stops = stops_of(&self.sets, &first, &second);
+        if third.at != second.at {
+            stops = stops.saturating_mul(share_at(&self.sets, third.at)) >> 16;
         }
-        if self.probes.fourth.at != self.probes.third.at {
-            stops = stops.saturating_mul(fourth) >> 16;
+        if fourth.at != third.at {
+            stops = stops.saturating_mul(share_at(&self.sets, fourth.at)) >> 16;
         }
         stops <= MOST_STOPS
-    }
-
-    // About how many of 65,536 bytes of most texts are in the set at a place of the run.
-    fn share_at(&self, place: usize) -> u64 {
-        match self.sets.get(place) {
-            Some(set) => u64::from(share_of(set)),
-            None => 0,
-        }
     }
 
     /// How many sets there are.
@@ -198,4 +194,17 @@ fn share_of(set: &ByteSet) -> u32 {
         Some(survey) => survey.share,
         None => u32::MAX,
     }
+}
+
+// About how many of 65,536 bytes of most texts are in the set at a place of the run.
+fn share_at(sets: &[ByteSet], place: usize) -> u64 {
+    match sets.get(place) {
+        Some(set) => u64::from(share_of(set)),
+        None => 0,
+    }
+}
+
+// At about how many places in 65,536 bytes of most texts two probes are passed.
+fn stops_of(sets: &[ByteSet], one: &Probe, other: &Probe) -> u64 {
+    share_at(sets, one.at).saturating_mul(share_at(sets, other.at)) >> 16
 }
