@@ -1,5 +1,5 @@
 //! Lines that are passed in one sweep, without being handed out.
-ghost use Rattle.std.specs.Prelude.{◌≡◌, IfSome, List, map};
+ghost use Rattle.std.specs.Prelude.{◌≡◌, IfSome, List, false, map};
 ghost use Rattle.re_syntax.specs.Bytes.{Text};
 ghost use Rattle.re_syntax.specs.Lines.{lines_of};
 ghost use Rattle.re_search.specs.Searching.{AllAnswer};
@@ -16,6 +16,7 @@ use re_search::{FixedSet, LineMatch, first_candidate};
 /// The next lines, as far as they are held and it is known without a search that none of them is
 /// selected, and how many they are. `None` comes under `-v`, where no look is due, and where they
 /// are more than can be numbered.
+#[inline(always)]
 pub fn unselected_ahead<'a, R: CountedRead, M: LineMatch>(
     lines: &'a NumberedLines<R>,
     matchers: &[M],
@@ -34,6 +35,24 @@ pub fn unselected_ahead<'a, R: CountedRead, M: LineMatch>(
     if !looks.is_due() {
         return None;
     }
+    look_ahead(lines, matchers, filter, options, looks)
+}
+
+// The same where a look is due, and not under `-v`.
+#[inline(never)]
+fn look_ahead<'a, R: CountedRead, M: LineMatch>(
+    lines: &'a NumberedLines<R>,
+    matchers: &[M],
+    filter: Option<&FixedSet>,
+    options: &Options,
+    looks: &mut Looks,
+) -> Option<(&'a [u8], u64)>
+    requires forward { options.now.invert_match ≡ false }
+    requires whole { AllAnswer options.now.line_regexp (map M.whole matchers.now) }
+    requires needed { IfSome filter (λ f. AreNeeded f.now (map M.expression matchers.now)) }
+    ensures { IfSome result (λ found. AreAhead lines.now found.0.now found.1
+        × AreUnselected (map M.expression matchers.now) options.now (lines_of found.0.now)) }
+{
     let ready = lines.ready();
     let block = &ready[..first_candidate(matchers, filter, ready)];
     let count = lines.count(block)?;
@@ -43,6 +62,7 @@ pub fn unselected_ahead<'a, R: CountedRead, M: LineMatch>(
 
 /// Passes the next lines, as far as they are held and it is known without a search that none of
 /// them is selected. Under `-v`, and where no look is due, none is passed.
+#[inline(always)]
 pub fn pass_unselected<R: CountedRead, M: LineMatch>(
     lines: &mut NumberedLines<R>,
     matchers: &[M],

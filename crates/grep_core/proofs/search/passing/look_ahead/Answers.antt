@@ -1,9 +1,9 @@
 use Rattle.std.proofs.Common.{map}
 use Rattle.grep_core.proofs.lemmas.PassedLines.{unselected_block}
-use Rattle.grep_core.proofs.search.passing.unselected_ahead.Goals as goal
+use Rattle.grep_core.proofs.search.passing.look_ahead.Goals as goal
 
 pub returns : goal.returns
 returns g c =
     let rest = c.ready-ready.ensures.ahead in
     unselected_block (map g.M.LineMatch.expression c.args.matchers.now) c.args.options.now c.args.lines.now (map g.M.LineMatch.whole c.args.matchers.now) c.ready-ready.result.now rest.0 c.first_candidate.result c.in_ok-count.count
-    c.if-options.false c.requires.whole rest.1 c.first_candidate.ensures c.in_ok-count.ensures.0 c.in_ok-count.ensures.1
+    c.requires.forward c.requires.whole rest.1 c.first_candidate.ensures c.in_ok-count.ensures.0 c.in_ok-count.ensures.1
