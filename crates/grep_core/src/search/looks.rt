@@ -3,11 +3,12 @@
 
 use re_search::LookCost;
 
-// From how many passed bytes on a look by several matchers was worth it.
+// From how many passed bytes on a dear look has paid.
 const WORTH_A_LOOK: usize = 512;
 
-/// What was seen of looks so far. Each line begins with one, as long as they are worth it; where
-/// they are not, more and more lines lie between two of them, up to so many as their cost sets.
+/// What was seen of looks so far. Where they are cheap each line begins with one; where they are
+/// dear, and pass little, more and more lines lie between two of them, up to so many as their cost
+/// sets.
 #[derive(Drop)]
 pub struct Looks {
     cost: LookCost,
@@ -21,7 +22,7 @@ impl Looks {
         Looks {
             cost,
             rest: 0,
-            next_rest: first_rest(cost),
+            next_rest: 1,
         }
     }
 
@@ -35,42 +36,18 @@ impl Looks {
         false
     }
 
-    /// A look passed so many bytes, which were so many lines.
+    /// A look passed so many bytes.
     #[inline(always)]
-    pub fn note(&mut self, bytes: usize, lines: u64) {
-        if is_worth(self.cost, bytes, lines) {
-            self.next_rest = first_rest(self.cost);
+    pub fn note(&mut self, bytes: usize) {
+        if self.cost == LookCost::Low {
+            return;
+        }
+        if bytes >= WORTH_A_LOOK {
+            self.next_rest = 1;
             return;
         }
         self.rest = self.next_rest;
-        self.next_rest = self
-            .next_rest
-            .saturating_mul(2)
-            .max(1)
-            .min(most_rest(self.cost));
-    }
-}
-
-// Whether a look was worth it that passed so many bytes, which were so many lines. One for many
-// strings stops at a line that is searched once more, which pays where the lines are short for
-// what was passed.
-#[inline(always)]
-fn is_worth(cost: LookCost, bytes: usize, lines: u64) -> bool {
-    match cost {
-        LookCost::Low => bytes > 0,
-        LookCost::Middle => bytes >= WORTH_A_LOOK,
-        LookCost::High => bytes > 0 && lines.saturating_mul(lines) >= bytes as u64,
-    }
-}
-
-// How many lines lie behind the first look that was not worth it. A cheap look that passes nothing
-// is made once more at the next line.
-#[inline(always)]
-fn first_rest(cost: LookCost) -> u32 {
-    match cost {
-        LookCost::Low => 0,
-        LookCost::Middle => 1,
-        LookCost::High => 1,
+        self.next_rest = self.next_rest.saturating_mul(2).min(most_rest(self.cost));
     }
 }
 
@@ -78,7 +55,7 @@ fn first_rest(cost: LookCost) -> u32 {
 #[inline(always)]
 fn most_rest(cost: LookCost) -> u32 {
     match cost {
-        LookCost::Low => 4,
+        LookCost::Low => 0,
         LookCost::Middle => 16,
         LookCost::High => 64,
     }

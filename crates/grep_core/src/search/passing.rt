@@ -55,8 +55,8 @@ fn look_ahead<'a, R: CountedRead, M: LineMatch>(
 {
     let ready = lines.ready();
     let block = &ready[..first_candidate(matchers, filter, ready)];
+    looks.note(block.len());
     let count = lines.count(block)?;
-    looks.note(block.len(), count);
     Some((block, count))
 }
 
