@@ -10,7 +10,14 @@ use crate::needle::survey::Survey;
 use re_syntax::ByteSet;
 use std::marker::Model;
 
-// How many places are tried at a time.
+// How many places are tried at a time at first, and behind a place where the probes are passed and
+// the run does not stand; so that near misses side by side cost little.
+const FIRST_PORTION: usize = 16;
+
+// By what they grow.
+const GROWTH: usize = 4;
+
+// How many places are tried at a time at most.
 const PORTION: usize = 192;
 
 // At about so many places in 65,536 bytes of most texts probes that are passed seldom are passed at
@@ -123,12 +130,14 @@ impl SetFinder {
         }
         let end = line.len() - self.sets.len() + 1;
         let mut start = from;
+        let mut portion = FIRST_PORTION;
         'portions: while start < end {
-            let past = start + PORTION.min(end - start);
+            let past = start + portion.min(end - start);
             if let Some(place) = self.probes.first_between(line, start, past) {
                 return Some(place);
             }
             start = past;
+            portion = portion.saturating_mul(GROWTH).min(PORTION);
         }
         None
     }

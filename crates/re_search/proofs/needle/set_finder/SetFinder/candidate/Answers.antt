@@ -31,6 +31,7 @@ portions-preserved c =
     let are = rw c.self.view_is at c.self.invariant in
     record {
       on = omega (arith, c.portions.invariant.on);
+      some = omega (arith, c.portions.invariant.some, c.saturating_mul.ensures, c.min-portion.ensures);
       passed = λ k low lt o. elim (either k c.portions.start) [
         | inl before ↦ c.portions.invariant.passed k low before o
         | inr behind ↦ c.in_default.ensures k behind lt (all_pass run c.args.line.now a.probes k small are o)

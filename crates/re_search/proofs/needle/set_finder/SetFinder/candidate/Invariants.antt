@@ -6,6 +6,7 @@ use Rattle.re_search.proofs.needle.set_finder.SetFinder.candidate.Given as goal
 abbrev pub invariant-portions : goal.invariant-portions
 invariant-portions l = record {
   on : l.from ≤ l.start;
+  some : 0 < l.portion;
   passed : (k : ℕ) → l.from ≤ k → k < l.start → ¬ RunStandsAt l.line (map members l.self) k;
 }
 
