@@ -43,8 +43,10 @@ build/grep:
 build/occur: | build/grep
 	test -e $@ || $(MAKE) programs
 
+# Each lane proves one crate or tries one crate's edits, in 2 to 4 GB; rt's own estimate of that is
+# twice as high, and leaves lanes empty.
 gate:
-	rt ci
+	RT_JOBS=$${RT_JOBS:-$$(nproc | awk '{ print $$1 < 4 ? $$1 : 4 }')} rt ci
 
 test: gate
 	$(MAKE) programs

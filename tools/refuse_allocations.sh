@@ -72,6 +72,8 @@ try 0 -F -i -o -f strings short
 try 0 -f expressions short long
 try 0 -c -v -x -E '(a{2,3}|b)*' long short
 try 0 -f - short
+try 0 -l b - short long
+try 0 -c b short long
 try 2 -e '\(' short
 # lines around selected ones
 try 0 -n -B 2 a letters

@@ -14,14 +14,13 @@ mod searchers;
 mod searching;
 mod showing;
 mod telling;
-#[cfg(test)]
-mod tests;
 mod texts;
 mod usage;
 mod words;
 
 pub use command::run_grep;
 pub use files::Files;
+pub use matchers::matchers_of;
 pub use memory::{Content, MemoryFile, MemoryFiles, MemoryReader};
 pub use script::{ScriptEnd, ScriptFault, run_script};
 pub use showing::show;

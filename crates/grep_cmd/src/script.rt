@@ -12,8 +12,6 @@ mod command;
 mod counted;
 mod line_words;
 mod reply;
-#[cfg(test)]
-mod tests;
 
 use crate::script::answer::answer_command;
 use crate::script::counted::next_line;

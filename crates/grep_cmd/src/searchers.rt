@@ -12,7 +12,7 @@ ghost use Rattle.grep_cmd.specs.Working.Serving.{ServeFor, IsStringFor};
 
 use crate::matchers::matchers_of;
 use grep_core::Options;
-use re_search::{FixedSet, Matcher, is_plain, needed_strings};
+use re_search::{Filter, FixedSet, Matcher, is_plain, needed_strings};
 use re_syntax::{FaultKind, MOST_POSITIONS, PatternFault, Syntax, split_file};
 use std::alloc::{AllocError, Global};
 
@@ -26,7 +26,7 @@ pub struct Searchers {
     pub matchers: Vec<Matcher>,
     /// Strings of which some stands on each line that some matcher matches, where they are known:
     /// a line without them need not be shown to the matchers.
-    pub needed: Option<FixedSet>,
+    pub needed: Option<Filter>,
 }
 
 /// The matchers of a search for the patterns, which are the lines of `texts`: one for all of them
@@ -122,7 +122,7 @@ fn joined(alloc: Global, texts: &[u8], options: &Options) -> Result<Vec<Matcher>
 
 /// Strings that the matchers need, where these are many and each needs some. Where memory is
 /// refused for them the search goes without.
-fn needed_by(alloc: Global, matchers: &[Matcher]) -> Option<FixedSet>
+fn needed_by(alloc: Global, matchers: &[Matcher]) -> Option<Filter>
     ensures { IfSome result (λ strings. AreNeeded strings (map matched_expression matchers.now)) }
 {
     if matchers.len() <= FEW {

@@ -5,9 +5,6 @@ ghost use Rattle.grep_core.specs.Row.{output_line};
 ghost use Rattle.grep_core.specs.Written.{Writes};
 ghost use Rattle.grep_cmd.specs.Texts.{fault_text, usage_behind, usage_texts};
 
-#[cfg(test)]
-mod tests;
-
 use crate::texts::{OUT_OF_MEMORY, USAGE};
 use crate::words::UsageFault;
 use grep_core::{CountedWrite, WriteFault, push_all, write_line, write_line_behind};

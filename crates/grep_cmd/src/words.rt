@@ -7,8 +7,6 @@ ghost use Rattle.grep_cmd.specs.Working.Pieces.{piece_of};
 
 pub mod around;
 pub mod pieces;
-#[cfg(test)]
-mod tests;
 
 use crate::words::around::Around;
 use crate::words::pieces::{Piece, pieces_of};

@@ -33,6 +33,3 @@ pub use search::sending::send_before_read;
 pub use search::serving::serves_for_others;
 pub use search::setting::Asked;
 pub use status::{RunFault, Status};
-
-#[cfg(test)]
-mod tests;

@@ -1,7 +1,8 @@
 //! The options of a run, and what they ask for.
-ghost use Rattle.std.specs.Prelude.{◌≡◌, ◌||◌, MatchOption};
+ghost use Rattle.std.specs.Prelude.{◌≡◌, ◌||◌, IsTrue, MatchOption};
 ghost use Rattle.grep_core.specs.Output.{form, around};
 ghost use Rattle.grep_core.specs.Working.OneLine.{IsPlain};
+ghost use Rattle.grep_core.specs.Working.Passed.{OnlyCountsMatched};
 ghost use Rattle.grep_core.specs.Working.Wanted.{form_of, selects};
 
 /// How many lines are shown around each selected one (GNU grep, `-A`, `-B` and `-C`).
@@ -117,6 +118,16 @@ impl Options {
             Form::Counts => None,
             Form::Parts => None,
             Form::Lines => None,
+        }
+    }
+
+    /// Whether only the number of matched lines is written of a file.
+    pub fn only_counts_matched(self) -> bool
+        ensures { IsTrue result → OnlyCountsMatched self }
+    {
+        match self.form() {
+            Form::Counts => !self.invert_match,
+            _ => false,
         }
     }
 

@@ -11,8 +11,6 @@ mod mode;
 mod ranges;
 mod step;
 mod tables;
-#[cfg(test)]
-mod tests;
 
 pub use build::BuildFault;
 pub use laws::{fronts_tell, least_starts_are_enough, positions_tell};

@@ -73,6 +73,3 @@ fn past_word(row: &[u64]) -> usize
     }
     0
 }
-
-#[cfg(test)]
-mod tests;

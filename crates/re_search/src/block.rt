@@ -1,13 +1,15 @@
-//! Blocks of whole lines, of which the first are passed without being handed out.
-ghost use Rattle.std.specs.Prelude.{◌≡◌, ◌+◌, ◌<◌, ◌++◌, ◌∷◌, IfSome, length, take, drop, ⊤};
-ghost use Rattle.re_syntax.specs.Lines.{newline};
+//! Blocks of whole lines, of which the first are passed, or all counted, without being handed out.
+ghost use Rattle.std.specs.Prelude.{◌≡◌, ◌+◌, ◌<◌, ◌≤◌, ◌++◌, ◌∷◌, IfSome, MatchOption, length};
+ghost use Rattle.std.specs.Prelude.{take, drop, ⊤};
+ghost use Rattle.re_syntax.specs.Lines.{newline, lines_of, HasNoNewline};
 ghost use Rattle.re_search.specs.Working.Blocks.{IsBlock, Lacks, PassesAll};
+ghost use Rattle.re_search.specs.Working.Blocks.{StandsIn, HoldsOfMany};
 ghost use Rattle.re_search.specs.Working.Needles.{run_of};
 ghost use Rattle.re_search.specs.Working.Runs.{LacksRun};
 
 use crate::needle::RunFinder;
 use memchr::memmem::Finder;
-use memchr::memrchr;
+use memchr::{memchr, memrchr};
 
 /// Where in a block of whole lines the first line begins in which the string stands; behind the
 /// last line where it stands in none.
@@ -49,4 +51,47 @@ fn last_newline(bytes: &[u8]) -> Option<usize>
         × (bytes.now ≡ take k bytes.now ++ newline ∷ drop (k + 1) bytes.now)) }
 {
     memrchr(b'\n', bytes)
+}
+
+/// How many lines of a block of whole lines the string stands in. `None` where it is empty, or is
+/// on no line since it has a newline.
+pub fn count_lines_with(finder: &Finder<'_>, block: &[u8]) -> Option<u64>
+    requires { IsBlock block.now }
+    ensures { IfSome result (λ n. HoldsOfMany (StandsIn finder.now) (lines_of block.now) n) }
+{
+    if finder.needle().is_empty() || first_newline(finder.needle()).is_some() {
+        return None;
+    }
+    Some(count_by(finder, block))
+}
+
+// The same of a string that is not empty and has no newline.
+fn count_by(finder: &Finder<'_>, block: &[u8]) -> u64
+    requires block { IsBlock block.now }
+    requires some { 1 ≤ length finder.now }
+    requires one_line { HasNoNewline finder.now }
+    ensures { HoldsOfMany (StandsIn finder.now) (lines_of block.now) result }
+{
+    let mut count: u64 = 0;
+    let mut rest = block;
+    'lines: loop {
+        let Some(at) = finder.find(rest) else {
+            return count;
+        };
+        let Some(length) = first_newline(&rest[at..]) else {
+            unreachable!();
+        };
+        count += 1;
+        rest = &rest[at + length + 1..];
+    }
+}
+
+// The place of the first newline.
+#[inline(always)]
+fn first_newline(bytes: &[u8]) -> Option<usize>
+    ensures { MatchOption result (HasNoNewline bytes.now) (λ k. (k < length bytes.now)
+        × HasNoNewline (take k bytes.now)
+        × (bytes.now ≡ take k bytes.now ++ newline ∷ drop (k + 1) bytes.now)) }
+{
+    memchr(b'\n', bytes)
 }

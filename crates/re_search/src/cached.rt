@@ -4,9 +4,10 @@ ghost use Rattle.std.specs.Prelude.{IfErr, IfSome, length};
 ghost use Rattle.std.specs.NonZero.{non_zero_usize_get};
 ghost use Rattle.re_syntax.specs.Expression.{expression_of};
 ghost use Rattle.re_syntax.specs.Holds.{Matches};
+ghost use Rattle.re_syntax.specs.Lines.{lines_of};
 ghost use Rattle.re_search.specs.Working.Needles.{IsNeeded};
 ghost use Rattle.re_search.specs.Searching.{FindsPart, AddsAtMost};
-ghost use Rattle.re_search.specs.Working.Blocks.{IsBlock, PassesUnmatched};
+ghost use Rattle.re_search.specs.Working.Blocks.{IsBlock, PassesUnmatched, CountsMatched};
 ghost use Rattle.re_search.specs.Working.Rows.{IsBlank, IsRight, cache_of};
 ghost use Rattle.re_search.specs.Working.CachedMatchers.{IsKnownFor};
 ghost use Rattle.re_search.specs.Working.Stages.{Searches, AnswersLine, IsReadied, mode_for};
@@ -15,8 +16,6 @@ pub mod pace;
 pub mod pairs;
 pub mod stride;
 pub mod table;
-#[cfg(test)]
-mod tests;
 pub mod walking;
 
 use crate::line_match::LineMatch;
@@ -213,5 +212,13 @@ impl LineMatch for Cached {
         ensures { PassesUnmatched (expression_of self.now.tree) self.now.whole block.now result }
     {
         self.simulated.first_candidate(block)
+    }
+
+    fn count_matched(&self, block: &[u8]) -> Option<u64>
+        requires { IsBlock block.now }
+        ensures { IfSome result (λ count. CountsMatched (expression_of self.now.tree)
+            self.now.whole (lines_of block.now) count) }
+    {
+        self.simulated.count_matched(block)
     }
 }

@@ -1,28 +1,121 @@
 //! Strings that the matches of several matchers need.
-ghost use Rattle.std.specs.Prelude.{◌≡◌, ◌++◌, [], ◌∷◌, IfOk, IfSome, All, Any, MatchOption, map};
+ghost use Rattle.std.specs.Prelude.{◌≡◌, ◌+◌, ◌*◌, ◌++◌, ◌↔◌, [], ◌∷◌, Bool, false, IsTrue, IfOk};
+ghost use Rattle.std.specs.Prelude.{IfSome, All, Any, MatchOption, length, map};
 ghost use Rattle.re_syntax.specs.Expression.{Expression};
+ghost use Rattle.re_syntax.specs.Holds.{Matches};
 ghost use Rattle.re_syntax.specs.Lines.{lines_of, newline, HasNoNewline};
+ghost use Rattle.re_search.specs.Searching.{AddsAtMost, AllAnswer, SameMatchers, TellsMatchOfAll};
+ghost use Rattle.re_search.specs.Working.Blocks.{IsBlock, PassesUnmatched};
 ghost use Rattle.re_search.specs.Working.Filters.{AreNeeded, NeedsOneOf};
+ghost use Rattle.re_search.specs.Working.Literals.{any_literal};
 ghost use Rattle.re_search.specs.Working.Needles.{IsNeeded};
 ghost use Rattle.re_search.specs.Working.Matchers.{matched_expression};
 
 use crate::fixed_set::FixedSet;
+use crate::line_match::LineMatch;
 use crate::matcher::Matcher;
 use memchr::memchr;
+use re_auto::Meter;
 use std::alloc::{AllocError, Global};
+use std::cell::Cell;
+use std::marker::Model;
+
+/// Strings that stand before several matchers: some of them stands on each line that some matcher
+/// matches. Contracts see it as the strings.
+// Of lines one after another often the same pattern matches, so the matchers from the one on that
+// matched last are asked first.
+#[derive(Drop)]
+pub struct Filter {
+    strings: FixedSet,
+    likely: Cell<usize>,
+}
+
+impl Model for Filter {
+    ghost use Rattle.re_search.specs.Working.Literals.{Literals};
+
+    ghost Value = { Literals };
+
+    ghost view = { λ f. f.strings };
+}
+
+impl Filter {
+    /// Whether some string stands at some place of the line. No step is counted.
+    pub fn stands_in(&self, line: &[u8]) -> bool
+        ensures { IsTrue result ↔ Matches (any_literal self.now) line.now false }
+    {
+        self.strings.stands_in(line)
+    }
+
+    /// Where in a block of whole lines the first line begins on which some string stands; behind
+    /// the last line where none does. No step is counted.
+    pub fn first_line(&self, block: &[u8]) -> usize
+        requires { IsBlock block.now }
+        ensures { PassesUnmatched (any_literal self.now) false block.now result }
+    {
+        self.strings.first_line(block)
+    }
+
+    /// Whether some matcher matches the line, as [`crate::is_matched`] tells it. Those from the one
+    /// on that matched last are asked first.
+    pub fn is_matched<M: LineMatch>(
+        &self,
+        matchers: &mut [M],
+        line: &[u8],
+        meter: &mut Meter,
+    ) -> bool
+        requires { (whole : Bool) × AllAnswer whole (map M.whole matchers.old) }
+        ensures told { TellsMatchOfAll (map M.expression matchers.old) (map M.whole matchers.old)
+            line.now result }
+        ensures same_matchers { SameMatchers M.expression M.whole matchers.old matchers.new }
+        ensures steps { AddsAtMost (length matchers.old * (length line.now + 1)) meter.old
+            meter.new }
+    {
+        let first = self.likely.get().min(matchers.len());
+        let (before, rest) = matchers.split_at_mut(first);
+        if self.is_matched_from(first, rest, line, meter) {
+            return true;
+        }
+        self.is_matched_from(0, before, line, meter)
+    }
+
+    // Whether some of these matchers matches the line, of which the first has this number.
+    fn is_matched_from<M: LineMatch>(
+        &self,
+        first: usize,
+        matchers: &mut [M],
+        line: &[u8],
+        meter: &mut Meter,
+    ) -> bool
+        requires { (whole : Bool) × AllAnswer whole (map M.whole matchers.old) }
+        ensures told { TellsMatchOfAll (map M.expression matchers.old) (map M.whole matchers.old)
+            line.now result }
+        ensures same_matchers { SameMatchers M.expression M.whole matchers.old matchers.new }
+        ensures steps { AddsAtMost (length matchers.old * (length line.now + 1)) meter.old
+            meter.new }
+    {
+        for (place, matcher) in matchers.iter_mut().enumerate() {
+            if matcher.is_match(line, meter) {
+                self.likely.set(first.saturating_add(place));
+                return true;
+            }
+        }
+        false
+    }
+}
 
 /// Strings of which some stands on each line that some of the matchers matches; `None` where a
 /// matcher is not known to need one. The one error is that memory was refused.
-pub fn needed_strings(alloc: Global, matchers: &[Matcher]) -> Result<Option<FixedSet>, AllocError>
+pub fn needed_strings(alloc: Global, matchers: &[Matcher]) -> Result<Option<Filter>, AllocError>
     ensures { IfOk result
         (λ found.
-        IfSome found (λ strings. AreNeeded strings (map matched_expression matchers.now))) }
+        IfSome found (λ filter. AreNeeded filter (map matched_expression matchers.now))) }
 {
     let Some(texts) = needed_lines(alloc, matchers)? else {
         return Ok(None);
     };
     let strings = FixedSet::new(alloc, &texts, false, false)?;
-    Ok(Some(strings))
+    let likely = Cell::new(0);
+    Ok(Some(Filter { strings, likely }))
 }
 
 // A string that each of the matchers needs, each followed by a newline; `None` where one is not
@@ -63,6 +156,3 @@ fn add_line(texts: &mut Vec<u8>, text: &[u8]) -> Result<(), AllocError>
     texts.push(b'\n')?;
     Ok(())
 }
-
-#[cfg(test)]
-mod tests;

@@ -1,13 +1,14 @@
 //! Search for one fixed string (XCU grep, option `-F`).
 ghost use Rattle.std.specs.Prelude.{◌≡◌, ◌+◌, ◌-◌, ◌≤◌, ◌↔◌, [], ◌∷◌, true, false, IsTrue, IfOk};
-ghost use Rattle.std.specs.Prelude.{length};
+ghost use Rattle.std.specs.Prelude.{IfSome, length};
 ghost use Rattle.re_syntax.specs.Holds.{Matches};
+ghost use Rattle.re_syntax.specs.Lines.{lines_of};
 ghost use Rattle.re_auto.specs.Meters.{many_built};
 ghost use Rattle.re_search.specs.Working.Literals.{literal_expression};
 ghost use Rattle.re_search.specs.Searching.{FindsPart, AddsAtMost};
-ghost use Rattle.re_search.specs.Working.Blocks.{IsBlock, PassesUnmatched};
+ghost use Rattle.re_search.specs.Working.Blocks.{IsBlock, PassesUnmatched, CountsMatched};
 
-use crate::block::first_line_with;
+use crate::block::{count_lines_with, first_line_with};
 use crate::line_match::LineMatch;
 use crate::span::Span;
 use memchr::memmem::Finder;
@@ -130,5 +131,16 @@ impl LineMatch for Fixed {
         ensures { PassesUnmatched (literal_expression self.now) self.now.whole block.now result }
     {
         first_line_with(&self.finder, block)
+    }
+
+    fn count_matched(&self, block: &[u8]) -> Option<u64>
+        requires { IsBlock block.now }
+        ensures { IfSome result (λ count. CountsMatched (literal_expression self.now)
+            self.now.whole (lines_of block.now) count) }
+    {
+        if self.whole {
+            return None;
+        }
+        count_lines_with(&self.finder, block)
     }
 }

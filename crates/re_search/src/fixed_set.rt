@@ -12,6 +12,7 @@ ghost use Rattle.re_search.specs.Working.Blocks.{IsBlock, PassesUnmatched};
 
 mod growth;
 mod keys;
+mod leaps;
 mod links;
 mod making;
 mod table;
@@ -234,6 +235,3 @@ impl LineMatch for FixedSet {
         LookCost::High
     }
 }
-
-#[cfg(test)]
-mod tests;

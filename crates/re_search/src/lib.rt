@@ -18,7 +18,7 @@ mod span;
 
 pub use cached::Cached;
 pub use cost::LookCost;
-pub use filter::needed_strings;
+pub use filter::{Filter, needed_strings};
 pub use fixed::Fixed;
 pub use fixed_set::FixedSet;
 pub use line_match::LineMatch;
@@ -26,9 +26,6 @@ pub use matcher::Matcher;
 pub use plain::is_plain;
 pub use re_auto::Meter;
 pub use re_syntax::Syntax;
-pub use several::{first_candidate, is_matched, look_cost, parts};
+pub use several::{count_matched, first_candidate, is_matched, look_cost, parts};
 pub use simulated::Simulated;
 pub use span::Span;
-
-#[cfg(test)]
-mod tests;

@@ -1,8 +1,9 @@
-ghost use Rattle.std.specs.Prelude.{◌≡◌, Bool, ◌+◌, ◌-◌, ◌≤◌, ◌↔◌, [], ◌∷◌, IsTrue, length};
+ghost use Rattle.std.specs.Prelude.{◌≡◌, Bool, ◌+◌, ◌-◌, ◌≤◌, ◌↔◌, [], ◌∷◌, IsTrue, IfSome, length};
 ghost use Rattle.re_syntax.specs.Expression.{Expression};
 ghost use Rattle.re_syntax.specs.Holds.{Matches};
+ghost use Rattle.re_syntax.specs.Lines.{lines_of};
 ghost use Rattle.re_search.specs.Searching.{FindsPart, AddsAtMost};
-ghost use Rattle.re_search.specs.Working.Blocks.{IsBlock, PassesUnmatched};
+ghost use Rattle.re_search.specs.Working.Blocks.{IsBlock, PassesUnmatched, CountsMatched};
 
 use crate::cost::LookCost;
 use crate::span::Span;
@@ -40,6 +41,16 @@ pub trait LineMatch {
         ensures { PassesUnmatched (expression self.now) (whole self.now) block.now result }
     {
         0
+    }
+
+    /// How many lines of a block of whole lines are matched, where that is known without a step.
+    /// Where it is `None` for a block it is for each.
+    fn count_matched(&self, block: &[u8]) -> Option<u64>
+        requires { IsBlock block.now }
+        ensures { IfSome result (λ count. CountsMatched (expression self.now) (whole self.now)
+            (lines_of block.now) count) }
+    {
+        None
     }
 
     /// What asking for `first_candidate` costs, so that it is left out where it passes too little.

@@ -3,6 +3,7 @@ ghost use Rattle.std.specs.Prelude.{◌≡◌, ◌+◌, ◌-◌, ◌≤◌, ◌�
 ghost use Rattle.std.specs.Prelude.{IfOk, IfErr, IfSome, length};
 ghost use Rattle.re_syntax.specs.Expression.{expression_of};
 ghost use Rattle.re_syntax.specs.Holds.{Matches, positions};
+ghost use Rattle.re_syntax.specs.Lines.{lines_of};
 ghost use Rattle.re_syntax.specs.Working.Counted.{HasPositions};
 ghost use Rattle.re_syntax.specs.Profile.{most_positions, most_states};
 ghost use Rattle.re_syntax.specs.Spelled.{IsSpelled, IsMeant, has_limit};
@@ -12,7 +13,7 @@ ghost use Rattle.re_search.specs.Reading.{IsRefusedFor};
 ghost use Rattle.re_search.specs.Working.Matchers.{matched_expression, wants_whole, is_fixed};
 ghost use Rattle.re_search.specs.Working.Matchers.{room_of, entries_of, CountsSteps, IsBuildFault};
 ghost use Rattle.re_search.specs.Searching.{FindsPart, AddsAtMost};
-ghost use Rattle.re_search.specs.Working.Blocks.{IsBlock, PassesUnmatched};
+ghost use Rattle.re_search.specs.Working.Blocks.{IsBlock, PassesUnmatched, CountsMatched};
 
 use crate::cached::Cached;
 use crate::cost::LookCost;
@@ -156,6 +157,19 @@ impl LineMatch for Matcher {
             Matcher::FixedSet(set) => set.first_candidate(block),
             Matcher::Simulated(simulated) => simulated.first_candidate(block),
             Matcher::Cached(cached) => cached.first_candidate(block),
+        }
+    }
+
+    fn count_matched(&self, block: &[u8]) -> Option<u64>
+        requires { IsBlock block.now }
+        ensures { IfSome result (λ count. CountsMatched (matched_expression self.now)
+            (wants_whole self.now) (lines_of block.now) count) }
+    {
+        match self {
+            Matcher::Fixed(fixed) => fixed.count_matched(block),
+            Matcher::FixedSet(_) => None,
+            Matcher::Simulated(simulated) => simulated.count_matched(block),
+            Matcher::Cached(cached) => cached.count_matched(block),
         }
     }
 
@@ -309,6 +323,3 @@ fn fault_at_first(kind: FaultKind) -> PatternFault
 {
     PatternFault { kind, at: 0 }
 }
-
-#[cfg(test)]
-mod tests;

@@ -53,6 +53,3 @@ fn are_bytes(parts: &[Tree], text: &[u8]) -> bool
     }
     true
 }
-
-#[cfg(test)]
-mod tests;

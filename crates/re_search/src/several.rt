@@ -4,14 +4,16 @@ ghost use Rattle.std.specs.Prelude.{ℕ, Bool, List, ◌≡◌, ◌+◌, ◌-◌
 ghost use Rattle.std.specs.Prelude.{map, ⊤};
 ghost use Rattle.re_syntax.specs.Bytes.{Text};
 ghost use Rattle.re_syntax.specs.Expression.{Expression};
+ghost use Rattle.re_syntax.specs.Lines.{lines_of};
 ghost use Rattle.re_search.specs.Searching.{FindsPart, FindsPartOfAll, TellsMatchOfAll, AllAnswer};
 ghost use Rattle.re_search.specs.Searching.{AddsAtMost, SameMatchers};
 ghost use Rattle.re_search.specs.Working.Blocks.{IsBlock, PassesAll, PassesUnmatchedByAll};
+ghost use Rattle.re_search.specs.Working.Blocks.{CountsMatchedByAll};
 ghost use Rattle.re_search.specs.Working.Filters.{AreNeeded};
 
 use crate::block::line_start;
 use crate::cost::LookCost;
-use crate::fixed_set::FixedSet;
+use crate::filter::Filter;
 use crate::line_match::LineMatch;
 use crate::span::Span;
 use re_auto::Meter;
@@ -91,18 +93,14 @@ pub fn is_matched<M: LineMatch>(matchers: &mut [M], line: &[u8], meter: &mut Met
 /// matched. A filter, where there is one, tells for all of them: strings of which some stands on
 /// each line that some matcher matches. Without one a single matcher is asked about the whole
 /// block, and several about its first lines alone. No step is taken.
-pub fn first_candidate<M: LineMatch>(
-    matchers: &[M],
-    filter: Option<&FixedSet>,
-    block: &[u8],
-) -> usize
+pub fn first_candidate<M: LineMatch>(matchers: &[M], filter: Option<&Filter>, block: &[u8]) -> usize
     requires block { IsBlock block.now }
     requires needed { IfSome filter (λ f. AreNeeded f.now (map M.expression matchers.now)) }
     ensures { PassesUnmatchedByAll (map M.expression matchers.now) (map M.whole matchers.now)
         block.now result }
 {
-    if let Some(strings) = filter {
-        return strings.first_line(block);
+    if let Some(filter) = filter {
+        return filter.first_line(block);
     }
     if matchers.len() != 1 {
         return least_candidate(matchers, block);
@@ -139,8 +137,26 @@ fn first_lines(block: &[u8]) -> usize
     line_start(&block[..LOOK_AHEAD])
 }
 
+/// How many lines of a block of whole lines some matcher matches, where that is known without a
+/// step: of a single matcher. `None` comes too where there is a filter, which is there for several.
+/// Where it is `None` for a block it is for each.
+pub fn count_matched<M: LineMatch>(
+    matchers: &[M],
+    filter: Option<&Filter>,
+    block: &[u8],
+) -> Option<u64>
+    requires { IsBlock block.now }
+    ensures { IfSome result (λ count. CountsMatchedByAll (map M.expression matchers.now)
+        (map M.whole matchers.now) (lines_of block.now) count) }
+{
+    if filter.is_some() || matchers.len() != 1 {
+        return None;
+    }
+    matchers[0].count_matched(block)
+}
+
 /// What asking for [`first_candidate`] costs, so that it is left out where it passes too little.
-pub fn look_cost<M: LineMatch>(matchers: &[M], filter: Option<&FixedSet>) -> LookCost {
+pub fn look_cost<M: LineMatch>(matchers: &[M], filter: Option<&Filter>) -> LookCost {
     if filter.is_some() {
         return LookCost::High;
     }

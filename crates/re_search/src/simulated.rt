@@ -3,6 +3,7 @@ ghost use Rattle.std.specs.Prelude.{◌≡◌, ◌+◌, ◌-◌, ◌≤◌, ◌�
 ghost use Rattle.std.specs.Prelude.{IfErr, IfSome, length};
 ghost use Rattle.re_syntax.specs.Expression.{expression_of};
 ghost use Rattle.re_syntax.specs.Holds.{Matches, positions};
+ghost use Rattle.re_syntax.specs.Lines.{lines_of};
 ghost use Rattle.re_syntax.specs.Profile.{most_positions};
 ghost use Rattle.re_auto.specs.Working.Tables.{IsRefused};
 ghost use Rattle.re_search.specs.Working.Needles.{IsNeeded};
@@ -10,14 +11,14 @@ ghost use Rattle.re_auto.specs.Working.StateSets.{IsMadeFor};
 ghost use Rattle.re_search.specs.Working.Stages.{Cache, Searches, FinishesFrom, IsSettled};
 ghost use Rattle.re_search.specs.Working.Stages.{mode_for};
 ghost use Rattle.re_search.specs.Searching.{FindsPart, AddsAtMost};
-ghost use Rattle.re_search.specs.Working.Blocks.{IsBlock, PassesUnmatched};
+ghost use Rattle.re_search.specs.Working.Blocks.{IsBlock, PassesUnmatched, CountsMatched};
 
 mod least;
 mod sets;
 
-use crate::block::first_line_with_run;
+use crate::block::{count_lines_with, first_line_with_run};
 use crate::line_match::LineMatch;
-use crate::needle::Needle;
+use crate::needle::{Needle, RunFinder};
 use crate::span::Span;
 use least::StartPair;
 use re_auto::{Automaton, BuildFault, Meter, Mode, StateSet};
@@ -247,6 +248,23 @@ impl LineMatch for Simulated {
         match &self.needle {
             Some(needle) => first_line_with_run(&needle.finder, block),
             None => 0,
+        }
+    }
+
+    fn count_matched(&self, block: &[u8]) -> Option<u64>
+        requires { IsBlock block.now }
+        ensures { IfSome result (λ count. CountsMatched (expression_of self.now.tree)
+            self.now.whole (lines_of block.now) count) }
+    {
+        let Some(needle) = &self.needle else {
+            return None;
+        };
+        if self.whole || !needle.is_all {
+            return None;
+        }
+        match &needle.finder {
+            RunFinder::Text(finder) => count_lines_with(finder, block),
+            RunFinder::Sets(_) => None,
         }
     }
 }

@@ -310,5 +310,3 @@ pub fn read_basic(alloc: Global, text: &[u8]) -> Result<Tree, PatternFault>
 }
 
 mod duplications;
-#[cfg(test)]
-mod tests;

@@ -18,9 +18,6 @@ use crate::cursor::Cursor;
 use crate::fault::{FaultKind, PatternFault};
 use crate::tree::Tree;
 
-#[cfg(test)]
-mod tests;
-
 /// Where in the list of a bracket expression an element stands.
 #[derive(Clone, Copy, PartialEq, Eq, Debug, Drop)]
 pub enum ListPlace {

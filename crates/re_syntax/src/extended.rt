@@ -319,6 +319,3 @@ pub fn read_extended(alloc: Global, text: &[u8]) -> Result<Tree, PatternFault>
         None => unreachable!(),
     }
 }
-
-#[cfg(test)]
-mod tests;

@@ -40,6 +40,3 @@ fn fold_all(mut parts: Vec<Tree>) -> Vec<Tree>
     }
     parts
 }
-
-#[cfg(test)]
-mod tests;

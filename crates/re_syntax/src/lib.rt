@@ -17,12 +17,8 @@ mod laws;
 mod pieces;
 mod positions;
 mod profile;
-#[cfg(test)]
-mod shapes;
 mod split;
 mod syntax;
-#[cfg(test)]
-mod tests;
 mod tree;
 
 pub use basic::read_basic;

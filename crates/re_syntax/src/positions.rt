@@ -39,6 +39,3 @@ pub fn extended_positions(text: &[u8]) -> Result<usize, PatternFault>
     let piece = extended::read_whole(None, text)?;
     Ok(piece.positions)
 }
-
-#[cfg(test)]
-mod tests;

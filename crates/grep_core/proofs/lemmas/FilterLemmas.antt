@@ -1,5 +1,5 @@
 -- What a filter of lines tells of the lines that it rules out.
-use Rattle.std.proofs.Common.{◌↔◌, Bool, true, false, IsTrue, MatchBool, List, Option, None, Some, IfSome, IsSomeAnd, refl}
+use Rattle.std.proofs.Common.{◌↔◌, Bool, true, false, IsTrue, MatchBool, List, refl}
 use Rattle.std.proofs.lemmas.Bool.{false≢true}
 use Rattle.re_syntax.specs.Bytes.{Text}
 use Rattle.re_syntax.specs.Expression.{Expression}
@@ -19,7 +19,5 @@ module _ (es : List Expression) (options : Options) (line : Text) where
       go false = ((λ e. absurd (false≢true e)), (λ m. absurd (none m)))
 
   -- so is one on which none of the needed strings stands
-  pub ruled_out_selected : {F : Type 0} (now : F → Literals) (filter : Option F) → IfSome filter (λ f. AreNeeded (now f) es) → IsSomeAnd filter (λ f. Matches (any_literal (now f)) line false → ⊥)
-      → IsTrue options.invert_match ↔ Selected es options line
-  ruled_out_selected now None needed out = absurd out
-  ruled_out_selected now (Some f) needed out = unmatched_selected (λ m. out (needed line options.line_regexp m))
+  pub ruled_out_selected : (strings : Literals) → AreNeeded strings es → (Matches (any_literal strings) line false → ⊥) → IsTrue options.invert_match ↔ Selected es options line
+  ruled_out_selected strings needed out = unmatched_selected (λ m. out (needed line options.line_regexp m))

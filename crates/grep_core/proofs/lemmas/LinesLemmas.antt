@@ -7,20 +7,21 @@ use Rattle.std.proofs.lemmas.List.Elements.{All-head, All-tail}
 use Rattle.re_syntax.specs.Bytes.{Text}
 use Rattle.re_syntax.specs.Expression.{Expression}
 use Rattle.re_search.specs.Meters.{Steps}
+use Rattle.re_search.specs.Working.Blocks.{HoldsOfMany}
 use Rattle.grep_core.specs.declared.options.Options.{Options}
 use Rattle.grep_core.specs.declared.input.lines.Stage.TheVariants.{Open}
 use Rattle.grep_core.specs.declared.search.file.FileEnd.TheVariants.{Whole, Broken, Left}
 use Rattle.grep_core.specs.Counted.{one_more}
 use Rattle.grep_core.specs.Working.Numbered.{Numbered, HasHanded, StandsAs}
 use Rattle.grep_core.specs.Files.{File, whole, broken, Selected, HasSelected}
-use Rattle.grep_core.specs.Output.{Form, nothing, names, form, SelectedLines}
+use Rattle.grep_core.specs.Output.{Form, nothing, names, counts, form, SelectedLines}
 use Rattle.grep_core.specs.Messages.{FaultMet}
 use Rattle.grep_core.specs.Reading.{open_source, file_of, failures_of, most_lines, OneLeft}
 use Rattle.grep_core.specs.Run.{Writer, TakesAll, TakesFront, first_lines}
 use Rattle.grep_core.specs.Working.Groups.{GroupedAs, behind_rows}
 use Rattle.grep_core.specs.Working.Handed.{StandsFor, BeginsWith, file_so_far}
 use Rattle.grep_core.specs.Cost.{SearchesLine, SearchesLines}
-use Rattle.grep_core.specs.Working.Passed.{PassesUnselected}
+use Rattle.grep_core.specs.Working.Passed.{PassesUnselected, AddsCounted}
 use Rattle.grep_core.specs.Working.OneLine.{IsPlain, LineRowsOf, TakesLine, BreaksLine}
 use Rattle.grep_core.specs.Working.Searched.{leaves_early, summary_as, BreaksSource, StopsSource, SearchesSource}
 use Rattle.re_search.proofs.lemmas.SomeOfJoined.{Any-left}
@@ -28,7 +29,7 @@ use Rattle.grep_core.proofs.lemmas.Verdicts.{decided_yes, decided_no, picked}
 use Rattle.grep_core.proofs.lemmas.Decided.{dec_fault_met}
 use Rattle.grep_core.proofs.lemmas.CostLaws.{searched_no_line, searched_one_line, searched_first_lines}
 use Rattle.grep_core.proofs.lemmas.WriterLaws.{TakesAll-nothing, TakesAll-more, TakesFront-more, TakesFront-longer}
-use Rattle.grep_core.proofs.lemmas.OneLineLemmas.{line_passed}
+use Rattle.grep_core.proofs.lemmas.OneLineLemmas.{line_passed, line_counted}
 use Rattle.grep_core.proofs.lemmas.OneFile.{whole-failures}
 use Rattle.grep_core.proofs.lemmas.FileLaws.{FaultMet-left}
 use Rattle.grep_core.proofs.lemmas.MoreLines.{SelectedLines-passed}
@@ -43,6 +44,16 @@ early_form options early =
       | inl q ↦ inl (cond-true _ _ _ q)
       | inr q ↦ elim (cases_Bool options.files_with_matches) [ inl l ↦ inr (cond-false _ _ _ q ∙ cond-true _ _ _ l) | inr l ↦ absurd (let no : ⊥ = cc (early, q, l) in no) ]
     ]
+
+-- where only the selected lines are counted, no file is left early
+counts_late : (options : Options) → form options ≡ counts → IsTrue (leaves_early options) → ⊥
+counts_late options asked early = elim (early_form options early) [ inl none ↦ (let no : nothing ≡ counts = sym none ∙ asked in absurd (let never : ⊥ = cc no in never)) | inr named ↦ (let no : names ≡ counts = sym named ∙ asked in absurd (let never : ⊥ = cc no in never)) ]
+
+-- no more lines have a property than there are
+many_within : (P : Text → Type 0) (lines : List Text) (n : ℕ) → HoldsOfMany P lines n → n ≤ length lines
+many_within P [] n h = omega (arith, h)
+many_within P (line ∷ lines) n (others, h, inl (holds, is)) = omega (arith, is, many_within P lines others h)
+many_within P (line ∷ lines) n (others, h, inr (no_one, is)) = omega (arith, is, many_within P lines others h)
 
 module _ (es : List Expression) (options : Options) (many shown : Bool) (name : Text) where
   -- these rows are written of these lines, whatever comes behind them
@@ -113,6 +124,22 @@ module _ (es : List Expression) (options : Options) (many shown : Bool) (name : 
       let skipped = line_passed es options many name (length lines + 1) line new false refl (decided_no (All-head (λ l. ¬ Selected es options l) line passed none)) in
       subst (λ ls. WritesLines ls old new selected) (append_assoc lines (line ∷ []) passed)
       (writes_passed plain passed (lines ++ line ∷ []) old new selected (writes_line plain lines line old new new selected false w skipped) (All-tail (λ l. ¬ Selected es options l) line passed none))
+
+  -- lines were passed where the selected ones are only counted
+  writes_counted : IsPlain (form options) → form options ≡ counts → (passed lines : List Text) (old new : Writer) (selected count : ℕ) → WritesLines lines old new selected → HoldsOfMany (Selected es options) passed count → WritesLines (lines ++ passed) old new (selected + count)
+  writes_counted plain asked [] lines old new selected count w none =
+      let same : selected ≡ selected + count = omega (arith, none) in
+      subst (WritesLines (lines ++ []) old new) same (subst (λ ls. WritesLines ls old new selected) (sym (append-nil lines)) w)
+  writes_counted plain asked (line ∷ passed) lines old new selected count w (others, h, inl (s, is)) =
+      let one = writes_line plain lines line old new new selected true w (line_counted es options many name (length lines + 1) line new asked s) in
+      let same : selected + 1 + others ≡ selected + count = omega (arith, is) in
+      subst (WritesLines (lines ++ line ∷ passed) old new) same
+      (subst (λ ls. WritesLines ls old new (selected + 1 + others)) (append_assoc lines (line ∷ []) passed) (writes_counted plain asked passed (lines ++ line ∷ []) old new (selected + 1) others one h))
+  writes_counted plain asked (line ∷ passed) lines old new selected count w (others, h, inr (no_one, is)) =
+      let skipped = line_passed es options many name (length lines + 1) line new false refl (decided_no no_one) in
+      let same : selected + others ≡ selected + count = omega (arith, is) in
+      subst (WritesLines (lines ++ line ∷ passed) old new) same
+      (subst (λ ls. WritesLines ls old new (selected + others)) (append_assoc lines (line ∷ []) passed) (writes_counted plain asked passed (lines ++ line ∷ []) old new selected others (writes_line plain lines line old new new selected false w skipped) h))
 
   -- what was gathered was sent
   writes_sent : (lines : List Text) (old mid new : Writer) (selected : ℕ) → WritesLines lines old mid selected → TakesAll mid new [] → WritesLines lines old new selected
@@ -295,7 +322,35 @@ module _ {R : Type 0} (remaining : R → Option Text) (failures : R → ℕ) (es
     steps = searched_first_lines es options (length es) s.lines p.passed began ended s.steps;
   }
 
+  -- some lines were passed where the selected ones are only counted
+  pub searched_counted : IsPlain (form options) → (before now : Numbered R) (old new : Writer) (began ended : Steps) (selected more : ℕ) (s : SearchedSoFar before old new began ended selected) → AddsCounted remaining failures es options reader s.lines now selected more
+      → SearchedSoFar now old new began ended more
+  searched_counted plain before now old new began ended selected more s (count, p, added) = elim p.only [
+    | inl none ↦
+        (let zeroed : count ≡ 0 = omega (arith, many_within (Selected es options) p.passed count p.selected, ap length none) in
+        let same : selected ≡ more = omega (arith, added, zeroed, s.few, s.handed.counted, s.handed.few) in
+        let lines : s.lines ++ p.passed ≡ s.lines = ap (λ ls. s.lines ++ ls) none ∙ append-nil s.lines in
+        let handed : HasHanded remaining failures reader now s.lines = subst (HasHanded remaining failures reader now) lines p.handed_too in
+        subst (SearchedSoFar now old new began ended) same
+        (record { lines = s.lines; handed = handed; wrote = s.wrote; few = omega (arith, s.few, s.handed.counted, handed.counted); none_early = s.none_early; steps = s.steps }))
+    | inr asked ↦
+        (let within = many_within (Selected es options) p.passed count p.selected in
+        let sum : selected + count ≡ more = omega (arith, added, within, s.few, s.handed.counted, p.handed_too.few, length-append s.lines p.passed) in
+        record {
+          lines = s.lines ++ p.passed;
+          handed = p.handed_too;
+          wrote = subst (WritesLines es options many shown name (s.lines ++ p.passed) old new) sum (writes_counted es options many shown name plain asked p.passed s.lines old new selected count s.wrote p.selected);
+          few = omega (arith, sum, within, s.few, s.handed.counted, p.handed_too.counted, length-append s.lines p.passed);
+          none_early = λ early. absurd (counts_late options asked early);
+          steps = searched_first_lines es options (length es) s.lines p.passed began ended s.steps;
+        })
+  ]
+
   -- no line is numbered twice
+  pub counted_further : (before now : Numbered R) (lines : List Text) (selected more : ℕ) → HasHanded remaining failures reader before lines → AddsCounted remaining failures es options reader lines now selected more → before.number ≤ now.number
+  counted_further before now lines selected more h (count, p, added) = omega (arith, h.counted, p.handed_too.counted, length-append lines p.passed)
+
+  -- the same of lines that are passed unselected
   pub passed_further : (before now : Numbered R) (lines : List Text) → HasHanded remaining failures reader before lines → PassesUnselected remaining failures es options reader lines now → before.number ≤ now.number
   passed_further before now lines h p = omega (arith, h.counted, p.handed_too.counted, length-append lines p.passed)
 

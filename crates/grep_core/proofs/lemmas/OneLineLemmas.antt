@@ -1,5 +1,5 @@
 -- What was written for one line.
-use Rattle.std.proofs.Common.{◌≡◌, ℕ, Bool, true, false, Decides, List, [], ◌∷◌, ◌++◌, Option, Result, Ok, Err, IfOk, OnErr, refl, sym, subst, inr}
+use Rattle.std.proofs.Common.{◌≡◌, ℕ, Bool, true, false, Decides, List, [], ◌∷◌, ◌++◌, Option, Result, Ok, Err, IfOk, OnErr, refl, sym, subst, inl, inr}
 use Rattle.std.proofs.lemmas.Bool.{false≢true}
 use Rattle.re_syntax.specs.Bytes.{Text}
 use Rattle.re_syntax.specs.Expression.{Expression}
@@ -7,7 +7,7 @@ use Rattle.grep_core.specs.declared.options.Options.{Options}
 use Rattle.grep_core.specs.Row.{output_line}
 use Rattle.grep_core.specs.Written.{Writes}
 use Rattle.grep_core.specs.Files.{Selected}
-use Rattle.grep_core.specs.Output.{lines, form, head_of}
+use Rattle.grep_core.specs.Output.{lines, counts, form, head_of}
 use Rattle.grep_core.specs.Run.{Writer, writer}
 use Rattle.grep_core.specs.Working.Handed.{file_so_far}
 use Rattle.grep_core.specs.Working.OneLine.{RowsOfSelected, WritesSelected, BreaksSelected, TakesLine}
@@ -36,6 +36,15 @@ module _ {W : Type 0} (contents : W → Option Text) (failures : W → ℕ) (es 
   pub row_broken : {T E : Type 0} (r : Result T E) → Writes contents failures a b (output_line [] head_and_line) r → OnErr r (BreaksSelected es options many name number line (writer contents failures a) (writer contents failures b))
   row_broken (Ok v) w = tt
   row_broken (Err e) w = record { rows = _; are_rows = line_row; wrote = TakesFront-line contents failures a b head_and_line w; counted = w.counted }
+
+-- a selected line has no rows where only the number of such lines is written
+pub line_counted : (es : List Expression) (options : Options) (many : Bool) (name : Text) (number : ℕ) (line : Text) (w : Writer) → form options ≡ counts → Selected es options line → TakesLine es options many name number line w w true
+line_counted es options many name number line w asked s = record {
+  rows = [];
+  are_rows = inl (s, subst (λ shape. RowsOfSelected es options many shape name number line []) (sym asked) refl);
+  wrote = TakesAll-nothing w;
+  told = ((λ _. s), (λ _. refl));
+}
 
 -- a line that is not selected has no rows
 pub line_passed : (es : List Expression) (options : Options) (many : Bool) (name : Text) (number : ℕ) (line : Text) (w : Writer) (verdict : Bool) → verdict ≡ false → Decides verdict (Selected es options line)

@@ -3,9 +3,6 @@ ghost use Rattle.std.specs.Prelude.{◌≡◌, ◌+◌, ◌≤◌};
 ghost use Rattle.grep_core.specs.Working.Progress.{progress_from, next_shown, with_waiting};
 ghost use Rattle.grep_core.specs.Working.Progress.{behind_line};
 
-#[cfg(test)]
-mod tests;
-
 use crate::options::Context;
 
 /// What is shown at a line of a file.

@@ -29,7 +29,7 @@ use crate::search::matching::is_selected_behind;
 use crate::search::passing::unselected_ahead;
 use crate::search::sending::send_before_read;
 use crate::search::setting::Asked;
-use re_search::{FixedSet, LineMatch, Meter, look_cost};
+use re_search::{Filter, LineMatch, Meter, look_cost};
 use std::alloc::AllocError;
 
 // Writes the separator, where a group begins behind another.
@@ -124,7 +124,7 @@ fn keep(behind: &mut Behind, shown: bool, line: &[u8]) -> Result<(), AllocError>
 fn pass_waiting<R: CountedRead, M: LineMatch>(
     lines: &mut NumberedLines<R>,
     matchers: &[M],
-    filter: Option<&FixedSet>,
+    filter: Option<&Filter>,
     options: &Options,
     looks: &mut Looks,
     progress: &mut Progress,

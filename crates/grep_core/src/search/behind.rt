@@ -13,9 +13,6 @@ use std::collections::VecDeque;
 use std::marker::Model;
 use std::mem;
 
-#[cfg(test)]
-mod tests;
-
 /// The last lines of a file that are not shown, the oldest first; no more than may be shown before
 /// the next selected one. Contracts see them as a list beside that limit.
 // The lines are the last `held` of the queue. Those before them, and `next`, are memory for later

@@ -19,10 +19,10 @@ use crate::output::wanted::Wanted;
 use crate::search::around::search_around;
 use crate::search::line::search_line;
 use crate::search::looks::Looks;
-use crate::search::passing::pass_unselected;
+use crate::search::passing::{pass_counted, pass_unselected};
 use crate::search::sending::send_before_read;
 use crate::search::setting::Setting;
-use re_search::{FixedSet, LineMatch, Meter, look_cost};
+use re_search::{Filter, LineMatch, Meter, look_cost};
 
 /// How the search of a file came to its end.
 #[derive(Clone, Copy, PartialEq, Eq, Debug, Drop)]
@@ -113,7 +113,7 @@ pub fn count_found(selected: u64, found: bool) -> u64
 fn search_lines<R: CountedRead, M: LineMatch, W: CountedWrite>(
     lines: &mut NumberedLines<R>,
     matchers: &mut [M],
-    filter: Option<&FixedSet>,
+    filter: Option<&Filter>,
     wanted: &Wanted,
     out: &mut W,
     meter: &mut Meter,
@@ -149,10 +149,13 @@ fn search_lines<R: CountedRead, M: LineMatch, W: CountedWrite>(
     ensures same_matchers { SameMatchers M.expression M.whole matchers.old matchers.new }
 {
     let early = wanted.options.leaves_early();
+    let mut counting = wanted.options.only_counts_matched();
     let mut looks = Looks::new(look_cost(matchers, filter));
     let mut selected: u64 = 0;
     loop {
-        pass_unselected(lines, matchers, filter, &wanted.options, &mut looks);
+        let options = &wanted.options;
+        selected = pass_counted(lines, matchers, filter, options, selected, &mut counting);
+        pass_unselected(lines, matchers, filter, options, &mut looks);
         send_before_read(lines, out)?;
         match lines.next_line() {
             Ok(true) => {

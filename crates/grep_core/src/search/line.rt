@@ -13,7 +13,7 @@ use crate::devices::counted::{CountedWrite, WriteFault};
 use crate::options::Form;
 use crate::output::wanted::Wanted;
 use crate::search::matching::{is_selected_behind, next_part};
-use re_search::{FixedSet, LineMatch, Meter};
+use re_search::{Filter, LineMatch, Meter};
 
 /// Writes the parts of a line, each behind the line's head.
 fn write_parts<M: LineMatch, W: CountedWrite>(
@@ -81,7 +81,7 @@ fn write_selected<M: LineMatch, W: CountedWrite>(
 /// Writes the rows of a line, where there are any, and answers whether it is selected.
 pub fn search_line<M: LineMatch, W: CountedWrite>(
     matchers: &mut [M],
-    filter: Option<&FixedSet>,
+    filter: Option<&Filter>,
     wanted: &Wanted,
     number: u64,
     line: &[u8],

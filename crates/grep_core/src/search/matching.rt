@@ -1,15 +1,12 @@
 //! Whether a line is selected, and its parts, by several matchers.
-ghost use Rattle.std.specs.Prelude.{◌↔◌, ◌<◌, ◌≤◌, IsTrue, IfSome, IsSomeAnd, false, length};
-ghost use Rattle.std.specs.Prelude.{map};
+ghost use Rattle.std.specs.Prelude.{◌↔◌, ◌<◌, ◌≤◌, IsTrue, IfSome, length, map};
 ghost use Rattle.re_search.specs.Working.Filters.{AreNeeded};
-ghost use Rattle.re_search.specs.Working.Literals.{any_literal};
 ghost use Rattle.re_search.specs.Searching.{AllAnswer, AddsAtMost, FindsPart, SameMatchers};
-ghost use Rattle.re_syntax.specs.Holds.{Matches};
 ghost use Rattle.grep_core.specs.Cost.{search_cost};
 ghost use Rattle.grep_core.specs.Files.{Selected};
 
 use crate::options::Options;
-use re_search::{FixedSet, LineMatch, Meter, Span, is_matched, parts};
+use re_search::{Filter, LineMatch, Meter, Span, is_matched, parts};
 
 /// Whether grep selects the line: some matcher matches it, and under `-v` none does (XCU grep,
 /// DESCRIPTION and option `-v`).
@@ -28,16 +25,21 @@ pub fn is_selected<M: LineMatch>(
     options.selects(matched)
 }
 
-/// Whether there is a filter, and none of its strings stands on the line.
-#[inline]
-fn is_ruled_out(filter: Option<&FixedSet>, line: &[u8]) -> bool
-    ensures { IsTrue result ↔
-        IsSomeAnd filter.entry (λ f. Matches (any_literal f.now) line.now false → ⊥) }
+// The same, by the matchers behind a filter.
+fn is_selected_by<M: LineMatch>(
+    filter: &Filter,
+    matchers: &mut [M],
+    options: Options,
+    line: &[u8],
+    meter: &mut Meter,
+) -> bool
+    requires { AllAnswer options.line_regexp (map M.whole matchers.old) }
+    ensures told { IsTrue result ↔ Selected (map M.expression matchers.old) options line.now }
+    ensures same_matchers { SameMatchers M.expression M.whole matchers.old matchers.new }
+    ensures steps { AddsAtMost (search_cost (length matchers.old) line.now) meter.old meter.new }
 {
-    let Some(filter) = filter else {
-        return false;
-    };
-    !filter.stands_in(line)
+    let matched = filter.is_matched(matchers, line, meter);
+    options.selects(matched)
 }
 
 /// Whether grep selects the line, as [`is_selected`] tells it. Where a filter rules the line out no
@@ -45,7 +47,7 @@ fn is_ruled_out(filter: Option<&FixedSet>, line: &[u8]) -> bool
 #[inline(always)]
 pub fn is_selected_behind<M: LineMatch>(
     matchers: &mut [M],
-    filter: Option<&FixedSet>,
+    filter: Option<&Filter>,
     options: Options,
     line: &[u8],
     meter: &mut Meter,
@@ -56,10 +58,13 @@ pub fn is_selected_behind<M: LineMatch>(
     ensures same_matchers { SameMatchers M.expression M.whole matchers.old matchers.new }
     ensures steps { AddsAtMost (search_cost (length matchers.old) line.now) meter.old meter.new }
 {
-    if is_ruled_out(filter, line) {
+    let Some(filter) = filter else {
+        return is_selected(matchers, options, line, meter);
+    };
+    if !filter.stands_in(line) {
         return options.invert_match;
     }
-    is_selected(matchers, options, line, meter)
+    is_selected_by(filter, matchers, options, line, meter)
 }
 
 /// The next part of the line that begins at `from` or later.

@@ -1,7 +1,7 @@
 //! What a search goes by.
 
 use crate::options::Options;
-use re_search::FixedSet;
+use re_search::Filter;
 use std::alloc::Global;
 
 /// What is asked of a search, besides its sources and its matchers.
@@ -12,7 +12,7 @@ pub struct Asked<'a> {
     /// The options of the run. `-i` is for the matchers to heed.
     pub options: Options,
     /// Strings of which some stands on each line that some matcher matches, where they are known.
-    pub filter: Option<&'a FixedSet>,
+    pub filter: Option<&'a Filter>,
 }
 
 /// What the search of each source goes by.

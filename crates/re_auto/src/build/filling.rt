@@ -57,6 +57,3 @@ fn fill_tables(alloc: Global, tree: &Tree, count: usize) -> Result<Tables, Alloc
         beginnings: Beginnings::of(marks),
     })
 }
-
-#[cfg(test)]
-mod tests;

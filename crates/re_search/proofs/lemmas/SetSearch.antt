@@ -9,7 +9,7 @@ use Rattle.re_syntax.specs.Bytes.{Text}
 use Rattle.re_auto.specs.Working.Starts.{IsBest, Least, better}
 use Rattle.re_search.specs.declared.span.Span.{Span}
 use Rattle.re_search.specs.Working.Simulations.{places, better_span}
-use Rattle.re_search.specs.Working.FixedSets.{IsFront, IsString, StandsFor, EndsIn, Labels, Steps, StepsOn, Occurs, NoneBetween, StandsAtNode, IsBestOccurrence, better_ending}
+use Rattle.re_search.specs.Working.FixedSets.{IsFront, IsString, StandsFor, EndsIn, Labels, Steps, StepsOn, Occurs, NoneBetween, StandsAtNode, StandsSince, IsBestOccurrence, better_ending}
 use Rattle.re_search.proofs.lemmas.BestSpans.{better_places}
 use Rattle.re_search.proofs.lemmas.SetSteps.{front_shorter, string_front, empty_end, may_at_first}
 
@@ -127,30 +127,65 @@ module _ (all : Labels) (from : ℕ) (line : Text) where
         subst (IsString all.strings) (ap (λ k. drop k (all.label n)) (sym at) ∙ same_end place n (place - e) s le) (ends.ends some),
       )
 
+module _ (all : Labels) (from : ℕ) (line : Text) where
+  -- a string that ends here or later begins no earlier than what the node stands for may
+  pub from_since : (place n : ℕ) (g : StandsSince all from line place n) → (i j : ℕ) → place ≤ j → Occurs all.strings from line i j → Occurs all.strings g.since line i j
+  from_since place n g i j le o = elim (split i g.since) [ inl early ↦ absurd (g.none i j le early o) | inr late ↦ (late, o.1, o.2, o.3) ]
+
+  -- nothing is read yet
+  pub stands_at_first : all.label 0 ≡ [] → from ≤ length line → StandsSince all from line from 0
+  stands_at_first root within = record {
+    since = from;
+    low = omega arith;
+    none = λ i j le lt o. let low = o.0 in omega (arith, lt, low);
+    stands = nothing_read all from line root within;
+  }
+
+  -- a byte is read
+  pub stands_behind : (place n m : ℕ) → place < length line → StandsSince all from line place n → Steps all n (slice_index line place) m → StandsSince all from line (place + 1) m
+  stands_behind place n m lt g step = record {
+    since = g.since;
+    low = g.low;
+    none = λ i j le early o. g.none i j (omega (arith, le)) early o;
+    stands = byte_read all g.since line place n m lt g.stands step;
+  }
+
+  -- a string that ends here is no longer than the longest with which the node ends
+  no_longer_since : (place n e : ℕ) → place ≤ length line → StandsSince all from line place n → EndsIn all.strings (all.label n) e → (i : ℕ) → Occurs all.strings from line i place → place - i ≤ e
+  no_longer_since place n e within g ends i o = no_longer all g.since line place n e within g.stands ends i (from_since place n g i place (omega arith) o)
+
+  -- and that string ends here
+  longest_ends_since : (place n e : ℕ) → place ≤ length line → StandsSince all from line place n → EndsIn all.strings (all.label n) e → 0 < e → Occurs all.strings from line (place - e) place
+  longest_ends_since place n e within g ends some =
+      let o = longest_ends all g.since line place n e within g.stands ends some in
+      let low = g.low in
+      let late = o.0 in
+      (omega (arith, low, late), o.1, o.2, o.3)
+
   -- where the node ends with no string none ends here
-  pub none_ends : (place n e : ℕ) → place ≤ length line → StandsAtNode all from line place n → EndsIn all.strings (all.label n) e → e ≡ 0 → (i : ℕ) → ¬ Occurs all.strings from line i place
-  none_ends place n e within s ends nil i o = let most = no_longer place n e within s ends i o in omega (arith, nil, most, o.1)
+  pub none_ends : (place n e : ℕ) → place ≤ length line → StandsSince all from line place n → EndsIn all.strings (all.label n) e → e ≡ 0 → (i : ℕ) → ¬ Occurs all.strings from line i place
+  none_ends place n e within s ends nil i o = let most = no_longer_since place n e within s ends i o in omega (arith, nil, most, o.1)
 
   -- where it does one ends here
-  pub some_ends : (place n e : ℕ) → place ≤ length line → StandsAtNode all from line place n → EndsIn all.strings (all.label n) e → 0 < e → (i j : ℕ) × Occurs all.strings from line i j
-  some_ends place n e within s ends some = (place - e, place, longest_ends place n e within s ends some)
+  pub some_ends : (place n e : ℕ) → place ≤ length line → StandsSince all from line place n → EndsIn all.strings (all.label n) e → 0 < e → (i j : ℕ) × Occurs all.strings from line i j
+  some_ends place n e within s ends some = (place - e, place, longest_ends_since place n e within s ends some)
 
   -- the least start of the strings that end here
-  least_ending : (place n e : ℕ) → place ≤ length line → StandsAtNode all from line place n → EndsIn all.strings (all.label n) e → Least (λ i. Occurs all.strings from line i place) (ending place e)
+  least_ending : (place n e : ℕ) → place ≤ length line → StandsSince all from line place n → EndsIn all.strings (all.label n) e → Least (λ i. Occurs all.strings from line i place) (ending place e)
   least_ending place n e within s ends = go (nat_eq e 0) refl
     where
       go : (b : Bool) → nat_eq e 0 ≡ b → Least (λ i. Occurs all.strings from line i place) (if b then None else Some (place - e))
       go true is = λ i o. none_ends place n e within s ends (eqb-true e 0 is) i o
       go false is = (
-        longest_ends place n e within s ends (let some = eqb-false e 0 is in omega (arith, some)),
-        λ k o. let most = no_longer place n e within s ends k o in omega (arith, most, o.1),
+        longest_ends_since place n e within s ends (let some = eqb-false e 0 is in omega (arith, some)),
+        λ k o. let most = no_longer_since place n e within s ends k o in omega (arith, most, o.1),
       )
 
   -- ---- passes
 
   -- no string ended up to a place, nor to the next
   pub none_up_to : (place next n e : ℕ) → next ≤ length line → ((i j : ℕ) → j ≤ place → ¬ Occurs all.strings from line i j) → NoneBetween all.strings from line place next
-      → StandsAtNode all from line next n → EndsIn all.strings (all.label n) e → e ≡ 0 → (i j : ℕ) → j ≤ next → ¬ Occurs all.strings from line i j
+      → StandsSince all from line next n → EndsIn all.strings (all.label n) e → e ≡ 0 → (i j : ℕ) → j ≤ next → ¬ Occurs all.strings from line i j
   none_up_to place next n e within before between s ends nil i j le o =
       elim (split place j) [
         | inr early ↦ before i j early o
@@ -226,7 +261,7 @@ module _ (all : Labels) (from : ℕ) (line : Text) where
 
   -- the best up to the next place, at which the node is known
   pub best_on : (place next n e : ℕ) (best result : Option Span) → place < next → next ≤ length line → IsBestOccurrence all.strings from line place best → NoneBetween all.strings from line place next
-      → StandsAtNode all from line next n → EndsIn all.strings (all.label n) e → result ≡ better_ending best next e → IsBestOccurrence all.strings from line next result
+      → StandsSince all from line next n → EndsIn all.strings (all.label n) e → result ≡ better_ending best next e → IsBestOccurrence all.strings from line next result
   unfolding IsBestOccurrence
   best_on place zero n e best result lt within old between s ends is = absurd (omega (arith, lt))
   best_on place (suc to) n e best result lt within old between s ends is =
@@ -237,7 +272,7 @@ module _ (all : Labels) (from : ℕ) (line : Text) where
 
   -- once the node begins behind the best so far, that is the best of the line
   pub best_settled : (place next n depth : ℕ) (best : Option Span) → place < next → next ≤ length line → IsBestOccurrence all.strings from line place best → NoneBetween all.strings from line place next
-      → StandsAtNode all from line next n → depth ≡ length (all.label n) → (known : Span) × (best ≡ Some known) × (known.start < next - depth) → IsBestOccurrence all.strings from line (length line) best
+      → StandsSince all from line next n → depth ≡ length (all.label n) → (known : Span) × (best ≡ Some known) × (known.start < next - depth) → IsBestOccurrence all.strings from line (length line) best
   unfolding IsBestOccurrence
   best_settled place next n depth best lt within old between s deep (known, is, early) = rw is (go (rw is at old))
     where
@@ -248,12 +283,13 @@ module _ (all : Labels) (from : ℕ) (line : Text) where
             | inl inside ↦ between i k far inside o
             | inr behind ↦
                 let (more, longer) = read_on line next k behind in
-                let size = node_length all from line next n within s in
-                let high = s.high in
+                let size = node_length all s.since line next n within s.stands in
+                let high = s.stands.high in
+                let own = from_since all from line next n s i k behind o in
                 let read = read_length line next within in
                 let within_read : i ≤ length (take next line) = omega (arith, read, le, early) in
                 let end : drop i (take k line) ≡ drop i (take next line) ++ more = ap (drop i) longer ∙ drop-append-le i (take next line) more within_read in
-                let begins = begins_with_node all from line next n s i o.0 (front_shorter all.strings (drop i (take next line)) more (subst (IsFront all.strings) end (string_front all.strings (drop i (take k line)) o.3))) in
+                let begins = begins_with_node all s.since line next n s.stands i own.0 (front_shorter all.strings (drop i (take next line)) more (subst (IsFront all.strings) end (string_front all.strings (drop i (take k line)) o.3))) in
                 omega (arith, begins, size, high, read, deep, early, le)
           ]
 

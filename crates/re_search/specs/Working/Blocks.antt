@@ -1,5 +1,5 @@
 -- Blocks of whole lines, and what a look at one tells of its first lines.
-use Rattle.std.specs.Prelude.{◌≡◌, ℕ, Bool, List, ◌++◌, All, length}
+use Rattle.std.specs.Prelude.{◌≡◌, ℕ, ◌+◌, ◌⊎◌, Bool, List, [], ◌∷◌, ◌++◌, All, length}
 use Rattle.re_syntax.specs.Bytes.{Text}
 use Rattle.re_syntax.specs.Expression.{Expression}
 use Rattle.re_syntax.specs.Holds.{Matches}
@@ -30,3 +30,24 @@ abbrev pub PassesUnmatchedByAll : List Expression → List Bool → Text → ℕ
 PassesUnmatchedByAll es wholes block count =
     (whole : Bool) → AllAnswer whole wholes →
     PassesAll (λ line. ¬ SomeMatches es line whole) block count
+
+-- the text stands in the line
+abbrev pub StandsIn : Text → Text → Type 0
+StandsIn text line = (k : ℕ) × OccursAt line text k
+
+-- this holds of so many of the lines
+abbrev pub HoldsOfMany : (Text → Type 0) → List Text → ℕ → Type 0
+HoldsOfMany Holds [] count = count ≡ 0
+HoldsOfMany Holds (line ∷ lines) count =
+    (others : ℕ) × HoldsOfMany Holds lines others
+    × ((Holds line × (count ≡ others + 1)) ⊎ ((Holds line → ⊥) × (count ≡ others)))
+
+-- so many of the lines are matched
+abbrev pub CountsMatched : Expression → Bool → List Text → ℕ → Type 0
+CountsMatched e whole lines count = HoldsOfMany (λ line. Matches e line whole) lines count
+
+-- so many are matched by some expression, by the answer that all matchers give
+abbrev pub CountsMatchedByAll : List Expression → List Bool → List Text → ℕ → Type 0
+CountsMatchedByAll es wholes lines count =
+    (whole : Bool) → AllAnswer whole wholes →
+    HoldsOfMany (λ line. SomeMatches es line whole) lines count

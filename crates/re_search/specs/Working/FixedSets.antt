@@ -1,10 +1,11 @@
 -- Many fixed strings at once: the tree of their beginnings, each with the longest end of it that is
 -- such a beginning too (Aho and Corasick, 1975).
-use Rattle.std.specs.Prelude.{◌≡◌, ℕ, ◌+◌, ◌-◌, ◌<◌, ◌≤◌, Bool, List, [], ◌∷◌, ◌++◌, length, take}
+use Rattle.std.specs.Prelude.{◌≡◌, ℕ, ◌+◌, ◌-◌, ◌*◌, ◌<◌, ◌≤◌, Bool, List, [], ◌∷◌, ◌++◌, length, take}
 use Rattle.std.specs.Prelude.{drop, Any, slice_index, Option, nat_eq, nat_lt, if◌then◌else◌}
 use Rattle.re_syntax.specs.Bytes.{Text, Begins}
 use Rattle.re_auto.specs.Working.Starts.{IsBest}
 use Rattle.re_search.specs.declared.span.Span.{Span}
+use Rattle.re_search.specs.declared.fixed_set.leaps.Leaps.{Leaps}
 use Rattle.re_search.specs.declared.fixed_set.table.Table.{Table}
 use Rattle.re_search.specs.Working.Literals.{key}
 use Rattle.re_search.specs.Working.Simulations.{places, better_span}
@@ -111,6 +112,26 @@ abbrev pub NoneBetween : List Text → ℕ → Text → ℕ → ℕ → Type 0
 NoneBetween strings from line place next =
     (i k : ℕ) → place < k → k < next → ¬ Occurs strings from line i k
 
+-- no string, not the empty one, begins at a place that is `place` or later, and before `next`
+abbrev pub NoneBegins : List Text → Text → ℕ → ℕ → Type 0
+NoneBegins strings line place next = (i j : ℕ) → i < next → ¬ Occurs strings place line i j
+
+-- the row of a pair of bytes
+abbrev pub pair_row : ℕ → ℕ → ℕ
+pair_row b c = b * 128 + c
+
+-- there is a row for each pair of bytes, and no leap is as long as the window
+pub record IsLeaps (l : Leaps) : Type 0 where
+  pub full : length l.shifts.items ≡ 32896
+  pub short : 0 < l.window → (n : ℕ) → n < 32896 → slice_index l.shifts.items n < l.window
+
+-- The window is no longer than any string. Where a string has a pair of bytes behind j others, a
+-- leap from a window that ends with the pair comes no further than the string's first byte.
+pub record AreLeapsOf (strings : List Text) (l : Leaps) : Type 0 where
+  pub long : (s : Text) → IsString strings s → l.window ≤ length s
+  pub right : (s : Text) → IsString strings s → (j : ℕ) → j + 2 ≤ l.window →
+      slice_index l.shifts.items (pair_row (slice_index s j) (slice_index s (j + 1))) + j + 2 ≤ l.window
+
 -- the tables have a row for each node
 pub record IsTable (t : Table) : Type 0 where
   pub trie : IsTrie t.trie.first.items t.trie.bytes.items
@@ -119,6 +140,7 @@ pub record IsTable (t : Table) : Type 0 where
   pub fails : length t.fails.items ≡ length t.trie.bytes.items
   pub depths : length t.depths.items ≡ length t.trie.bytes.items
   pub ends : length t.ends.items ≡ length t.trie.bytes.items
+  pub leaps : IsLeaps t.leaps
 
 -- the rows are right for the strings
 pub record IsTableOf (all : Labels) (t : Table) : Type 0 where
@@ -129,11 +151,19 @@ pub record IsTableOf (all : Labels) (t : Table) : Type 0 where
       slice_index t.depths.items n ≡ length (all.label n)
   pub ends : (n : ℕ) → n < length t.trie.bytes.items →
       EndsIn all.strings (all.label n) (slice_index t.ends.items n)
+  pub leaps : AreLeapsOf all.strings t.leaps
 
 -- the node is the longest end of the line up to this place that a string begins with
 abbrev pub StandsAtNode : Labels → ℕ → Text → ℕ → ℕ → Type 0
 StandsAtNode all from line place node =
     StandsFor all.strings (all.label node) (take place line) from
+
+-- the same from a later place on, before which no string begins that ends here or later
+pub record StandsSince (all : Labels) (from : ℕ) (line : Text) (place node : ℕ) : Type 0 where
+  pub since : ℕ
+  pub low : from ≤ since
+  pub none : (i j : ℕ) → place ≤ j → i < since → ¬ Occurs all.strings from line i j
+  pub stands : StandsAtNode all since line place node
 
 -- the best so far, where the longest string that ends at this place has this length, or there is
 -- none where that is 0

@@ -6,6 +6,7 @@ ghost use Rattle.re_search.specs.Working.FixedSets.{IsTable, IsTableOf, IsTrie, 
 ghost use Rattle.re_search.specs.Working.FixedSets.{Labels};
 
 use crate::fixed_set::growth::{Branch, grow};
+use crate::fixed_set::leaps::leaps_of;
 use crate::fixed_set::links::{line_starts, links_of, starts_of};
 use crate::fixed_set::table::Table;
 use crate::fixed_set::trie::Trie;
@@ -37,12 +38,14 @@ pub fn table_of(alloc: Global, strings: &[&[u8]], fold: bool) -> Result<Table, A
     drop(owns);
     let starts = line_starts(alloc, &trie, plain, fold)?;
     let depths = depths_of(alloc, &trie)?;
+    let leaps = leaps_of(alloc, strings)?;
     Ok(Table {
         trie,
         starts,
         fails: links.fails,
         depths,
         ends: links.ends,
+        leaps,
         fold,
     })
 }

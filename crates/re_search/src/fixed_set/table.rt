@@ -5,11 +5,12 @@ ghost use Rattle.re_syntax.specs.Bytes.{Text};
 ghost use Rattle.re_search.specs.Working.FixedSets.{IsTrie, IsTrieOf, IsTable, IsTableOf, IsString};
 ghost use Rattle.re_search.specs.Working.FixedSets.{AreFallbacks, AreFallbacksOf, AreStarts};
 ghost use Rattle.re_search.specs.Working.FixedSets.{Labels, Steps, StepsOn, Occurs, NoneBetween};
-ghost use Rattle.re_search.specs.Working.FixedSets.{StandsAtNode, IsBestOccurrence, better_ending};
+ghost use Rattle.re_search.specs.Working.FixedSets.{StandsSince, IsBestOccurrence, better_ending};
 ghost use Rattle.re_search.specs.Working.Literals.{keys};
 ghost use Rattle.re_search.specs.declared.span.Span.{Span};
 
 use crate::fixed_set::keys::key_of;
+use crate::fixed_set::leaps::Leaps;
 use crate::fixed_set::trie::Trie;
 use crate::span::Span;
 
@@ -26,6 +27,8 @@ pub struct Table {
     pub depths: Vec<u32>,
     /// The length of the longest string that each node ends with, 0 where there is none.
     pub ends: Vec<u32>,
+    /// How far a search may leap at the root.
+    pub leaps: Leaps,
     /// Whether both cases of each letter of a line are alike; the strings are then in lower case.
     pub fold: bool,
 }
@@ -122,8 +125,8 @@ impl Table {
         self.ends[node] as usize == line.len()
     }
 
-    // Goes over the byte at `place`, or, where no string is on its way, over those that none begins
-    // with; gives the place behind and the node there.
+    // Goes over the byte at `place`, or, where no string is on its way, over those at which none
+    // begins, and one more; gives the place behind and the node there.
     #[inline(always)]
     fn pass(&self, line: &[u8], place: usize, node: usize, fold: bool) -> (usize, usize)
         requires table { IsTable self.now }
@@ -133,21 +136,43 @@ impl Table {
         ensures on { (place < result.0) × (result.0 ≤ length line.now) }
         ensures in_trie { result.1 < length self.now.trie.bytes.items }
         ensures stands { (all : Labels) → IsTableOf all self.now → (from : ℕ) → from ≤ place →
-            StandsAtNode all from (keys self.now.fold line.now) place node
-            → StandsAtNode all from (keys self.now.fold line.now) result.0 result.1 }
+            StandsSince all from (keys self.now.fold line.now) place node
+            → StandsSince all from (keys self.now.fold line.now) result.0 result.1 }
         ensures between { (all : Labels) → IsTableOf all self.now → (from : ℕ) → from ≤ place →
-            StandsAtNode all from (keys self.now.fold line.now) place node
+            StandsSince all from (keys self.now.fold line.now) place node
             → NoneBetween all.strings from (keys self.now.fold line.now) place result.0 }
     {
-        if node == 0 {
-            let behind = next_start(&self.starts, line, place);
-            if behind > place {
-                return (behind, 0);
-            }
+        let start = self.next_start(line, place, node, fold);
+        if start == line.len() {
+            return (start, node);
         }
-        let byte = key_of(fold, line[place]);
+        let byte = key_of(fold, line[start]);
         let into = step(&self.trie, &self.starts, &self.fails, node, byte);
-        (place + 1, into)
+        (start + 1, into)
+    }
+
+    // The place, or, where no string is on its way, the first one from there on at which a string
+    // may begin; the line's end where there is none.
+    #[inline(always)]
+    fn next_start(&self, line: &[u8], place: usize, node: usize, fold: bool) -> usize
+        requires table { IsTable self.now }
+        requires within { place < length line.now }
+        requires alike { fold ≡ self.now.fold }
+        ensures within { (place ≤ result) × (result ≤ length line.now) }
+        ensures stands { (all : Labels) → IsTableOf all self.now → (from : ℕ) → from ≤ place →
+            StandsSince all from (keys self.now.fold line.now) place node
+            → StandsSince all from (keys self.now.fold line.now) result node }
+        ensures between { (all : Labels) → IsTableOf all self.now → (from : ℕ) → from ≤ place →
+            StandsSince all from (keys self.now.fold line.now) place node
+            → NoneBetween all.strings from (keys self.now.fold line.now) place (result + 1) }
+    {
+        if node > 0 {
+            return place;
+        }
+        if self.leaps.window < 2 {
+            return first_start(&self.starts, line, place);
+        }
+        self.leaps.leap(line, place, fold)
     }
 }
 
@@ -177,7 +202,7 @@ pub fn step(trie: &Trie, starts: &[u32], fails: &[u32], node: usize, byte: u8) -
 
 // The first place, `place` or later, whose byte a string begins with; the line's end where there
 // is none.
-fn next_start(starts: &[u32], line: &[u8], place: usize) -> usize
+fn first_start(starts: &[u32], line: &[u8], place: usize) -> usize
     requires full { length starts.now ≡ 256 }
     requires within { place ≤ length line.now }
     ensures within { (place ≤ result) × (result ≤ length line.now) }

@@ -13,4 +13,4 @@ returns g c =
 pub returns-in-Some : goal.returns-in-Some
 returns-in-Some g c =
     let ms = c.args.matchers.now in
-    passes_by_filter c.in-Some.strings.now (map g.M.LineMatch.expression ms) (map g.M.LineMatch.whole ms) c.args.block.now c.first_line.result (rw c.in-Some.is at c.requires.needed) c.first_line.ensures
+    passes_by_filter c.in-Some.filter.now (map g.M.LineMatch.expression ms) (map g.M.LineMatch.whole ms) c.args.block.now c.first_line.result (rw c.in-Some.is at c.requires.needed) c.first_line.ensures

@@ -1,4 +1,4 @@
-use Rattle.std.proofs.Common.{◌≡◌, ℕ, ◌+◌, ◌-◌, ◌≤◌, Bool, List, ◌++◌, length, refl, sym, ap, ◌∙◌, arith, length-append}
+use Rattle.std.proofs.Common.{◌≡◌, ℕ, ◌+◌, ◌-◌, Bool, List, ◌++◌, length, sym, ap, ◌∙◌, arith, length-append}
 use Rattle.memchr.specs.Find.{is_byte, places_between, places_from}
 use Rattle.memchr.proofs.lemmas.PlaceLemmas.{places_between-none, places_from-append, length-places_from}
 use Rattle.re_syntax.specs.Lines.{newline}

@@ -1,5 +1,6 @@
-use Rattle.std.proofs.Common.{arith}
+use Rattle.std.proofs.Common.{map, arith}
 use Rattle.re_search.specs.Working.FixedSets.{Labels}
+use Rattle.re_search.proofs.lemmas.SetLeaps.{same_leaps}
 use Rattle.re_search.proofs.fixed_set.making.table_of.Goals as goal
 
 pub returns-clause-right : goal.returns-clause-right
@@ -16,5 +17,6 @@ returns-clause-right c = λ strings same.
         fails = linked.fallbacks;
         depths = c.in_ok-depths.ensures.right all trie;
         ends = λ n lt. linked.endings n (omega (arith, lt, ended));
+        leaps = same_leaps (map (λ s. s.now) c.args.strings.now) strings same c.in_ok-leaps.leaps c.in_ok-leaps.ensures.right;
       },
     )

@@ -2,7 +2,7 @@ use Rattle.std.proofs.Common.{◌≡◌, ◌<◌, length, slice_index, sym, subs
 use Rattle.std.proofs.lemmas.List.{length-map}
 use Rattle.re_search.specs.Working.Literals.{key, keys}
 use Rattle.re_search.specs.Working.FixedSets.{IsBestOccurrence}
-use Rattle.re_search.proofs.lemmas.SetSearch.{nothing_read, row_read, best_at_first, best_on, best_settled}
+use Rattle.re_search.proofs.lemmas.SetSearch.{stands_at_first, row_read, best_at_first, best_on, best_settled}
 use Rattle.re_search.proofs.fixed_set.table.Table.find_by.Goals as goal
 
 pub places-init : goal.places-init
@@ -12,7 +12,7 @@ places-init c =
       after = omega arith;
       within = c.requires.within;
       in_trie = c.requires.table.trie.some;
-      stands = λ all t. nothing_read all c.args.from (keys c.args.self.now.fold c.args.line.now) t.trie.root (let w = c.requires.within in omega (arith, size, w));
+      stands = λ all t. stands_at_first all c.args.from (keys c.args.self.now.fold c.args.line.now) t.trie.root (let w = c.requires.within in omega (arith, size, w));
       best = λ all t. best_at_first all c.args.from (keys c.args.self.now.fold c.args.line.now);
     }
 

@@ -1,5 +1,5 @@
 use Rattle.std.proofs.Common.{◌<◌, ◌≤◌, ◌-◌, length}
-use Rattle.re_search.specs.Working.FixedSets.{Labels, IsTableOf, StandsAtNode, IsBestOccurrence}
+use Rattle.re_search.specs.Working.FixedSets.{Labels, IsTableOf, StandsSince, IsBestOccurrence}
 use Rattle.re_search.specs.Working.Literals.{keys}
 use Rattle.re_search.proofs.fixed_set.table.Table.find_by.Given as goal
 
@@ -8,7 +8,7 @@ invariant-places l = record {
   after : l.from ≤ l.place;
   within : l.place ≤ length l.line;
   in_trie : l.node < length l.self.trie.bytes.items;
-  stands : (all : Labels) → IsTableOf all l.self → StandsAtNode all l.from (keys l.self.fold l.line) l.place l.node;
+  stands : (all : Labels) → IsTableOf all l.self → StandsSince all l.from (keys l.self.fold l.line) l.place l.node;
   best : (all : Labels) → IsTableOf all l.self → IsBestOccurrence all.strings l.from (keys l.self.fold l.line) l.place l.best;
 }
 

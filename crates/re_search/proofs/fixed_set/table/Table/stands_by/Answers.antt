@@ -2,8 +2,16 @@ use Rattle.std.proofs.Common.{◌≡◌, ◌<◌, length, slice_index, refl, ari
 use Rattle.std.proofs.lemmas.Bool.{false≢true}
 use Rattle.std.proofs.lemmas.List.{length-map}
 use Rattle.re_search.specs.Working.Literals.{key, keys}
-use Rattle.re_search.proofs.lemmas.SetSearch.{row_read, some_ends, none_up_to}
+use Rattle.re_search.proofs.lemmas.SetSearch.{row_read, some_ends, none_up_to, stands_at_first}
 use Rattle.re_search.proofs.fixed_set.table.Table.stands_by.Goals as goal
+
+pub places-init : goal.places-init
+places-init c = record {
+  within = omega arith;
+  in_trie = c.requires.table.trie.some;
+  stands = λ all t. stands_at_first all 0 (keys c.args.self.now.fold c.args.line.now) t.trie.root (omega arith);
+  none = λ all t i j le o. let on = o.1 in omega (arith, on, le);
+}
 
 pub returns-then-index-gt0 : goal.returns-then-index-gt0
 returns-then-index-gt0 c = λ all t.

@@ -1,5 +1,5 @@
 use Rattle.std.proofs.Common.{ℕ, ◌<◌, ◌≤◌, ◌-◌, length}
-use Rattle.re_search.specs.Working.FixedSets.{Labels, IsTableOf, Occurs, StandsAtNode}
+use Rattle.re_search.specs.Working.FixedSets.{Labels, IsTableOf, Occurs, StandsSince}
 use Rattle.re_search.specs.Working.Literals.{keys}
 use Rattle.re_search.proofs.fixed_set.table.Table.stands_by.Given as goal
 
@@ -7,7 +7,7 @@ abbrev pub invariant-places : goal.invariant-places
 invariant-places l = record {
   within : l.place ≤ length l.line;
   in_trie : l.node < length l.self.trie.bytes.items;
-  stands : (all : Labels) → IsTableOf all l.self → StandsAtNode all 0 (keys l.self.fold l.line) l.place l.node;
+  stands : (all : Labels) → IsTableOf all l.self → StandsSince all 0 (keys l.self.fold l.line) l.place l.node;
   none : (all : Labels) → IsTableOf all l.self → (i j : ℕ) → j ≤ l.place → ¬ Occurs all.strings 0 (keys l.self.fold l.line) i j;
 }
 

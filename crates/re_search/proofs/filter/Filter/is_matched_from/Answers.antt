@@ -1,0 +1,48 @@
+use Rattle.std.proofs.Common.{◌≡◌, map, take, arith, refl, take_all}
+use Rattle.std.proofs.lemmas.Bool.{false≢true}
+use Rattle.std.proofs.lemmas.List.{length-map}
+use Rattle.re_search.proofs.lemmas.OneMatcherMore.{one_more, value_at, within, none_more, one_matches, steps_more}
+use Rattle.re_search.proofs.lemmas.KeptMatchers.{one_asked}
+use Rattle.re_search.proofs.filter.Filter.is_matched_from.Goals as goal
+
+pub loop-place-preserved : goal.loop-place-preserved
+loop-place-preserved g c =
+    let expression = g.M.LineMatch.expression in
+    let whole = g.M.LineMatch.whole in
+    let old = c.args.matchers.now in
+    let now = c.loop-place.matchers in
+    let i = c.loop-place.place in
+    let d = c.index-matchers-place.result in
+    let same = c.loop-place.invariant.same_matchers in
+    let es = same.same_expressions in
+    let ws = same.same_wholes in
+    let h = c.loop-place-test.true in
+    record {
+      told = none_more _ _ _ i _ _ (within whole old now ws i d h).1 (value_at whole old now ws i d h _) (one_more expression old now es i d h)
+          c.loop-place.invariant.told (λ m. false≢true (c.if-is_match.ensures.told.1 m));
+      same_matchers = one_asked same i d _ c.is_match.ensures.same_expression c.is_match.ensures.same_whole;
+      steps = steps_more i _ _ _ _ c.loop-place.invariant.steps c.is_match.ensures.steps;
+    }
+
+pub returns-then-is_match-clause-told : goal.returns-then-is_match-clause-told
+returns-then-is_match-clause-told g c =
+    let expression = g.M.LineMatch.expression in
+    let whole = g.M.LineMatch.whole in
+    let old = c.args.matchers.now in
+    let now = c.loop-place.matchers in
+    let i = c.loop-place.place in
+    let d = c.index-matchers-place.result in
+    let es = c.loop-place.invariant.same_matchers.same_expressions in
+    let ws = c.loop-place.invariant.same_matchers.same_wholes in
+    let h = c.loop-place-test.true in
+    one_matches _ _ _ i _ _ (within whole old now ws i d h).1 (value_at whole old now ws i d h _) (within expression old now es i d h).1 (value_at expression old now es i d h _)
+    (c.if-is_match.ensures.told.0 refl)
+
+pub returns-then-is_match-clause-same_matchers : goal.returns-then-is_match-clause-same_matchers
+returns-then-is_match-clause-same_matchers g c = one_asked c.loop-place.invariant.same_matchers _ c.index-matchers-place.result _ c.is_match.ensures.same_expression c.is_match.ensures.same_whole
+
+pub returns-clause-told : goal.returns-clause-told
+returns-clause-told g c =
+    let es = map g.M.LineMatch.expression c.args.matchers.now in
+    let all : take c.loop-place.place es ≡ es = take_all _ _ (omega (arith, length-map c.args.matchers.now g.M.LineMatch.expression)) in
+    rw all at (c.loop-place.invariant.told)

@@ -1,0 +1,72 @@
+//! Calls that ask for no memory.
+//!
+//! The library that tools/refuse_growths.sh loads before the C library takes requests of two sizes
+//! as commands, and refuses the first request of these calls. Without it each request is granted.
+use re_auto::{Automaton, Mode, Starts, StateSet, fresh_meter};
+use re_syntax::{fold, read_extended};
+use std::alloc::{AllocError, Global};
+
+/// A request for so many bytes has the next request behind it refused.
+const REFUSE: usize = 9_000_001;
+
+/// A request for so many bytes is refused where one was since the last command, and ends that
+/// command.
+const WAS_REFUSED: usize = 8_000_000;
+
+/// A request for so many bytes.
+fn ask(alloc: Global, bytes: usize) -> Result<usize, AllocError> {
+    let mut mark = Vec::with_capacity(alloc, bytes)?;
+    mark.push(b'.')?;
+    Ok(mark.len())
+}
+
+/// The automaton of an expression whose letters stand for both cases.
+fn folded(rt: &HostRuntime, text: &[u8]) -> Option<Automaton> {
+    let tree = read_extended(rt.alloc(), text).ok()?;
+    ask(rt.alloc(), REFUSE).ok()?;
+    let tree = fold(tree);
+    ask(rt.alloc(), WAS_REFUSED).ok()?;
+    Automaton::build(rt.alloc(), tree).ok()
+}
+
+/// Whether a line of two bytes has a matched stretch that ends at its end.
+fn accepts(rt: &HostRuntime, automaton: &Automaton, first: u8, second: u8) -> Option<bool> {
+    let mut here = StateSet::blank(rt.alloc(), automaton).ok()?;
+    let mut there = StateSet::blank(rt.alloc(), automaton).ok()?;
+    let mut meter = fresh_meter();
+    ask(rt.alloc(), REFUSE).ok()?;
+    automaton.start(&mut here);
+    automaton.advance(Mode::Search, &here, first, &mut there, &mut meter);
+    here.copy_from(&there);
+    automaton.advance(Mode::Search, &here, second, &mut there, &mut meter);
+    let accepted = automaton.accepts(Mode::Search, &there, true);
+    ask(rt.alloc(), WAS_REFUSED).ok()?;
+    Some(accepted)
+}
+
+/// The least start of a matched stretch that ends at the end of a line of two bytes.
+fn told(rt: &HostRuntime, automaton: &Automaton, first: u8, second: u8) -> Option<Option<usize>> {
+    let mut here = Starts::blank(rt.alloc(), automaton).ok()?;
+    let mut there = Starts::blank(rt.alloc(), automaton).ok()?;
+    let mut meter = fresh_meter();
+    ask(rt.alloc(), REFUSE).ok()?;
+    here.start(0);
+    here.advance(automaton, Mode::Search, first, &mut there, &mut meter);
+    here.copy_from(&there);
+    here.advance(automaton, Mode::Search, second, &mut there, &mut meter);
+    let start = there.accepts(automaton, true);
+    ask(rt.alloc(), WAS_REFUSED).ok()?;
+    Some(start)
+}
+
+#[test]
+fn stepping_takes_no_memory(rt: HostRuntime) {
+    let automaton = folded(&rt, b"(^|a)y*[x-z]{1,3}$|([b-d]z)+");
+    assert!(rt; automaton.is_some(), "folding takes no memory");
+    if let Some(automaton) = automaton {
+        assert_eq!(rt; accepts(&rt, &automaton, b'A', b'Z'), Some(true));
+        assert_eq!(rt; accepts(&rt, &automaton, b'q', b'z'), Some(false));
+        assert_eq!(rt; told(&rt, &automaton, b'A', b'z'), Some(Some(0)));
+        assert_eq!(rt; told(&rt, &automaton, b'q', b'z'), Some(None));
+    }
+}

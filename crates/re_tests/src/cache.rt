@@ -1,0 +1,232 @@
+//! How steps are counted where pairs are held, and what a search does without memory for them.
+//!
+//! The library that tools/refuse_growths.sh loads before the C library takes requests of two sizes
+//! as commands. Without it each request is granted, and each row is searched once.
+use re_auto::{Meter, fresh_meter};
+use re_search::{LineMatch, Matcher, Syntax};
+use std::alloc::{AllocError, Global};
+use std::process::Abort;
+use std::test::Fail;
+
+// A pattern in extended syntax, whether the whole line has to be matched, what the line repeats and
+// how often, whether it is matched, how many entries the cache may have, the steps of two searches
+// of the line (built and reused of the first, then of the second), and how many entries the cache
+// has behind them.
+type Row = (
+    &'static [u8],
+    bool,
+    &'static [u8],
+    usize,
+    bool,
+    usize,
+    (u64, u64, u64, u64),
+    usize,
+);
+
+static ROWS: [Row; 16] = [
+    (
+        b"ab*c",
+        false,
+        b"a",
+        1000,
+        false,
+        4096,
+        (2, 998, 0, 1000),
+        2,
+    ),
+    (b"ab*c", false, b"a", 1000, false, 1, (2, 998, 2, 998), 1),
+    (b"ab*c", false, b"ab", 500, false, 1, (1000, 0, 1000, 0), 0),
+    (b"ab*c", false, b"ab", 500, false, 2, (3, 997, 3, 997), 2),
+    (
+        b"ab*c",
+        false,
+        b"ab",
+        500,
+        false,
+        65536,
+        (3, 997, 0, 1000),
+        3,
+    ),
+    (b"ab*c", true, b"a", 1000, false, 4096, (2, 0, 0, 2), 2),
+    (b"(ab)*", true, b"ab", 500, true, 4096, (3, 997, 0, 1000), 3),
+    (b"(ab)*", true, b"ab", 500, true, 2, (3, 997, 3, 997), 2),
+    (
+        b"(ab)*a",
+        true,
+        b"ab",
+        500,
+        false,
+        4096,
+        (3, 997, 0, 1000),
+        3,
+    ),
+    (b"a*", false, b"b", 300, true, 4096, (0, 0, 0, 0), 0),
+    (b"a*$", false, b"b", 300, true, 4096, (1, 0, 0, 1), 1),
+    (
+        b"[ab]+$",
+        false,
+        b"ab",
+        500,
+        true,
+        4096,
+        (2, 998, 0, 1000),
+        2,
+    ),
+    (b"[bc][^a]", false, b"a", 1000, false, 4096, (1, 0, 0, 1), 1),
+    (
+        b"[a-z]{3}[0-9]",
+        false,
+        b"ab1",
+        200,
+        false,
+        4096,
+        (4, 596, 0, 600),
+        4,
+    ),
+    (
+        b"a.c|b",
+        false,
+        b"ac",
+        200,
+        false,
+        4096,
+        (3, 397, 0, 400),
+        3,
+    ),
+    // The sets grow for 300 bytes, more of them than there is room for.
+    (
+        b"([a-z]{150}){2}[0-9]",
+        false,
+        b"a",
+        1000,
+        false,
+        256,
+        (301, 699, 301, 699),
+        86,
+    ),
+];
+
+fn rows() -> &'static [Row] {
+    &ROWS
+}
+
+// A text so many times.
+fn repeated(alloc: Global, text: &[u8], times: usize) -> Result<Vec<u8>, AllocError> {
+    let mut line = Vec::new(alloc);
+    'times: for _ in 0..times {
+        line.extend_from_slice(text)?;
+    }
+    Ok(line)
+}
+
+// Searches the line once more, compares the answer, and gives the steps.
+fn searched(rt: &impl Abort, matcher: &mut Matcher, line: &[u8], row: &Row) -> Meter {
+    let mut meter = fresh_meter();
+    let is_selected = matcher.is_match(line, &mut meter);
+    assert_eq!(rt; is_selected, row.4, "{:?}", row.0);
+    meter
+}
+
+// The matcher of a row, and its line.
+fn made(rt: &impl Abort, alloc: Global, row: &Row) -> Result<(Matcher, Vec<u8>), Fail> {
+    let (text, whole, part, times, _, states, _, _) = *row;
+    assert!(rt; 1 <= states && states <= 65_536);
+    let line = repeated(alloc, part, times)?;
+    let matcher = Matcher::new(alloc, text, Syntax::Extended, false, whole, states)?;
+    assert_eq!(rt; matcher.cached(), 0, "{text:?}");
+    Ok((matcher, line))
+}
+
+fn assert_row(rt: &impl Abort, alloc: Global, row: &Row) -> Result<(), Fail> {
+    let (text, _, part, _, _, states, steps, held) = *row;
+    let (mut matcher, line) = made(rt, alloc, row)?;
+    let first = searched(rt, &mut matcher, &line, row);
+    let second = searched(rt, &mut matcher, &line, row);
+    let seen = (
+        first.built(),
+        first.reused(),
+        second.built(),
+        second.reused(),
+    );
+    assert_eq!(rt; seen, steps, "{text:?} on {part:?}, {states} entries");
+    assert_eq!(rt;
+        matcher.cached(),
+        held,
+        "{text:?} on {part:?}, {states} entries"
+    );
+    Ok(())
+}
+
+#[test]
+fn pairs_that_are_held_are_reused(rt: HostRuntime) -> Result<(), Fail> {
+    'rows: for row in rows() {
+        assert_row(&rt, rt.alloc(), row)?;
+    }
+    Ok(())
+}
+
+// A request for so many bytes and N more has the N-th request behind it refused.
+const REFUSE: usize = 9_000_000;
+
+// A request for so many bytes is refused where one was since the last command, and ends that
+// command.
+const WAS_REFUSED: usize = 8_000_000;
+
+// How many requests two searches of a row make at most.
+const MOST: usize = 2_000;
+
+// A request for so many bytes.
+fn ask(alloc: Global, bytes: usize) -> Result<usize, AllocError> {
+    let mut mark = Vec::with_capacity(alloc, bytes)?;
+    mark.push(b'.')?;
+    Ok(mark.len())
+}
+
+// Searches the line twice more while the N-th request for memory is refused; whether one was. The
+// answers are as ever, each byte that is gone over counts one step of either kind, and no more is
+// held than may be.
+fn assert_refused(rt: &impl Abort, alloc: Global, row: &Row, n: usize) -> Result<bool, Fail> {
+    let (text, _, _, _, _, states, steps, _) = *row;
+    let (mut matcher, line) = made(rt, alloc, row)?;
+    ask(alloc, REFUSE.saturating_add(n))?;
+    let first = searched(rt, &mut matcher, &line, row);
+    let second = searched(rt, &mut matcher, &line, row);
+    let refused = ask(alloc, WAS_REFUSED).is_err();
+    let third = searched(rt, &mut matcher, &line, row);
+    let once = steps.0.saturating_add(steps.1);
+    assert_eq!(rt;
+        first.built().saturating_add(first.reused()),
+        once,
+        "{text:?}"
+    );
+    assert_eq!(rt;
+        second.built().saturating_add(second.reused()),
+        once,
+        "{text:?}"
+    );
+    assert_eq!(rt;
+        third.built().saturating_add(third.reused()),
+        once,
+        "{text:?}"
+    );
+    assert!(rt; matcher.cached() <= states, "{text:?}");
+    Ok(refused)
+}
+
+// Refuses each request for memory of a row's searches in turn, until a run meets no refusal.
+fn assert_each_refused(rt: &impl Abort, alloc: Global, row: &Row) -> Result<(), Fail> {
+    'requests: for n in 1..=MOST {
+        if !assert_refused(rt, alloc, row, n)? {
+            return Ok(());
+        }
+    }
+    panic!(rt; "a row that asks for memory without an end");
+}
+
+#[test]
+fn searches_without_memory(rt: HostRuntime) -> Result<(), Fail> {
+    'rows: for row in rows() {
+        assert_each_refused(&rt, rt.alloc(), row)?;
+    }
+    Ok(())
+}
