@@ -27,6 +27,7 @@ pub mod Readings
 pub mod FileLaws
 pub mod WriterLaws
 pub mod HandedLemmas
+pub mod NewlineLemmas
 pub mod NumberedLemmas
 pub mod PassedLemmas
 pub mod PassedLines
@@ -42,6 +43,7 @@ pub mod SummaryLemmas
 pub mod RunLaws
 pub mod GivenLaws
 pub mod CostLaws
+pub mod CountedLines
 pub mod PartsLemmas
 pub mod WrittenLemmas
 pub mod MatcherLemmas

@@ -1,8 +1,7 @@
 //! The options of a run, and what they ask for.
 ghost use Rattle.std.specs.Prelude.{◌≡◌, ◌||◌, IsTrue, MatchOption};
-ghost use Rattle.grep_core.specs.Output.{form, around};
+ghost use Rattle.grep_core.specs.Output.{form, counts, around};
 ghost use Rattle.grep_core.specs.Working.OneLine.{IsPlain};
-ghost use Rattle.grep_core.specs.Working.Passed.{OnlyCountsMatched};
 ghost use Rattle.grep_core.specs.Working.Wanted.{form_of, selects};
 
 /// How many lines are shown around each selected one (GNU grep, `-A`, `-B` and `-C`).
@@ -121,12 +120,12 @@ impl Options {
         }
     }
 
-    /// Whether only the number of matched lines is written of a file.
-    pub fn only_counts_matched(self) -> bool
-        ensures { IsTrue result → OnlyCountsMatched self }
+    /// Whether only the number of selected lines is written of a file.
+    pub fn only_counts(self) -> bool
+        ensures { IsTrue result → form self ≡ counts }
     {
         match self.form() {
-            Form::Counts => !self.invert_match,
+            Form::Counts => true,
             _ => false,
         }
     }

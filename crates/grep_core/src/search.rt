@@ -2,6 +2,7 @@
 
 pub mod around;
 pub mod behind;
+pub mod counting;
 pub mod file;
 pub mod line;
 pub mod looks;

@@ -1,9 +1,10 @@
 -- Steps that are added up.
-use Rattle.std.proofs.Common.{◌≡◌, ℕ, ◌+◌, ◌-◌, ◌*◌, ◌≤◌, List, [], ◌∷◌, ◌++◌, length, map, refl, sym, ap, subst, ◌∙◌, arith}
+use Rattle.std.proofs.Common.{◌≡◌, ℕ, ◌+◌, ◌-◌, ◌*◌, ◌≤◌, List, [], ◌∷◌, ◌++◌, length, map, refl, sym, ap, subst, ◌∙◌, arith, length-append}
 use Rattle.std.proofs.Math.Nat.{mul-le-mul_left, mul-le-mul_right}
 use Rattle.std.proofs.lemmas.List.{length-map}
 use Rattle.re_syntax.specs.Bytes.{Text}
 use Rattle.re_syntax.specs.Expression.{Expression}
+use Rattle.re_syntax.specs.Lines.{newline, terminated}
 use Rattle.re_syntax.proofs.lemmas.PartsExist.{AreParts-exist}
 use Rattle.re_syntax.proofs.lemmas.PartsLaws.{ArePartsFrom-unique}
 use Rattle.re_search.specs.Meters.{Steps}
@@ -33,6 +34,15 @@ adds_for_more few most cost old new h a = adds_within (few * cost) (most * cost)
 pub from_place : (matchers : ℕ) (line : Text) (from : ℕ) (old new : Steps) → AddsAtMost (matchers * (length line - from + 1)) old new → AddsAtMost (search_cost matchers line) old new
 from_place matchers line from old new a =
     adds_within (matchers * (length line - from + 1)) (search_cost matchers line) old new (mul-le-mul_left matchers (let shorter : length line - from + 1 ≤ length line + 1 = omega arith in shorter)) a
+
+-- one more line was searched of bytes of which so many are behind it
+pub adds_line : (matchers all before behind : ℕ) (line : Text) (old mid new : Steps) → length line + 1 + behind ≤ before → before ≤ all → AddsAtMost (matchers * (all - before)) old mid → AddsAtMost (search_cost matchers line) mid new
+    → AddsAtMost (matchers * (all - behind)) old new
+adds_line matchers all before behind line old mid new fits within a b =
+    let further : all - before + (length line + 1) ≤ all - behind = omega (arith, fits, within) in
+    let joined : matchers * (all - before) + search_cost matchers line ≡ matchers * (all - before + (length line + 1)) = omega arith in
+    let most = mul-le-mul_left matchers further in
+    adds_within (matchers * (all - before) + search_cost matchers line) (matchers * (all - behind)) old new (omega (arith, joined, most)) (adds_both (matchers * (all - before)) (search_cost matchers line) old mid new a b)
 
 -- lists that are mapped to the same have the same length
 pub same_length : {A B : Type 0} (f : A → B) (xs ys : List A) → map f xs ≡ map f ys → length xs ≡ length ys
@@ -108,6 +118,25 @@ module _ (es : List Expression) (options : Options) (matchers : ℕ) where
       let own = (b.times + 1) * search_cost matchers line in
       let one : LinesCost es options matchers (line ∷ []) own = (b.times, 0, b.are_times, refl, omega arith) in
       record { cost = a.cost + own; is_cost = both_lines_cost text (line ∷ []) a.cost own a.is_cost one; few = adds_both a.cost own old mid new a.few b.few }
+
+  -- more lines were searched
+  pub searched_more_lines : (text more : List Text) (old mid new : Steps) → SearchesLines es options matchers text old mid → SearchesLines es options matchers more mid new → SearchesLines es options matchers (text ++ more) old new
+  searched_more_lines text more old mid new a b = record { cost = a.cost + b.cost; is_cost = both_lines_cost text more a.cost b.cost a.is_cost b.is_cost; few = adds_both a.cost b.cost old mid new a.few b.few }
+
+  -- each byte of the lines, newlines among them, was a step of each matcher at most
+  pub searched_bytes : (text : List Text) (old new : Steps) → AddsAtMost (matchers * length (terminated text)) old new → SearchesLines es options matchers text old new
+  searched_bytes text old new a = let all = lines_cost text in record { cost = all.0; is_cost = all.1; few = adds_within (matchers * length (terminated text)) all.0 old new (bytes_within text all.0 all.1) a }
+    where
+      bytes_within : (ls : List Text) (cost : ℕ) → LinesCost es options matchers ls cost → matchers * length (terminated ls) ≤ cost
+      bytes_within [] cost c = omega (arith, c)
+      bytes_within (line ∷ ls) cost (times, rest, asked, more, is) =
+          let long : length (terminated (line ∷ ls)) ≡ length line + 1 + length (terminated ls) = omega (arith, length-append line (newline ∷ terminated ls)) in
+          let parted : matchers * length (terminated (line ∷ ls)) ≡ search_cost matchers line + matchers * length (terminated ls) = ap (λ n. matchers * n) long ∙ spread (length line + 1) (length (terminated ls)) in
+          let least : search_cost matchers line ≤ (times + 1) * search_cost matchers line = omega arith in
+          omega (arith, parted, least, is, bytes_within ls rest more)
+        where
+          spread : (a b : ℕ) → matchers * (a + b) ≡ matchers * a + matchers * b
+          spread a b = omega arith
 
   -- there are more lines than those that were searched
   pub searched_first_lines : (text more : List Text) (old new : Steps) → SearchesLines es options matchers text old new → SearchesLines es options matchers (text ++ more) old new

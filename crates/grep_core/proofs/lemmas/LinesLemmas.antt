@@ -27,9 +27,10 @@ use Rattle.grep_core.specs.Working.Searched.{leaves_early, summary_as, BreaksSou
 use Rattle.re_search.proofs.lemmas.SomeOfJoined.{Any-left}
 use Rattle.grep_core.proofs.lemmas.Verdicts.{decided_yes, decided_no, picked}
 use Rattle.grep_core.proofs.lemmas.Decided.{dec_fault_met}
-use Rattle.grep_core.proofs.lemmas.CostLaws.{searched_no_line, searched_one_line, searched_first_lines}
+use Rattle.grep_core.proofs.lemmas.CostLaws.{searched_no_line, searched_one_line, searched_more_lines, searched_first_lines}
 use Rattle.grep_core.proofs.lemmas.WriterLaws.{TakesAll-nothing, TakesAll-more, TakesFront-more, TakesFront-longer}
 use Rattle.grep_core.proofs.lemmas.OneLineLemmas.{line_passed, line_counted}
+use Rattle.grep_core.proofs.lemmas.CountedLines.{many_within}
 use Rattle.grep_core.proofs.lemmas.OneFile.{whole-failures}
 use Rattle.grep_core.proofs.lemmas.FileLaws.{FaultMet-left}
 use Rattle.grep_core.proofs.lemmas.MoreLines.{SelectedLines-passed}
@@ -45,15 +46,13 @@ early_form options early =
       | inr q ↦ elim (cases_Bool options.files_with_matches) [ inl l ↦ inr (cond-false _ _ _ q ∙ cond-true _ _ _ l) | inr l ↦ absurd (let no : ⊥ = cc (early, q, l) in no) ]
     ]
 
--- where only the selected lines are counted, no file is left early
-counts_late : (options : Options) → form options ≡ counts → IsTrue (leaves_early options) → ⊥
-counts_late options asked early = elim (early_form options early) [ inl none ↦ (let no : nothing ≡ counts = sym none ∙ asked in absurd (let never : ⊥ = cc no in never)) | inr named ↦ (let no : names ≡ counts = sym named ∙ asked in absurd (let never : ⊥ = cc no in never)) ]
+-- where only the selected lines are counted, no lines are shown around them
+pub counts_plain : (options : Options) → form options ≡ counts → IsPlain (form options)
+counts_plain options asked = subst IsPlain (sym asked) tt
 
--- no more lines have a property than there are
-many_within : (P : Text → Type 0) (lines : List Text) (n : ℕ) → HoldsOfMany P lines n → n ≤ length lines
-many_within P [] n h = omega (arith, h)
-many_within P (line ∷ lines) n (others, h, inl (holds, is)) = omega (arith, is, many_within P lines others h)
-many_within P (line ∷ lines) n (others, h, inr (no_one, is)) = omega (arith, is, many_within P lines others h)
+-- and no file is left early
+pub counts_late : (options : Options) → form options ≡ counts → IsTrue (leaves_early options) → ⊥
+counts_late options asked early = elim (early_form options early) [ inl none ↦ (let no : nothing ≡ counts = sym none ∙ asked in absurd (let never : ⊥ = cc no in never)) | inr named ↦ (let no : names ≡ counts = sym named ∙ asked in absurd (let never : ⊥ = cc no in never)) ]
 
 module _ (es : List Expression) (options : Options) (many shown : Bool) (name : Text) where
   -- these rows are written of these lines, whatever comes behind them
@@ -323,32 +322,23 @@ module _ {R : Type 0} (remaining : R → Option Text) (failures : R → ℕ) (es
   }
 
   -- some lines were passed where the selected ones are only counted
-  pub searched_counted : IsPlain (form options) → (before now : Numbered R) (old new : Writer) (began ended : Steps) (selected more : ℕ) (s : SearchedSoFar before old new began ended selected) → AddsCounted remaining failures es options reader s.lines now selected more
+  pub searched_counted : form options ≡ counts → (before now : Numbered R) (old new : Writer) (began mid ended : Steps) (selected more : ℕ) (s : SearchedSoFar before old new began mid selected) → AddsCounted remaining failures es options reader s.lines now mid ended selected more
       → SearchedSoFar now old new began ended more
-  searched_counted plain before now old new began ended selected more s (count, p, added) = elim p.only [
-    | inl none ↦
-        (let zeroed : count ≡ 0 = omega (arith, many_within (Selected es options) p.passed count p.selected, ap length none) in
-        let same : selected ≡ more = omega (arith, added, zeroed, s.few, s.handed.counted, s.handed.few) in
-        let lines : s.lines ++ p.passed ≡ s.lines = ap (λ ls. s.lines ++ ls) none ∙ append-nil s.lines in
-        let handed : HasHanded remaining failures reader now s.lines = subst (HasHanded remaining failures reader now) lines p.handed_too in
-        subst (SearchedSoFar now old new began ended) same
-        (record { lines = s.lines; handed = handed; wrote = s.wrote; few = omega (arith, s.few, s.handed.counted, handed.counted); none_early = s.none_early; steps = s.steps }))
-    | inr asked ↦
-        (let within = many_within (Selected es options) p.passed count p.selected in
-        let sum : selected + count ≡ more = omega (arith, added, within, s.few, s.handed.counted, p.handed_too.few, length-append s.lines p.passed) in
-        record {
-          lines = s.lines ++ p.passed;
-          handed = p.handed_too;
-          wrote = subst (WritesLines es options many shown name (s.lines ++ p.passed) old new) sum (writes_counted es options many shown name plain asked p.passed s.lines old new selected count s.wrote p.selected);
-          few = omega (arith, sum, within, s.few, s.handed.counted, p.handed_too.counted, length-append s.lines p.passed);
-          none_early = λ early. absurd (counts_late options asked early);
-          steps = searched_first_lines es options (length es) s.lines p.passed began ended s.steps;
-        })
-  ]
+  searched_counted asked before now old new began mid ended selected more s (count, p, added) =
+      let within = many_within (Selected es options) p.passed count p.selected in
+      let sum : selected + count ≡ more = omega (arith, added, within, s.few, s.handed.counted, p.handed_too.few, length-append s.lines p.passed) in
+      record {
+        lines = s.lines ++ p.passed;
+        handed = p.handed_too;
+        wrote = subst (WritesLines es options many shown name (s.lines ++ p.passed) old new) sum (writes_counted es options many shown name (counts_plain options asked) asked p.passed s.lines old new selected count s.wrote p.selected);
+        few = omega (arith, sum, within, s.few, s.handed.counted, p.handed_too.counted, length-append s.lines p.passed);
+        none_early = λ early. absurd (counts_late options asked early);
+        steps = searched_more_lines es options (length es) s.lines p.passed began mid ended s.steps p.steps;
+      }
 
   -- no line is numbered twice
-  pub counted_further : (before now : Numbered R) (lines : List Text) (selected more : ℕ) → HasHanded remaining failures reader before lines → AddsCounted remaining failures es options reader lines now selected more → before.number ≤ now.number
-  counted_further before now lines selected more h (count, p, added) = omega (arith, h.counted, p.handed_too.counted, length-append lines p.passed)
+  pub counted_further : (before now : Numbered R) (lines : List Text) (began ended : Steps) (selected more : ℕ) → HasHanded remaining failures reader before lines → AddsCounted remaining failures es options reader lines now began ended selected more → before.number ≤ now.number
+  counted_further before now lines began ended selected more h (count, p, added) = omega (arith, h.counted, p.handed_too.counted, length-append lines p.passed)
 
   -- the same of lines that are passed unselected
   pub passed_further : (before now : Numbered R) (lines : List Text) → HasHanded remaining failures reader before lines → PassesUnselected remaining failures es options reader lines now → before.number ≤ now.number

@@ -1,13 +1,14 @@
 -- Lines of a reader that are passed without being handed out.
-use Rattle.std.specs.Prelude.{◌≡◌, ◌⊎◌, List, [], ◌++◌, All, Option, ℕ, ◌+◌, ◌-◌, ◌^◌, false}
+use Rattle.std.specs.Prelude.{◌≡◌, ◌⊎◌, List, [], ◌++◌, All, Option, ℕ, ◌+◌, ◌-◌, ◌^◌}
 use Rattle.std.specs.Prelude.{length, min}
 use Rattle.re_syntax.specs.Bytes.{Text}
 use Rattle.re_syntax.specs.Expression.{Expression}
 use Rattle.grep_core.specs.declared.options.Options.{Options}
 use Rattle.grep_core.specs.declared.output.around.Progress.{Progress}
+use Rattle.re_search.specs.Meters.{Steps}
 use Rattle.re_search.specs.Working.Blocks.{HoldsOfMany}
+use Rattle.grep_core.specs.Cost.{SearchesLines}
 use Rattle.grep_core.specs.Files.{Selected}
-use Rattle.grep_core.specs.Output.{counts, form}
 use Rattle.grep_core.specs.Working.Numbered.{Numbered, HasHanded}
 use Rattle.grep_core.specs.Working.LastLines.{LastLines, with_lines}
 use Rattle.grep_core.specs.Working.Progress.{with_waiting}
@@ -15,10 +16,6 @@ use Rattle.grep_core.specs.Working.Progress.{with_waiting}
 -- no line is selected
 abbrev pub AreUnselected : List Expression → Options → List Text → Type 0
 AreUnselected es options lines = All (λ line. ¬ Selected es options line) lines
-
--- of each file only the number of its selected lines is written, and these are the matched ones
-abbrev pub OnlyCountsMatched : Options → Type 0
-OnlyCountsMatched options = (form options ≡ counts) × (options.invert_match ≡ false)
 
 module _ {R : Type 0} (remaining : R → Option Text) (failures : R → ℕ) (es : List Expression)
     (options : Options) where
@@ -30,18 +27,19 @@ module _ {R : Type 0} (remaining : R → Option Text) (failures : R → ℕ) (es
     pub handed_too : HasHanded remaining failures reader now (handed ++ passed)
 
   -- behind the lines that were handed out some were passed, as if they had been handed out, so many
-  -- of which are selected; none is where more than the number of selected lines is written
-  pub record PassesCounted (reader : R) (handed : List Text) (now : Numbered R) (count : ℕ) :
-      Type 0 where
+  -- of which are selected, in no more steps than their search costs
+  pub record PassesCounted (reader : R) (handed : List Text) (now : Numbered R)
+      (began ended : Steps) (count : ℕ) : Type 0 where
     pub passed : List Text
     pub selected : HoldsOfMany (Selected es options) passed count
     pub handed_too : HasHanded remaining failures reader now (handed ++ passed)
-    pub only : (passed ≡ []) ⊎ (form options ≡ counts)
+    pub steps : SearchesLines es options (length es) passed began ended
 
   -- and their number was added, by a count that stays at the greatest u64
-  abbrev pub AddsCounted : R → List Text → Numbered R → ℕ → ℕ → Type 0
-  AddsCounted reader handed now old new =
-      (count : ℕ) × PassesCounted reader handed now count × (new ≡ min (old + count) (2 ^ 64 - 1))
+  abbrev pub AddsCounted : R → List Text → Numbered R → Steps → Steps → ℕ → ℕ → Type 0
+  AddsCounted reader handed now began ended old new =
+      (count : ℕ) × PassesCounted reader handed now began ended count
+      × (new ≡ min (old + count) (2 ^ 64 - 1))
 
   -- they were passed where none is shown behind the last selected one, and the last of them are
   -- held

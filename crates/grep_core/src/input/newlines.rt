@@ -1,11 +1,59 @@
-// How many newlines some bytes have.
-ghost use Rattle.std.specs.Prelude.{◌≡◌, ◌+◌, ◌≤◌, length};
+// Newlines among some bytes: the first, and how many there are.
+ghost use Rattle.std.specs.Prelude.{◌≡◌, ◌+◌, ◌<◌, ◌≤◌, ◌∷◌, ◌++◌, IfSome, MatchOption, length};
+ghost use Rattle.std.specs.Prelude.{take, drop};
 ghost use Rattle.memchr.specs.Find.{is_byte, places, places_between};
-ghost use Rattle.re_syntax.specs.Lines.{newline};
+ghost use Rattle.re_syntax.specs.Lines.{newline, HasNoNewline};
+
+use memchr::memchr;
 
 // How many bytes are counted at a time: their count is a byte too, so that many are compared at
 // once.
 const PORTION: usize = 240;
+
+// How many bytes are looked at one by one for the first newline. Where lines are short that is
+// quicker than a call of `memchr`.
+const NEAR: usize = 8;
+
+/// The place of the first newline.
+#[inline(always)]
+pub fn first_newline(bytes: &[u8]) -> Option<usize>
+    ensures none { MatchOption result (HasNoNewline bytes.now)
+        (λ k. HasNoNewline (take k bytes.now)) }
+    ensures some { IfSome result (λ k. (k < length bytes.now)
+        × (bytes.now ≡ take k bytes.now ++ newline ∷ drop (k + 1) bytes.now)) }
+{
+    let near = NEAR.min(bytes.len());
+    'places: for place in 0..near {
+        if bytes[place] == b'\n' {
+            return Some(place);
+        }
+    }
+    match far_newline(&bytes[near..]) {
+        Some(further) => Some(near + further),
+        None => None,
+    }
+}
+
+// The same, where no newline is near.
+fn far_newline(bytes: &[u8]) -> Option<usize>
+    ensures none { MatchOption result (HasNoNewline bytes.now)
+        (λ k. HasNoNewline (take k bytes.now)) }
+    ensures some { IfSome result (λ k. (k < length bytes.now)
+        × (bytes.now ≡ take k bytes.now ++ newline ∷ drop (k + 1) bytes.now)) }
+{
+    memchr(b'\n', bytes)
+}
+
+/// The first line of the bytes, and what stands behind its newline. `None` where they have no
+/// newline.
+#[inline(always)]
+pub fn first_line(bytes: &[u8]) -> Option<(&[u8], &[u8])>
+    ensures { MatchOption result (HasNoNewline bytes.now) (λ cut. HasNoNewline cut.0.now
+        × (bytes.now ≡ cut.0.now ++ newline ∷ cut.1.now)) }
+{
+    let length = first_newline(bytes)?;
+    Some((&bytes[..length], &bytes[length + 1..]))
+}
 
 /// How many newlines the bytes have. The count of `memchr` takes four times as long: it adds words
 /// where this adds bytes.

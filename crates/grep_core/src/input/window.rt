@@ -1,6 +1,6 @@
 // The buffer of a reader of lines.
 ghost use Rattle.std.specs.Prelude.{◌≡◌, ◌+◌, ◌-◌, ◌^◌, ◌<◌, ◌≤◌, [], ◌∷◌, ◌++◌, ⊤, get_or, IfOk};
-ghost use Rattle.std.specs.Prelude.{OnErr, IfSome, MatchBool, MatchOption, length, take, drop};
+ghost use Rattle.std.specs.Prelude.{OnErr, IfSome, MatchBool, length, take, drop};
 ghost use Rattle.std.specs.Prelude.{slice_range, vec_len};
 ghost use Rattle.re_syntax.specs.Bytes.{Text};
 ghost use Rattle.re_syntax.specs.Lines.{newline, HasNoNewline};
@@ -11,7 +11,8 @@ ghost use Rattle.grep_core.specs.Working.Held.{IsOneLineAndFew, HasWholeLine, wa
 ghost use Rattle.grep_core.specs.Working.Held.{ShownFits};
 
 use crate::devices::counted::CountedRead;
-use memchr::{memchr, memrchr};
+use crate::input::newlines::first_newline;
+use memchr::memrchr;
 use std::alloc::{AllocError, Global};
 use std::marker::Model;
 
@@ -215,16 +216,6 @@ fn pull_over<R: CountedRead>(reader: &mut R, buffer: &mut Vec<u8>) -> Option<usi
     ensures same_loan { R.loan reader.new ≡ R.loan reader.old }
 {
     reader.pull(buffer.as_mut_slice())
-}
-
-// The place of the first newline.
-fn first_newline(bytes: &[u8]) -> Option<usize>
-    ensures none { MatchOption result (HasNoNewline bytes.now)
-        (λ k. HasNoNewline (take k bytes.now)) }
-    ensures some { IfSome result (λ k. (k < length bytes.now)
-        × (bytes.now ≡ take k bytes.now ++ newline ∷ drop (k + 1) bytes.now)) }
-{
-    memchr(b'\n', bytes)
 }
 
 /// Where the lines end that newlines end: behind the last newline.

@@ -17,9 +17,10 @@ use crate::input::numbered::NumberedLines;
 use crate::input::sources::Sources;
 use crate::output::wanted::Wanted;
 use crate::search::around::search_around;
+use crate::search::counting::count_lines;
 use crate::search::line::search_line;
 use crate::search::looks::Looks;
-use crate::search::passing::{pass_counted, pass_unselected};
+use crate::search::passing::pass_unselected;
 use crate::search::sending::send_before_read;
 use crate::search::setting::Setting;
 use re_search::{Filter, LineMatch, Meter, look_cost};
@@ -149,13 +150,10 @@ fn search_lines<R: CountedRead, M: LineMatch, W: CountedWrite>(
     ensures same_matchers { SameMatchers M.expression M.whole matchers.old matchers.new }
 {
     let early = wanted.options.leaves_early();
-    let mut counting = wanted.options.only_counts_matched();
     let mut looks = Looks::new(look_cost(matchers, filter));
     let mut selected: u64 = 0;
     loop {
-        let options = &wanted.options;
-        selected = pass_counted(lines, matchers, filter, options, selected, &mut counting);
-        pass_unselected(lines, matchers, filter, options, &mut looks);
+        pass_unselected(lines, matchers, filter, &wanted.options, &mut looks);
         send_before_read(lines, out)?;
         match lines.next_line() {
             Ok(true) => {
@@ -219,6 +217,9 @@ fn search_opened<R: CountedRead, M: LineMatch, W: CountedWrite>(
     ensures same_matchers { SameMatchers M.expression M.whole matchers.old matchers.new }
 {
     let asked = &setting.asked;
+    if wanted.options.only_counts() {
+        return count_lines(lines, matchers, asked.filter, wanted, out, meter);
+    }
     let Some(context) = wanted.options.shown_around() else {
         return search_lines(lines, matchers, asked.filter, wanted, out, meter);
     };

@@ -1,18 +1,17 @@
 //! Lines that are passed in one sweep, without being handed out.
-ghost use Rattle.std.specs.Prelude.{◌≡◌, IfSome, IsTrue, List, MatchOption, false, map};
+ghost use Rattle.std.specs.Prelude.{◌≡◌, IfSome, List, false, map};
 ghost use Rattle.re_syntax.specs.Bytes.{Text};
 ghost use Rattle.re_syntax.specs.Lines.{lines_of};
 ghost use Rattle.re_search.specs.Searching.{AllAnswer};
 ghost use Rattle.re_search.specs.Working.Filters.{AreNeeded};
 ghost use Rattle.grep_core.specs.Working.Numbered.{AreAhead, HasHanded};
 ghost use Rattle.grep_core.specs.Working.Passed.{AreUnselected, PassesUnselected};
-ghost use Rattle.grep_core.specs.Working.Passed.{OnlyCountsMatched, PassesCounted, AddsCounted};
 
 use crate::devices::counted::CountedRead;
 use crate::input::numbered::NumberedLines;
 use crate::options::Options;
 use crate::search::looks::Looks;
-use re_search::{Filter, LineMatch, count_matched, first_candidate};
+use re_search::{Filter, LineMatch, first_candidate};
 
 /// The next lines, as far as they are held and it is known without a search that none of them is
 /// selected, and how many they are. `None` comes under `-v`, where no look is due, and where they
@@ -83,61 +82,4 @@ pub fn pass_unselected<R: CountedRead, M: LineMatch>(
         let bytes = block.len();
         lines.pass(bytes, count);
     }
-}
-
-/// Passes the next lines, as far as they are held, where the selected lines are only counted and
-/// their number is known without a search, and adds it to those before. Where it isn't known it
-/// never is, and `counting` tells so from then on.
-#[inline(always)]
-pub fn pass_counted<R: CountedRead, M: LineMatch>(
-    lines: &mut NumberedLines<R>,
-    matchers: &[M],
-    filter: Option<&Filter>,
-    options: &Options,
-    selected: u64,
-    counting: &mut bool,
-) -> u64
-    requires whole { AllAnswer options.now.line_regexp (map M.whole matchers.now) }
-    requires only { IsTrue counting.old → OnlyCountsMatched options.now }
-    ensures passed { (reader : R) (handed : List Text)
-        → HasHanded R.remaining R.failures reader lines.old handed
-        → AddsCounted R.remaining R.failures (map M.expression matchers.now) options.now
-        reader handed lines.new selected result }
-    ensures same_loan { R.loan lines.new.lines.reader ≡ R.loan lines.old.lines.reader }
-    ensures counting { IsTrue counting.new → IsTrue counting.old }
-{
-    if !*counting {
-        return selected;
-    }
-    let Some(count) = count_ahead(lines, matchers, filter, options) else {
-        *counting = false;
-        return selected;
-    };
-    selected.saturating_add(count)
-}
-
-// Passes the next lines, as far as they are held, where it is known without a search how many of
-// them are selected. `None` comes too where they are more than can be numbered.
-#[inline(never)]
-fn count_ahead<R: CountedRead, M: LineMatch>(
-    lines: &mut NumberedLines<R>,
-    matchers: &[M],
-    filter: Option<&Filter>,
-    options: &Options,
-) -> Option<u64>
-    requires whole { AllAnswer options.now.line_regexp (map M.whole matchers.now) }
-    requires only { OnlyCountsMatched options.now }
-    ensures passed { MatchOption result (lines.new ≡ lines.old)
-        (λ count. (reader : R) (handed : List Text)
-        → HasHanded R.remaining R.failures reader lines.old handed
-        → PassesCounted R.remaining R.failures (map M.expression matchers.now) options.now
-        reader handed lines.new count) }
-    ensures same_loan { R.loan lines.new.lines.reader ≡ R.loan lines.old.lines.reader }
-{
-    let ready = lines.ready();
-    let found = count_matched(matchers, filter, ready)?;
-    let count = lines.count(ready)?;
-    let bytes = ready.len();
-    lines.pass(bytes, count);
-    Some(found)
 }

@@ -1,7 +1,6 @@
-use Rattle.std.proofs.Common.{◌≡◌, ◌-◌, ◌^◌, IsTrue, map, false}
+use Rattle.std.proofs.Common.{◌≡◌, ◌-◌, ◌^◌, map, false}
 use Rattle.re_search.specs.Searching.{SameMatchers}
 use Rattle.grep_core.specs.Run.{writer}
-use Rattle.grep_core.specs.Working.Passed.{OnlyCountsMatched}
 use Rattle.grep_core.specs.Working.Searched.{leaves_early}
 use Rattle.grep_core.proofs.lemmas.LinesLemmas.{SearchedSoFar}
 use Rattle.grep_core.proofs.search.file.search_lines.Given as goal
@@ -13,7 +12,6 @@ invariant-loop-lines g l = record {
       l.fn.lines.lines.reader l.lines (writer g.W.CountedWrite.contents g.W.CountedWrite.failures l.fn.out) (writer g.W.CountedWrite.contents g.W.CountedWrite.failures l.out) l.fn.meter l.meter l.selected;
   same_matchers : SameMatchers g.M.LineMatch.expression g.M.LineMatch.whole l.fn.matchers l.matchers;
   is_early : l.early ≡ leaves_early l.wanted.options;
-  is_counting : IsTrue l.counting → OnlyCountsMatched l.wanted.options;
 }
 
 abbrev pub decreases-loop-lines : goal.decreases-loop-lines
