@@ -7,6 +7,7 @@ pub mod ChoiceOutlines
 pub mod NeedleLaws
 pub mod BlockLemmas
 pub mod LeastPasses
+pub mod BegunLines
 pub mod CountedBlocks
 pub mod SetBlocks
 pub mod Occurrences

@@ -1,11 +1,11 @@
 //! Blocks of whole lines, of which the first are passed, or all counted, without being handed out.
-ghost use Rattle.std.specs.Prelude.{◌≡◌, ◌+◌, ◌<◌, ◌≤◌, ◌++◌, ◌∷◌, IfSome, MatchOption, length};
-ghost use Rattle.std.specs.Prelude.{take, drop, ⊤};
+ghost use Rattle.std.specs.Prelude.{◌≡◌, ◌+◌, ◌<◌, ◌≤◌, ◌↔◌, ◌++◌, ◌∷◌, IsTrue, IfSome};
+ghost use Rattle.std.specs.Prelude.{MatchOption, length, take, drop, ⊤};
 ghost use Rattle.re_syntax.specs.Lines.{newline, lines_of, HasNoNewline};
-ghost use Rattle.re_search.specs.Working.Blocks.{IsBlock, Lacks, PassesAll};
+ghost use Rattle.re_search.specs.Working.Blocks.{IsBlock, LineBegins, Lacks, PassesAll};
 ghost use Rattle.re_search.specs.Working.Blocks.{StandsIn, HoldsOfMany};
 ghost use Rattle.re_search.specs.Working.Needles.{run_of};
-ghost use Rattle.re_search.specs.Working.Runs.{LacksRun};
+ghost use Rattle.re_search.specs.Working.Runs.{BeginsWithout, LacksRun};
 
 use crate::needle::RunFinder;
 use memchr::memmem::Finder;
@@ -33,6 +33,42 @@ pub fn first_line_with_run(finder: &RunFinder, block: &[u8]) -> usize
         Some(place) => line_start(&block[..place]),
         None => block.len(),
     }
+}
+
+/// Where in a block of whole lines the first line begins that begins with the run; behind the last
+/// line where none does.
+// Where the run stands within a line, the search goes on behind that line.
+#[inline(never)]
+pub fn first_line_beginning_with(finder: &RunFinder, block: &[u8]) -> usize
+    requires { IsBlock block.now }
+    ensures { PassesAll (BeginsWithout (run_of finder.now)) block.now result }
+{
+    let mut start = 0;
+    'lines: loop {
+        let Some(place) = finder.find(&block[start..]) else {
+            return block.len();
+        };
+        let at = start + place;
+        if line_begins(block, at) {
+            return at;
+        }
+        let Some(length) = first_newline(&block[at..]) else {
+            return start;
+        };
+        start = at + length + 1;
+    }
+}
+
+// Whether a line of the bytes begins at the place.
+#[inline(always)]
+fn line_begins(bytes: &[u8], place: usize) -> bool
+    requires { place ≤ length bytes.now }
+    ensures { IsTrue result ↔ LineBegins bytes.now place }
+{
+    if place == 0 {
+        return true;
+    }
+    bytes[place - 1] == b'\n'
 }
 
 /// Where the last line of the bytes begins, which no newline has to end.

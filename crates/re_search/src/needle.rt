@@ -29,6 +29,8 @@ use std::alloc::{AllocError, Global};
 pub struct Needle {
     /// Looks for the run.
     pub finder: RunFinder,
+    /// Whether every match begins with the run.
+    pub is_first: bool,
     /// Whether the matches are where the run stands, and nothing else.
     pub is_all: bool,
 }
@@ -76,6 +78,7 @@ fn text_needle(
     let finder = Finder::new(&bytes).into_owned(alloc)?;
     Ok(Some(Needle {
         finder: RunFinder::Text(finder),
+        is_first: start == 0,
         is_all,
     }))
 }
@@ -99,6 +102,7 @@ fn set_needle(alloc: Global, marks: &[Mark], start: usize) -> Result<Option<Need
     }
     Ok(Some(Needle {
         finder: RunFinder::Sets(finder),
+        is_first: start == 0,
         is_all,
     }))
 }

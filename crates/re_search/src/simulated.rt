@@ -16,7 +16,7 @@ ghost use Rattle.re_search.specs.Working.Blocks.{IsBlock, PassesUnmatched, Count
 mod least;
 mod sets;
 
-use crate::block::{count_lines_with, first_line_with_run};
+use crate::block::{count_lines_with, first_line_beginning_with, first_line_with_run};
 use crate::line_match::LineMatch;
 use crate::needle::{Needle, RunFinder};
 use crate::span::Span;
@@ -121,6 +121,12 @@ impl Simulated {
             (λ told. IsSettled (expression_of self.now.tree) self.now.whole line.now told) }
     {
         if let Some(needle) = &self.needle {
+            if self.whole && needle.is_first {
+                if needle.finder.begins(line) {
+                    return None;
+                }
+                return Some(false);
+            }
             if needle.finder.find(line).is_none() {
                 return Some(false);
             }
@@ -246,7 +252,12 @@ impl LineMatch for Simulated {
         ensures { PassesUnmatched (expression_of self.now.tree) self.now.whole block.now result }
     {
         match &self.needle {
-            Some(needle) => first_line_with_run(&needle.finder, block),
+            Some(needle) => {
+                if self.whole && needle.is_first {
+                    return first_line_beginning_with(&needle.finder, block);
+                }
+                first_line_with_run(&needle.finder, block)
+            }
             None => 0,
         }
     }

@@ -11,20 +11,22 @@ use Rattle.re_syntax.specs.Parts.{IsFound, IsPart}
 use Rattle.re_syntax.proofs.lemmas.Decisions.{Any-first}
 use Rattle.re_search.specs.declared.needle.Needle.{Needle}
 use Rattle.re_search.specs.declared.needle.run_finder.RunFinder.{RunFinder}
-use Rattle.re_search.specs.Working.Runs.{FindsRun}
+use Rattle.re_search.specs.Working.Runs.{FindsRun, BeginsWithout}
 use Rattle.re_search.specs.Working.Needles.{IsNeeded, RunIsNeeded, IsNeedleOf, run_of}
 use Rattle.re_search.specs.Working.Outlines.{IsOutline}
 use Rattle.re_search.specs.Working.Stages.{IsSettled}
 use Rattle.re_search.proofs.lemmas.SomeOfJoined.{Any-single}
-use Rattle.re_search.proofs.lemmas.OutlineLaws.{run_needed, just_run}
+use Rattle.re_search.proofs.lemmas.OutlineLaws.{run_needed, run_begins, just_run}
 use Rattle.re_search.proofs.lemmas.RunLaws.{run_rest, run_whole, run_text, nowhere}
 
 -- sets side by side in an outline are a needle
-pub run_is_needle : (marks : List (Option Bytes)) (finder : RunFinder) (is_all : Bool) (rest : List (Option Bytes)) (start : ℕ) → drop start marks ≡ map Some (run_of finder) ++ rest → 1 ≤ length (run_of finder)
-    → (IsTrue is_all → length (run_of finder) ≡ length marks) → (e : Expression) → IsOutline marks e → IsNeedleOf e (record { finder = finder; is_all = is_all })
-run_is_needle marks finder is_all rest start stands some all e outline = record {
+pub run_is_needle : (marks : List (Option Bytes)) (finder : RunFinder) (is_first is_all : Bool) (rest : List (Option Bytes)) (start : ℕ) → drop start marks ≡ map Some (run_of finder) ++ rest → 1 ≤ length (run_of finder)
+    → (IsTrue is_first → start ≡ 0) → (IsTrue is_all → length (run_of finder) ≡ length marks) → (e : Expression) → IsOutline marks e
+    → IsNeedleOf e (record { finder = finder; is_first = is_first; is_all = is_all })
+run_is_needle marks finder is_first is_all rest start stands some first all e outline = record {
   needed = run_needed marks e outline (run_of finder) rest start stands;
   some = some;
+  first = λ told. run_begins marks e outline (run_of finder) rest start stands (first told);
   all = λ told. just_run marks e outline (run_of finder) rest start stands some (all told);
 }
 
@@ -74,12 +76,15 @@ module _ (e : Expression) (needle : Needle) (of : IsNeedleOf e needle) (line : T
             | no h ↦ absurd (first.before (i - from) (omega arith) (omega (arith, h)) (run_rest (run_of needle.finder) line from i begins stands.0))
           ]
 
-  -- a needle that the line lacks, or that is all and stands on it
+  -- a needle that the line lacks, or does not begin with, or that is all and stands on it
   module _ (whole : Bool) where
     pub settled_lacks : (found : Option ℕ) → FindsRun line (run_of needle.finder) found → is_some found ≡ false → IsSettled e whole line false
     settled_lacks (Some k) finds lacks = absurd (false≢true (sym lacks))
     settled_lacks None none lacks = inl (record { run = run_of needle.finder; needed = of.needed; absent = nowhere line (run_of needle.finder) none; no = refl })
 
+    pub settled_begins : IsTrue needle.is_first → whole ≡ true → (BeginsWithout (run_of needle.finder) line) → IsSettled e whole line false
+    settled_begins first all without = inr (inl (record { run = run_of needle.finder; begins = of.first first; all = all; absent = without; no = refl }))
+
     pub settled_has : IsTrue needle.is_all → whole ≡ false → (found : Option ℕ) → FindsRun line (run_of needle.finder) found → is_some found ≡ true → IsSettled e whole line true
     settled_has all any None none has = absurd (false≢true has)
-    settled_has all any (Some k) finds has = inr (record { run = run_of needle.finder; is = of.all all; any = any; place = k; stands = finds.1; yes = refl })
+    settled_has all any (Some k) finds has = inr (inr (record { run = run_of needle.finder; is = of.all all; any = any; place = k; stands = finds.1; yes = refl }))

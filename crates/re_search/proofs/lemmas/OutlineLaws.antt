@@ -13,7 +13,7 @@ use Rattle.re_search.specs.declared.needle.outline.Mark.{Mark}
 use Rattle.re_search.specs.declared.needle.outline.Mark.TheVariants as m
 use Rattle.re_search.specs.Working.Runs.{RunStandsAt, set_at}
 use Rattle.re_search.specs.Working.Outlines.{shown, MarkFits, Fits, AreSetMarks, IsOutline, AddsOutline}
-use Rattle.re_search.specs.Working.Needles.{RunIsNeeded, IsJustRun}
+use Rattle.re_search.specs.Working.Needles.{RunIsNeeded, RunBegins, IsJustRun}
 use Rattle.re_search.proofs.lemmas.NeededLaws.{cat_cut}
 
 -- ---- marks one after another
@@ -170,6 +170,13 @@ module _ (marks : List (Option Bytes)) (e : Expression) (outline : IsOutline mar
       let found = sets_stand line run k n (omega (arith, high, within)) here in
       let end : n ≡ k + length run = found.1 in
       (k, low, omega (arith, end, high), found.0)
+
+  -- and where they are the first sets each match begins with them
+  pub run_begins : start ≡ 0 → RunBegins run e
+  run_begins first line i j within h =
+      let is : marks ≡ map Some run ++ rest = subst (λ n. drop n marks ≡ map Some run ++ rest) first stands in
+      let (n, here, behind) = fits_cut line (map Some run) rest i j (subst (λ l. Fits line l i j) is (outline.fits line i j h)) in
+      (sets_stand line run i n (omega (arith, fits_le line rest n j behind, within)) here).0
 
   lengths : length marks - start ≡ length run + length rest
   lengths = sym (length-drop start marks) ∙ ap length stands ∙ length-append (map Some run) rest ∙ ap (λ n. n + length rest) (length-map run Some)

@@ -1,6 +1,9 @@
 -- Where a run of sets stands in a line, and what the tests of its probes tell.
-use Rattle.std.proofs.Common.{◌≡◌, ℕ, ◌+◌, ◌-◌, ◌<◌, ◌≤◌, ◌⊎◌, inl, inr, IsTrue, List, ◌++◌, length, map, drop, get_or, slice_index, Option, None, Some, sym, ap, ◌∙◌, subst, arith, eq-eqb, length-append, length-drop}
+use Rattle.std.proofs.Common.{◌≡◌, ℕ, ◌+◌, ◌-◌, ◌<◌, ◌≤◌, ◌↔◌, ◌⊎◌, inl, inr, Bool, IsTrue, List, ◌++◌, length, map, drop, get_or, slice_index, Option, None, Some, sym, ap, ◌∙◌, subst, arith, nat_eq, eq-eqb, length-append, length-drop}
+use Rattle.std.specs.List.{starts_with}
 use Rattle.std.proofs.lemmas.Bool.{eqb-true}
+use Rattle.std.proofs.lemmas.Bool.Decides.{Decides-eqb}
+use Rattle.std.proofs.lemmas.Slice.Eq.{starts_is}
 use Rattle.std.proofs.lemmas.List.{get_or-drop, get_or-map, get_or_append_left, get_or-append-add, length-map}
 use Rattle.re_syntax.specs.Bytes.{Bytes, Text, nothing, only}
 use Rattle.re_syntax.specs.Sets.{members}
@@ -9,6 +12,7 @@ use Rattle.memchr.specs.Find.{OccursAt, FindsNeedle}
 use Rattle.re_search.specs.declared.needle.probes.Probe.{Probe}
 use Rattle.re_search.specs.declared.needle.probes.Probes.{Probes}
 use Rattle.re_search.specs.Working.Runs.{RunStandsAt, FindsRun, set_at, PassesAt, AllPass, HaveRoom, IsProbeOf, AreProbesOf}
+use Rattle.re_search.proofs.lemmas.Occurrences.{occurs-stands, stands-occurs}
 
 -- ---- in a longer line, and in the rest of one
 
@@ -73,6 +77,14 @@ pub finds_text : (line text : Text) (r : Option ℕ) → FindsNeedle line text 0
 finds_text line text None none = λ k low high o. none k low high (run_text line text k o)
 finds_text line text (Some at) (first, stands) =
     (record { low = first.low; high = first.high; before = λ k low high o. first.before k low high (run_text line text k o) }, text_run line text at stands)
+
+-- a line begins with a text where it does with its run
+pub begins_text : (line text : Text) (r : Bool) → r ≡ starts_with nat_eq line text → IsTrue r ↔ RunStandsAt line (map only text) 0
+begins_text line text r is =
+    let told = starts_is Decides-eqb line text r is in (
+      λ yes. text_run line text 0 (stands-occurs line text (drop (length text) line) 0 (omega arith) (told.0 yes)),
+      λ o. told.1 (drop (length text) line) (occurs-stands line text 0 (run_text line text 0 o)),
+    )
 
 -- ---- where a search tells that the run stands nowhere
 

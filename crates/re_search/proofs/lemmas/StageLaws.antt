@@ -241,7 +241,9 @@ module _ (e : Expression) (line : Text) where
       none : (whole : Bool) {answer : Bool} → Lacks e line answer → Matches e line whole → ⊥
       none false lacks (i, j, within, h) = let there = lacks.needed line i j within h in lacks.absent there.0 there.3
       none true lacks h = let there = lacks.needed line 0 (length line) (omega arith) h in lacks.absent there.0 there.3
-  settled_told whole answer (inr has) = (λ _. subst (Matches e line) (sym has.any) matches, λ _. has.yes)
+  settled_told whole answer (inr (inl lacks)) =
+      (λ yes. absurd (false≢true (sym lacks.no ∙ yes)), λ m. absurd (lacks.absent (lacks.begins line 0 (length line) (omega arith) (subst (Matches e line) lacks.all m))))
+  settled_told whole answer (inr (inr has)) = (λ _. subst (Matches e line) (sym has.any) matches, λ _. has.yes)
     where
       matches : Matches e line false
       matches =

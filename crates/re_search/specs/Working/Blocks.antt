@@ -1,9 +1,9 @@
 -- Blocks of whole lines, and what a look at one tells of its first lines.
-use Rattle.std.specs.Prelude.{◌≡◌, ℕ, ◌+◌, ◌⊎◌, Bool, List, [], ◌∷◌, ◌++◌, All, length}
+use Rattle.std.specs.Prelude.{◌≡◌, ℕ, ◌+◌, ◌⊎◌, Bool, List, [], ◌∷◌, ◌++◌, All, length, slice_index}
 use Rattle.re_syntax.specs.Bytes.{Text}
 use Rattle.re_syntax.specs.Expression.{Expression}
 use Rattle.re_syntax.specs.Holds.{Matches}
-use Rattle.re_syntax.specs.Lines.{terminated, HasNoNewline}
+use Rattle.re_syntax.specs.Lines.{newline, terminated, HasNoNewline}
 use Rattle.memchr.specs.Find.{OccursAt}
 use Rattle.re_search.specs.Searching.{AllAnswer, SomeMatches}
 
@@ -14,6 +14,10 @@ IsBlock text = (lines : List Text) × All HasNoNewline lines × (text ≡ termin
 -- the text stands nowhere in the line
 abbrev pub Lacks : Text → Text → Type 0
 Lacks text line = (k : ℕ) → ¬ OccursAt line text k
+
+-- a line of the text begins at the place
+abbrev pub LineBegins : Text → ℕ → Type 0
+LineBegins text k = (k ≡ 0) ⊎ ((j : ℕ) × (k ≡ j + 1) × (slice_index text j ≡ newline))
 
 -- the first `count` bytes are whole lines, of each of which this holds
 abbrev pub PassesAll : (Text → Type 0) → Text → ℕ → Type 0

@@ -33,16 +33,22 @@ pub record IsJustRun (run : List Bytes) (e : Expression) : Type 0 where
       RunStandsAt line run i × (j ≡ i + length run)
   pub holds : (line : Text) (k : ℕ) → RunStandsAt line run k → Holds line e k (k + length run)
 
+-- each stretch on which the expression holds begins with the run
+abbrev pub RunBegins : List Bytes → Expression → Type 0
+RunBegins run e =
+    (line : Text) (i j : ℕ) → j ≤ length line → Holds line e i j → RunStandsAt line run i
+
 -- the run that is looked for: of a string the sets of its bytes alone
 abbrev pub run_of : RunFinder → List Bytes
 run_of (r.Text text) = map only text
 run_of (r.Sets sets) = map members sets
 
--- The run is needed by the expression; where it is told to be all of it, the expression holds just
--- where it stands.
+-- The run is needed by the expression; where it is told to be first, each match begins with it, and
+-- where it is told to be all, the expression holds just where it stands.
 pub record IsNeedleOf (e : Expression) (needle : Needle) : Type 0 where
   pub needed : RunIsNeeded (run_of needle.finder) e
   pub some : 1 ≤ length (run_of needle.finder)
+  pub first : IsTrue needle.is_first → RunBegins (run_of needle.finder) e
   pub all : IsTrue needle.is_all → IsJustRun (run_of needle.finder) e
 
 -- so is the needle, where there is one

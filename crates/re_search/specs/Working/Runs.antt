@@ -24,6 +24,10 @@ FindsRun line run r = IsFirst (λ k. RunStandsAt line run k) 0 (length line + 1)
 abbrev pub LacksRun : List Bytes → Text → Type 0
 LacksRun run line = (k : ℕ) → ¬ RunStandsAt line run k
 
+-- the line does not begin with the run
+abbrev pub BeginsWithout : List Bytes → Text → Type 0
+BeginsWithout run line = ¬ RunStandsAt line run 0
+
 -- the byte is in the range of the cover, or one of its two
 abbrev pub IsCovered : Cover → ℕ → Type 0
 IsCovered cover x = ((cover.low ≤ x) × (x ≤ cover.high)) ⊎ (x ≡ cover.one) ⊎ (x ≡ cover.other)

@@ -14,8 +14,8 @@ use Rattle.re_auto.specs.Working.Positions.{part_of}
 use Rattle.re_auto.specs.Working.StateSets.{IsSame, IsNowhere, IsNextSet, IsAccepting, StandsAt}
 use Rattle.re_auto.specs.Working.StateSets.{TakenAlike}
 use Rattle.re_auto.specs.Working.Tables.{CanBegin}
-use Rattle.re_search.specs.Working.Needles.{RunIsNeeded, IsJustRun}
-use Rattle.re_search.specs.Working.Runs.{RunStandsAt, LacksRun}
+use Rattle.re_search.specs.Working.Needles.{RunIsNeeded, RunBegins, IsJustRun}
+use Rattle.re_search.specs.Working.Runs.{RunStandsAt, LacksRun, BeginsWithout}
 
 -- What a cache holds: a class for each byte, sets of positions by number, and entries. The entry
 -- for a set and a byte stands at the set's number times `stride`, plus the byte's class.
@@ -156,12 +156,20 @@ pub record Searches (e : Expression) (mode : Mode) (line : Text) (old new : Cach
   pub steps : first.steps ≡ before
   pub finishes : Finishes e mode line first new after answer
 
--- what a search tells without a step: the line lacks a run of sets that every match has in it, or
--- has the run that is all that matches
+-- what a search tells without a step: the line lacks a run of sets that every match has in it, or as
+-- a whole line does not begin with one that every match begins with, or has the run that is all that
+-- matches
 pub record Lacks (e : Expression) (line : Text) (answer : Bool) : Type 0 where
   pub run : List Bytes
   pub needed : RunIsNeeded run e
   pub absent : LacksRun run line
+  pub no : answer ≡ false
+
+pub record LacksFirst (e : Expression) (whole : Bool) (line : Text) (answer : Bool) : Type 0 where
+  pub run : List Bytes
+  pub begins : RunBegins run e
+  pub all : whole ≡ true
+  pub absent : BeginsWithout run line
   pub no : answer ≡ false
 
 pub record HasAll (e : Expression) (whole : Bool) (line : Text) (answer : Bool) : Type 0 where
@@ -173,7 +181,8 @@ pub record HasAll (e : Expression) (whole : Bool) (line : Text) (answer : Bool) 
   pub yes : answer ≡ true
 
 abbrev pub IsSettled : Expression → Bool → Text → Bool → Type 0
-IsSettled e whole line answer = Lacks e line answer ⊎ HasAll e whole line answer
+IsSettled e whole line answer =
+    Lacks e line answer ⊎ (LacksFirst e whole line answer ⊎ HasAll e whole line answer)
 
 -- the mode in which a line is searched (XCU grep, option -x)
 abbrev pub mode_for : Bool → Mode

@@ -1,8 +1,8 @@
 //! Search for what every match has in it.
-ghost use Rattle.std.specs.Prelude.{◌≡◌, IfSome, length, map};
+ghost use Rattle.std.specs.Prelude.{◌≡◌, ◌↔◌, IsTrue, IfSome, length, map};
 ghost use Rattle.re_syntax.specs.Bytes.{only};
 ghost use Rattle.re_search.specs.Working.Needles.{run_of};
-ghost use Rattle.re_search.specs.Working.Runs.{FindsRun};
+ghost use Rattle.re_search.specs.Working.Runs.{FindsRun, RunStandsAt};
 
 use crate::needle::set_finder::SetFinder;
 use memchr::memmem::Finder;
@@ -25,6 +25,17 @@ impl RunFinder {
         match self {
             RunFinder::Text(finder) => finder.find(line),
             RunFinder::Sets(finder) => finder.find(line),
+        }
+    }
+
+    /// Whether the line begins with it.
+    #[inline]
+    pub fn begins(&self, line: &[u8]) -> bool
+        ensures { IsTrue result ↔ RunStandsAt line.now (run_of self.now) 0 }
+    {
+        match self {
+            RunFinder::Text(finder) => line.starts_with(finder.needle()),
+            RunFinder::Sets(finder) => finder.begins(line),
         }
     }
 

@@ -117,6 +117,13 @@ impl SetFinder {
         None
     }
 
+    /// Whether the line begins with the run.
+    pub fn begins(&self, line: &[u8]) -> bool
+        ensures { IsTrue result ↔ RunStandsAt line.now (map members self.now) 0 }
+    {
+        stands_at(&self.sets, line, 0)
+    }
+
     // The first place from one on at which the run may stand, by the probes.
     fn candidate(&self, line: &[u8], from: usize) -> Option<usize>
         requires { from < length line.now }
