@@ -352,9 +352,13 @@ const SETS: Pattern = (Syntax::Basic, b"[abc][xyz]", false, false);
 
 const SOME_SETS: Pattern = (Syntax::Basic, b"[qz][jx][^a]", false, false);
 
+const BEGUN: Pattern = (Syntax::Basic, b"ab*", false, true);
+
+const BEGUN_BY_SETS: Pattern = (Syntax::Basic, b"[qz][jx].*", false, true);
+
 const BRANCHES: Pattern = (Syntax::Extended, b"queue|zebra|jukebox", false, false);
 
-static NEEDED: [Needed; 31] = [
+static NEEDED: [Needed; 37] = [
     (REPEATED, b"xxxaxb", 0, None, true),
     (REPEATED, b"abxx", 1, None, true),
     (REPEATED, b"cxxab", 0, Some((1, 5)), false),
@@ -391,7 +395,13 @@ static NEEDED: [Needed; 31] = [
         Some((1, 2)),
         true,
     ),
-    ((Syntax::Basic, b"ab", false, true), b"xab", 0, None, false),
+    ((Syntax::Basic, b"ab", false, true), b"xab", 0, None, true),
+    (BEGUN, b"abb", 0, Some((0, 3)), false),
+    (BEGUN, b"abc", 0, None, false),
+    (BEGUN, b"cab", 0, None, true),
+    (BEGUN, b"", 0, None, true),
+    (BEGUN_BY_SETS, b"qja", 0, Some((0, 3)), false),
+    (BEGUN_BY_SETS, b"aqj", 0, None, true),
     ((Syntax::Basic, b"a*b", false, true), b"aa", 0, None, true),
     (
         (Syntax::Basic, b"ab", true, false),
@@ -457,6 +467,58 @@ fn assert_needed(rt: &impl Abort, alloc: Global, row: &Needed) -> Result<(), Fai
 fn a_string_that_is_needed_is_looked_for_first(rt: HostRuntime) -> Result<(), Fail> {
     for row in needed() {
         assert_needed(&rt, rt.alloc(), row)?;
+    }
+    Ok(())
+}
+
+// A pattern, a block, which lacks its last newline, and where its first line begins that may be
+// matched, or behind the last one.
+type Candidate = (Pattern, &'static [u8], usize);
+
+static CANDIDATES: [Candidate; 14] = [
+    // The string has to stand at a line's beginning where each whole line begins with it.
+    (BEGUN, b"a", 0),
+    (BEGUN, b"", 1),
+    (BEGUN, b"\na", 1),
+    (BEGUN, b"ca\nba\nab\na", 6),
+    (BEGUN, b"ca\ncb", 6),
+    (BEGUN, b"caa\naa", 4),
+    (BEGUN, b"b\nxa", 5),
+    (BEGUN_BY_SETS, b"aqj\nqj", 4),
+    (BEGUN_BY_SETS, b"q\nj\nqx", 4),
+    // Elsewhere it may stand anywhere.
+    ((Syntax::Basic, b"ab*", false, false), b"b\nca\nab", 2),
+    ((Syntax::Basic, b"x*ab", false, true), b"b\ncab\nab", 2),
+    // One with a newline stands on two lines.
+    ((Syntax::Fixed, b"1\n2", true, true), b"a1\n2\n1\n2", 5),
+    ((Syntax::Fixed, b"1\n2", true, true), b"a1\n2", 5),
+    ((Syntax::Fixed, b"1\n2", true, true), b"1\n3", 4),
+];
+
+fn candidates() -> &'static [Candidate] {
+    &CANDIDATES
+}
+
+// Where in a block, which lacks its last newline, the first line begins that may be matched.
+fn candidate_in(alloc: Global, matcher: &Matcher, lines: &[u8]) -> Result<usize, AllocError> {
+    let mut block = Vec::new(alloc);
+    block.extend_from_slice(lines)?;
+    block.push(b'\n')?;
+    Ok(matcher.first_candidate(&block))
+}
+
+fn assert_candidate(rt: &impl Abort, alloc: Global, row: &Candidate) -> Result<(), Fail> {
+    let ((syntax, text, fold, whole), lines, expected) = *row;
+    let matcher = Matcher::new(alloc, text, syntax, fold, whole, 1)?;
+    let place = candidate_in(alloc, &matcher, lines)?;
+    assert_eq!(rt; place, expected, "{text:?} on {lines:?}");
+    Ok(())
+}
+
+#[test]
+fn lines_that_begin_otherwise_are_passed(rt: HostRuntime) -> Result<(), Fail> {
+    for row in candidates() {
+        assert_candidate(&rt, rt.alloc(), row)?;
     }
     Ok(())
 }
