@@ -26,6 +26,11 @@ fn assert_too_many(
     Ok(())
 }
 
+/// Compares what an edit answers.
+fn assert_answer(rt: &impl Abort, given: Answer, wanted: Answer) {
+    assert_eq!(rt; given, wanted);
+}
+
 #[test]
 fn patterns_are_at_most_65535(rt: HostRuntime) -> Result<(), Fail> {
     let alloc = rt.alloc();
@@ -36,13 +41,13 @@ fn patterns_are_at_most_65535(rt: HostRuntime) -> Result<(), Fail> {
     list.push(b'[')?;
     assert_too_many(&rt, alloc, &mut session, &mut meter, &list)?;
     list.truncate(65_534);
-    assert_eq!(rt; session.set_syntax(Syntax::Fixed, &mut meter), DONE);
-    assert_eq!(rt; session.add_patterns(&list, &mut meter), DONE);
+    assert_answer(&rt, session.set_syntax(Syntax::Fixed, &mut meter), DONE);
+    assert_answer(&rt, session.add_patterns(&list, &mut meter), DONE);
     assert_too_many(&rt, alloc, &mut session, &mut meter, b"")?;
     assert_too_many(&rt, alloc, &mut session, &mut meter, b"a")?;
-    assert_eq!(rt; session.drop_pattern(65_534, &mut meter), DONE);
+    assert_answer(&rt, session.drop_pattern(65_534, &mut meter), DONE);
     assert_too_many(&rt, alloc, &mut session, &mut meter, b"a\nb")?;
-    assert_eq!(rt; session.add_patterns(b"a", &mut meter), DONE);
+    assert_answer(&rt, session.add_patterns(b"a", &mut meter), DONE);
     assert_too_many(&rt, alloc, &mut session, &mut meter, b"b")?;
     Ok(())
 }
@@ -68,18 +73,24 @@ fn folded(alloc: Global, letters: usize, meter: &mut Meter) -> Result<Answer, Fa
 fn letters_of_a_folded_string_are_at_most_4096(rt: HostRuntime) -> Result<(), Fail> {
     let alloc = rt.alloc();
     let mut meter = fresh_meter();
-    assert_eq!(rt; folded(alloc, 4_096, &mut meter)?, DONE);
-    assert_eq!(rt; folded(alloc, 4_097, &mut meter)?, too_large(1));
+    assert_answer(&rt, folded(alloc, 4_096, &mut meter)?, DONE);
+    assert_answer(&rt, folded(alloc, 4_097, &mut meter)?, too_large(1));
     let text = vec![in alloc; b'a'; 4_097]?;
     let mut session = Session::new(alloc, STATES);
-    assert_eq!(rt; session.add_patterns(&text, &mut meter), too_large(0));
-    assert_eq!(rt; session.set_syntax(Syntax::Fixed, &mut meter), DONE);
-    assert_eq!(rt; session.add_patterns(&text, &mut meter), DONE);
-    assert_eq!(rt;
+    assert_answer(&rt, session.add_patterns(&text, &mut meter), too_large(0));
+    assert_answer(&rt, session.set_syntax(Syntax::Fixed, &mut meter), DONE);
+    assert_answer(&rt, session.add_patterns(&text, &mut meter), DONE);
+    assert_answer(
+        &rt,
         session.set_flag(IgnoreCase, true, &mut meter),
-        too_large(0)
+        too_large(0),
     );
-    assert_eq!(rt; session.set_syntax(Syntax::Basic, &mut meter), too_large(0));
-    assert_eq!(rt; (meter.built(), meter.reused()), (0, 0));
+    assert_answer(
+        &rt,
+        session.set_syntax(Syntax::Basic, &mut meter),
+        too_large(0),
+    );
+    assert_eq!(rt; meter.built(), 0);
+    assert_eq!(rt; meter.reused(), 0);
     Ok(())
 }
