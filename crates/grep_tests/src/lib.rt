@@ -1,12 +1,10 @@
-//! The tests of `grep_core`, `grep_session` and `grep_cmd`: nothing but tests, by what these show.
+//! The tests of `grep_cmd`, and of searches by their words: nothing but tests, by what it shows.
 #![tactic(auto)]
 
 #[cfg(test)]
 mod around;
 #[cfg(test)]
 mod commands;
-#[cfg(test)]
-mod devices;
 #[cfg(test)]
 mod faults;
 #[cfg(test)]
@@ -22,13 +20,9 @@ mod memory;
 #[cfg(test)]
 mod options;
 #[cfg(test)]
-mod progress;
-#[cfg(test)]
 mod rows;
 #[cfg(test)]
 mod scripts;
-#[cfg(test)]
-mod sessions;
 #[cfg(test)]
 mod usage;
 #[cfg(test)]

@@ -194,7 +194,10 @@ fn words_without_memory(rt: HostRuntime) -> Result<(), Fail> {
         let refused = was_refused(alloc);
         match given {
             Ok(request) => assert!(rt; request == wanted, "{n}"),
-            Err(fault) => assert_eq!(rt; (fault, refused), (UsageFault::Memory, true), "{n}"),
+            Err(fault) => {
+                assert_eq!(rt; fault, UsageFault::Memory, "{n}");
+                assert!(rt; refused, "{n}");
+            }
         }
         if !refused {
             return Ok(());

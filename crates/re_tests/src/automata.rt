@@ -237,14 +237,18 @@ fn next_of(rt: &HostRuntime, text: &[u8], place: usize) -> Option<usize> {
     Some(automaton_of(rt, text)?.next_beginning(line, place))
 }
 
+/// Whether a stretch can begin with a byte.
+fn begins(rt: &HostRuntime, text: &[u8], byte: u8) -> Option<bool> {
+    Some(automaton_of(rt, text)?.begins(byte))
+}
+
 #[test]
 fn bytes_that_begin_a_stretch_are_known(rt: HostRuntime) {
-    let begins = |text: &[u8], byte: u8| Some(automaton_of(&rt, text)?.begins(byte));
-    assert!(rt; begins(b"a|b?c", b'a') == Some(true));
-    assert!(rt; begins(b"a|b?c", b'c') == Some(true));
-    assert!(rt; begins(b"a|b?c", b'd') == Some(false));
-    assert!(rt; begins(b"^a", b'a') == Some(false));
-    assert!(rt; begins(b"a*", b'b') == Some(false));
+    assert!(rt; begins(&rt, b"a|b?c", b'a') == Some(true));
+    assert!(rt; begins(&rt, b"a|b?c", b'c') == Some(true));
+    assert!(rt; begins(&rt, b"a|b?c", b'd') == Some(false));
+    assert!(rt; begins(&rt, b"^a", b'a') == Some(false));
+    assert!(rt; begins(&rt, b"a*", b'b') == Some(false));
     assert!(rt; next_of(&rt, b"^a", 0) == Some(39));
     assert!(rt; next_of(&rt, b"b", 0) == Some(26));
     assert!(rt; next_of(&rt, b"[bc]e", 27) == Some(30));

@@ -23,12 +23,22 @@ fn many(alloc: Global, more: u16) -> Result<Tree, AllocError> {
     Ok(Tree::Cat(parts))
 }
 
+/// Whether some byte begins a match.
+fn begins_with_some(automaton: &Automaton) -> bool {
+    for byte in 0..=255u8 {
+        if automaton.begins(byte) {
+            return true;
+        }
+    }
+    false
+}
+
 /// Whether the empty line is a match of the whole expression, and whether some byte begins a match.
 fn ends_and_begins(rt: &HostRuntime, tree: Tree) -> Option<(bool, bool)> {
     let automaton = Automaton::build(rt.alloc(), tree).ok()?;
     let mut set = StateSet::blank(rt.alloc(), &automaton).ok()?;
     automaton.start(&mut set);
-    let begins = (0..=255u8).any(|byte| automaton.begins(byte));
+    let begins = begins_with_some(&automaton);
     Some((automaton.accepts(Mode::Whole, &set, true), begins))
 }
 

@@ -137,23 +137,26 @@ fn made(rt: &impl Abort, alloc: Global, row: &Row) -> Result<(Matcher, Vec<u8>),
     Ok((matcher, line))
 }
 
+// Searches the line once more, and compares its steps of both kinds.
+fn assert_steps(
+    rt: &impl Abort,
+    matcher: &mut Matcher,
+    line: &[u8],
+    row: &Row,
+    built: u64,
+    reused: u64,
+) {
+    let meter = searched(rt, matcher, line, row);
+    assert_eq!(rt; meter.built(), built, "{:?}, {} entries", row.0, row.5);
+    assert_eq!(rt; meter.reused(), reused, "{:?}, {} entries", row.0, row.5);
+}
+
 fn assert_row(rt: &impl Abort, alloc: Global, row: &Row) -> Result<(), Fail> {
-    let (text, _, part, _, _, states, steps, held) = *row;
     let (mut matcher, line) = made(rt, alloc, row)?;
-    let first = searched(rt, &mut matcher, &line, row);
-    let second = searched(rt, &mut matcher, &line, row);
-    let seen = (
-        first.built(),
-        first.reused(),
-        second.built(),
-        second.reused(),
-    );
-    assert_eq!(rt; seen, steps, "{text:?} on {part:?}, {states} entries");
-    assert_eq!(rt;
-        matcher.cached(),
-        held,
-        "{text:?} on {part:?}, {states} entries"
-    );
+    let (built, reused, built_again, reused_again) = row.6;
+    assert_steps(rt, &mut matcher, &line, row, built, reused);
+    assert_steps(rt, &mut matcher, &line, row, built_again, reused_again);
+    assert_eq!(rt; matcher.cached(), row.7, "{:?}, {} entries", row.0, row.5);
     Ok(())
 }
 
@@ -182,34 +185,36 @@ fn ask(alloc: Global, bytes: usize) -> Result<usize, AllocError> {
     Ok(mark.len())
 }
 
-// Searches the line twice more while the N-th request for memory is refused; whether one was. The
-// answers are as ever, each byte that is gone over counts one step of either kind, and no more is
-// held than may be.
-fn assert_refused(rt: &impl Abort, alloc: Global, row: &Row, n: usize) -> Result<bool, Fail> {
-    let (text, _, _, _, _, states, steps, _) = *row;
-    let (mut matcher, line) = made(rt, alloc, row)?;
+// Searches the line once more: each byte that is gone over counts one step of either kind.
+fn assert_gone_over(rt: &impl Abort, matcher: &mut Matcher, line: &[u8], row: &Row) {
+    let meter = searched(rt, matcher, line, row);
+    let steps = meter.built().saturating_add(meter.reused());
+    let (built, reused, _, _) = row.6;
+    assert_eq!(rt; steps, built.saturating_add(reused), "{:?}", row.0);
+}
+
+// Searches the line twice while the N-th request for memory is refused; whether one was.
+fn searched_without(
+    rt: &impl Abort,
+    alloc: Global,
+    matcher: &mut Matcher,
+    line: &[u8],
+    row: &Row,
+    n: usize,
+) -> Result<bool, AllocError> {
     ask(alloc, REFUSE.saturating_add(n))?;
-    let first = searched(rt, &mut matcher, &line, row);
-    let second = searched(rt, &mut matcher, &line, row);
-    let refused = ask(alloc, WAS_REFUSED).is_err();
-    let third = searched(rt, &mut matcher, &line, row);
-    let once = steps.0.saturating_add(steps.1);
-    assert_eq!(rt;
-        first.built().saturating_add(first.reused()),
-        once,
-        "{text:?}"
-    );
-    assert_eq!(rt;
-        second.built().saturating_add(second.reused()),
-        once,
-        "{text:?}"
-    );
-    assert_eq!(rt;
-        third.built().saturating_add(third.reused()),
-        once,
-        "{text:?}"
-    );
-    assert!(rt; matcher.cached() <= states, "{text:?}");
+    assert_gone_over(rt, matcher, line, row);
+    assert_gone_over(rt, matcher, line, row);
+    Ok(ask(alloc, WAS_REFUSED).is_err())
+}
+
+// Searches the line twice while the N-th request for memory is refused, and once more; whether one
+// was. The answers and the steps are as ever, and no more is held than may be.
+fn assert_refused(rt: &impl Abort, alloc: Global, row: &Row, n: usize) -> Result<bool, Fail> {
+    let (mut matcher, line) = made(rt, alloc, row)?;
+    let refused = searched_without(rt, alloc, &mut matcher, &line, row, n)?;
+    assert_gone_over(rt, &mut matcher, &line, row);
+    assert!(rt; matcher.cached() <= row.5, "{:?}", row.0);
     Ok(refused)
 }
 

@@ -43,7 +43,10 @@ fn strings_are_needed_where_each_expression_has_one(rt: HostRuntime) -> Result<(
     for (texts, line, expected) in rows() {
         let matchers = made(rt.alloc(), texts)?;
         let needed = needed_strings(rt.alloc(), &matchers)?;
-        let stands = needed.as_ref().map(|strings| strings.stands_in(line));
+        let stands = match &needed {
+            Some(strings) => Some(strings.stands_in(line)),
+            None => None,
+        };
         assert_eq!(rt; stands, *expected, "{texts:?} on {line:?}");
     }
     Ok(())

@@ -1,6 +1,7 @@
 //! Many strings at once.
+use crate::several::{assert_steps, ends_of};
 use re_auto::fresh_meter;
-use re_search::{FixedSet, LineMatch};
+use re_search::{FixedSet, LineMatch, Span};
 use std::alloc::{AllocError, Global};
 use std::process::Abort;
 use std::test::Fail;
@@ -10,7 +11,17 @@ fn set_of(alloc: Global, texts: &[u8], whole: bool) -> Result<FixedSet, AllocErr
     FixedSet::new(alloc, texts, false, whole)
 }
 
-// All parts of the line. Each search takes one step for each byte that is left, and one more.
+// The part from a place on. Its search takes one step for each byte that is left, and one more.
+fn part_from(rt: &impl Abort, set: &mut FixedSet, line: &[u8], from: usize) -> Option<Span> {
+    assert!(rt; from <= line.len());
+    let mut meter = fresh_meter();
+    let part = set.find(line, from, &mut meter);
+    let steps = (line.len() - from) as u64 + 1;
+    assert_steps(rt, &meter, steps, 0, line);
+    part
+}
+
+// All parts of the line.
 fn parts_of(
     rt: &impl Abort,
     alloc: Global,
@@ -20,16 +31,7 @@ fn parts_of(
     let mut found = Vec::new(alloc);
     let mut from = 0;
     for _ in line {
-        assert!(rt; from <= line.len());
-        let mut meter = fresh_meter();
-        let part = set.find(line, from, &mut meter);
-        let steps = (line.len() - from) as u64 + 1;
-        assert_eq!(rt;
-            (meter.built(), meter.reused()),
-            (steps, 0),
-            "{line:?} from {from}"
-        );
-        let Some(part) = part else {
+        let Some(part) = part_from(rt, set, line, from) else {
             return Ok(found);
         };
         found.push((part.start, part.end))?;
@@ -51,7 +53,7 @@ fn assert_line(
     let verdict = set.is_match(line, &mut meter);
     assert_eq!(rt; verdict, is_selected, "{line:?}");
     let steps = line.len() as u64 + 1;
-    assert_eq!(rt; (meter.built(), meter.reused()), (steps, 0), "{line:?}");
+    assert_steps(rt, &meter, steps, 0, line);
     let found = parts_of(rt, alloc, set, line)?;
     assert_eq!(rt; found.as_slice(), expected, "{line:?}");
     Ok(())
@@ -273,47 +275,132 @@ fn single_bytes(alloc: Global, length: usize) -> Result<Vec<(usize, usize)>, All
     Ok(found)
 }
 
+// All bytes but the newline.
+fn each_byte(alloc: Global) -> Result<Vec<u8>, AllocError> {
+    let mut bytes = Vec::new(alloc);
+    for byte in 0..=u8::MAX {
+        if byte != b'\n' {
+            bytes.push(byte)?;
+        }
+    }
+    Ok(bytes)
+}
+
+// Each of the bytes, and a newline behind it.
+fn a_line_each(alloc: Global, bytes: &[u8]) -> Result<Vec<u8>, AllocError> {
+    let mut texts = Vec::new(alloc);
+    for byte in bytes {
+        texts.push(*byte)?;
+        texts.push(b'\n')?;
+    }
+    Ok(texts)
+}
+
+// Each byte of the line is one of the strings, and no part is longer.
+fn assert_single_bytes(
+    rt: &impl Abort,
+    alloc: Global,
+    set: &mut FixedSet,
+    line: &[u8],
+) -> Result<(), Fail> {
+    let single = single_bytes(alloc, line.len())?;
+    assert_line(rt, alloc, set, line, true, &single)
+}
+
+// Each byte is a string.
+fn assert_each_byte(rt: &impl Abort, alloc: Global, texts: &[u8], line: &[u8]) -> Result<(), Fail> {
+    let mut set = set_of(alloc, texts, false)?;
+    for byte in line {
+        assert_line(rt, alloc, &mut set, &[*byte], true, &[(0, 1)])?;
+    }
+    assert_single_bytes(rt, alloc, &mut set, line)
+}
+
+// Each byte is a string, and so are all of them in order.
+fn assert_all_bytes(
+    rt: &impl Abort,
+    alloc: Global,
+    texts: &[u8],
+    line: &mut [u8],
+) -> Result<(), Fail> {
+    let mut set = set_of(alloc, texts, false)?;
+    assert_line(rt, alloc, &mut set, line, true, &[(0, 255)])?;
+    line.reverse();
+    assert_single_bytes(rt, alloc, &mut set, line)
+}
+
 #[test]
 fn each_byte_may_be_a_string(rt: HostRuntime) -> Result<(), Fail> {
     let alloc = rt.alloc();
-    let mut texts = Vec::new(alloc);
-    let mut line = Vec::new(alloc);
-    for byte in 0..=u8::MAX {
-        if byte != b'\n' {
-            texts.extend_from_slice(&[byte, b'\n'])?;
-            line.push(byte)?;
-        }
-    }
-    let single = single_bytes(alloc, line.len())?;
-    let mut set = set_of(alloc, &texts, false)?;
-    for byte in &line {
-        assert_line(&rt, alloc, &mut set, &[*byte], true, &[(0, 1)])?;
-    }
-    assert_line(&rt, alloc, &mut set, &line, true, &single)?;
+    let mut line = each_byte(alloc)?;
+    let mut texts = a_line_each(alloc, &line)?;
+    assert_each_byte(&rt, alloc, &texts, &line)?;
     texts.extend_from_slice(&line)?;
-    let mut set = set_of(alloc, &texts, false)?;
-    assert_line(&rt, alloc, &mut set, &line, true, &[(0, 255)])?;
-    line.reverse();
-    assert_line(&rt, alloc, &mut set, &line, true, &single)
+    assert_all_bytes(&rt, alloc, &texts, &mut line)
+}
+
+// So many letters `a`, and a text behind them: whether the line is selected, and its parts.
+type LongLine = (usize, &'static [u8], bool, &'static [(usize, usize)]);
+
+static LONG_LINES: [LongLine; 3] = [
+    (4_097, b"", true, &[(0, 4_097)]),
+    (4_096, b"", false, &[]),
+    (4_096, b"b", true, &[(4_095, 4_097)]),
+];
+
+fn long_lines() -> &'static [LongLine] {
+    &LONG_LINES
+}
+
+static WHOLE_LONG_LINES: [LongLine; 3] = [
+    (4_097, b"", true, &[(0, 4_097)]),
+    (4_096, b"", false, &[]),
+    (4_096, b"b", false, &[]),
+];
+
+fn whole_long_lines() -> &'static [LongLine] {
+    &WHOLE_LONG_LINES
+}
+
+// So many letters `a`, and a text behind them.
+fn letters_and(alloc: Global, count: usize, behind: &[u8]) -> Result<Vec<u8>, AllocError> {
+    let mut line = vec![in alloc; b'a'; count]?;
+    line.extend_from_slice(behind)?;
+    Ok(line)
+}
+
+fn assert_long_line(
+    rt: &impl Abort,
+    alloc: Global,
+    set: &mut FixedSet,
+    row: LongLine,
+) -> Result<(), Fail> {
+    let (count, behind, is_selected, expected) = row;
+    let line = letters_and(alloc, count, behind)?;
+    assert_line(rt, alloc, set, &line, is_selected, expected)
+}
+
+// Asserts the rows for `ab` and 4,097 letters `a` as strings.
+fn assert_long_lines(
+    rt: &impl Abort,
+    alloc: Global,
+    whole: bool,
+    rows: &'static [LongLine],
+) -> Result<(), Fail> {
+    let mut texts = Vec::new(alloc);
+    texts.extend_from_slice(b"ab\n")?;
+    texts.extend_from_slice(&letters_and(alloc, 4_097, b"")?)?;
+    let mut set = set_of(alloc, &texts, whole)?;
+    for row in rows {
+        assert_long_line(rt, alloc, &mut set, *row)?;
+    }
+    Ok(())
 }
 
 #[test]
 fn a_string_may_be_long(rt: HostRuntime) -> Result<(), Fail> {
-    let alloc = rt.alloc();
-    let mut line = vec![in alloc; b'a'; 4_097]?;
-    let mut texts = Vec::new(alloc);
-    texts.extend_from_slice(b"ab\n")?;
-    texts.extend_from_slice(&line)?;
-    let mut set = set_of(alloc, &texts, false)?;
-    let mut whole = set_of(alloc, &texts, true)?;
-    assert_line(&rt, alloc, &mut set, &line, true, &[(0, 4_097)])?;
-    assert_line(&rt, alloc, &mut whole, &line, true, &[(0, 4_097)])?;
-    line.pop();
-    assert_line(&rt, alloc, &mut set, &line, false, &[])?;
-    assert_line(&rt, alloc, &mut whole, &line, false, &[])?;
-    line.push(b'b')?;
-    assert_line(&rt, alloc, &mut set, &line, true, &[(4_095, 4_097)])?;
-    assert_line(&rt, alloc, &mut whole, &line, false, &[])
+    assert_long_lines(&rt, rt.alloc(), false, long_lines())?;
+    assert_long_lines(&rt, rt.alloc(), true, whole_long_lines())
 }
 
 // The numbers below this one, a line each.
@@ -326,26 +413,50 @@ fn numbers(alloc: Global, end: usize) -> Result<Vec<u8>, AllocError> {
     Ok(texts)
 }
 
+// A line, whether it is selected, and its parts.
+type Line = (&'static [u8], bool, &'static [(usize, usize)]);
+
+static WITH_NUMBERS: [Line; 4] = [
+    (b"x65534", true, &[(1, 6)]),
+    (b"65535", true, &[(0, 4), (4, 5)]),
+    (b"007", true, &[(0, 1), (1, 2), (2, 3)]),
+    (b"none", false, &[]),
+];
+
+fn with_numbers() -> &'static [Line] {
+    &WITH_NUMBERS
+}
+
+static WHOLE_NUMBERS: [Line; 3] = [
+    (b"65534", true, &[(0, 5)]),
+    (b"65535", false, &[]),
+    (b"007", false, &[]),
+];
+
+fn whole_numbers() -> &'static [Line] {
+    &WHOLE_NUMBERS
+}
+
+// Asserts the lines for one set.
+fn assert_lines(
+    rt: &impl Abort,
+    alloc: Global,
+    texts: &[u8],
+    whole: bool,
+    lines: &'static [Line],
+) -> Result<(), Fail> {
+    let mut set = set_of(alloc, texts, whole)?;
+    for (line, is_selected, expected) in lines {
+        assert_line(rt, alloc, &mut set, line, *is_selected, expected)?;
+    }
+    Ok(())
+}
+
 #[test]
 fn a_set_may_have_many_strings(rt: HostRuntime) -> Result<(), Fail> {
-    let alloc = rt.alloc();
-    let texts = numbers(alloc, 65_535)?;
-    let mut set = set_of(alloc, &texts, false)?;
-    assert_line(&rt, alloc, &mut set, b"x65534", true, &[(1, 6)])?;
-    assert_line(&rt, alloc, &mut set, b"65535", true, &[(0, 4), (4, 5)])?;
-    assert_line(
-        &rt,
-        alloc,
-        &mut set,
-        b"007",
-        true,
-        &[(0, 1), (1, 2), (2, 3)],
-    )?;
-    assert_line(&rt, alloc, &mut set, b"none", false, &[])?;
-    let mut whole = set_of(alloc, &texts, true)?;
-    assert_line(&rt, alloc, &mut whole, b"65534", true, &[(0, 5)])?;
-    assert_line(&rt, alloc, &mut whole, b"65535", false, &[])?;
-    assert_line(&rt, alloc, &mut whole, b"007", false, &[])
+    let texts = numbers(rt.alloc(), 65_535)?;
+    assert_lines(&rt, rt.alloc(), &texts, false, with_numbers())?;
+    assert_lines(&rt, rt.alloc(), &texts, true, whole_numbers())
 }
 
 // For strings, whether both cases of each letter are alike, whether the whole line has to be
@@ -396,8 +507,11 @@ fn assert_search(rt: &impl Abort, alloc: Global, row: &Search) -> Result<(), Fai
     let mut matcher = FixedSet::new(alloc, texts, fold, whole)?;
     assert!(rt; from <= line.len(), "{line:?}");
     let found = matcher.find(line, from, &mut fresh_meter());
-    let place = found.map(|part| (part.start, part.end));
-    assert_eq!(rt; place, expected, "{texts:?} on {line:?} from {from}");
+    assert_eq!(rt;
+        ends_of(found),
+        expected,
+        "{texts:?} on {line:?} from {from}"
+    );
     Ok(())
 }
 

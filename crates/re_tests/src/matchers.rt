@@ -1,5 +1,5 @@
 //! Matchers made from the texts of patterns.
-use crate::several::all_parts;
+use crate::several::{all_parts, assert_steps, ends_of};
 use re_auto::fresh_meter;
 use re_search::{LineMatch, Matcher, Syntax};
 use re_syntax::{FaultKind, PatternFault};
@@ -239,8 +239,11 @@ fn assert_search(rt: &impl Abort, alloc: Global, row: &Search) -> Result<(), Fai
     let mut meter = fresh_meter();
     assert!(rt; from <= line.len());
     let found = matcher.find(line, from, &mut meter);
-    let place = found.map(|part| (part.start, part.end));
-    assert_eq!(rt; place, expected, "{text:?} on {line:?} from {from}");
+    assert_eq!(rt;
+        ends_of(found),
+        expected,
+        "{text:?} on {line:?} from {from}"
+    );
     assert!(rt; meter.built() <= most && meter.reused() == 0, "{line:?}");
     Ok(())
 }
@@ -253,39 +256,55 @@ fn a_part_is_found_in_so_many_steps(rt: HostRuntime) -> Result<(), Fail> {
     Ok(())
 }
 
+static REFUSED: [(Syntax, &[u8], FaultKind, usize); 6] = [
+    (Syntax::Basic, b"\\(a\\)\\1", FaultKind::BackReference, 5),
+    (Syntax::Extended, b"a{256}", FaultKind::IntervalTooLarge, 1),
+    (Syntax::Extended, b"(", FaultKind::UnclosedGroup, 0),
+    (Syntax::Basic, b"[a", FaultKind::UnclosedBracket, 0),
+    (
+        Syntax::Extended,
+        b"(a{255}){16}a{17}",
+        FaultKind::TooLarge,
+        0,
+    ),
+    (
+        Syntax::Basic,
+        b"\\(a\\{255\\}\\)\\{17\\}",
+        FaultKind::TooLarge,
+        0,
+    ),
+];
+
+fn refused() -> &'static [(Syntax, &'static [u8], FaultKind, usize)] {
+    &REFUSED
+}
+
+// Why a text is refused, none where it isn't.
+fn fault_of(
+    alloc: Global,
+    text: &[u8],
+    syntax: Syntax,
+    fold: bool,
+    whole: bool,
+) -> Option<PatternFault> {
+    match Matcher::new(alloc, text, syntax, fold, whole, 1) {
+        Ok(_) => None,
+        Err(fault) => Some(fault),
+    }
+}
+
 #[test]
 fn a_text_that_is_refused_has_its_fault(rt: HostRuntime) {
-    let rows: [(Syntax, &[u8], FaultKind, usize); 6] = [
-        (Syntax::Basic, b"\\(a\\)\\1", FaultKind::BackReference, 5),
-        (Syntax::Extended, b"a{256}", FaultKind::IntervalTooLarge, 1),
-        (Syntax::Extended, b"(", FaultKind::UnclosedGroup, 0),
-        (Syntax::Basic, b"[a", FaultKind::UnclosedBracket, 0),
-        (
-            Syntax::Extended,
-            b"(a{255}){16}a{17}",
-            FaultKind::TooLarge,
-            0,
-        ),
-        (
-            Syntax::Basic,
-            b"\\(a\\{255\\}\\)\\{17\\}",
-            FaultKind::TooLarge,
-            0,
-        ),
-    ];
-    for (syntax, text, kind, at) in rows {
-        let fault = Matcher::new(rt.alloc(), text, syntax, false, false, 1).err();
+    for row in refused() {
+        let (syntax, text, kind, at) = *row;
+        let fault = fault_of(rt.alloc(), text, syntax, false, false);
         assert_eq!(rt; fault, Some(PatternFault { kind, at }), "{text:?}");
     }
-    let most = Matcher::new(
-        rt.alloc(),
-        b"(a{255}){16}a{16}",
-        Syntax::Extended,
-        true,
-        false,
-        1,
+    let most = b"(a{255}){16}a{16}";
+    assert_eq!(rt;
+        fault_of(rt.alloc(), most, Syntax::Extended, true, false),
+        None
     );
-    assert!(rt; most.is_ok());
 }
 
 #[test]
@@ -293,7 +312,7 @@ fn a_string_is_large_only_where_it_is_folded(rt: HostRuntime) -> Result<(), Fail
     let text = vec![in rt.alloc(); b'a'; 4_097]?;
     let mut plain = Matcher::new(rt.alloc(), &text, Syntax::Fixed, false, true, 1)?;
     assert!(rt; plain.is_match(&text, &mut fresh_meter()));
-    let folded = Matcher::new(rt.alloc(), &text, Syntax::Fixed, true, true, 1).err();
+    let folded = fault_of(rt.alloc(), &text, Syntax::Fixed, true, true);
     let too_large = PatternFault {
         kind: FaultKind::TooLarge,
         at: 0,
@@ -308,16 +327,13 @@ fn a_long_line_takes_no_step_where_nothing_can_begin(rt: HostRuntime) -> Result<
     let mut matcher = Matcher::new(rt.alloc(), b"[bB]c*", Syntax::Basic, false, false, 1)?;
     let mut meter = fresh_meter();
     assert!(rt; !matcher.is_match(&line, &mut meter));
-    assert_eq!(rt; (meter.built(), meter.reused()), (1, 0));
+    assert_steps(&rt, &meter, 1, 0, b"[bB]c*");
     line.extend_from_slice(b"bcca")?;
     assert!(rt; matcher.is_match(&line, &mut meter));
-    assert_eq!(rt; (meter.built(), meter.reused()), (2, 1));
+    assert_steps(&rt, &meter, 2, 1, b"[bB]c*");
     let part = matcher.find(&line, 0, &mut meter);
-    assert_eq!(rt;
-        part.map(|span| (span.start, span.end)),
-        Some((100_000, 100_003))
-    );
-    assert_eq!(rt; (meter.built(), meter.reused()), (7, 1));
+    assert_eq!(rt; ends_of(part), Some((100_000, 100_003)));
+    assert_steps(&rt, &meter, 7, 1, b"[bB]c*");
     Ok(())
 }
 
@@ -327,9 +343,9 @@ fn a_long_line_is_stepped_to_its_end(rt: HostRuntime) -> Result<(), Fail> {
     let mut matcher = Matcher::new(rt.alloc(), b"a*[bB]", Syntax::Basic, false, false, 1)?;
     let mut meter = fresh_meter();
     assert!(rt; !matcher.is_match(&line, &mut meter));
-    assert_eq!(rt; (meter.built(), meter.reused()), (2, 99_998));
+    assert_steps(&rt, &meter, 2, 99_998, b"a*[bB]");
     assert!(rt; matcher.find(&line, 1, &mut meter).is_none());
-    assert_eq!(rt; (meter.built(), meter.reused()), (100_001, 99_998));
+    assert_steps(&rt, &meter, 100_001, 99_998, b"a*[bB]");
     Ok(())
 }
 
@@ -455,8 +471,7 @@ fn assert_needed(rt: &impl Abort, alloc: Global, row: &Needed) -> Result<(), Fai
     let mut meter = fresh_meter();
     assert!(rt; from <= line.len());
     let part = matcher.find(line, from, &mut meter);
-    let place = part.map(|span| (span.start, span.end));
-    assert_eq!(rt; place, expected, "{text:?} on {line:?} from {from}");
+    assert_eq!(rt; ends_of(part), expected, "{text:?} on {line:?} from {from}");
     let is_match = matcher.is_match(&line[from..], &mut meter);
     assert_eq!(rt; is_match, expected.is_some(), "{text:?} on {line:?}");
     assert_eq!(rt; meter.built() == 0, at_once, "{text:?} on {line:?}");

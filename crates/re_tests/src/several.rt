@@ -2,7 +2,7 @@
 ghost use Rattle.std.specs.Prelude.{Bool, IfOk, map};
 ghost use Rattle.re_search.specs.Searching.{AllAnswer};
 
-use re_auto::fresh_meter;
+use re_auto::{Meter, fresh_meter};
 use re_search::{Fixed, LineMatch, Span, first_candidate, is_matched, parts};
 use std::alloc::{AllocError, Global};
 use std::process::Abort;
@@ -16,6 +16,18 @@ fn fixed(alloc: Global, texts: &[&[u8]], whole: bool) -> Result<Vec<Fixed>, Allo
         matchers.push(Fixed::new(alloc, text, whole)?)?;
     }
     Ok(matchers)
+}
+
+/// The places of a part's first byte and behind its last.
+pub(crate) fn ends_of(part: Option<Span>) -> Option<(usize, usize)> {
+    let Span { start, end } = part?;
+    Some((start, end))
+}
+
+/// Compares the steps of both kinds that were counted over a line.
+pub(crate) fn assert_steps(rt: &impl Abort, meter: &Meter, built: u64, reused: u64, line: &[u8]) {
+    assert_eq!(rt; meter.built(), built, "{line:?}");
+    assert_eq!(rt; meter.reused(), reused, "{line:?}");
 }
 
 // All parts of the line, each as the places of its first byte and behind its last.
@@ -138,9 +150,12 @@ fn assert_search(rt: &impl Abort, alloc: Global, row: &Search) -> Result<(), Fai
     let mut matcher = Fixed::new(alloc, text, whole)?;
     let mut meter = fresh_meter();
     let found = matcher.find(line, from, &mut meter);
-    let place = found.map(|part| (part.start, part.end));
-    assert_eq!(rt; place, expected, "{text:?} on {line:?} from {from}");
-    assert_eq!(rt; (meter.built(), meter.reused()), (steps, 0), "{line:?}");
+    assert_eq!(rt;
+        ends_of(found),
+        expected,
+        "{text:?} on {line:?} from {from}"
+    );
+    assert_steps(rt, &meter, steps, 0, line);
     Ok(())
 }
 
@@ -244,28 +259,51 @@ fn short_lines(alloc: Global, count: usize) -> Result<Vec<u8>, AllocError> {
     Ok(lines)
 }
 
+// Texts, how long a block is that lacks its last newline, and where the first line begins that some
+// text may match.
+type Ahead = (&'static [&'static [u8]], usize, usize);
+
+// Blocks of lines of two letters each: 1,365 of them are 4,095 bytes.
+static OVER_SHORT_LINES: [Ahead; 3] = [
+    (&[b"x", b"y"], 4_094, 4_095),
+    (&[b"x", b"y"], 5_000, 4_095),
+    (&[b"x"], 5_000, 5_001),
+];
+
+fn over_short_lines() -> &'static [Ahead] {
+    &OVER_SHORT_LINES
+}
+
+// Blocks of one line.
+static OVER_ONE_LINE: [Ahead; 3] = [
+    (&[b"x", b"y"], 4_095, 4_096),
+    (&[b"x", b"y"], 4_096, 0),
+    (&[b"x"], 4_096, 4_097),
+];
+
+fn over_one_line() -> &'static [Ahead] {
+    &OVER_ONE_LINE
+}
+
+fn assert_over_short_lines(rt: &impl Abort, alloc: Global, row: &Ahead) -> Result<(), Fail> {
+    let (texts, length, expected) = *row;
+    let lines = short_lines(alloc, length)?;
+    assert_look(rt, alloc, texts, &lines, expected)
+}
+
+fn assert_over_one_line(rt: &impl Abort, alloc: Global, row: &Ahead) -> Result<(), Fail> {
+    let (texts, length, expected) = *row;
+    let line = vec![in alloc; b'a'; length]?;
+    assert_look(rt, alloc, texts, &line, expected)
+}
+
 #[test]
 fn several_texts_look_so_far_ahead(rt: HostRuntime) -> Result<(), Fail> {
-    let alloc = rt.alloc();
-    // 1,365 lines of three bytes are 4,095 bytes.
-    assert_look(
-        &rt,
-        alloc,
-        &[b"x", b"y"],
-        &short_lines(alloc, 4_094)?,
-        4_095,
-    )?;
-    assert_look(
-        &rt,
-        alloc,
-        &[b"x", b"y"],
-        &short_lines(alloc, 5_000)?,
-        4_095,
-    )?;
-    assert_look(&rt, alloc, &[b"x"], &short_lines(alloc, 5_000)?, 5_001)?;
-    let long = vec![in alloc; b'a'; 4_096]?;
-    assert_look(&rt, alloc, &[b"x", b"y"], &long[..4_095], 4_096)?;
-    assert_look(&rt, alloc, &[b"x", b"y"], &long, 0)?;
-    assert_look(&rt, alloc, &[b"x"], &long, 4_097)?;
+    for row in over_short_lines() {
+        assert_over_short_lines(&rt, rt.alloc(), row)?;
+    }
+    for row in over_one_line() {
+        assert_over_one_line(&rt, rt.alloc(), row)?;
+    }
     Ok(())
 }
