@@ -7,7 +7,7 @@ aaaaaaaaaaaaaaaaaaaaaaaaaaaaaaaaaaaaaaaaaaaaaaaaaaaaaaaaaaaaaaaa\
 aaaaaaaaaaaaaaaaaaaaaaaaaaaaaaaaaaaaaaaaaaaaaaaaaaaaaaaaaaaaaaaa\
 aaaaaaaaaaaaaaaaaaaaaaaaaaaaaaaaaaaaaaaaaaaaaaaaaaaaaaaaaaaaaaa";
 
-static OF_INPUT: [Row<'static>; 42] = [
+static OF_INPUT: [Row<'static>; 45] = [
     ("b", b"b\nab\nB\n", b"b\nab\n", "", 0),
     ("", b"", b"", "", 1),
     ("", b"x", b"x\n", "", 0),
@@ -56,6 +56,9 @@ static OF_INPUT: [Row<'static>; 42] = [
     ("-c -n -i 1", b"11\n2\n", b"1\n", "", 0),
     ("-c -x a", b"a\naa\n", b"1\n", "", 0),
     ("-c z", b"a\nb\n", b"0\n", "", 1),
+    ("-c ^$", b"a\n\nb\n\n\nc\nd", b"3\n", "", 0),
+    ("-c -v ^$", b"a\n\nb\n\n\nc\nd", b"4\n", "", 0),
+    ("-x ab*", b"ba\nab\ncab\na\nabc\n\n", b"ab\na\n", "", 0),
 ];
 
 static OF_FILES: [Row<'static>; 17] = [
