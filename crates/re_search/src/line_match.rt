@@ -44,7 +44,6 @@ pub trait LineMatch {
     }
 
     /// How many lines of a block of whole lines are matched, where that is known without a step.
-    /// Where it is `None` for a block it is for each.
     fn count_matched(&self, block: &[u8]) -> Option<u64>
         requires { IsBlock block.now }
         ensures { IfSome result (λ count. CountsMatched (expression self.now) (whole self.now)

@@ -139,7 +139,6 @@ fn first_lines(block: &[u8]) -> usize
 
 /// How many lines of a block of whole lines some matcher matches, where that is known without a
 /// step: of a single matcher. `None` comes too where there is a filter, which is there for several.
-/// Where it is `None` for a block it is for each.
 pub fn count_matched<M: LineMatch>(
     matchers: &[M],
     filter: Option<&Filter>,

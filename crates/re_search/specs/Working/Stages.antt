@@ -156,9 +156,9 @@ pub record Searches (e : Expression) (mode : Mode) (line : Text) (old new : Cach
   pub steps : first.steps ≡ before
   pub finishes : Finishes e mode line first new after answer
 
--- what a search tells without a step: the line lacks a run of sets that every match has in it, or as
--- a whole line does not begin with one that every match begins with, or has the run that is all that
--- matches
+-- what a search tells without a step: the line lacks a run of sets that every match has in it, or,
+-- where it has to be matched as a whole, does not begin with one that every match begins with, or
+-- has the run that is all that matches
 pub record Lacks (e : Expression) (line : Text) (answer : Bool) : Type 0 where
   pub run : List Bytes
   pub needed : RunIsNeeded run e

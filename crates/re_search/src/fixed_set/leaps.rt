@@ -1,5 +1,5 @@
 //! How far a search for many strings may leap where none of them is on its way.
-ghost use Rattle.std.specs.Prelude.{◌≡◌, ℕ, ◌+◌, ◌<◌, ◌≤◌, List, IfOk, length, map, slice_index};
+ghost use Rattle.std.specs.Prelude.{◌≡◌, ℕ, ◌+◌, ◌^◌, ◌<◌, ◌≤◌, List, IfOk, length, map, slice_index};
 ghost use Rattle.re_syntax.specs.Bytes.{Text};
 ghost use Rattle.re_search.specs.Working.Branches.{text_at};
 ghost use Rattle.re_search.specs.Working.FixedSets.{IsLeaps, AreLeapsOf, NoneBegins, pair_row};
@@ -37,13 +37,33 @@ impl Leaps {
     {
         let mut at = place;
         'windows: while line.len() - at >= self.window {
-            let shift = self.shift(line, at, fold);
+            let shift = self.far_shift(line, at, fold);
             if shift == 0 {
                 return at;
             }
             at += shift;
         }
         line.len()
+    }
+
+    // At how many places from this one on no string begins, for the window there and the next that
+    // a longest leap reaches: both are read at once, so that the second need not wait for the first.
+    #[inline(always)]
+    fn far_shift(&self, line: &[u8], at: usize, fold: bool) -> usize
+        requires leaps { IsLeaps self.now }
+        requires pair { 2 ≤ self.now.window }
+        requires within { at + self.now.window ≤ length line.now }
+        ensures short { at + result ≤ length line.now }
+        ensures none { (strings : List Text) → AreLeapsOf strings self.now →
+            NoneBegins strings (keys fold line.now) at (at + result) }
+    {
+        let longest = self.window - 1;
+        let first = self.shift(line, at, fold);
+        if line.len() - at < longest + self.window {
+            return first;
+        }
+        let second = self.shift(line, at + longest, fold);
+        both_shifts(first, second, longest)
     }
 
     // At how many places from this one on no string begins, for the window there.
@@ -60,6 +80,20 @@ impl Leaps {
         let before = key_of(fold, line[last - 1]);
         let byte = key_of(fold, line[last]);
         self.shifts[row_of(before, byte)] as usize
+    }
+}
+
+// A leap, and the one behind it where it is a longest one.
+#[inline(always)]
+fn both_shifts(first: usize, second: usize, longest: usize) -> usize
+    requires few { first + second < 2 ^ 64 }
+    ensures first { first < longest → result ≡ first }
+    ensures both { longest ≤ first → result ≡ first + second }
+{
+    if first < longest {
+        first
+    } else {
+        first + second
     }
 }
 

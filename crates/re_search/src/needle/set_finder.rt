@@ -18,7 +18,7 @@ const FIRST_PORTION: usize = 16;
 const GROWTH: usize = 4;
 
 // How many places are tried at a time at most.
-const PORTION: usize = 192;
+const PORTION: usize = 384;
 
 // At about so many places in 65,536 bytes of most texts probes that are passed seldom are passed at
 // most.

@@ -15,12 +15,11 @@ windows-init c = record {
 pub windows-preserved : goal.windows-preserved
 windows-preserved c =
     let low = c.windows.invariant.low in
-    let high = c.windows.invariant.high in
-    let short = c.shift-shift.ensures.short in
+    let short = c.far_shift-shift.ensures.short in
     record {
       low = omega (arith, low);
-      high = omega (arith, high, short, c.windows-test.true);
-      none = λ strings a. none_begins_on strings (keys c.args.fold c.args.line.now) c.args.place c.windows.at (c.windows.at + c.shift-shift.result) (c.windows.invariant.none strings a) (c.shift-shift.ensures.none strings a);
+      high = omega (arith, short);
+      none = λ strings a. none_begins_on strings (keys c.args.fold c.args.line.now) c.args.place c.windows.at (c.windows.at + c.far_shift-shift.result) (c.windows.invariant.none strings a) (c.far_shift-shift.ensures.none strings a);
     }
 
 pub returns-clause-none : goal.returns-clause-none
