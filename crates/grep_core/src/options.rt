@@ -1,5 +1,5 @@
 //! The options of a run, and what they ask for.
-ghost use Rattle.std.specs.Prelude.{◌≡◌, ◌||◌, IsTrue, MatchOption};
+ghost use Rattle.std.specs.Prelude.{◌≡◌, ◌||◌, ◌↔◌, IsTrue, MatchOption};
 ghost use Rattle.grep_core.specs.Output.{form, counts, around};
 ghost use Rattle.grep_core.specs.Working.OneLine.{IsPlain};
 ghost use Rattle.grep_core.specs.Working.Wanted.{form_of, selects};
@@ -122,11 +122,15 @@ impl Options {
 
     /// Whether only the number of selected lines is written of a file.
     pub fn only_counts(self) -> bool
-        ensures { IsTrue result → form self ≡ counts }
+        ensures { IsTrue result ↔ form self ≡ counts }
     {
         match self.form() {
             Form::Counts => true,
-            _ => false,
+            Form::Nothing => false,
+            Form::Names => false,
+            Form::Parts => false,
+            Form::Lines => false,
+            Form::Around(_) => false,
         }
     }
 

@@ -3,12 +3,8 @@
 
 use re_search::LookCost;
 
-// From how many passed bytes on a dear look has paid.
-const WORTH_A_LOOK: usize = 512;
-
-/// What was seen of looks so far. Where they are cheap each line begins with one; where they are
-/// dear, and pass little, more and more lines lie between two of them, up to so many as their cost
-/// sets.
+/// What was seen of looks so far. Behind one that passed too little to pay, lines are searched
+/// without one: at first one line, and twice as many each time, up to so many as its cost sets.
 #[derive(Drop)]
 pub struct Looks {
     cost: LookCost,
@@ -39,10 +35,7 @@ impl Looks {
     /// A look passed so many bytes.
     #[inline(always)]
     pub fn note(&mut self, bytes: usize) {
-        if self.cost == LookCost::Low {
-            return;
-        }
-        if bytes >= WORTH_A_LOOK {
+        if bytes >= worth_a_look(self.cost) {
             self.next_rest = 1;
             return;
         }
@@ -51,11 +44,22 @@ impl Looks {
     }
 }
 
+// From how many passed bytes on a look has paid. A cheap one has where it passed any; one that
+// passes none is for nothing, as each of a matcher that knows no string is.
+#[inline(always)]
+fn worth_a_look(cost: LookCost) -> usize {
+    match cost {
+        LookCost::Low => 1,
+        LookCost::Middle => 512,
+        LookCost::High => 512,
+    }
+}
+
 // How many lines lie between two looks at most.
 #[inline(always)]
 fn most_rest(cost: LookCost) -> u32 {
     match cost {
-        LookCost::Low => 0,
+        LookCost::Low => 1_024,
         LookCost::Middle => 16,
         LookCost::High => 64,
     }
