@@ -18,6 +18,7 @@ pub mod stride;
 pub mod table;
 pub mod walking;
 
+use crate::cost::LookCost;
 use crate::line_match::LineMatch;
 use crate::simulated::Simulated;
 use crate::span::Span;
@@ -220,5 +221,9 @@ impl LineMatch for Cached {
             self.now.whole (lines_of block.now) count) }
     {
         self.simulated.count_matched(block)
+    }
+
+    fn look_cost(&self) -> LookCost {
+        self.simulated.look_cost()
     }
 }

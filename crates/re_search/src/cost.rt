@@ -8,6 +8,7 @@ pub enum LookCost {
     Low,
     /// Several matchers look in turn.
     Middle,
-    /// Many strings are looked for at once, as in a search of the lines.
+    /// Many strings are looked for at once, or a run of sets that most bytes are in: it may cost as
+    /// much as a search of the lines.
     High,
 }

@@ -175,8 +175,10 @@ impl LineMatch for Matcher {
 
     fn look_cost(&self) -> LookCost {
         match self {
+            Matcher::Fixed(_) => LookCost::Low,
             Matcher::FixedSet(set) => set.look_cost(),
-            _ => LookCost::Low,
+            Matcher::Simulated(simulated) => simulated.look_cost(),
+            Matcher::Cached(cached) => cached.look_cost(),
         }
     }
 }

@@ -15,6 +15,7 @@ mod run_finder;
 mod set_finder;
 mod survey;
 
+use crate::cost::LookCost;
 use choice::{RunOf, run_start};
 use leading::leading_sets;
 use memchr::memmem::Finder;
@@ -23,6 +24,14 @@ use re_syntax::{ByteSet, Tree};
 pub use run_finder::RunFinder;
 use set_finder::SetFinder;
 use std::alloc::{AllocError, Global};
+use survey::rank_of;
+
+// From so many sets on a run of sets of any size is looked for.
+const MANY_SETS: usize = 8;
+
+// From this rank on a byte stands on most lines of most texts: the blank, `e` and `t`. The table of
+// ranks takes all bytes from 0xC0 on for common ones, too.
+const COMMON: u8 = 250;
 
 /// A run of bytes, or of sets of bytes, that every match of an expression has in it.
 #[derive(Drop)]
@@ -33,14 +42,18 @@ pub struct Needle {
     pub is_first: bool,
     /// Whether the matches are where the run stands, and nothing else.
     pub is_all: bool,
+    /// Whether the run stands on most lines of some texts, so that it is looked for over blocks, as
+    /// long as lines are passed, and not in each line before a search by kept steps.
+    pub is_common: bool,
 }
 
 impl Needle {
     /// A run of single bytes that is needed, through groups and what is repeated once or more; a
     /// run of small sets where no two such bytes stand in a row, if it is all there is or stands in
-    /// most texts seldom; the first such byte where there is no such run either. A choice has the
-    /// sets of what its branches begin with. `None` where there is none of these. The one error is
-    /// that memory was refused.
+    /// most texts seldom; the first single byte where there is no such run either. Where that byte
+    /// is common, or there is none, a long run of sets of any size goes before it. A choice has the
+    /// sets of what its branches begin with, and a set that is repeated is so many sets. `None`
+    /// where there is nothing of all this. The one error is that memory was refused.
     pub fn of(alloc: Global, tree: &Tree) -> Result<Option<Needle>, AllocError>
         ensures { IfOk result (IsNeedleFor (expression_of tree.now)) }
     {
@@ -50,11 +63,35 @@ impl Needle {
         if let Some(needle) = text_needle(alloc, &marks, start, 2)? {
             return Ok(Some(needle));
         }
-        let sets = run_start(&marks, RunOf::Sets);
+        let sets = run_start(&marks, RunOf::SmallSets);
         if let Some(needle) = set_needle(alloc, &marks, sets)? {
             return Ok(Some(needle));
         }
-        text_needle(alloc, &marks, start, 1)
+        let single = text_needle(alloc, &marks, start, 1)?;
+        if is_uncommon(&single) {
+            return Ok(single);
+        }
+        let wide = run_start(&marks, RunOf::Sets);
+        if let Some(needle) = wide_needle(alloc, &marks, wide)? {
+            return Ok(Some(needle));
+        }
+        Ok(single)
+    }
+
+    /// What the search for it over a block costs.
+    pub fn look_cost(&self) -> LookCost {
+        if self.is_common && self.finder.text().is_none() {
+            return LookCost::High;
+        }
+        LookCost::Low
+    }
+}
+
+// Whether there is a needle, and it is not common.
+fn is_uncommon(needle: &Option<Needle>) -> bool {
+    match needle {
+        Some(needle) => !needle.is_common,
+        None => false,
     }
 }
 
@@ -75,12 +112,19 @@ fn text_needle(
         return Ok(None);
     }
     let is_all = bytes.len() == marks.len();
+    let is_common = !is_all && is_common_byte(&bytes);
     let finder = Finder::new(&bytes).into_owned(alloc)?;
     Ok(Some(Needle {
         finder: RunFinder::Text(finder),
         is_first: start == 0,
         is_all,
+        is_common,
     }))
+}
+
+// Whether the text is one byte that stands on most lines of most texts.
+fn is_common_byte(text: &[u8]) -> bool {
+    text.len() == 1 && rank_of(text[0]) >= COMMON
 }
 
 // The needle of the small sets from a mark on, where they are two or more.
@@ -89,7 +133,7 @@ fn set_needle(alloc: Global, marks: &[Mark], start: usize) -> Result<Option<Need
     ensures { IfOk result
         (λ found. (e : Expression) → IsOutline (map shown marks.now) e → IsNeedleFor e found) }
 {
-    let sets = leading_sets(alloc, &marks[start..])?;
+    let sets = leading_sets(alloc, &marks[start..], RunOf::SmallSets)?;
     if sets.len() < 2 {
         return Ok(None);
     }
@@ -104,6 +148,29 @@ fn set_needle(alloc: Global, marks: &[Mark], start: usize) -> Result<Option<Need
         finder: RunFinder::Sets(finder),
         is_first: start == 0,
         is_all,
+        is_common: false,
+    }))
+}
+
+// The needle of sets of any size from a mark on, where they are many. On some texts such a run
+// stands on most lines.
+fn wide_needle(alloc: Global, marks: &[Mark], start: usize) -> Result<Option<Needle>, AllocError>
+    requires { start ≤ length marks.now }
+    ensures { IfOk result
+        (λ found. (e : Expression) → IsOutline (map shown marks.now) e → IsNeedleFor e found) }
+{
+    let sets = leading_sets(alloc, &marks[start..], RunOf::Sets)?;
+    if sets.len() < MANY_SETS {
+        return Ok(None);
+    }
+    let Some(finder) = SetFinder::new(sets) else {
+        return Ok(None);
+    };
+    Ok(Some(Needle {
+        finder: RunFinder::Sets(finder),
+        is_first: start == 0,
+        is_all: false,
+        is_common: true,
     }))
 }
 

@@ -17,6 +17,7 @@ mod least;
 mod sets;
 
 use crate::block::{count_lines_with, first_line_beginning_with, first_line_with_run};
+use crate::cost::LookCost;
 use crate::line_match::LineMatch;
 use crate::needle::{Needle, RunFinder};
 use crate::span::Span;
@@ -126,6 +127,9 @@ impl Simulated {
                     return None;
                 }
                 return Some(false);
+            }
+            if needle.is_common {
+                return None;
             }
             if needle.finder.find(line).is_none() {
                 return Some(false);
@@ -276,6 +280,13 @@ impl LineMatch for Simulated {
         match &needle.finder {
             RunFinder::Text(finder) => count_lines_with(finder, block),
             RunFinder::Sets(_) => None,
+        }
+    }
+
+    fn look_cost(&self) -> LookCost {
+        match &self.needle {
+            Some(needle) => needle.look_cost(),
+            None => LookCost::Low,
         }
     }
 }

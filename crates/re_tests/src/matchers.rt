@@ -372,7 +372,31 @@ const BEGUN: Pattern = (Syntax::Basic, b"ab*", false, true);
 
 const BEGUN_BY_SETS: Pattern = (Syntax::Basic, b"[qz][jx].*", false, true);
 
+const DATE: Pattern = (Syntax::Extended, b"[0-9]{4}-[0-9]{2}", false, false);
+
+const AT_LEAST: Pattern = (Syntax::Basic, b"[0-9]\\{2,\\}-2\\{2,3\\}", false, false);
+
+const WIDE: Pattern = (Syntax::Extended, b"[a-z]+ [a-z]{8}", false, false);
+
+const BLANK: Pattern = (Syntax::Basic, b"[a-z]  *[a-z]", false, false);
+
 const BRANCHES: Pattern = (Syntax::Extended, b"queue|zebra|jukebox", false, false);
+
+static DATES: [Needed; 11] = [
+    (DATE, b"2026-1-25", 0, None, true),
+    (DATE, b"x2026-11x", 0, Some((1, 8)), true),
+    (DATE, b"12026-111", 1, Some((1, 8)), true),
+    (DATE, b"026-11-25-31-", 0, None, true),
+    // Where a set may be repeated more often, it is needed so often as it has to be.
+    (AT_LEAST, b"4-22", 0, None, false),
+    (AT_LEAST, b"444-22-22", 0, Some((0, 6)), false),
+    (AT_LEAST, b"44-2x2", 0, None, true),
+    (AT_LEAST, b"x44-22-", 0, Some((1, 6)), false),
+    // One of large sets is not looked for in a line before its search by kept steps.
+    (WIDE, b"ab cdefghi", 0, None, false),
+    (WIDE, b"ab cdefghij", 0, Some((0, 11)), false),
+    (WIDE, b"cdefghij", 0, None, false),
+];
 
 static NEEDED: [Needed; 37] = [
     (REPEATED, b"xxxaxb", 0, None, true),
@@ -465,6 +489,10 @@ fn needed() -> &'static [Needed] {
     &NEEDED
 }
 
+fn dates() -> &'static [Needed] {
+    &DATES
+}
+
 fn assert_needed(rt: &impl Abort, alloc: Global, row: &Needed) -> Result<(), Fail> {
     let ((syntax, text, fold, whole), line, from, expected, at_once) = *row;
     let mut matcher = Matcher::new(alloc, text, syntax, fold, whole, 1)?;
@@ -486,11 +514,55 @@ fn a_string_that_is_needed_is_looked_for_first(rt: HostRuntime) -> Result<(), Fa
     Ok(())
 }
 
+#[test]
+fn a_set_that_is_repeated_is_needed_so_often(rt: HostRuntime) -> Result<(), Fail> {
+    for row in dates() {
+        assert_needed(&rt, rt.alloc(), row)?;
+    }
+    Ok(())
+}
+
+// Places at which a run is looked for in a text: those of the first portions, and around the ends of
+// some.
+static PLACES: [usize; 16] = [
+    0, 1, 15, 16, 17, 79, 80, 81, 335, 336, 400, 463, 464, 719, 720, 900,
+];
+
+fn places() -> &'static [usize] {
+    &PLACES
+}
+
+// Looks for the run behind so many bytes that are in none of its sets.
+fn assert_found_at(
+    rt: &impl Abort,
+    alloc: Global,
+    matcher: &mut Matcher,
+    run: &[u8],
+    place: usize,
+) -> Result<(), Fail> {
+    let mut line = vec![in alloc; b'.'; place]?;
+    line.extend_from_slice(run)?;
+    let part = matcher.find(&line, 0, &mut fresh_meter());
+    assert_eq!(rt; ends_of(part), Some((place, line.len())), "{place}");
+    line.extend_from_slice(b".....")?;
+    assert!(rt; matcher.is_match(&line, &mut fresh_meter()), "{place}");
+    Ok(())
+}
+
+#[test]
+fn a_folded_run_is_found_at_any_distance(rt: HostRuntime) -> Result<(), Fail> {
+    let mut matcher = Matcher::new(rt.alloc(), b"ErroR", Syntax::Basic, true, false, 1)?;
+    for place in places() {
+        assert_found_at(&rt, rt.alloc(), &mut matcher, b"eRROr", *place)?;
+    }
+    Ok(())
+}
+
 // A pattern, a block, which lacks its last newline, and where its first line begins that may be
 // matched, or behind the last one.
 type Candidate = (Pattern, &'static [u8], usize);
 
-static CANDIDATES: [Candidate; 14] = [
+static CANDIDATES: [Candidate; 18] = [
     // The string has to stand at a line's beginning where each whole line begins with it.
     (BEGUN, b"a", 0),
     (BEGUN, b"", 1),
@@ -504,6 +576,11 @@ static CANDIDATES: [Candidate; 14] = [
     // Elsewhere it may stand anywhere.
     ((Syntax::Basic, b"ab*", false, false), b"b\nca\nab", 2),
     ((Syntax::Basic, b"x*ab", false, true), b"b\ncab\nab", 2),
+    // A run of large sets is looked for over blocks, and a single blank.
+    (WIDE, b"ab cdefghi\nab cdefghij", 11),
+    (WIDE, b"ab cdefgh\nijklm\n", 17),
+    (BLANK, b"ab\na b", 3),
+    (BLANK, b"ab\nab", 6),
     // One with a newline stands on two lines.
     ((Syntax::Fixed, b"1\n2", true, true), b"a1\n2\n1\n2", 5),
     ((Syntax::Fixed, b"1\n2", true, true), b"a1\n2", 5),
@@ -542,7 +619,7 @@ fn lines_that_begin_otherwise_are_passed(rt: HostRuntime) -> Result<(), Fail> {
 // that is known without a step.
 type Counted = (Pattern, &'static [u8], Option<u64>);
 
-static COUNTS: [Counted; 26] = [
+static COUNTS: [Counted; 30] = [
     ((Syntax::Fixed, b"a", false, false), b"", Some(0)),
     ((Syntax::Fixed, b"a", false, false), b"b\n\nb", Some(0)),
     // A line counts once, however often and wherever the string stands in it.
@@ -595,6 +672,19 @@ static COUNTS: [Counted; 26] = [
     (
         (Syntax::Extended, b"a{3}", false, false),
         b"aaa\naa\na",
+        Some(1),
+    ),
+    // A set that is repeated just so often is all there is, up to 32 times.
+    (
+        (Syntax::Extended, b"a{2}b{1,1}", false, false),
+        b"ab\naab\naaabaab",
+        Some(2),
+    ),
+    ((Syntax::Extended, b"a{2,}", false, false), b"a\naa", None),
+    ((Syntax::Extended, b"ab{1,2}", false, false), b"a\nab", None),
+    (
+        (Syntax::Extended, b"a{33}", false, false),
+        b"aaaaaaaaaaaaaaaaaaaaaaaaaaaaaaaa\naaaaaaaaaaaaaaaaaaaaaaaaaaaaaaaaa",
         None,
     ),
     ((Syntax::Basic, b"abc", false, true), b"abc", None),

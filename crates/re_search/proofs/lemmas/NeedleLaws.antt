@@ -20,10 +20,10 @@ use Rattle.re_search.proofs.lemmas.OutlineLaws.{run_needed, run_begins, just_run
 use Rattle.re_search.proofs.lemmas.RunLaws.{run_rest, run_whole, run_text, nowhere}
 
 -- sets side by side in an outline are a needle
-pub run_is_needle : (marks : List (Option Bytes)) (finder : RunFinder) (is_first is_all : Bool) (rest : List (Option Bytes)) (start : ℕ) → drop start marks ≡ map Some (run_of finder) ++ rest → 1 ≤ length (run_of finder)
+pub run_is_needle : (marks : List (Option Bytes)) (finder : RunFinder) (is_first is_all is_common : Bool) (rest : List (Option Bytes)) (start : ℕ) → drop start marks ≡ map Some (run_of finder) ++ rest → 1 ≤ length (run_of finder)
     → (IsTrue is_first → start ≡ 0) → (IsTrue is_all → length (run_of finder) ≡ length marks) → (e : Expression) → IsOutline marks e
-    → IsNeedleOf e (record { finder = finder; is_first = is_first; is_all = is_all })
-run_is_needle marks finder is_first is_all rest start stands some first all e outline = record {
+    → IsNeedleOf e (record { finder = finder; is_first = is_first; is_all = is_all; is_common = is_common })
+run_is_needle marks finder is_first is_all is_common rest start stands some first all e outline = record {
   needed = run_needed marks e outline (run_of finder) rest start stands;
   some = some;
   first = λ told. run_begins marks e outline (run_of finder) rest start stands (first told);

@@ -12,7 +12,7 @@ use Rattle.re_syntax.proofs.lemmas.HoldsDecided.{Holds-le, Turns-le}
 use Rattle.re_search.specs.declared.needle.outline.Mark.{Mark}
 use Rattle.re_search.specs.declared.needle.outline.Mark.TheVariants as m
 use Rattle.re_search.specs.Working.Runs.{RunStandsAt, set_at}
-use Rattle.re_search.specs.Working.Outlines.{shown, MarkFits, Fits, AreSetMarks, IsOutline, AddsOutline}
+use Rattle.re_search.specs.Working.Outlines.{shown, MarkFits, Fits, AreSetMarks, IsOutline, AddsOutline, AddsTurns, turns_of}
 use Rattle.re_search.specs.Working.Needles.{RunIsNeeded, RunBegins, IsJustRun}
 use Rattle.re_search.proofs.lemmas.NeededLaws.{cat_cut}
 
@@ -120,6 +120,36 @@ outline_repeat xs e least most some part = record {
     once line i j zero low turns = absurd (omega (arith, low, some))
     once line i j (suc n) low (k, first, later) = fits_join line xs (None ∷ []) i k j (part.fits line i k first) (j, Turns-le (Holds line e) (Holds-le line e) n k j later, refl)
 
+-- ---- a set that is repeated
+
+-- so many turns of a set are its bytes one after another
+turns_fit : (line : Text) (s : Bytes) (n i j : ℕ) → Turns (Holds line (one_of s)) n i j → Fits line (map Some (turns_of s n)) i j
+turns_fit line s zero i j same = same
+turns_fit line s (suc n) i j (k, first, later) = (k, first, turns_fit line s n k j later)
+
+all_fit : (line : Text) (s : Bytes) (n m i j : ℕ) → n ≤ m → Turns (Holds line (one_of s)) m i j → Fits line (map Some (turns_of s n) ++ None ∷ []) i j
+all_fit line s zero m i j few turns = (j, Turns-le (Holds line (one_of s)) (Holds-le line (one_of s)) m i j turns, refl)
+all_fit line s (suc n) zero i j few turns = absurd (omega (arith, few))
+all_fit line s (suc n) (suc m) i j few (k, first, later) = (k, first, all_fit line s n m k j (omega (arith, few)) later)
+
+all_hold : (line : Text) (s : Bytes) (n i j : ℕ) → Fits line (map Some (turns_of s n)) i j → Turns (Holds line (one_of s)) n i j
+all_hold line s zero i j same = same
+all_hold line s (suc n) i j (k, first, later) = (k, first, all_hold line s n k j later)
+
+outline_turns : (s : Bytes) (n least : ℕ) (most : Option ℕ) → n ≤ least → IsOutline (map Some (turns_of s n) ++ None ∷ []) (repeat (one_of s) least most)
+outline_turns s n least most few = record {
+  fits = λ line i j (m, within, turns). all_fit line s n m i j (omega (arith, few, within.0)) turns;
+  holds = λ sets. absurd (sets_cut (map Some (turns_of s n)) (None ∷ []) sets).1.0;
+}
+
+outline_just : (s : Bytes) (n : ℕ) → IsOutline (map Some (turns_of s n)) (repeat (one_of s) n (Some n))
+outline_just s n = record {
+  fits = λ line i j (m, within, turns).
+      let same : m ≡ n = omega (arith, within.0, within.1) in
+      turns_fit line s n i j (subst (λ x. Turns (Holds line (one_of s)) x i j) same turns);
+  holds = λ sets line i j f. (n, (omega arith, omega arith), all_hold line s n i j f);
+}
+
 -- ---- what is added to the marks
 
 pub adds_set : (old new : List Mark) (e : Expression) (set : ByteSet) → e ≡ one_of (members set) → new ≡ old ++ m.Set set ∷ [] → AddsOutline old e new
@@ -133,6 +163,37 @@ adds_repeat old middle new part e least most is some (more, same, outline) added
   more ++ m.Stretch ∷ [],
   added ∙ ap (λ l. l ++ m.Stretch ∷ []) same ∙ append_assoc old more (m.Stretch ∷ []),
   subst (λ x. IsOutline x e) (sym (map-append shown more (m.Stretch ∷ []))) (subst (λ x. IsOutline (map shown more ++ None ∷ []) x) (sym is) (outline_repeat (map shown more) part least most some outline)),
+)
+
+-- marks of a set that is repeated so often at least, and a stretch
+pub adds_least : (old middle new : List Mark) (s : Bytes) (n least : ℕ) (most : Option ℕ) → n ≤ least → AddsTurns old s n middle → new ≡ middle ++ m.Stretch ∷ [] → AddsOutline old (repeat (one_of s) least most) new
+adds_least old middle new s n least most few (more, same, sets) added = (
+  more ++ m.Stretch ∷ [],
+  added ∙ ap (λ l. l ++ m.Stretch ∷ []) same ∙ append_assoc old more (m.Stretch ∷ []),
+  subst (λ l. IsOutline l (repeat (one_of s) least most)) (sym (map-append shown more (m.Stretch ∷ []) ∙ ap (λ l. l ++ None ∷ []) sets)) (outline_turns s n least most few),
+)
+
+-- marks of a set that is repeated just so often
+pub adds_just : (old new : List Mark) (s : Bytes) (n least : ℕ) (most : Option ℕ) → n ≡ least → most ≡ Some least → AddsTurns old s n new → AddsOutline old (repeat (one_of s) least most) new
+adds_just old new s n least most same just (more, is, sets) = (
+  more,
+  is,
+  subst (λ x. IsOutline (map shown more) (repeat (one_of s) least x)) (sym just)
+      (subst (λ x. IsOutline (map shown more) (repeat (one_of s) x (Some x))) same (subst (λ l. IsOutline l (repeat (one_of s) n (Some n))) (sym sets) (outline_just s n))),
+)
+
+-- one mark of the set more
+turns_more : (s : Bytes) (n : ℕ) → turns_of s n ++ s ∷ [] ≡ turns_of s (n + 1)
+turns_more s zero = refl
+turns_more s (suc n) =
+    let place : suc (n + 1) ≡ suc n + 1 = omega arith in
+    subst (λ x. s ∷ (turns_of s n ++ s ∷ []) ≡ turns_of s x) place (ap (λ l. s ∷ l) (turns_more s n))
+
+pub adds_turn : (old middle new : List Mark) (set : ByteSet) (n : ℕ) → AddsTurns old (members set) n middle → new ≡ middle ++ m.Set set ∷ [] → AddsTurns old (members set) (n + 1) new
+adds_turn old middle new set n (more, same, sets) added = (
+  more ++ m.Set set ∷ [],
+  added ∙ ap (λ l. l ++ m.Set set ∷ []) same ∙ append_assoc old more (m.Set set ∷ []),
+  map-append shown more (m.Set set ∷ []) ∙ ap (λ l. l ++ Some (members set) ∷ []) sets ∙ sym (map-append Some (turns_of (members set) n) (members set ∷ [])) ∙ ap (map Some) (turns_more (members set) n),
 )
 
 pub adds_nothing : (old : List Mark) → AddsOutline old (cat []) old

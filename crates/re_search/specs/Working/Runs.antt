@@ -1,6 +1,6 @@
 -- Runs of sets of bytes: where one stands in a line, and tests that its bytes pass.
 use Rattle.std.specs.Prelude.{◌≡◌, ℕ, ◌+◌, ◌<◌, ◌≤◌, ◌⊎◌, IsTrue, List, Option, length}
-use Rattle.std.specs.Prelude.{get_or, slice_index}
+use Rattle.std.specs.Prelude.{bit_and, get_or, slice_index}
 use Rattle.re_syntax.specs.Bytes.{Bytes, Text, nothing}
 use Rattle.memchr.specs.Find.{IsFirst}
 use Rattle.re_search.specs.declared.needle.cover.Cover.{Cover}
@@ -29,10 +29,18 @@ abbrev pub BeginsWithout : List Bytes → Text → Type 0
 BeginsWithout run line = ¬ RunStandsAt line run 0
 
 -- the byte is in the range of the cover, or one of its two
-abbrev pub IsCovered : Cover → ℕ → Type 0
-IsCovered cover x = ((cover.low ≤ x) × (x ≤ cover.high)) ⊎ (x ≡ cover.one) ⊎ (x ≡ cover.other)
+abbrev pub IsWithin : Cover → ℕ → Type 0
+IsWithin cover x = ((cover.low ≤ x) × (x ≤ cover.high)) ⊎ (x ≡ cover.one) ⊎ (x ≡ cover.other)
 
--- all bytes of the set are
+-- the bits that the cover asks about are what they have to be
+abbrev pub HasBits : Cover → ℕ → Type 0
+HasBits cover x = bit_and x cover.asked ≡ cover.bits
+
+-- the byte passes both tests
+abbrev pub IsCovered : Cover → ℕ → Type 0
+IsCovered cover x = IsWithin cover x × HasBits cover x
+
+-- all bytes of the set do
 abbrev pub Covers : Cover → Bytes → Type 0
 Covers cover set = (x : ℕ) → x < 256 → IsTrue (set x) → IsCovered cover x
 

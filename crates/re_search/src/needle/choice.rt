@@ -14,12 +14,17 @@ const MUCH: u8 = 32;
 // A set is small that about so many of 65,536 bytes of most texts are in, or fewer.
 const SMALL: u32 = 24_576;
 
+// So many are in a set at most that is one of a run: letters and digits are.
+const LARGE: u32 = 65_536;
+
 /// What the marks of a run are.
 #[derive(Clone, Copy)]
 pub enum RunOf {
     /// Single bytes.
     Bytes,
     /// Sets that few bytes of most texts are in.
+    SmallSets,
+    /// Sets that some bytes of most texts are not in.
     Sets,
 }
 
@@ -92,13 +97,14 @@ pub fn mark_rank(mark: &Mark, of: RunOf) -> Option<u8> {
     };
     match of {
         RunOf::Bytes => Some(rank_of(set.one_byte()?)),
-        RunOf::Sets => rank_of_small(&Survey::of(set)?),
+        RunOf::SmallSets => rank_within(&Survey::of(set)?, SMALL),
+        RunOf::Sets => rank_within(&Survey::of(set)?, LARGE),
     }
 }
 
-// How common the set's bytes are, where it is small.
-fn rank_of_small(survey: &Survey) -> Option<u8> {
-    if survey.share > SMALL {
+// How common the set's bytes are, where no more than so many are in it.
+fn rank_within(survey: &Survey, most: u32) -> Option<u8> {
+    if survey.share > most {
         return None;
     }
     Some(survey.rank)

@@ -1,12 +1,14 @@
-//! Tests of one form for sets of bytes, so that many bytes are tested at once.
+//! Tests of two forms for sets of bytes, each the same for all sets, so that many bytes are tested at
+//! once.
 ghost use Rattle.std.specs.Prelude.{◌≡◌, ◌↔◌, IfSome, IsTrue};
 ghost use Rattle.re_syntax.specs.Sets.{members};
-ghost use Rattle.re_search.specs.Working.Runs.{Covers, IsCovered};
+ghost use Rattle.re_search.specs.Working.Runs.{Covers, HasBits, IsCovered, IsWithin};
 
 use crate::needle::survey::Survey;
 use re_syntax::ByteSet;
 
-/// The bytes of a range, and two more: a test that each byte of a set passes, and perhaps others.
+/// Two tests that each byte of a set passes, and perhaps others: that it is in a range or one of two
+/// bytes, and that it has the bits in which all bytes of the set are alike.
 #[derive(Clone, Copy, Drop)]
 pub struct Cover {
     /// The first byte of the range.
@@ -17,30 +19,55 @@ pub struct Cover {
     pub one: u8,
     /// Another.
     pub other: u8,
+    /// The bits that are asked about.
+    pub asked: u8,
+    /// What they have to be.
+    pub bits: u8,
 }
 
 impl Cover {
-    /// A test for the set, of those that leave two of its outermost bytes out of the range the one
+    /// Tests for the set, of those that leave two of its outermost bytes out of the range the ones
     /// with the narrowest. `None` where the set has no byte.
     pub fn of(set: &ByteSet) -> Option<Cover>
         ensures { IfSome result (λ cover. Covers cover (members set.now)) }
     {
         let cover = narrowest(&Survey::of(set)?);
         'bytes: for byte in 0..256usize {
-            if set.has(byte as u8) && !cover.passes(byte as u8) {
+            if set.has(byte as u8) && !cover.takes(byte as u8) {
                 return None;
             }
         }
         Some(cover)
     }
 
-    /// Whether the byte passes the test.
-    #[inline(always)]
-    pub fn passes(self, byte: u8) -> bool
+    /// Whether the byte passes both tests.
+    pub fn takes(self, byte: u8) -> bool
         ensures { IsTrue result ↔ IsCovered self byte }
+    {
+        self.is_within(byte) && self.has_bits(byte)
+    }
+
+    /// Whether the byte is in the range, or one of the two.
+    #[inline(always)]
+    pub fn is_within(self, byte: u8) -> bool
+        ensures { IsTrue result ↔ IsWithin self byte }
     {
         let within = (self.low <= byte) & (byte <= self.high);
         within | (byte == self.one) | (byte == self.other)
+    }
+
+    /// Whether the byte has the bits.
+    #[inline(always)]
+    pub fn has_bits(self, byte: u8) -> bool
+        ensures { IsTrue result ↔ HasBits self byte }
+    {
+        byte & self.asked == self.bits
+    }
+
+    /// Whether all bits but one at most are asked about, so that two bytes at most have them.
+    pub fn is_told_by_bits(self) -> bool {
+        let open = !self.asked;
+        open & open.wrapping_sub(1) == 0
     }
 
     // How far apart the ends of the range are.
@@ -57,25 +84,33 @@ impl Cover {
     }
 }
 
-// The test with the narrowest range that leaves out two of the outermost bytes.
+// The tests with the narrowest range that leaves out two of the outermost bytes.
 fn narrowest(survey: &Survey) -> Cover {
+    let asked = survey.alike;
+    let bits = survey.last & asked;
     let behind = Cover {
         low: survey.third,
         high: survey.last,
         one: survey.first,
         other: survey.second,
+        asked,
+        bits,
     };
     let between = Cover {
         low: survey.second,
         high: survey.last_but_one,
         one: survey.first,
         other: survey.last,
+        asked,
+        bits,
     };
     let ahead = Cover {
         low: survey.first,
         high: survey.last_but_two,
         one: survey.last_but_one,
         other: survey.last,
+        asked,
+        bits,
     };
     behind.or_narrower(between).or_narrower(ahead)
 }

@@ -9,18 +9,22 @@ use crate::needle::outline::Mark;
 use re_syntax::ByteSet;
 use std::alloc::{AllocError, Global};
 
-// How many sets are looked for at most: so many may be compared at a place.
-const MOST_SETS: usize = 32;
+// How many small sets are looked for at most: so many may be compared at a place.
+const MOST_SMALL_SETS: usize = 32;
 
-/// The sets of the marks before the first that isn't a small set, or so many as are looked for.
-pub fn leading_sets(alloc: Global, marks: &[Mark]) -> Result<Vec<ByteSet>, AllocError>
+// How many sets of any size are: more of them may be compared before one doesn't fit.
+const MOST_SETS: usize = 12;
+
+/// The sets of the marks before the first that isn't a set of such a run, or so many as are looked
+/// for.
+pub fn leading_sets(alloc: Global, marks: &[Mark], of: RunOf) -> Result<Vec<ByteSet>, AllocError>
     ensures { IfOk result
         (λ sets. (rest : List (Option Bytes)) ×
         (map shown marks.now ≡ map Some (map members sets.items) ++ rest)) }
 {
     let mut sets = Vec::new(alloc);
     'marks: for mark in marks {
-        let Some(set) = small_set(mark, sets.len()) else {
+        let Some(set) = set_of(mark, sets.len(), of) else {
             return Ok(sets);
         };
         sets.push(set)?;
@@ -28,16 +32,24 @@ pub fn leading_sets(alloc: Global, marks: &[Mark]) -> Result<Vec<ByteSet>, Alloc
     Ok(sets)
 }
 
-// The set of the mark, where it is small and there are not yet so many as are looked for.
-fn small_set(mark: &Mark, before: usize) -> Option<ByteSet>
+// The set of the mark, where it is one of such a run and there are not yet so many as are looked for.
+fn set_of(mark: &Mark, before: usize, of: RunOf) -> Option<ByteSet>
     ensures { IfSome result (λ set. shown mark.now ≡ Some (members set)) }
 {
-    if before >= MOST_SETS {
+    if before >= most_sets(of) {
         return None;
     }
-    mark_rank(mark, RunOf::Sets)?;
+    mark_rank(mark, of)?;
     match mark {
         Mark::Set(set) => Some(*set),
         Mark::Stretch => None,
+    }
+}
+
+// How many sets of such a run are looked for at most.
+fn most_sets(of: RunOf) -> usize {
+    match of {
+        RunOf::Bytes | RunOf::SmallSets => MOST_SMALL_SETS,
+        RunOf::Sets => MOST_SETS,
     }
 }

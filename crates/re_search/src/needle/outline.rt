@@ -1,12 +1,16 @@
 //! Outlines of expressions: the sets of bytes that stand one after another in every match.
-ghost use Rattle.std.specs.Prelude.{◌≡◌, ◌++◌, ◌∷◌, [], IfOk, map};
-ghost use Rattle.re_syntax.specs.Expression.{alt, cat, expression_of};
+ghost use Rattle.std.specs.Prelude.{◌≡◌, ◌++◌, ◌∷◌, [], IfOk, IfSome, IsTrue, Some, map};
+ghost use Rattle.re_syntax.specs.Expression.{alt, cat, expression_of, one_of, repeat};
 ghost use Rattle.re_syntax.specs.Sets.{members};
-ghost use Rattle.re_search.specs.Working.Outlines.{AddsOutline, AddsSets, AreJoined};
+ghost use Rattle.re_search.specs.Working.Outlines.{AddsOutline, AddsSets, AddsTurns, AreJoined};
 
+use crate::needle::choice::RunOf;
 use crate::needle::leading::leading_sets;
 use re_syntax::{ByteSet, Tree};
 use std::alloc::{AllocError, Global};
+
+// A set that is repeated more often is so many times in an outline.
+const MOST_TURNS: u16 = 32;
 
 /// A mark of an outline.
 #[derive(Clone, Copy)]
@@ -17,8 +21,9 @@ pub enum Mark {
     Stretch,
 }
 
-/// Adds the outline of the expression: through groups, into what is repeated once or more, and over
-/// what the branches of a choice begin with. The one error is that memory was refused.
+/// Adds the outline of the expression: through groups, into what is repeated once or more, with a
+/// mark for each time that a set is repeated at least, and over what the branches of a choice begin
+/// with. The one error is that memory was refused.
 #[cycle(outline)]
 pub fn add_outline(alloc: Global, tree: &Tree, marks: &mut Vec<Mark>) -> Result<(), AllocError>
     ensures { IfOk result
@@ -28,7 +33,10 @@ pub fn add_outline(alloc: Global, tree: &Tree, marks: &mut Vec<Mark>) -> Result<
         Tree::Set(set) => add_mark(marks, Mark::Set(*set)),
         Tree::Cat(parts) => add_all(alloc, parts, marks),
         Tree::Alt(parts) => add_choice(alloc, parts, marks),
-        Tree::Repeat(part, least, _) => {
+        Tree::Repeat(part, least, most) => {
+            if let Some(set) = one_set(part) {
+                return add_repeated(marks, set, *least, *most);
+            }
             if *least == 0 {
                 return add_mark(marks, Mark::Stretch);
             }
@@ -62,7 +70,7 @@ fn add_choice(alloc: Global, parts: &[Tree], marks: &mut Vec<Mark>) -> Result<()
     'parts: for i in 0..parts.len() {
         let mut branch = Vec::new(alloc);
         add_outline(alloc, &parts[i], &mut branch)?;
-        let sets = leading_sets(alloc, &branch)?;
+        let sets = leading_sets(alloc, &branch, RunOf::SmallSets)?;
         if i == 0 {
             front = sets;
         } else {
@@ -71,6 +79,56 @@ fn add_choice(alloc: Global, parts: &[Tree], marks: &mut Vec<Mark>) -> Result<()
     }
     add_sets(marks, &front)?;
     add_mark(marks, Mark::Stretch)
+}
+
+// The set of the expression, where it is a set alone.
+fn one_set(tree: &Tree) -> Option<ByteSet>
+    ensures { IfSome result (λ set. expression_of tree.now ≡ one_of (members set)) }
+{
+    match tree {
+        Tree::Set(set) => Some(*set),
+        _ => None,
+    }
+}
+
+// Adds the outline of a set that is repeated: the set so many times as it is at least, and a stretch
+// where it may be more often.
+fn add_repeated(
+    marks: &mut Vec<Mark>,
+    set: ByteSet,
+    least: u16,
+    most: Option<u16>,
+) -> Result<(), AllocError>
+    ensures { IfOk result (λ _. AddsOutline marks.old.items
+        (repeat (one_of (members set)) least most) marks.new.items) }
+{
+    let turns = least.min(MOST_TURNS);
+    add_turns(marks, set, turns)?;
+    if turns == least && is_just(most, least) {
+        return Ok(());
+    }
+    add_mark(marks, Mark::Stretch)
+}
+
+// Whether the most there may be is this.
+fn is_just(most: Option<u16>, least: u16) -> bool
+    ensures { IsTrue result → most ≡ Some least }
+{
+    match most {
+        Some(top) => top == least,
+        None => false,
+    }
+}
+
+// Adds a mark for the set so many times.
+fn add_turns(marks: &mut Vec<Mark>, set: ByteSet, turns: u16) -> Result<(), AllocError>
+    ensures { IfOk result
+        (λ _. AddsTurns marks.old.items (members set) turns marks.new.items) }
+{
+    'turns: for _turn in 0..turns {
+        marks.push(Mark::Set(set))?;
+    }
+    Ok(())
 }
 
 // Joins the sets place by place, as far as both lists have one.

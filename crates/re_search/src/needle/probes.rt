@@ -1,4 +1,5 @@
-//! Search for a place behind which a byte of each of four sets stands, by tests of one form.
+//! Search for a place behind which a byte of each of four sets stands, by tests that are the same for
+//! all sets.
 ghost use Rattle.std.specs.Prelude.{◌≡◌, ◌+◌, ◌<◌, ◌≤◌, ℕ, false, MatchOption, length};
 ghost use Rattle.re_search.specs.Working.Runs.{AllPass, HaveRoom, PassesAt};
 
@@ -14,18 +15,30 @@ pub struct Probe {
 }
 
 impl Probe {
-    // Whether the byte behind the place passes the test.
+    // Whether the byte behind the place is in the range, or one of the two.
     #[inline(always)]
     fn passes_at(self, line: &[u8], place: usize) -> bool
         requires { place + self.at < length line.now }
         ensures { result ≡ false → ¬ PassesAt self line.now place }
     {
-        self.cover.passes(line[place + self.at])
+        self.cover.is_within(line[place + self.at])
+    }
+
+    // Whether the byte behind the place has the bits.
+    #[inline(always)]
+    fn has_bits_at(self, line: &[u8], place: usize) -> bool
+        requires { place + self.at < length line.now }
+        ensures { result ≡ false → ¬ PassesAt self line.now place }
+    {
+        self.cover.has_bits(line[place + self.at])
     }
 }
 
 // So many places at least are tried at once, before they are tried one by one.
 const MANY: usize = 32;
+
+// Of more places than these, where some may pass, so many are tried at once anew.
+const PIECE: usize = 64;
 
 /// Four tests, of which some may be the same.
 #[derive(Clone, Copy, Drop)]
@@ -40,12 +53,38 @@ pub struct Probes {
     pub fourth: Probe,
     /// Whether the first two are passed seldom enough, so that the others are not asked before.
     pub two_are_enough: bool,
+    /// Whether of those that are asked first each is told by its bits.
+    pub bits_are_enough: bool,
 }
 
 impl Probes {
     /// The first place from one on and before another where all tests are passed.
     #[inline(always)]
     pub fn first_between(&self, line: &[u8], from: usize, past: usize) -> Option<usize>
+        requires ordered { from ≤ past }
+        requires room { HaveRoom self.now line.now past }
+        ensures { MatchOption result
+            ((k : ℕ) → from ≤ k → k < past → ¬ AllPass self.now line.now k)
+            (λ at. (from ≤ at) × (at < past) ×
+            ((k : ℕ) → from ≤ k → k < at → ¬ AllPass self.now line.now k)) }
+    {
+        if past - from > PIECE && !self.may_pass_between(line, from, past) {
+            return None;
+        }
+        let mut start = from;
+        'pieces: while start < past {
+            let end = start + PIECE.min(past - start);
+            if let Some(place) = self.first_of_piece(line, start, end) {
+                return Some(place);
+            }
+            start = end;
+        }
+        None
+    }
+
+    // The same of few places: all are tried at once, and where some may pass, one by one.
+    #[inline(always)]
+    fn first_of_piece(&self, line: &[u8], from: usize, past: usize) -> Option<usize>
         requires ordered { from ≤ past }
         requires room { HaveRoom self.now line.now past }
         ensures { MatchOption result
@@ -71,14 +110,58 @@ impl Probes {
         requires room { HaveRoom self.now line.now past }
         ensures { result ≡ false → (k : ℕ) → from ≤ k → k < past → ¬ AllPass self.now line.now k }
     {
-        if self.two_are_enough {
-            return self.two_pass_between(line, from, past);
+        match (self.two_are_enough, self.bits_are_enough) {
+            (true, true) => self.two_bits_between(line, from, past),
+            (true, false) => self.two_pass_between(line, from, past),
+            (false, true) => self.all_bits_between(line, from, past),
+            (false, false) => self.all_pass_between(line, from, past),
         }
-        self.all_pass_between(line, from, past)
     }
 
-    // Whether the first two tests are passed at some of the places: without a branch for each, so
-    // that many are tried at once.
+    // Whether the first two bytes behind some of the places have their bits: without a branch for
+    // each, so that many are tried at once.
+    #[inline(never)]
+    fn two_bits_between(&self, line: &[u8], from: usize, past: usize) -> bool
+        requires ordered { from ≤ past }
+        requires room { HaveRoom self.now line.now past }
+        ensures { result ≡ false → (k : ℕ) → from ≤ k → k < past → ¬ AllPass self.now line.now k }
+    {
+        let first = self.first;
+        let second = self.second;
+        let mut some = false;
+        'places: for place in from..past {
+            some |= first.has_bits_at(line, place) & second.has_bits_at(line, place);
+        }
+        some
+    }
+
+    // Whether all bytes behind some of the places have their bits, in the same way.
+    #[inline(never)]
+    fn all_bits_between(&self, line: &[u8], from: usize, past: usize) -> bool
+        requires ordered { from ≤ past }
+        requires room { HaveRoom self.now line.now past }
+        ensures { result ≡ false → (k : ℕ) → from ≤ k → k < past → ¬ AllPass self.now line.now k }
+    {
+        let Probes {
+            first,
+            second,
+            third,
+            fourth,
+            two_are_enough: _,
+            bits_are_enough: _,
+        } = *self;
+        let mut some = false;
+        'places: for place in from..past {
+            some |= first.has_bits_at(line, place)
+                & second.has_bits_at(line, place)
+                & third.has_bits_at(line, place)
+                & fourth.has_bits_at(line, place);
+        }
+        some
+    }
+
+    // Whether the bytes that the first two tell of are in their ranges at some of the places, in the
+    // same way.
     #[inline(never)]
     fn two_pass_between(&self, line: &[u8], from: usize, past: usize) -> bool
         requires ordered { from ≤ past }
@@ -94,7 +177,7 @@ impl Probes {
         some
     }
 
-    // Whether all tests are passed at some of the places, in the same way.
+    // Whether those that all tell of are, in the same way.
     #[inline(never)]
     fn all_pass_between(&self, line: &[u8], from: usize, past: usize) -> bool
         requires ordered { from ≤ past }
@@ -107,6 +190,7 @@ impl Probes {
             third,
             fourth,
             two_are_enough: _,
+            bits_are_enough: _,
         } = *self;
         let mut some = false;
         'places: for place in from..past {

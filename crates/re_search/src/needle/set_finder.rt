@@ -63,12 +63,15 @@ impl SetFinder {
             Some(probe) => probe,
             None => third,
         };
+        let two_are_enough = stops_of(&sets, &first, &second) <= MOST_STOPS;
         let probes = Probes {
             first,
             second,
             third,
             fourth,
-            two_are_enough: stops_of(&sets, &first, &second) <= MOST_STOPS,
+            two_are_enough,
+            bits_are_enough: are_told_by_bits(&first, &second)
+                && (two_are_enough || are_told_by_bits(&third, &fourth)),
         };
         Some(SetFinder { sets, probes })
     }
@@ -82,6 +85,7 @@ impl SetFinder {
             third,
             fourth,
             two_are_enough: _,
+            bits_are_enough: _,
         } = self.probes;
         let mut stops = stops_of(&self.sets, &first, &second);
         if third.at != second.at {
@@ -188,20 +192,52 @@ fn rarest_probe(sets: &[ByteSet], first: usize, second: usize, third: usize) -> 
     Some(Probe { at, cover })
 }
 
-// The place of the set that is rarest in most texts, of those that are not at one of these.
+// The place of the set that is rarest in most texts, of those that are not at one of these; of sets
+// that are as rare as each other, the one that is farthest from those of these that are, too.
 fn rarest_but(sets: &[ByteSet], first: usize, second: usize, third: usize) -> usize {
+    let first = Taken::at(sets, first);
+    let second = Taken::at(sets, second);
+    let third = Taken::at(sets, third);
     let mut rare = NOWHERE;
-    let mut least = u32::MAX;
+    let mut least = u64::MAX;
+    let mut farthest = 0;
     for place in 0..sets.len() {
-        if place != first && place != second && place != third {
-            let share = share_of(&sets[place]);
-            if share < least {
-                least = share;
-                rare = place;
-            }
+        let share = share_at(sets, place);
+        let from_two = first
+            .distance(place, share)
+            .min(second.distance(place, share));
+        let distance = from_two.min(third.distance(place, share));
+        if distance > 0 && (share < least || (share == least && distance > farthest)) {
+            least = share;
+            farthest = distance;
+            rare = place;
         }
     }
     rare
+}
+
+// A place whose set is tried already, and how common that set is.
+#[derive(Clone, Copy, Drop)]
+struct Taken {
+    place: usize,
+    share: u64,
+}
+
+impl Taken {
+    fn at(sets: &[ByteSet], place: usize) -> Taken {
+        Taken {
+            place,
+            share: share_at(sets, place),
+        }
+    }
+
+    // How far another place is from this one, where its set is as rare; else as far as can be.
+    fn distance(self, place: usize, share: u64) -> usize {
+        if self.share != share {
+            return usize::MAX;
+        }
+        self.place.abs_diff(place)
+    }
 }
 
 // About how many of 65,536 bytes of most texts are in the set.
@@ -218,6 +254,11 @@ fn share_at(sets: &[ByteSet], place: usize) -> u64 {
         Some(set) => u64::from(share_of(set)),
         None => 0,
     }
+}
+
+// Whether two probes are told by their bits.
+fn are_told_by_bits(one: &Probe, other: &Probe) -> bool {
+    one.cover.is_told_by_bits() && other.cover.is_told_by_bits()
 }
 
 // At about how many places in 65,536 bytes of most texts two probes are passed.

@@ -24,6 +24,8 @@ pub struct Survey {
     pub last_but_one: u8,
     /// The last.
     pub last: u8,
+    /// The bits in which all bytes are alike.
+    pub alike: u8,
     /// How common the commonest is, from 0 for the rarest to 255.
     pub rank: u8,
     /// About how many of 65,536 bytes of most texts are in the set.
@@ -58,6 +60,7 @@ impl Survey {
             last_but_two: byte,
             last_but_one: byte,
             last: byte,
+            alike: u8::MAX,
             rank: rank_of(byte),
             share: share_of(byte),
             count: 1,
@@ -82,6 +85,7 @@ fn with(before: Survey, byte: u8) -> Survey {
         last_but_two: before.last_but_one,
         last_but_one: before.last,
         last: byte,
+        alike: before.alike & !(before.last ^ byte),
         rank: before.rank.max(rank_of(byte)),
         share: before.share.saturating_add(share_of(byte)),
         count: before.count.saturating_add(1),

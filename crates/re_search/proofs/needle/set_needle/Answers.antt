@@ -1,4 +1,4 @@
-use Rattle.std.proofs.Common.{◌≡◌, ◌≤◌, ◌++◌, IsTrue, length, map, drop, nat_eq, Some, ◌∙◌, arith}
+use Rattle.std.proofs.Common.{◌≡◌, ◌≤◌, ◌++◌, IsTrue, false, length, map, drop, nat_eq, Some, ◌∙◌, arith}
 use Rattle.std.proofs.lemmas.Bool.{eqb-true}
 use Rattle.std.proofs.lemmas.List.{take_rest, drop-map, length-map}
 use Rattle.re_syntax.specs.Sets.{members}
@@ -18,4 +18,4 @@ returns c =
     λ told. omega (arith, eqb-true c.len-2.result (length marks) told, c.len-2.ensures, length-map sets members, length-map marks shown) in
     let first : IsTrue (nat_eq c.args.start 0) → c.args.start ≡ 0 = λ told. eqb-true c.args.start 0 told in
     rw c.in-Some.ensures
-    (run_is_needle (map shown marks) (r.Sets sets) (nat_eq c.args.start 0) (nat_eq c.len-2.result (length marks)) run.0 c.args.start stands some first all)
+    (run_is_needle (map shown marks) (r.Sets sets) (nat_eq c.args.start 0) (nat_eq c.len-2.result (length marks)) false run.0 c.args.start stands some first all)

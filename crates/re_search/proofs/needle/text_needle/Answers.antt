@@ -17,5 +17,5 @@ returns c =
     let all : IsTrue (nat_eq c.len-2.result (length marks)) → length (map only bytes) ≡ length (map shown marks) =
     λ told. omega (arith, eqb-true c.len-2.result (length marks) told, c.len-2.ensures, length-map bytes only, length-map marks shown) in
     let first : IsTrue (nat_eq c.args.start 0) → c.args.start ≡ 0 = λ told. eqb-true c.args.start 0 told in
-    rw (c.in_ok-finder.ensures, c.new.ensures, c.deref.ensures.value)
-    (run_is_needle (map shown marks) (r.Text bytes) (nat_eq c.args.start 0) (nat_eq c.len-2.result (length marks)) run.0 c.args.start stands some first all)
+    rw (c.in_ok-finder.ensures, c.new.ensures, c.deref-2.ensures.value)
+    (run_is_needle (map shown marks) (r.Text bytes) (nat_eq c.args.start 0) (nat_eq c.len-2.result (length marks)) c.if-not-is_all.is_common run.0 c.args.start stands some first all)

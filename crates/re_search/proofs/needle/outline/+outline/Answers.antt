@@ -25,8 +25,8 @@ add_outline-returns-in-Set t c =
 pub add_outline-returns-in_ok-add_outline-in-Repeat : goal.add_outline-returns-in_ok-add_outline-in-Repeat
 add_outline-returns-in_ok-add_outline-in-Repeat t c =
     ok_with c.add_mark-in-Repeat.result
-    (adds_repeat c.args.marks.now.items c.add_outline.new.marks.items c.add_mark-in-Repeat.new.marks.items (expression_of c.in-Repeat.part.value) (expression_of c.args.tree.now) c.in-Repeat.least c.in-Repeat.field-2
-    (ap expression_of c.in-Repeat.is ∙ expression-Repeat c.in-Repeat.part c.in-Repeat.least c.in-Repeat.field-2) (search (arith, rules)) (rw (← c.deref-in-Repeat.ensures) c.in_ok-add_outline-in-Repeat.ensures))
+    (adds_repeat c.args.marks.now.items c.add_outline.new.marks.items c.add_mark-in-Repeat.new.marks.items (expression_of c.in-Repeat.part.value) (expression_of c.args.tree.now) c.in-Repeat.least c.in-Repeat.most
+    (ap expression_of c.in-Repeat.is ∙ expression-Repeat c.in-Repeat.part c.in-Repeat.least c.in-Repeat.most) (search (arith, rules)) (rw (← c.deref-in-Repeat-2.ensures) c.in_ok-add_outline-in-Repeat.ensures))
     c.add_mark-in-Repeat.ensures
 
 pub add_outline-returns-in_default : goal.add_outline-returns-in_default

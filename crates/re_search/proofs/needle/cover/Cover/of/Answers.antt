@@ -2,7 +2,7 @@ use Rattle.std.proofs.Common.{◌≡◌, ℕ, ◌+◌, ◌<◌, ◌⊎◌, inl, 
 use Rattle.std.proofs.lemmas.Bool.{false≢true}
 use Rattle.re_syntax.specs.Sets.{members}
 use Rattle.re_search.specs.Working.Runs.{IsCovered}
-use Rattle.re_search.proofs.needle.cover.Cover.of.Goals.{else-has-via-then-has+else-not-passes, else-has-via-else-has}
+use Rattle.re_search.proofs.needle.cover.Cover.of.Goals.{else-has-via-then-has+else-not-takes, else-has-via-else-has}
 use Rattle.re_search.proofs.needle.cover.Cover.of.Goals as goal
 
 up_to : (k n : ℕ) → k < n + 1 → (k < n) ⊎ (k ≡ n)
@@ -16,6 +16,6 @@ bytes-preserved c = λ x lt has. elim (up_to x c.bytes.byte lt) [
   where
     here : IsTrue (members c.args.set.now c.bytes.byte) → IsCovered c.narrowest-cover.result c.bytes.byte
     here has = elim c.else-has.branch [
-      | else-has-via-then-has+else-not-passes w ↦ w.passes.ensures.0 w.if-not-passes.false
+      | else-has-via-then-has+else-not-takes w ↦ w.takes.ensures.0 w.if-not-takes.false
       | else-has-via-else-has w ↦ absurd (false≢true (w.if-has.ensures ∙ has))
     ]

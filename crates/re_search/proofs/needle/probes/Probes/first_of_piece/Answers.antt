@@ -1,6 +1,6 @@
 use Rattle.std.proofs.Common.{◌≡◌, ℕ, ◌+◌, ◌<◌, ◌⊎◌, inl, inr, refl, subst, arith}
 use Rattle.re_search.specs.Working.Runs.{AllPass}
-use Rattle.re_search.proofs.needle.probes.Probes.first_between.Goals as goal
+use Rattle.re_search.proofs.needle.probes.Probes.first_of_piece.Goals as goal
 
 up_to : (k n : ℕ) → k < n + 1 → (k < n) ⊎ (k ≡ n)
 up_to k n lt = search (arith, lt)
