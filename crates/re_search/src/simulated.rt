@@ -29,7 +29,8 @@ use std::alloc::Global;
 use std::marker::Model;
 
 /// A matcher for an expression. Contracts see it as the tree and whether the whole line has to be
-/// matched. Where every match has some run of bytes in it, lines without it take no step.
+/// matched. Where every match has some run of bytes in it, lines without it take no step, but for
+/// runs so common that they are looked for over blocks of lines alone.
 #[derive(Drop)]
 pub struct Simulated {
     automaton: Automaton,

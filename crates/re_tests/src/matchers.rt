@@ -382,7 +382,7 @@ const BLANK: Pattern = (Syntax::Basic, b"[a-z]  *[a-z]", false, false);
 
 const BRANCHES: Pattern = (Syntax::Extended, b"queue|zebra|jukebox", false, false);
 
-static DATES: [Needed; 11] = [
+static REPEATED_SETS: [Needed; 11] = [
     (DATE, b"2026-1-25", 0, None, true),
     (DATE, b"x2026-11x", 0, Some((1, 8)), true),
     (DATE, b"12026-111", 1, Some((1, 8)), true),
@@ -489,8 +489,8 @@ fn needed() -> &'static [Needed] {
     &NEEDED
 }
 
-fn dates() -> &'static [Needed] {
-    &DATES
+fn repeated_sets() -> &'static [Needed] {
+    &REPEATED_SETS
 }
 
 fn assert_needed(rt: &impl Abort, alloc: Global, row: &Needed) -> Result<(), Fail> {
@@ -516,7 +516,7 @@ fn a_string_that_is_needed_is_looked_for_first(rt: HostRuntime) -> Result<(), Fa
 
 #[test]
 fn a_set_that_is_repeated_is_needed_so_often(rt: HostRuntime) -> Result<(), Fail> {
-    for row in dates() {
+    for row in repeated_sets() {
         assert_needed(&rt, rt.alloc(), row)?;
     }
     Ok(())
@@ -525,7 +525,7 @@ fn a_set_that_is_repeated_is_needed_so_often(rt: HostRuntime) -> Result<(), Fail
 // Places at which a run is looked for in a text: those of the first portions, and around the ends of
 // some.
 static PLACES: [usize; 16] = [
-    0, 1, 15, 16, 17, 79, 80, 81, 335, 336, 400, 463, 464, 719, 720, 900,
+    0, 1, 15, 16, 17, 79, 80, 81, 335, 336, 400, 463, 464, 591, 592, 900,
 ];
 
 fn places() -> &'static [usize] {
@@ -554,6 +554,16 @@ fn a_folded_run_is_found_at_any_distance(rt: HostRuntime) -> Result<(), Fail> {
     let mut matcher = Matcher::new(rt.alloc(), b"ErroR", Syntax::Basic, true, false, 1)?;
     for place in places() {
         assert_found_at(&rt, rt.alloc(), &mut matcher, b"eRROr", *place)?;
+    }
+    Ok(())
+}
+
+#[test]
+fn a_branch_is_found_at_any_distance(rt: HostRuntime) -> Result<(), Fail> {
+    let text = b"timeout|refused|denied|unreachable";
+    let mut matcher = Matcher::new(rt.alloc(), text, Syntax::Extended, false, false, 1)?;
+    for place in places() {
+        assert_found_at(&rt, rt.alloc(), &mut matcher, b"denied", *place)?;
     }
     Ok(())
 }

@@ -1,6 +1,6 @@
 -- Outlines of expressions, and the runs of sets that they make needed.
-use Rattle.std.proofs.Common.{◌≡◌, ℕ, zero, suc, ◌+◌, ◌-◌, ◌<◌, ◌≤◌, IsTrue, List, [], ◌∷◌, ◌++◌, length, map, take, drop, get_or, slice_index, Option, None, Some, Result, Ok, Err, IfOk, refl, sym, ap, ◌∙◌, subst, arith, append_assoc, length-append, length-drop, take-append-drop}
-use Rattle.std.proofs.lemmas.List.{length-map, append-nil, map-append, take_more}
+use Rattle.std.proofs.Common.{◌≡◌, ℕ, zero, suc, ◌+◌, ◌-◌, ◌<◌, ◌≤◌, IsTrue, List, [], ◌∷◌, ◌++◌, length, map, take, drop, get_or, replicate, slice_index, Option, None, Some, Result, Ok, Err, IfOk, refl, sym, ap, ◌∙◌, subst, arith, append_assoc, length-append, length-drop, take-append-drop}
+use Rattle.std.proofs.lemmas.List.{length-map, append-nil, map-append, take_more, replicate_more}
 use Rattle.std.proofs.lemmas.Option.{get_or_from_slice_get, slice_get-get_or}
 use Rattle.re_syntax.specs.Bytes.{Bytes, Text}
 use Rattle.re_syntax.specs.Expression.{Expression, one_of, cat, repeat, expression_of}
@@ -12,7 +12,7 @@ use Rattle.re_syntax.proofs.lemmas.HoldsDecided.{Holds-le, Turns-le}
 use Rattle.re_search.specs.declared.needle.outline.Mark.{Mark}
 use Rattle.re_search.specs.declared.needle.outline.Mark.TheVariants as m
 use Rattle.re_search.specs.Working.Runs.{RunStandsAt, set_at}
-use Rattle.re_search.specs.Working.Outlines.{shown, MarkFits, Fits, AreSetMarks, IsOutline, AddsOutline, AddsTurns, turns_of}
+use Rattle.re_search.specs.Working.Outlines.{shown, MarkFits, Fits, AreSetMarks, IsOutline, AddsOutline, AddsTurns}
 use Rattle.re_search.specs.Working.Needles.{RunIsNeeded, RunBegins, IsJustRun}
 use Rattle.re_search.proofs.lemmas.NeededLaws.{cat_cut}
 
@@ -123,26 +123,26 @@ outline_repeat xs e least most some part = record {
 -- ---- a set that is repeated
 
 -- so many turns of a set are its bytes one after another
-turns_fit : (line : Text) (s : Bytes) (n i j : ℕ) → Turns (Holds line (one_of s)) n i j → Fits line (map Some (turns_of s n)) i j
+turns_fit : (line : Text) (s : Bytes) (n i j : ℕ) → Turns (Holds line (one_of s)) n i j → Fits line (map Some (replicate n s)) i j
 turns_fit line s zero i j same = same
 turns_fit line s (suc n) i j (k, first, later) = (k, first, turns_fit line s n k j later)
 
-all_fit : (line : Text) (s : Bytes) (n m i j : ℕ) → n ≤ m → Turns (Holds line (one_of s)) m i j → Fits line (map Some (turns_of s n) ++ None ∷ []) i j
+all_fit : (line : Text) (s : Bytes) (n m i j : ℕ) → n ≤ m → Turns (Holds line (one_of s)) m i j → Fits line (map Some (replicate n s) ++ None ∷ []) i j
 all_fit line s zero m i j few turns = (j, Turns-le (Holds line (one_of s)) (Holds-le line (one_of s)) m i j turns, refl)
 all_fit line s (suc n) zero i j few turns = absurd (omega (arith, few))
 all_fit line s (suc n) (suc m) i j few (k, first, later) = (k, first, all_fit line s n m k j (omega (arith, few)) later)
 
-all_hold : (line : Text) (s : Bytes) (n i j : ℕ) → Fits line (map Some (turns_of s n)) i j → Turns (Holds line (one_of s)) n i j
+all_hold : (line : Text) (s : Bytes) (n i j : ℕ) → Fits line (map Some (replicate n s)) i j → Turns (Holds line (one_of s)) n i j
 all_hold line s zero i j same = same
 all_hold line s (suc n) i j (k, first, later) = (k, first, all_hold line s n k j later)
 
-outline_turns : (s : Bytes) (n least : ℕ) (most : Option ℕ) → n ≤ least → IsOutline (map Some (turns_of s n) ++ None ∷ []) (repeat (one_of s) least most)
+outline_turns : (s : Bytes) (n least : ℕ) (most : Option ℕ) → n ≤ least → IsOutline (map Some (replicate n s) ++ None ∷ []) (repeat (one_of s) least most)
 outline_turns s n least most few = record {
   fits = λ line i j (m, within, turns). all_fit line s n m i j (omega (arith, few, within.0)) turns;
-  holds = λ sets. absurd (sets_cut (map Some (turns_of s n)) (None ∷ []) sets).1.0;
+  holds = λ sets. absurd (sets_cut (map Some (replicate n s)) (None ∷ []) sets).1.0;
 }
 
-outline_just : (s : Bytes) (n : ℕ) → IsOutline (map Some (turns_of s n)) (repeat (one_of s) n (Some n))
+outline_just : (s : Bytes) (n : ℕ) → IsOutline (map Some (replicate n s)) (repeat (one_of s) n (Some n))
 outline_just s n = record {
   fits = λ line i j (m, within, turns).
       let same : m ≡ n = omega (arith, within.0, within.1) in
@@ -183,17 +183,11 @@ adds_just old new s n least most same just (more, is, sets) = (
 )
 
 -- one mark of the set more
-turns_more : (s : Bytes) (n : ℕ) → turns_of s n ++ s ∷ [] ≡ turns_of s (n + 1)
-turns_more s zero = refl
-turns_more s (suc n) =
-    let place : suc (n + 1) ≡ suc n + 1 = omega arith in
-    subst (λ x. s ∷ (turns_of s n ++ s ∷ []) ≡ turns_of s x) place (ap (λ l. s ∷ l) (turns_more s n))
-
 pub adds_turn : (old middle new : List Mark) (set : ByteSet) (n : ℕ) → AddsTurns old (members set) n middle → new ≡ middle ++ m.Set set ∷ [] → AddsTurns old (members set) (n + 1) new
 adds_turn old middle new set n (more, same, sets) added = (
   more ++ m.Set set ∷ [],
   added ∙ ap (λ l. l ++ m.Set set ∷ []) same ∙ append_assoc old more (m.Set set ∷ []),
-  map-append shown more (m.Set set ∷ []) ∙ ap (λ l. l ++ Some (members set) ∷ []) sets ∙ sym (map-append Some (turns_of (members set) n) (members set ∷ [])) ∙ ap (map Some) (turns_more (members set) n),
+  map-append shown more (m.Set set ∷ []) ∙ ap (λ l. l ++ Some (members set) ∷ []) sets ∙ sym (map-append Some (replicate n (members set)) (members set ∷ [])) ∙ ap (map Some) (replicate_more n (members set)),
 )
 
 pub adds_nothing : (old : List Mark) → AddsOutline old (cat []) old

@@ -1,6 +1,6 @@
 -- Outlines of expressions: sets of bytes one after another, with stretches between of which nothing
 -- is told.
-use Rattle.std.specs.Prelude.{◌≡◌, ℕ, zero, suc, ◌+◌, ◌<◌, ◌≤◌, ⊤, IsTrue, List, [], ◌∷◌, ◌++◌, length, map}
+use Rattle.std.specs.Prelude.{◌≡◌, ℕ, ◌+◌, ◌<◌, ◌≤◌, ⊤, IsTrue, List, [], ◌∷◌, ◌++◌, length, map, replicate}
 use Rattle.std.specs.Prelude.{slice_get, Option, None, Some}
 use Rattle.re_syntax.specs.Bytes.{Bytes, Text}
 use Rattle.re_syntax.specs.Expression.{Expression, one_of}
@@ -48,14 +48,9 @@ AddsOutline old e new = (more : List Mark) × (new ≡ old ++ more) × IsOutline
 abbrev pub AddsSets : List Mark → List Bytes → List Mark → Type 0
 AddsSets old sets new = (more : List Mark) × (new ≡ old ++ more) × (map shown more ≡ map Some sets)
 
--- the set so many times
-abbrev pub turns_of : Bytes → ℕ → List Bytes
-turns_of set zero = []
-turns_of set (suc n) = set ∷ turns_of set n
-
 -- behind the old marks stand so many of this set
 abbrev pub AddsTurns : List Mark → Bytes → ℕ → List Mark → Type 0
-AddsTurns old set n new = AddsSets old (turns_of set n) new
+AddsTurns old set n new = AddsSets old (replicate n set) new
 
 -- the sets begin each stretch from i to j on the line on which the expression holds: a byte of each
 -- stands there in turn

@@ -1,5 +1,5 @@
 -- Runs of sets of bytes: where one stands in a line, and tests that its bytes pass.
-use Rattle.std.specs.Prelude.{◌≡◌, ℕ, ◌+◌, ◌<◌, ◌≤◌, ◌⊎◌, IsTrue, List, Option, length}
+use Rattle.std.specs.Prelude.{◌≡◌, ℕ, ◌+◌, ◌-◌, ◌%◌, ◌<◌, ◌≤◌, ◌⊎◌, IsTrue, List, Option, length}
 use Rattle.std.specs.Prelude.{bit_and, get_or, slice_index}
 use Rattle.re_syntax.specs.Bytes.{Bytes, Text, nothing}
 use Rattle.memchr.specs.Find.{IsFirst}
@@ -28,9 +28,9 @@ LacksRun run line = (k : ℕ) → ¬ RunStandsAt line run k
 abbrev pub BeginsWithout : List Bytes → Text → Type 0
 BeginsWithout run line = ¬ RunStandsAt line run 0
 
--- the byte is in the range of the cover, or one of its two
+-- the byte is in the range of the cover, which goes on from 255 to 0, or one of its two
 abbrev pub IsWithin : Cover → ℕ → Type 0
-IsWithin cover x = ((cover.low ≤ x) × (x ≤ cover.high)) ⊎ (x ≡ cover.one) ⊎ (x ≡ cover.other)
+IsWithin cover x = ((x + (256 - cover.low)) % 256 ≤ cover.width) ⊎ (x ≡ cover.one) ⊎ (x ≡ cover.other)
 
 -- the bits that the cover asks about are what they have to be
 abbrev pub HasBits : Cover → ℕ → Type 0

@@ -13,8 +13,8 @@ use re_syntax::ByteSet;
 pub struct Cover {
     /// The first byte of the range.
     pub low: u8,
-    /// The last byte of the range.
-    pub high: u8,
+    /// How far behind it the last one is.
+    pub width: u8,
     /// One byte more.
     pub one: u8,
     /// Another.
@@ -52,7 +52,7 @@ impl Cover {
     pub fn is_within(self, byte: u8) -> bool
         ensures { IsTrue result ↔ IsWithin self byte }
     {
-        let within = (self.low <= byte) & (byte <= self.high);
+        let within = byte.wrapping_sub(self.low) <= self.width;
         within | (byte == self.one) | (byte == self.other)
     }
 
@@ -70,14 +70,9 @@ impl Cover {
         open & open.wrapping_sub(1) == 0
     }
 
-    // How far apart the ends of the range are.
-    fn width(self) -> u8 {
-        self.high.saturating_sub(self.low)
-    }
-
     // The one of two whose range is narrower.
     fn or_narrower(self, other: Cover) -> Cover {
-        if other.width() < self.width() {
+        if other.width < self.width {
             return other;
         }
         self
@@ -90,7 +85,7 @@ fn narrowest(survey: &Survey) -> Cover {
     let bits = survey.last & asked;
     let behind = Cover {
         low: survey.third,
-        high: survey.last,
+        width: survey.last.saturating_sub(survey.third),
         one: survey.first,
         other: survey.second,
         asked,
@@ -98,7 +93,7 @@ fn narrowest(survey: &Survey) -> Cover {
     };
     let between = Cover {
         low: survey.second,
-        high: survey.last_but_one,
+        width: survey.last_but_one.saturating_sub(survey.second),
         one: survey.first,
         other: survey.last,
         asked,
@@ -106,7 +101,7 @@ fn narrowest(survey: &Survey) -> Cover {
     };
     let ahead = Cover {
         low: survey.first,
-        high: survey.last_but_two,
+        width: survey.last_but_two.saturating_sub(survey.first),
         one: survey.last_but_one,
         other: survey.last,
         asked,

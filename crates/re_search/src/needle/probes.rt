@@ -40,6 +40,21 @@ const MANY: usize = 32;
 // Of more places than these, where some may pass, so many are tried at once anew.
 const PIECE: usize = 64;
 
+/// Which of four tests are tried at many places at once, and how.
+#[derive(Clone, Copy, Drop)]
+pub enum Tried {
+    /// The first two, by their bits.
+    TwoBits,
+    /// The first two, by their ranges.
+    Two,
+    /// The first three, by their ranges.
+    Three,
+    /// All, by their bits.
+    AllBits,
+    /// All, by their ranges.
+    All,
+}
+
 /// Four tests, of which some may be the same.
 #[derive(Clone, Copy, Drop)]
 pub struct Probes {
@@ -51,10 +66,8 @@ pub struct Probes {
     pub third: Probe,
     /// The fourth.
     pub fourth: Probe,
-    /// Whether the first two are passed seldom enough, so that the others are not asked before.
-    pub two_are_enough: bool,
-    /// Whether of those that are asked first each is told by its bits.
-    pub bits_are_enough: bool,
+    /// Which of them are tried before the others are asked.
+    pub tried: Tried,
 }
 
 impl Probes {
@@ -110,11 +123,12 @@ impl Probes {
         requires room { HaveRoom self.now line.now past }
         ensures { result ≡ false → (k : ℕ) → from ≤ k → k < past → ¬ AllPass self.now line.now k }
     {
-        match (self.two_are_enough, self.bits_are_enough) {
-            (true, true) => self.two_bits_between(line, from, past),
-            (true, false) => self.two_pass_between(line, from, past),
-            (false, true) => self.all_bits_between(line, from, past),
-            (false, false) => self.all_pass_between(line, from, past),
+        match self.tried {
+            Tried::TwoBits => self.two_bits_between(line, from, past),
+            Tried::Two => self.two_pass_between(line, from, past),
+            Tried::Three => self.three_pass_between(line, from, past),
+            Tried::AllBits => self.all_bits_between(line, from, past),
+            Tried::All => self.all_pass_between(line, from, past),
         }
     }
 
@@ -147,8 +161,7 @@ impl Probes {
             second,
             third,
             fourth,
-            two_are_enough: _,
-            bits_are_enough: _,
+            tried: _,
         } = *self;
         let mut some = false;
         'places: for place in from..past {
@@ -177,6 +190,25 @@ impl Probes {
         some
     }
 
+    // Whether those that the first three tell of are, in the same way.
+    #[inline(never)]
+    fn three_pass_between(&self, line: &[u8], from: usize, past: usize) -> bool
+        requires ordered { from ≤ past }
+        requires room { HaveRoom self.now line.now past }
+        ensures { result ≡ false → (k : ℕ) → from ≤ k → k < past → ¬ AllPass self.now line.now k }
+    {
+        let first = self.first;
+        let second = self.second;
+        let third = self.third;
+        let mut some = false;
+        'places: for place in from..past {
+            some |= first.passes_at(line, place)
+                & second.passes_at(line, place)
+                & third.passes_at(line, place);
+        }
+        some
+    }
+
     // Whether those that all tell of are, in the same way.
     #[inline(never)]
     fn all_pass_between(&self, line: &[u8], from: usize, past: usize) -> bool
@@ -189,8 +221,7 @@ impl Probes {
             second,
             third,
             fourth,
-            two_are_enough: _,
-            bits_are_enough: _,
+            tried: _,
         } = *self;
         let mut some = false;
         'places: for place in from..past {

@@ -5,7 +5,7 @@ ghost use Rattle.re_syntax.specs.Sets.{members};
 ghost use Rattle.re_search.specs.Working.Runs.{FindsRun, IsProbeOf, RunStandsAt, set_at};
 
 use crate::needle::cover::Cover;
-use crate::needle::probes::{Probe, Probes};
+use crate::needle::probes::{Probe, Probes, Tried};
 use crate::needle::survey::Survey;
 use re_syntax::ByteSet;
 use std::marker::Model;
@@ -18,11 +18,14 @@ const FIRST_PORTION: usize = 16;
 const GROWTH: usize = 4;
 
 // How many places are tried at a time at most.
-const PORTION: usize = 384;
+const PORTION: usize = 256;
 
 // At about so many places in 65,536 bytes of most texts probes that are passed seldom are passed at
 // most.
 const MOST_STOPS: u64 = 256;
+
+// And three of them where a fourth doesn't pay.
+const MOST_STOPS_OF_THREE: u64 = 1_024;
 
 // The place of a set that there is not.
 const NOWHERE: usize = usize::MAX;
@@ -63,15 +66,13 @@ impl SetFinder {
             Some(probe) => probe,
             None => third,
         };
-        let two_are_enough = stops_of(&sets, &first, &second) <= MOST_STOPS;
+        let tried = tried_of(&sets, &first, &second, &third, &fourth);
         let probes = Probes {
             first,
             second,
             third,
             fourth,
-            two_are_enough,
-            bits_are_enough: are_told_by_bits(&first, &second)
-                && (two_are_enough || are_told_by_bits(&third, &fourth)),
+            tried,
         };
         Some(SetFinder { sets, probes })
     }
@@ -84,8 +85,7 @@ impl SetFinder {
             second,
             third,
             fourth,
-            two_are_enough: _,
-            bits_are_enough: _,
+            tried: _,
         } = self.probes;
         let mut stops = stops_of(&self.sets, &first, &second);
         if third.at != second.at {
@@ -254,6 +254,30 @@ fn share_at(sets: &[ByteSet], place: usize) -> u64 {
         Some(set) => u64::from(share_of(set)),
         None => 0,
     }
+}
+
+// Which of the probes are tried at many places at once: so many of those there are that few places
+// of most texts pass.
+fn tried_of(
+    sets: &[ByteSet],
+    first: &Probe,
+    second: &Probe,
+    third: &Probe,
+    fourth: &Probe,
+) -> Tried {
+    let are_bits = are_told_by_bits(first, second);
+    let stops = stops_of(sets, first, second);
+    if stops <= MOST_STOPS || third.at == second.at {
+        return if are_bits { Tried::TwoBits } else { Tried::Two };
+    }
+    if are_bits && are_told_by_bits(third, fourth) {
+        return Tried::AllBits;
+    }
+    let stops_of_three = stops.saturating_mul(share_at(sets, third.at)) >> 16;
+    if stops_of_three <= MOST_STOPS_OF_THREE || fourth.at == third.at {
+        return Tried::Three;
+    }
+    Tried::All
 }
 
 // Whether two probes are told by their bits.

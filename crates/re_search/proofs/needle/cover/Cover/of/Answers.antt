@@ -1,12 +1,10 @@
-use Rattle.std.proofs.Common.{◌≡◌, ℕ, ◌+◌, ◌<◌, ◌⊎◌, inl, inr, IsTrue, subst, arith, sym, ◌∙◌}
+use Rattle.std.proofs.Common.{inl, inr, IsTrue, subst, sym, ◌∙◌}
 use Rattle.std.proofs.lemmas.Bool.{false≢true}
 use Rattle.re_syntax.specs.Sets.{members}
 use Rattle.re_search.specs.Working.Runs.{IsCovered}
+use Rattle.re_search.proofs.lemmas.FlagLaws.{up_to}
 use Rattle.re_search.proofs.needle.cover.Cover.of.Goals.{else-has-via-then-has+else-not-takes, else-has-via-else-has}
 use Rattle.re_search.proofs.needle.cover.Cover.of.Goals as goal
-
-up_to : (k n : ℕ) → k < n + 1 → (k < n) ⊎ (k ≡ n)
-up_to k n lt = search (arith, lt)
 
 pub bytes-preserved : goal.bytes-preserved
 bytes-preserved c = λ x lt has. elim (up_to x c.bytes.byte lt) [
