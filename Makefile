@@ -1,5 +1,6 @@
 # make            proves every crate, builds the programs into build/ and tries each of them
 # make gate       proofs from nothing, edits that must fail, tests, the programs' stored runs
+# make audit      the wrong bodies that the gate leaves out, each of which has to be refused; it belongs before a release
 # make test       the gate, and then the programs built anew and run on the cases of tests/
 # make test-program  runs the built programs on the cases of tests/ (wants Python 3.11)
 # make test-random  compares the built occur with the built grep on 100,000 random edits
@@ -15,7 +16,7 @@ DESTDIR =
 SITE_LISP =
 EMACS = emacs
 
-.PHONY: all prove programs first-rows gate test test-program test-random test-memory test-editor install clean
+.PHONY: all prove programs first-rows gate audit test test-program test-random test-memory test-editor install clean
 
 all: first-rows
 
@@ -45,8 +46,14 @@ build/occur: | build/grep
 
 # Each lane proves one crate or tries one crate's edits, in 2 to 4 GB; rt's own estimate of that is
 # twice as high, and leaves lanes empty.
+LANES = RT_JOBS=$${RT_JOBS:-$$(nproc | awk '{ print $$1 < 4 ? $$1 : 4 }')}
+
 gate:
-	RT_JOBS=$${RT_JOBS:-$$(nproc | awk '{ print $$1 < 4 ? $$1 : 4 }')} rt ci
+	$(LANES) rt ci
+
+# Names of crates in CRATES audit these alone.
+audit:
+	$(LANES) tools/audit.sh $(CRATES)
 
 test: gate
 	$(MAKE) programs

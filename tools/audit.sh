@@ -1,0 +1,70 @@
+#!/usr/bin/env bash
+# Tries the wrong bodies that the gate leaves out, crates/*/audit/*.edit: the prover has to refuse each. With names of
+# crates it tries those of these crates alone. rt reads such edits in must-fail alone, so it is run on a copy of the
+# files as they stand, in which they take the place of the gate's own.
+# Ends with status 0 only where each was refused. A check that stopped at a limit of the prover shows nothing of its
+# edit, so rt's word "refused" counts for nothing there.
+set -euo pipefail
+shopt -s nullglob
+cd "$(dirname "${BASH_SOURCE[0]}")/.."
+copy=$(mktemp -d)
+trap 'rm -rf "$copy"' EXIT
+
+# Copies the crates as they stand, new files too, but none that git ignores.
+copy_crates() {
+    local file present=()
+    while IFS= read -r -d '' file; do
+        if [ -f "$file" ]; then present+=("$file"); fi
+    done < <(git ls-files -z --cached --others --exclude-standard HANDLES crates.txt crates)
+    cp --parents --target-directory="$copy" -- "${present[@]}"
+}
+
+# Puts a crate's audit in the place of its must-fail edits, and counts it; a page beside the edits is none.
+arm() {
+    local file
+    rm -rf "$copy/crates/$1/must-fail"
+    mv "$copy/crates/$1/audit" "$copy/crates/$1/must-fail"
+    for file in "$copy/crates/$1/must-fail"/*; do
+        case $file in
+            *.md) ;;
+            *) edits=$((edits + 1)) ;;
+        esac
+    done
+}
+
+# Tries a crate's edits, shows what rt says and counts it.
+try_edits() {
+    local line
+    while IFS= read -r line; do
+        printf '%s\n' "$line"
+        case $line in
+            "rt: must-fail "*": refused, as it must be (only by a limit"*) stopped=$((stopped + 1)) ;;
+            "rt: must-fail "*": refused, as it must be (only because a proof file names"*)
+                refused=$((refused + 1)) by_name=$((by_name + 1)) ;;
+            "rt: must-fail "*": refused, as it must be"*) refused=$((refused + 1)) ;;
+            "rt: must-fail "*": NOT REFUSED: "*) proved=$((proved + 1)) ;;
+            "rt: "*": BAD EDIT: "*) bad=$((bad + 1)) ;;
+        esac
+    done < <(cd "$copy" && rt must-fail "$1" 2>&1)
+}
+
+crates=("$@")
+if [ $# -eq 0 ]; then
+    for folder in crates/*/audit; do crates+=("$(basename "${folder%/audit}")"); done
+fi
+copy_crates
+edits=0 refused=0 by_name=0 proved=0 bad=0 stopped=0
+for crate in "${crates[@]}"; do
+    if [ ! -d "$copy/crates/$crate/audit" ]; then
+        echo "audit: there is no folder crates/$crate/audit, or it was named twice" >&2
+        exit 2
+    fi
+    arm "$crate"
+done
+for crate in "${crates[@]}"; do try_edits "$crate"; done
+
+# What rt said nothing of was not tried, nor was what it says so of.
+untried=$((edits - refused - proved - bad - stopped))
+echo "audit of ${crates[*]}: $edits edits, $refused refused ($by_name of them for a missing name alone)," \
+    "$proved not refused, $bad bad, $stopped stopped at a limit (which shows nothing), $untried not tried"
+[ "$edits" -gt 0 ] && [ "$refused" -eq "$edits" ]
