@@ -20,7 +20,7 @@ copy_crates() {
 }
 
 # Puts a crate's audit in the place of its must-fail edits, and counts it; a page beside the edits is none.
-arm() {
+prepare() {
     local file
     rm -rf "$copy/crates/$1/must-fail"
     mv "$copy/crates/$1/audit" "$copy/crates/$1/must-fail"
@@ -59,11 +59,11 @@ for crate in "${crates[@]}"; do
         echo "audit: there is no folder crates/$crate/audit, or it was named twice" >&2
         exit 2
     fi
-    arm "$crate"
+    prepare "$crate"
 done
 for crate in "${crates[@]}"; do try_edits "$crate"; done
 
-# What rt said nothing of was not tried, nor was what it says so of.
+# Not tried is what rt says so of, and what it says nothing of.
 untried=$((edits - refused - proved - bad - stopped))
 echo "audit of ${crates[*]}: $edits edits, $refused refused ($by_name of them for a missing name alone)," \
     "$proved not refused, $bad bad, $stopped stopped at a limit (which shows nothing), $untried not tried"
