@@ -95,6 +95,33 @@ impl Cached {
         })
     }
 
+    // The same in a box. Where memory for that is refused the cache is given up.
+    pub(crate) fn boxed(
+        alloc: Global,
+        simulated: Simulated,
+        most: NonZeroUsize,
+    ) -> Result<Box<Cached>, Simulated>
+        ensures tree { IfOk result
+            (λ c. (c.value.tree ≡ simulated.tree) × (c.value.whole ≡ simulated.whole)) }
+        ensures most { IfOk result (λ c. c.value.most ≡ non_zero_usize_get most) }
+        ensures empty { IfOk result (λ c. c.value.cache.entries ≡ []) }
+        ensures same { IfErr result (λ s. s ≡ simulated) }
+    {
+        let cached = Cached::over(alloc, simulated, most)?;
+        match Box::new(alloc, cached) {
+            Ok(cached) => Ok(cached),
+            Err(refused) => Err(refused.value.into_simulated()),
+        }
+    }
+
+    // The matcher without its cache.
+    fn into_simulated(self) -> Simulated
+        ensures { (result.tree ≡ self.tree) × (result.whole ≡ self.whole) }
+    {
+        let Cached { simulated, .. } = self;
+        simulated
+    }
+
     /// How many entries the cache has.
     pub fn cached(&self) -> usize
         ensures held { result ≡ length self.now.cache.entries }

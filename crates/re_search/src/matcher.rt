@@ -27,20 +27,21 @@ use re_syntax::{
     FaultKind, MOST_POSITIONS, PatternFault, Syntax, Tree, basic_positions, extended_positions,
     read_basic, read_extended, read_fixed,
 };
-use std::alloc::Global;
+use std::alloc::{AllocError, Global};
 use std::num::NonZeroUsize;
 
-/// A matcher of either kind.
+/// A matcher of any kind. The large ones are boxed, so that a matcher is moved and dropped as a
+/// pointer.
 #[derive(Drop)]
 pub enum Matcher {
     /// Looks for a string.
     Fixed(Fixed),
     /// Looks for many strings at once.
-    FixedSet(FixedSet),
+    FixedSet(Box<FixedSet>),
     /// Steps an automaton.
-    Simulated(Simulated),
+    Simulated(Box<Simulated>),
     /// Steps an automaton, and keeps what its sets of positions become.
-    Cached(Cached),
+    Cached(Box<Cached>),
 }
 
 impl Matcher {
@@ -230,9 +231,13 @@ fn stepping_matcher(
         Ok(tree) => tree,
         Err(fault) => return Err(fault),
     };
-    match simulated_matcher(alloc, tree, whole) {
-        Ok(simulated) => Ok(with_cache(alloc, simulated, states)),
-        Err(fault) => Err(fault),
+    let simulated = match simulated_matcher(alloc, tree, whole) {
+        Ok(simulated) => simulated,
+        Err(fault) => return Err(fault),
+    };
+    match with_cache(alloc, simulated, states) {
+        Ok(matcher) => Ok(matcher),
+        Err(_) => Err(fault_at_first(FaultKind::Memory)),
     }
 }
 
@@ -251,20 +256,20 @@ fn simulated_matcher(alloc: Global, tree: Tree, whole: bool) -> Result<Simulated
 }
 
 // The matcher with a cache of so many entries, or without one where memory for it is refused.
-fn with_cache(alloc: Global, simulated: Simulated, states: usize) -> Matcher
+fn with_cache(alloc: Global, simulated: Simulated, states: usize) -> Result<Matcher, AllocError>
     requires { 1 ≤ states }
-    ensures made { (matched_expression result ≡ expression_of simulated.tree) ×
-        (wants_whole result ≡ simulated.whole) }
-    ensures kind { is_fixed result ≡ false }
-    ensures room { room_of result ≤ states }
-    ensures empty { entries_of result ≡ [] }
+    ensures made { IfOk result (λ m.
+        (matched_expression m ≡ expression_of simulated.tree) × (wants_whole m ≡ simulated.whole)) }
+    ensures kind { IfOk result (λ m. is_fixed m ≡ false) }
+    ensures room { IfOk result (λ m. room_of m ≤ states) }
+    ensures empty { IfOk result (λ m. entries_of m ≡ []) }
 {
     let Some(most) = NonZeroUsize::new(states) else {
         unreachable!();
     };
-    match Cached::over(alloc, simulated, most) {
-        Ok(cached) => Matcher::Cached(cached),
-        Err(simulated) => Matcher::Simulated(simulated),
+    match Cached::boxed(alloc, simulated, most) {
+        Ok(cached) => Ok(Matcher::Cached(cached)),
+        Err(simulated) => Ok(Matcher::Simulated(Box::new(alloc, simulated)?)),
     }
 }
 

@@ -15,16 +15,16 @@ use Rattle.re_search.specs.Working.Stages.{AnswersLine}
 -- the expression that a matcher stands for
 abbrev pub matched_expression : Matcher → Expression
 matched_expression (m.Fixed literal) = literal_expression literal
-matched_expression (m.FixedSet literals) = any_literal literals
-matched_expression (m.Simulated matcher) = expression_of matcher.tree
-matched_expression (m.Cached matcher) = expression_of matcher.tree
+matched_expression (m.FixedSet literals) = any_literal literals.value
+matched_expression (m.Simulated matcher) = expression_of matcher.value.tree
+matched_expression (m.Cached matcher) = expression_of matcher.value.tree
 
 -- whether it wants the whole line
 abbrev pub wants_whole : Matcher → Bool
 wants_whole (m.Fixed literal) = literal.whole
-wants_whole (m.FixedSet literals) = literals.whole
-wants_whole (m.Simulated matcher) = matcher.whole
-wants_whole (m.Cached matcher) = matcher.whole
+wants_whole (m.FixedSet literals) = literals.value.whole
+wants_whole (m.Simulated matcher) = matcher.value.whole
+wants_whole (m.Cached matcher) = matcher.value.whole
 
 -- whether it looks for a string
 abbrev pub is_fixed : Matcher → Bool
@@ -38,13 +38,13 @@ abbrev pub entries_of : Matcher → List (ℕ × ℕ)
 entries_of (m.Fixed literal) = []
 entries_of (m.FixedSet literals) = []
 entries_of (m.Simulated matcher) = []
-entries_of (m.Cached matcher) = matcher.cache.entries
+entries_of (m.Cached matcher) = matcher.value.cache.entries
 
 abbrev pub room_of : Matcher → ℕ
 room_of (m.Fixed literal) = 0
 room_of (m.FixedSet literals) = 0
 room_of (m.Simulated matcher) = 0
-room_of (m.Cached matcher) = matcher.most
+room_of (m.Cached matcher) = matcher.value.most
 
 -- how the steps of a search with a cache are counted
 abbrev pub CountsSteps : Text → Matcher → Steps → Matcher → Steps → Bool → Type 0
@@ -52,7 +52,7 @@ CountsSteps line (m.Fixed literal) before new after answer = ⊤
 CountsSteps line (m.FixedSet literals) before new after answer = ⊤
 CountsSteps line (m.Simulated matcher) before new after answer = ⊤
 CountsSteps line (m.Cached old) before (m.Cached new) after answer =
-    AnswersLine (expression_of old.tree) old.whole line old.cache new.cache before after answer
+    AnswersLine (expression_of old.value.tree) old.value.whole line old.value.cache new.value.cache before after answer
 CountsSteps line (m.Cached old) before (m.Fixed new) after answer = ⊥
 CountsSteps line (m.Cached old) before (m.FixedSet new) after answer = ⊥
 CountsSteps line (m.Cached old) before (m.Simulated new) after answer = ⊥
