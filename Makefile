@@ -7,12 +7,14 @@
 #                 compiler and Python 3.11)
 # make test-editor  tests the Emacs client on the built programs (wants Emacs 28)
 # make install    copies the programs and their manual pages below $(DESTDIR)$(PREFIX), and the Emacs client
-#                 to $(DESTDIR)$(SITE_LISP), if SITE_LISP names a folder
+#                 to $(DESTDIR)$(SITE_LISP), if SITE_LISP names a folder; another grep that is there stays, unless
+#                 FORCE=1 is given
 # make clean      removes what make built; what rt keeps of its proofs stays
 
+# DESTDIR is for whoever calls make to set, in the environment too. FORCE counts on the command line alone.
 PREFIX = /usr/local
-DESTDIR =
 SITE_LISP =
+FORCE =
 EMACS = emacs
 
 .PHONY: all prove programs first-rows gate test test-program test-random test-memory test-editor install clean
@@ -72,6 +74,7 @@ test-editor: build/grep build/occur
 	    $(EMACS) -Q --batch -L build/emacs -l editors/emacs/test/live-occur-test.el -f ert-run-tests-batch-and-exit
 
 install: build/grep build/occur
+	@test "$(FORCE)" = 1 || tools/keep_other_grep.sh "$(DESTDIR)$(PREFIX)/bin/grep"
 	install -d "$(DESTDIR)$(PREFIX)/bin" "$(DESTDIR)$(PREFIX)/share/man/man1"
 	install -m 755 build/grep "$(DESTDIR)$(PREFIX)/bin/grep"
 	install -m 755 build/occur "$(DESTDIR)$(PREFIX)/bin/occur"
