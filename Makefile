@@ -1,4 +1,5 @@
-# make            proves every crate, builds the programs into build/ and tries each of them
+# make            proves what the programs stand on, builds them into build/ and tries each of them, on all cores
+#                 (four at most, or RT_JOBS)
 # make gate       proofs from nothing, edits that must fail, tests, the programs' stored runs
 # make test       the gate, and then the programs built anew and run on the cases of tests/
 # make test-program  runs the built programs on the cases of tests/ (wants Python 3.11)
@@ -17,26 +18,12 @@ SITE_LISP =
 FORCE =
 EMACS = emacs
 
-.PHONY: all prove programs first-rows gate test test-program test-random test-memory test-editor install clean
+.PHONY: all programs gate test test-program test-random test-memory test-editor install clean
 
-all: first-rows
+all: programs
 
-prove:
-	rt all check
-
-# rt builds a program in order to run it, so each is run on its stored input.
-programs: prove
-	mkdir -p build
-	cd crates/grep && rt run -- b < stdin > /dev/null
-	cp crates/grep/out/grep build/grep
-	cd crates/occur && rt run < stdin > /dev/null
-	cp crates/occur/out/occur build/occur
-
-first-rows: programs
-	printf 'b\nab\nB\n' | build/grep b > build/first-row.out
-	printf 'b\nab\n' | cmp - build/first-row.out
-	printf 'file f 1\nab\npatterns 1\na\nshow\n' | build/occur > build/first-script.out
-	printf 'ok\nok\no ab\nstatus 0\n' | cmp - build/first-script.out
+programs:
+	@tools/build.sh grep occur
 
 build/grep:
 	$(MAKE) programs
