@@ -1,4 +1,5 @@
-# make            proves every crate, builds the programs into build/ and tries each of them
+# make            proves what the programs stand on, builds them into build/ and tries each of them, on all cores
+#                 (four at most, or RT_JOBS)
 # make gate       proofs from nothing, edits that must fail, tests, the programs' stored runs
 # make audit      the wrong bodies that the gate leaves out, each of which has to be refused; it belongs before a release
 # make test       the gate, and then the programs built anew and run on the cases of tests/
@@ -8,34 +9,22 @@
 #                 compiler and Python 3.11)
 # make test-editor  tests the Emacs client on the built programs (wants Emacs 28)
 # make install    copies the programs and their manual pages below $(DESTDIR)$(PREFIX), and the Emacs client
-#                 to $(DESTDIR)$(SITE_LISP), if SITE_LISP names a folder
+#                 to $(DESTDIR)$(SITE_LISP), if SITE_LISP names a folder; another grep that is there stays, unless
+#                 FORCE=1 is given
 # make clean      removes what make built; what rt keeps of its proofs stays
 
+# DESTDIR is for whoever calls make to set, in the environment too. FORCE counts on the command line alone.
 PREFIX = /usr/local
-DESTDIR =
 SITE_LISP =
+FORCE =
 EMACS = emacs
 
-.PHONY: all prove programs first-rows gate audit test test-program test-random test-memory test-editor install clean
+.PHONY: all programs gate audit test test-program test-random test-memory test-editor install clean
 
-all: first-rows
+all: programs
 
-prove:
-	rt all check
-
-# rt builds a program in order to run it, so each is run on its stored input.
-programs: prove
-	mkdir -p build
-	cd crates/grep && rt run -- b < stdin > /dev/null
-	cp crates/grep/out/grep build/grep
-	cd crates/occur && rt run < stdin > /dev/null
-	cp crates/occur/out/occur build/occur
-
-first-rows: programs
-	printf 'b\nab\nB\n' | build/grep b > build/first-row.out
-	printf 'b\nab\n' | cmp - build/first-row.out
-	printf 'file f 1\nab\npatterns 1\na\nshow\n' | build/occur > build/first-script.out
-	printf 'ok\nok\no ab\nstatus 0\n' | cmp - build/first-script.out
+programs:
+	@tools/build.sh grep occur
 
 build/grep:
 	$(MAKE) programs
@@ -79,6 +68,7 @@ test-editor: build/grep build/occur
 	    $(EMACS) -Q --batch -L build/emacs -l editors/emacs/test/live-occur-test.el -f ert-run-tests-batch-and-exit
 
 install: build/grep build/occur
+	@test "$(FORCE)" = 1 || tools/keep_other_grep.sh "$(DESTDIR)$(PREFIX)/bin/grep"
 	install -d "$(DESTDIR)$(PREFIX)/bin" "$(DESTDIR)$(PREFIX)/share/man/man1"
 	install -m 755 build/grep "$(DESTDIR)$(PREFIX)/bin/grep"
 	install -m 755 build/occur "$(DESTDIR)$(PREFIX)/bin/occur"

@@ -2,7 +2,7 @@
 """Runs built programs on the rows of tests/rows, the scripts of tests/scripts, the devices of
 tests/devices.py and tests/occur_devices.py, the inputs that are the output of tests/same_file.py,
 the processes of tests/processes.py, the live and long inputs of tests/live.py, the hostile texts of
-tests/hostile.py and the failing calls of tests/failed_calls.py.
+tests/hostile.py, the failing calls of tests/failed_calls.py and `make install` in tests/install.py.
 
     tests/run.py GREP [OCCUR] [--only TEXT]
 
@@ -26,6 +26,7 @@ from pathlib import Path
 import devices
 import failed_calls
 import hostile
+import install
 import live
 import occur_devices
 import processes
@@ -87,7 +88,7 @@ def all_cases() -> list[Case]:
     """The cases of all programs. No two have one name."""
     cases = [*row.cases(), *script.cases(), *devices.cases(), *live.cases(), *hostile.cases()]
     cases += [*same_file.cases(), *occur_devices.cases(), *processes.cases()]
-    cases += failed_calls.cases()
+    cases += [*failed_calls.cases(), *install.cases()]
     names = Counter(case.name for case in cases)
     if twice := [name for name, count in names.items() if count > 1]:
         raise row.BadRow(f"names that stand twice: {twice}")

@@ -1,0 +1,124 @@
+"""Cases of `make install`: where it writes, and what becomes of a grep that is there. They want GNU make.
+
+It runs in a checkout that has the given grep as build/grep, so that nothing is built or proved, and
+some text as build/occur. All stands in the folder of the case.
+"""
+
+from __future__ import annotations
+
+import os
+import shutil
+import subprocess
+from pathlib import Path
+
+from program import SECONDS, Answer, Bench, Cases, Skipped, Verdict, all_of
+
+REPOSITORY = Path(__file__).resolve().parent.parent
+OCCUR = b"occur"
+"""What stands for the built occur."""
+
+OTHER_GREP = b"#!/bin/sh\necho 'usage: grep [-abc] pattern [file ...]' >&2\nexit 2\n"
+INSTALLED = ["bin/grep", "bin/occur", "share/man/man1/grep.1", "share/man/man1/occur.1"]
+FAILED = 2
+"""The exit status of make where a command failed."""
+
+grep_case = Cases("grep", "install.py")
+cases = all_of(grep_case)
+"""All cases of this file."""
+
+
+def checkout(bench: Bench) -> Path:
+    """A checkout in which both programs are built."""
+    bench.write("checkout/build/occur", OCCUR)
+    shutil.copy(bench.program, bench.folder / "checkout/build/grep")
+    for name in ("Makefile", "editors", "man", "tools"):
+        (bench.folder / "checkout" / name).symlink_to(REPOSITORY / name)
+    return bench.folder / "checkout"
+
+
+def install(bench: Bench, *words: str, **variables: str) -> int:
+    """Runs `make install` to the folder `there`, and answers its exit status. Of the environment
+    it has the path and these variables alone, so that no setting of a make above comes in."""
+    if not shutil.which("make"):
+        raise Skipped("no make")
+    command = ["make", "-s", "install", f"PREFIX={bench.folder / 'there'}", *words]
+    environment = {"PATH": os.environ["PATH"], **variables}
+    ran = subprocess.run(command, cwd=checkout(bench), env=environment, timeout=SECONDS,
+                         stdin=subprocess.DEVNULL, capture_output=True, check=False)
+    return ran.returncode
+
+
+def put_grep(bench: Bench, content: bytes, mode: int = 0o755) -> None:
+    """Puts a grep where one is to be installed."""
+    bench.write("there/bin/grep", content)
+    (bench.folder / "there/bin/grep").chmod(mode)
+
+
+def files_in(folder: Path) -> bytes:
+    """The names of all files in a folder, in order."""
+    found = sorted(str(file.relative_to(folder)) for file in folder.rglob("*") if file.is_file())
+    return "\n".join(found).encode()
+
+
+def installed_over(bench: Bench, wanted: Answer, *words: str, **variables: str) -> Verdict:
+    """Installs over the grep that is there. An answer is that grep's content then, the names of all
+    files that are there, and the exit status."""
+    status = install(bench, *words, **variables)
+    there = bench.folder / "there"
+    return Verdict(wanted, Answer((there / "bin/grep").read_bytes(), files_in(there), status))
+
+
+def replaced(bench: Bench) -> Answer:
+    return Answer(bench.program.read_bytes(), "\n".join(INSTALLED).encode(), 0)
+
+
+def kept(content: bytes) -> Answer:
+    """Nothing is installed beside a grep that stays."""
+    return Answer(content, b"bin/grep", FAILED)
+
+
+@grep_case("`make install` writes below DESTDIR alone, where the environment sets it.")
+def below_a_variable(bench: Bench) -> Verdict:
+    status = install(bench, DESTDIR=str(bench.folder / "stage"))
+    stage = bench.folder / "stage" / (bench.folder / "there").relative_to("/")
+    outside = files_in(bench.folder / "there")
+    return Verdict(Answer("\n".join(INSTALLED).encode()), Answer(files_in(stage), outside, status))
+
+
+@grep_case("`make install` writes below DESTDIR alone, where its words set it.")
+def below_a_word(bench: Bench) -> Verdict:
+    status = install(bench, f"DESTDIR={bench.folder / 'stage'}")
+    stage = bench.folder / "stage" / (bench.folder / "there").relative_to("/")
+    outside = files_in(bench.folder / "there")
+    return Verdict(Answer("\n".join(INSTALLED).encode()), Answer(files_in(stage), outside, status))
+
+
+@grep_case("`make install` leaves another grep that is there as it is, and installs nothing.")
+def other_grep(bench: Bench) -> Verdict:
+    put_grep(bench, OTHER_GREP)
+    return installed_over(bench, kept(OTHER_GREP))
+
+
+@grep_case("`make install` leaves a grep that can't be run as it is.")
+def no_program(bench: Bench) -> Verdict:
+    content = bench.program.read_bytes()
+    put_grep(bench, content, mode=0o644)
+    return installed_over(bench, kept(content))
+
+
+@grep_case("`make install FORCE=1` replaces another grep.")
+def forced(bench: Bench) -> Verdict:
+    put_grep(bench, OTHER_GREP)
+    return installed_over(bench, replaced(bench), "FORCE=1")
+
+
+@grep_case("FORCE in the environment doesn't make `make install` replace another grep.")
+def forced_by_a_variable(bench: Bench) -> Verdict:
+    put_grep(bench, OTHER_GREP)
+    return installed_over(bench, kept(OTHER_GREP), FORCE="1")
+
+
+@grep_case("`make install` replaces this grep, in another build too.")
+def same_grep(bench: Bench) -> Verdict:
+    put_grep(bench, bench.program.read_bytes() + b"\n")
+    return installed_over(bench, replaced(bench))
