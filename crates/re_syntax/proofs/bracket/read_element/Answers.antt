@@ -1,4 +1,8 @@
-use Rattle.std.proofs.Common.{inr}
+use Rattle.std.proofs.Common.{◌≡◌, inr, IfOk, IfErr, OnOk, subst, ◌∙◌}
+use Rattle.re_syntax.specs.Sets.{members}
+use Rattle.re_syntax.specs.Brackets.{Element}
+use Rattle.re_syntax.specs.Working.Cursors.{left}
+use Rattle.re_syntax.specs.Working.BracketSteps.{HasNoElement}
 use Rattle.re_syntax.proofs.lemmas.BracketNamed.{class_passed, equivalence_passed, no_class, class_shown, no_equivalence, equivalence_shown}
 use Rattle.re_syntax.proofs.bracket.read_element.Goals as goal
 
@@ -23,3 +27,29 @@ returns-in-None-take_closed_byte-clause-refused c =
       none = λ v a q. no_equivalence past.passed c.in-None-take_closed_byte.ensures;
       shown = record { shows = inr (equivalence_shown c.args.cursor.now c.place-from.ensures past.passed c.in-None-take_closed_byte.ensures); unclosed = λ e. cc };
     }
+
+pub read_point_or_range-requires-clause-opened : goal.read_point_or_range-requires-clause-opened
+read_point_or_range-requires-clause-opened c = rw (c.if-skip-2.ensures.else_same, c.if-skip.ensures.else_same) c.requires.opened
+
+pub read_point_or_range-requires-clause-no_class : goal.read_point_or_range-requires-clause-no_class
+read_point_or_range-requires-clause-no_class c =
+    rw (c.if-skip-2.ensures.else_same, c.if-skip.ensures.else_same)
+    (record { class = c.if-skip.ensures.skipped; equivalence = rw c.if-skip.ensures.else_same at c.if-skip-2.ensures.skipped })
+
+pub read_point_or_range-requires-clause-goes_on : goal.read_point_or_range-requires-clause-goes_on
+read_point_or_range-requires-clause-goes_on c = rw (c.if-skip-2.ensures.else_same, c.if-skip.ensures.else_same) c.requires.goes_on
+
+pub returns-clause-read : goal.returns-clause-read
+returns-clause-read c =
+    subst (λ k. IfOk c.read_point_or_range.result (λ found. Element c.args.place (left k) (left c.read_point_or_range.new.cursor) (members found.0) found.1))
+    (c.if-skip-2.ensures.else_same ∙ c.if-skip.ensures.else_same) c.read_point_or_range.ensures.read
+
+pub returns-clause-refused : goal.returns-clause-refused
+returns-clause-refused c =
+    subst (λ k. IfErr c.read_point_or_range.result (HasNoElement c.args.opening c.args.place k))
+    (c.if-skip-2.ensures.else_same ∙ c.if-skip.ensures.else_same) c.read_point_or_range.ensures.refused
+
+pub returns-clause-same_text : goal.returns-clause-same_text
+returns-clause-same_text c =
+    subst (λ k. OnOk c.read_point_or_range.result (c.read_point_or_range.new.cursor.text ≡ k.text))
+    (c.if-skip-2.ensures.else_same ∙ c.if-skip.ensures.else_same) c.read_point_or_range.ensures.same_text

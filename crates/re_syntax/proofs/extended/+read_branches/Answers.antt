@@ -1,7 +1,7 @@
 use Rattle.std.proofs.Common.{◌≡◌, ◌≢◌, ◌+◌, ◌-◌, inl, true, get_or, drop, refl, ap, ◌∙◌, arith, rules}
 use Rattle.std.proofs.lemmas.Result.{err_from_is_err_and}
 use Rattle.re_syntax.specs.Expression.{one_of}
-use Rattle.re_syntax.specs.Working.PieceSteps.{told}
+use Rattle.re_syntax.specs.Working.PieceSteps.{memory, told}
 use Rattle.re_syntax.specs.Working.ExtendedSteps.{stops, DuplicationStands}
 use Rattle.re_syntax.proofs.lemmas.ExpressionLaws.{expression-Set, expression-Begin, expression-End}
 use Rattle.re_syntax.proofs.lemmas.ExtendedAtoms.{shown_escape, escaped_stands, no_escape_atom, bracket_atom, no_bracket_atom, shown_no_bracket, dollar_stands, single_stands}
@@ -49,6 +49,12 @@ read_atom-returns-in_default-clause-read t c =
     (front_here c.args.text.now c.args.at (get_or c.args.text.now c.args.at 0) c.requires.within refl) c.requires.begins not_bracket not_backslash not_group not_dollar
     (c.leaf-in_default.ensures.told _ (expression-Set c.meant_by.result ∙ ap one_of c.meant_by.ensures)) c.leaf-in_default.ensures.height c.leaf-in_default.ensures.place
 
+pub read_atom-returns-in-40-clause-read : goal.read_atom-returns-in-40-clause-read
+read_atom-returns-in-40-clause-read t c = c.read_group.ensures.read
+
+pub read_atom-returns-in-40-clause-refused : goal.read_atom-returns-in-40-clause-refused
+read_atom-returns-in-40-clause-refused t c = c.read_group.ensures.refused
+
 pub read_branch-items-init : goal.read_branch-items-init
 read_branch-items-init t c =
     none_so_far c.args.in_group c.args.levels c.args.text.now c.args.from _ c.requires.within c.requires.starts c.no_pieces-items.ensures.told c.no_pieces-items.ensures.height c.no_pieces-items.ensures.place
@@ -57,6 +63,16 @@ pub read_branch-returns-in_err-piece-clause-refused : goal.read_branch-returns-i
 read_branch-returns-in_err-piece-clause-refused t c =
     let q = err_from_is_err_and c.from_residual.result c.from_residual.ensures.1 in
     rw (q.1, q.2) (refused_as c.in_err-piece.ensures.refused c.items.invariant.back)
+
+pub read_branch-returns-in_err-items-clause-refused : goal.read_branch-returns-in_err-items-clause-refused
+read_branch-returns-in_err-items-clause-refused t c =
+    let q = err_from_is_err_and c.from_residual-in_err-items.result c.from_residual-in_err-items.ensures.1 in
+    rw (q.1, q.2) (memory c.in_err-items.ensures.refused)
+
+pub read_branch-items-smaller : goal.read_branch-items-smaller
+read_branch-items-smaller t c =
+    let next = c.in_ok-piece.ensures.read in
+    omega (arith, next.forward, next.within, c.in_ok-items.ensures.made.place)
 
 pub read_branch-items-preserved : goal.read_branch-items-preserved
 read_branch-items-preserved t c =
@@ -73,6 +89,11 @@ read_branches-returns-in_err-first-clause-refused t c =
     let q = err_from_is_err_and c.from_residual.result c.from_residual.ensures.1 in
     rw (q.1, q.2) (refused_as c.in_err-first.ensures.refused no_branches)
 
+pub read_branches-returns-in_err-branches-clause-refused : goal.read_branches-returns-in_err-branches-clause-refused
+read_branches-returns-in_err-branches-clause-refused t c =
+    let q = err_from_is_err_and c.from_residual-in_err-branches.result c.from_residual-in_err-branches.ensures.1 in
+    rw (q.1, q.2) (memory c.in_err-branches.ensures.refused)
+
 pub read_branches-branches-init : goal.read_branches-branches-init
 read_branches-branches-init t c =
     first_branch c.args.in_group c.args.levels c.args.text.now c.args.from _ c.in_ok-branches.branches c.in_ok-first.first c.in_ok-first.ensures.read
@@ -87,6 +108,16 @@ read_branches-returns-in_err-branch-clause-refused t c =
     rw (q.1, q.2)
     (refused_as c.in_err-branch.ensures.refused
     (λ k. c.branches.invariant.back (drop c.in-Some.behind c.args.text.now) c.in-Some.ensures.front (no_branches k)))
+
+pub read_branches-returns-in_err-branches-2-clause-refused : goal.read_branches-returns-in_err-branches-2-clause-refused
+read_branches-returns-in_err-branches-2-clause-refused t c =
+    let q = err_from_is_err_and c.from_residual-in_err-branches-2.result c.from_residual-in_err-branches-2.ensures.1 in
+    rw (q.1, q.2) (memory c.in_err-branches-2.ensures.refused)
+
+pub read_branches-branches-smaller : goal.read_branches-branches-smaller
+read_branches-branches-smaller t c =
+    let branch = c.in_ok-branch.ensures.read in
+    omega (arith, c.in-Some.ensures.place, branch.forward, branch.within, c.in_ok-branches-2.ensures.made.place)
 
 pub read_branches-branches-preserved : goal.read_branches-branches-preserved
 read_branches-branches-preserved t c =
@@ -152,6 +183,11 @@ read_item-duplications-preserved t c =
     item_repeated c.args.in_group c.args.levels c.args.text.now c.args.at c.duplications.piece c.in_ok-piece-2.piece c.in-Some.counts c.in-Some.behind
     c.duplications.invariant c.if-piece-levels.false d c.in_ok-piece-2.ensures.made
 
+pub read_item-returns-in_err-piece-2-clause-refused : goal.read_item-returns-in_err-piece-2-clause-refused
+read_item-returns-in_err-piece-2-clause-refused t c =
+    let q = err_from_is_err_and c.from_residual-in_err-piece-2.result c.from_residual-in_err-piece-2.ensures.1 in
+    rw (q.1, q.2) (memory c.in_err-piece-2.ensures.refused)
+
 pub read_next-returns-in-Some-clause-read : goal.read_next-returns-in-Some-clause-read
 read_next-returns-in-Some-clause-read t c =
     anchor_next c.args.in_group c.args.levels c.args.text.now c.args.at c.leaf.result (rw c.leaf.ensures.place c.in-Some.ensures) (c.leaf.ensures.told _ expression-Begin) c.leaf.ensures.height
@@ -163,6 +199,9 @@ read_next-returns-then-opens_duplication-clause-refused t c =
 
 pub read_next-returns-clause-read : goal.read_next-returns-clause-read
 read_next-returns-clause-read t c = ok_as _ _ c.read_item.result c.read_item.ensures.read (λ piece h. item_next h)
+
+pub read_next-returns-clause-refused : goal.read_next-returns-clause-refused
+read_next-returns-clause-refused t c = c.read_item.ensures.refused
 
 pub read_group-returns-then-levels-eq0-clause-refused : goal.read_group-returns-then-levels-eq0-clause-refused
 read_group-returns-then-levels-eq0-clause-refused t c =
