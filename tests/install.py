@@ -1,7 +1,7 @@
-"""Cases of `make install`: where it writes, and what becomes of a grep that is there. They want GNU make.
+"""Cases of `make install`: where it writes, and what becomes of a grep that is there. They need GNU make.
 
 It runs in a checkout that has the given grep as build/grep, so that nothing is built or proved, and
-some text as build/occur. All stands in the folder of the case.
+some text as build/occur. All is in the folder of the case.
 """
 
 from __future__ import annotations
