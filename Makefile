@@ -83,5 +83,8 @@ install: build/grep build/occur
 	if test -n "$(SITE_LISP)"; then \
 	    install -d "$(DESTDIR)$(SITE_LISP)" && install -m 644 editors/emacs/live-occur.el "$(DESTDIR)$(SITE_LISP)/"; fi
 
+dist: build/grep build/occur
+	tools/dist.sh
+
 clean:
 	rm -rf build
