@@ -1,5 +1,5 @@
-"""Cases of the pages of the repository: links and anchors, the number of words, numbers that a script
-counts, names of contracts, manual pages. They run no program, and need git.
+"""Cases of the pages of the repository: links and anchors, the number of words, numbers that change
+often, names of definitions and contracts, manual pages. They run no program, and need git.
 """
 
 from __future__ import annotations
@@ -134,12 +134,7 @@ for pattern, most in MOST_WORDS.items():
             return judged([f"{pattern} has {number:,} words"] if number > most else [])
 
 
-@case("The table of definitions in SPECIFICATION is the one that tools/count.py makes.")
-def counted_definitions(bench: Bench) -> Verdict:
-    return Verdict(Answer(count.table().encode()), Answer((count.written_table() or "").encode()))
-
-
-@case("No page names a number of functions, edits, cases or runs, which only EVIDENCE has.")
+@case("No page names a number of functions, edits, cases or runs: they are in EVIDENCE, or tools/count.py says them.")
 def counts_in_pages(bench: Bench) -> Verdict:
     faults = []
     for page, text in pages().items():
@@ -149,7 +144,18 @@ def counts_in_pages(bench: Bench) -> Verdict:
     return judged(faults)
 
 
-# Names of contracts
+# Names of definitions and contracts
+
+
+@case("SPECIFICATION lists exactly the files of definitions that a sceptic has to read.")
+def definitions(bench: Bench) -> Verdict:
+    page = pages().get("docs/SPECIFICATION.md", "").partition("## What a sceptic has to read")[2]
+    listed = {}
+    for crate, names in re.findall(r"^\| `(\w+)` \| ([^|]*) \|", page, re.MULTILINE):
+        listed[crate] = sorted(name.strip() for name in re.sub(r"\([^)]*\)", "", names).split(","))
+    there = {crate: [file.stem for file in files] for crate, files in count.definitions().items()}
+    return judged([f"{crate}: listed {listed.get(crate)}, there {there.get(crate)}"
+                   for crate in listed.keys() | there.keys() if listed.get(crate) != there.get(crate)])
 
 
 @case("Each contract and law that GUARANTEES names is a function or a type of the crates.")
