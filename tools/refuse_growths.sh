@@ -2,11 +2,11 @@
 # Runs tests in which requests for memory between two marks are refused. In one of crates/re_tests none is made: folding
 # and stepping take no memory. In the others each request is refused in turn, one a run, until none is left to refuse: in
 # crates/re_tests of a matcher's searches, which go on without the cache; in crates/core_tests of lines, which are
-# handed out whole by the next call; in crates/grep_tests of words and of whole searches, which report it, with the
-# output up to there; in crates/session_tests of the edits of sessions: one that is refused for that leaves the session
-# as it was, and made again answers as its row says. Edits that need no memory, reports, messages and the status make no
+# handed out whole by the next call; in crates/grep_tests of words and of whole searches, which tell so, with the output
+# up to there; in crates/session_tests of the edits of sessions: one that is refused for that leaves the session as it
+# was, and made again answers as its row says. Edits that need no memory, reports, messages and the status make no
 # request.
-# At first programs that are wrong on purpose are run instead of tests: each has to be found. It needs a C compiler.
+# At first programs are run in the place of tests that are wrong on purpose: each has to be found. It wants a C compiler.
 set -euo pipefail
 cd "$(dirname "${BASH_SOURCE[0]}")/.."
 folder=$(mktemp -d)
@@ -44,7 +44,6 @@ for kind in 0 1 2 3; do expect wrong goes_on "$kind"; done
 expect right goes_on 4
 echo "8 tests that are wrong on purpose were found, and two that are right go through"
 
-runs=0
 # Judges a test, given by its crate and its full name; what it makes.
 try() {
     local judge=$1 crate=$2 test=$3
@@ -54,7 +53,6 @@ try() {
         echo "$crate, $test: ${refused:-no} requests refused, and ${granted:-no} marks without one"
         exit 1
     fi
-    runs=$((runs + refused))
     if [ "$judge" = asks_for_none ]; then
         echo "$4: no request is made"
     else
@@ -68,4 +66,3 @@ try goes_on core_tests long_lines::memory::lines_without_memory "lines"
 try goes_on grep_tests memory::words_without_memory "words"
 try goes_on grep_tests memory::searches_without_memory "searches of sources"
 try goes_on session_tests memory::edits_without_memory "edits of sessions"
-echo "$runs runs with a request for memory refused: each as it has to be"
