@@ -78,15 +78,20 @@ def pages() -> dict[str, str]:
 # Links
 
 
+def without_blocks(text: str) -> str:
+    """A page without its blocks of code."""
+    return re.sub(r"^```.*?^```", "", text, flags=re.MULTILINE | re.DOTALL)
+
+
 def without_code(text: str) -> str:
     """A page without what is shown as it is."""
-    return re.sub(r"`+[^`]*`+", "", re.sub(r"^```.*?^```", "", text, flags=re.MULTILINE | re.DOTALL))
+    return re.sub(r"(`+)[^\n]*?\1", "", without_blocks(text))
 
 
 def anchors_of(text: str) -> set[str]:
     """The anchors of a page's headings, as GitHub makes them."""
     found: list[str] = []
-    for heading in re.findall(r"^#{1,6} +(.+?) *$", re.sub(r"^```.*?^```", "", text, flags=re.M | re.S), re.M):
+    for heading in re.findall(r"^#{1,6} +(.+?) *$", without_blocks(text), re.MULTILINE):
         shown = re.sub(r"\[([^\]]*)\]\([^)]*\)", r"\1", heading).lower()
         anchor = re.sub(r"[^\w\- ]", "", shown).replace(" ", "-")
         twice = found.count(anchor)
