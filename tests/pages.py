@@ -1,5 +1,5 @@
-"""Cases of the pages of the repository: links and anchors, the number of words, numbers that change
-often, names of definitions and contracts, manual pages. They run no program, and need git.
+"""Cases of the pages of the repository: links and anchors, the number of words, numbers that a script
+counts, names of contracts, manual pages. They run no program, and need git.
 """
 
 from __future__ import annotations
@@ -149,18 +149,12 @@ def counts_in_pages(bench: Bench) -> Verdict:
     return judged(faults)
 
 
-# Names of definitions and contracts
+# Definitions and contracts
 
 
-@case("SPECIFICATION lists exactly the files of definitions that a sceptic has to read.")
+@case("The table of definitions in SPECIFICATION is the one that tools/count.py makes.")
 def definitions(bench: Bench) -> Verdict:
-    page = pages().get("docs/SPECIFICATION.md", "").partition("## What a sceptic has to read")[2]
-    listed = {}
-    for crate, names in re.findall(r"^\| `(\w+)` \| ([^|]*) \|", page, re.MULTILINE):
-        listed[crate] = sorted(name.strip() for name in re.sub(r"\([^)]*\)", "", names).split(","))
-    there = {crate: [file.stem for file in files] for crate, files in count.definitions().items()}
-    return judged([f"{crate}: listed {listed.get(crate)}, there {there.get(crate)}"
-                   for crate in listed.keys() | there.keys() if listed.get(crate) != there.get(crate)])
+    return Verdict(Answer(count.table().encode()), Answer(count.table_of_page().encode()))
 
 
 @case("Each contract and law that GUARANTEES names is a function or a type of the crates.")
