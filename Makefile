@@ -1,25 +1,27 @@
-# make            proves what the programs stand on, builds them into build/ and tries each of them, on all cores
+# make            proves what the programs need, builds them into build/ and tries each of them, on all cores
 #                 (four at most, or RT_JOBS)
 # make gate       proofs from nothing, edits that must fail, tests, the programs' stored runs
-# make audit      the wrong bodies that the gate leaves out, each of which has to be refused; it belongs before a release
+# make audit      the wrong bodies that the gate leaves out, each of which has to be refused; before a release
 # make test       the gate, and then the programs built anew and run on the cases of tests/
-# make test-program  runs the built programs on the cases of tests/ (wants Python 3.11)
+# make test-program  runs the built programs on the cases of tests/ (needs Python 3.11)
 # make test-random  compares the built occur with the built grep on 100,000 random edits
-# make test-memory  runs the programs, matchers and sessions with each of their allocations refused in turn (wants a C
+# make test-memory  runs the programs, matchers and sessions with each of their allocations refused in turn (needs a C
 #                 compiler and Python 3.11)
-# make test-editor  tests the Emacs client on the built programs (wants Emacs 28)
+# make test-editor  tests the Emacs client on the built programs (needs Emacs 28)
+# make evidence   writes docs/EVIDENCE.md: the newest run of each of the targets above
 # make install    copies the programs and their manual pages below $(DESTDIR)$(PREFIX), and the Emacs client
-#                 to $(DESTDIR)$(SITE_LISP), if SITE_LISP names a folder; another grep that is there stays, unless
+#                 to $(DESTDIR)$(SITE_LISP), if SITE_LISP names a folder; another grep that is there is kept, unless
 #                 FORCE=1 is given
-# make clean      removes what make built; what rt keeps of its proofs stays
+# make dist       packs the programs, their pages and the Emacs client into an archive in build/
+# make clean      removes what make built; what rt keeps of its proofs is kept
 
-# DESTDIR is for whoever calls make to set, in the environment too. FORCE counts on the command line alone.
+# DESTDIR can be set in the environment too. FORCE counts on the command line alone.
 PREFIX = /usr/local
 SITE_LISP =
 FORCE =
 EMACS = emacs
 
-.PHONY: all programs gate audit test test-program test-random test-memory test-editor install clean
+.PHONY: all programs gate audit test test-program test-random test-memory test-editor evidence dist install clean
 
 all: programs
 
@@ -38,34 +40,38 @@ build/occur: | build/grep
 LANES = RT_JOBS=$${RT_JOBS:-$$(nproc | awk '{ print $$1 < 4 ? $$1 : 4 }')}
 
 gate:
-	$(LANES) rt ci
+	$(LANES) tools/evidence.sh gate rt ci
 
 # Names of crates in CRATES audit these alone.
 audit:
-	$(LANES) tools/audit.sh $(CRATES)
+	$(LANES) tools/evidence.sh audit tools/audit.sh $(CRATES)
 
 test: gate
 	$(MAKE) programs
 	$(MAKE) test-program
 
 test-program: build/grep build/occur
-	python3 tests/run.py build/grep build/occur
+	tools/evidence.sh test-program python3 tests/run.py build/grep build/occur
 
 test-random: build/grep build/occur
-	python3 tests/random_edits.py build/grep build/occur
+	tools/evidence.sh test-random python3 tests/random_edits.py build/grep build/occur
 
 test-memory: build/grep build/occur
-	tools/refuse_allocations.sh
-	python3 tests/refused_growths.py build/occur
-	tools/refuse_growths.sh
+	tools/evidence.sh test-memory-grep tools/refuse_allocations.sh
+	tools/evidence.sh test-memory-occur python3 tests/refused_growths.py build/occur
+	tools/evidence.sh test-memory-crates tools/refuse_growths.sh
 
 # The tests run on the compiled client, as its users do.
 test-editor: build/grep build/occur
 	mkdir -p build/emacs
 	cp editors/emacs/live-occur.el build/emacs/
 	$(EMACS) -Q --batch -f batch-byte-compile build/emacs/live-occur.el
-	OCCUR=$(CURDIR)/build/occur GREP=$(CURDIR)/build/grep \
+	OCCUR=$(CURDIR)/build/occur GREP=$(CURDIR)/build/grep tools/evidence.sh test-editor \
 	    $(EMACS) -Q --batch -L build/emacs -l editors/emacs/test/live-occur-test.el -f ert-run-tests-batch-and-exit
+
+# Each of the test targets above adds its run to build/evidence.tsv.
+evidence:
+	tools/evidence_page.sh
 
 install: build/grep build/occur
 	@test "$(FORCE)" = 1 || tools/keep_other_grep.sh "$(DESTDIR)$(PREFIX)/bin/grep"
@@ -76,6 +82,9 @@ install: build/grep build/occur
 	install -m 644 man/occur.1 "$(DESTDIR)$(PREFIX)/share/man/man1/occur.1"
 	if test -n "$(SITE_LISP)"; then \
 	    install -d "$(DESTDIR)$(SITE_LISP)" && install -m 644 editors/emacs/live-occur.el "$(DESTDIR)$(SITE_LISP)/"; fi
+
+dist: build/grep build/occur
+	tools/dist.sh
 
 clean:
 	rm -rf build

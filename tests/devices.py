@@ -1,5 +1,5 @@
 """Cases of grep on real devices, which no row of plain data can set up: folders, full and failing
-devices, pipes, terminals, streams that stay open, and the surroundings of a process. They want Linux.
+devices, pipes, terminals, streams that stay open, and the surroundings of a process. They need Linux.
 """
 
 from __future__ import annotations
@@ -31,7 +31,7 @@ cases = all_of(case)
 # Folders and files that can't be read
 
 
-@case("A folder as a file is a read error, counts no line, and the search goes on behind it.")
+@case("A folder as a file is a read error, counts no line, and the search goes on after it.")
 def folder_between_files(bench: Bench) -> Verdict:
     bench.write("f", TWO_LINES)
     (bench.folder / "d").mkdir()
@@ -39,7 +39,7 @@ def folder_between_files(bench: Bench) -> Verdict:
     return Verdict(wanted, bench.ask("-c", "a", "f", "d", "f"))
 
 
-@case("A folder that can't be read stands between two groups of lines around, and adds nothing.")
+@case("A folder that can't be read is between two groups of lines around, and adds nothing.")
 def folder_between_groups(bench: Bench) -> Verdict:
     bench.write("f", b"a\nb\nc\n")
     (bench.folder / "d").mkdir()
@@ -60,15 +60,15 @@ def folder_silenced(bench: Bench) -> Verdict:
     return Verdict(Answer(b"f:a\nf:ba\n", b"", 2), bench.ask("-s", "a", "d", "f"))
 
 
-@case("Under `-q` a folder before a selected line is told, and the exit status is 0.")
+@case("Under `-q` a folder before a selected line is reported, and the exit status is 0.")
 def folder_before_selected_line(bench: Bench) -> Verdict:
     bench.write("f", TWO_LINES)
     (bench.folder / "d").mkdir()
     return Verdict(Answer(b"", b"grep: d: read error\n", 0), bench.ask("-q", "a", "d", "f"))
 
 
-@case("Under `-q` a folder behind a selected line is not read.")
-def folder_behind_selected_line(bench: Bench) -> Verdict:
+@case("Under `-q` a folder after a selected line is not read.")
+def folder_after_selected_line(bench: Bench) -> Verdict:
     bench.write("f", TWO_LINES)
     (bench.folder / "d").mkdir()
     return Verdict(Answer(), bench.ask("-q", "a", "f", "d"))
@@ -97,7 +97,7 @@ def file_named_as_folder(bench: Bench) -> Verdict:
 @case("A file that may not be read can't be opened.")
 def unreadable_file(bench: Bench) -> Verdict:
     if os.geteuid() == 0:
-        raise Skipped("root may read every file, whatever its mode")
+        raise Skipped("root may read every file, in any mode")
     bench.write("u", TWO_LINES)
     (bench.folder / "u").chmod(0)
     return Verdict(Answer(b"", b"grep: u: cannot open\n", 2), bench.ask("a", "u"))
@@ -128,7 +128,7 @@ def many_files(bench: Bench) -> Verdict:
 
 
 def broken_input(name: str, words: list[str], content: bytes, wanted: Answer) -> None:
-    """A case of standard input that fails behind this content."""
+    """A case of standard input that fails after this content."""
 
     def judge(bench: Bench) -> Verdict:
         bench.write("f", TWO_LINES)
@@ -152,7 +152,7 @@ broken_input(
     "`-s` silences a failed read of standard input.",
     ["-s", "a"], b"ab\na", Answer(b"ab\n", b"", 2))
 broken_input(
-    "Under `-q` a selected line before the failed read gives 0, and nothing is told.",
+    "Under `-q` a selected line before the failed read gives 0, and nothing is reported.",
     ["-q", "a"], b"ab\na", Answer())
 broken_input(
     "Under `-q` a failed read without a selected line gives 2.",
@@ -176,7 +176,7 @@ def slow_input(bench: Bench) -> Verdict:
 
 
 def open_input(name: str, words: list[str], content: bytes, wanted: Answer) -> None:
-    """A case of standard input that stays open behind this content: a program that reads on would
+    """A case of standard input that stays open after this content: a program that reads on would
     wait for ever."""
 
     def judge(bench: Bench) -> Verdict:
@@ -191,22 +191,22 @@ def open_input(name: str, words: list[str], content: bytes, wanted: Answer) -> N
     case(name)(judge)
 
 
-open_input("Under `-q` nothing is read behind the first selected line.", ["-q", "a"], b"a\n", Answer())
+open_input("Under `-q` nothing is read after the first selected line.", ["-q", "a"], b"a\n", Answer())
 open_input(
-    "Under `-q` with `-v` nothing is read behind the first line that is not matched.",
+    "Under `-q` with `-v` nothing is read after the first line that is not matched.",
     ["-q", "-v", "a"], b"a\na\nb\nc", Answer())
 open_input(
-    "Under `-l` nothing is read behind the first selected line.",
+    "Under `-l` nothing is read after the first selected line.",
     ["-l", "a"], b"b\na\n", Answer(b"(standard input)\n"))
 open_input(
-    "A pattern that is refused is told without a read of standard input.",
+    "A pattern that is refused is reported without a read of standard input.",
     ["["], b"", Answer(b"", b"grep: pattern 1: UnclosedBracket at 0\n", 2))
 open_input(
     "Standard input is not read where a file is named.",
     ["-c", "", "/dev/null"], b"a\n", Answer(b"0\n", b"", 1))
 
 
-@case("Standard input is read from where it stands.")
+@case("Standard input is read from where it is.")
 def input_at_a_place(bench: Bench) -> Verdict:
     bench.write("f", b"a\nb\nc\n")
     with opened(bench.folder / "f") as handle:
@@ -248,7 +248,7 @@ def full_output(name: str, words: list[str], content: bytes, wanted: Answer) -> 
 
 
 full_output(
-    "Standard output that can't be written is told with status 2.",
+    "Standard output that can't be written is reported with status 2.",
     ["b"], b"b\n", Answer(b"", WRITE_ERROR, 2))
 full_output(
     "A count that can't be written is a write error, though no line is selected.",
@@ -266,16 +266,16 @@ full_output(
     "Where no line is selected nothing is written, and no write fails.",
     ["b"], b"a\n", Answer(b"", b"", 1))
 full_output(
-    "A missing file is told before the write error.",
+    "A missing file is reported before the write error.",
     ["b", "nofile", "-"], b"b\n", Answer(b"", CANNOT_OPEN + WRITE_ERROR, 2))
 
 
 def small_output(room: int) -> None:
-    """A case of standard output that takes so many bytes."""
+    """A case of standard output that takes a number of bytes."""
     rows = b"b\nab\n"
     wanted = Answer(rows) if room == len(rows) else Answer(rows[:room], WRITE_ERROR, 2)
 
-    @case(f"Standard output takes {room} bytes: a beginning of the output stands there.")
+    @case(f"Standard output takes {room} bytes: a beginning of the output is there.")
     def judge(bench: Bench) -> Verdict:
         with (bench.folder / "out").open("wb") as out:
             given = bench.ask("b", stdin=b"b\nab\nB\n", stdout=out, preexec_fn=with_room(room))
@@ -336,14 +336,14 @@ full_messages(
     ["-s", "-c", "a", "nofile", "f"], Answer(b"f:2\n", b"", 2))
 full_messages(
     "Without a message a full standard error changes nothing.", ["-c", "a", "f"], Answer(b"2\n"))
-full_messages("A fault of words that can't be told gives status 2.", ["-z"], Answer(b"", b"", 2))
+full_messages("A fault of words that can't be reported gives status 2.", ["-z"], Answer(b"", b"", 2))
 full_messages(
-    "A pattern's fault that can't be told gives status 2.", ["[", "f"], Answer(b"", b"", 2))
+    "A pattern's fault that can't be reported gives status 2.", ["[", "f"], Answer(b"", b"", 2))
 full_messages(
-    "A missing pattern file that can't be told gives status 2.",
+    "A missing pattern file that can't be reported gives status 2.",
     ["-f", "nofile", "f"], Answer(b"", b"", 2))
 full_messages(
-    "Words that are not UTF-8 and can't be told give status 2.", [b"\xff"], Answer(b"", b"", 2))
+    "Words that are not UTF-8 and can't be reported give status 2.", [b"\xff"], Answer(b"", b"", 2))
 
 
 @case("Output and messages that can't be written give status 2.")
@@ -354,9 +354,9 @@ def all_full(bench: Bench) -> Verdict:
 
 
 def small_messages(room: int) -> None:
-    """A case of standard error that takes so many bytes."""
+    """A case of standard error that takes a number of bytes."""
 
-    @case(f"Standard error takes {room} bytes: a beginning of the message stands there.")
+    @case(f"Standard error takes {room} bytes: a beginning of the message is there.")
     def judge(bench: Bench) -> Verdict:
         bench.write("f", TWO_LINES)
         with (bench.folder / "err").open("wb") as err:
@@ -374,7 +374,7 @@ for room_of_messages in (1, 25, 26):
 # Memory
 
 
-@case("A line that does not fit into memory is told, and the lines before it are written.")
+@case("A line that does not fit into memory is reported, and the lines before it are written.")
 def line_too_long_for_memory(bench: Bench) -> Verdict:
     bench.write("f", b"b\na\n")
     os.truncate(bench.folder / "f", 1 << 29)
@@ -438,7 +438,7 @@ def no_variables(bench: Bench) -> Verdict:
     return Verdict(Answer(b"a\n"), bench.ask("a", stdin=b"a\nb\n", env={}))
 
 
-@case("Messages begin with `grep:` by whatever name the program is called.")
+@case("Messages begin with `grep:` by any name of the program.")
 def other_name(bench: Bench) -> Verdict:
     return Verdict(Answer(b"", CANNOT_OPEN, 2), bench.ask("a", "nofile", called="search"))
 

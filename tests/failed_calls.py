@@ -1,5 +1,5 @@
 """Cases of both programs of whose calls of the system one fails: each read, write and open in turn,
-with several errors. What failed is told, and is not tried again. They want Linux and a C compiler.
+with several errors. What failed is reported, and is not tried again. They need Linux and a C compiler.
 
 An opening that a signal broke off is made again by std, before the program hears of it.
 """
@@ -30,7 +30,7 @@ ERRORS = {
     "open": (errno.EMFILE, errno.EIO, errno.ENOMEM),
 }
 """The errors of each kind of call: a signal came, nothing can be moved now, the device failed, it
-is full, too many files are open, memory is wanting."""
+is full, too many files are open, out of memory."""
 
 grep_case = Cases("grep", "failed_calls.py")
 occur_case = Cases("occur", "failed_calls.py")
@@ -88,8 +88,8 @@ def with_failed_call(bench: Bench, run: Run, at: int, error: int) -> tuple[Answe
     library = {"FAIL_LOG": str(log), "LD_PRELOAD": str(bench.folder / "refuse.so")}
     given = bench.ask(*run.words, stdin=run.stdin, env={**os.environ, **failure, **library})
     calls = calls_of(log)
-    told = b"".join(f"made again: {call}".encode() for call in made_again(calls))
-    answer = Answer(given.out, given.err + told, given.status)
+    again = b"".join(f"made again: {call}".encode() for call in made_again(calls))
+    answer = Answer(given.out, given.err + again, given.status)
     return answer, any(call.failed for call in calls)
 
 
@@ -120,7 +120,7 @@ def read_error(name: str) -> bytes:
 
 
 failing(
-    grep_case, "A read that fails, first or at the end of a file, is told and not tried again.",
+    grep_case, "A read that fails, first or at the end of a file, is reported and not tried again.",
     Run("read", ["-c", "a", "f", "-", "g"], b"a\nb\n"),
     [
         Answer(b"f:0\n(standard input):1\ng:2\n", read_error("f"), 2),
@@ -162,11 +162,11 @@ failing(
         Answer(b"", b"grep: f: cannot open\n", 2),
     ])
 failing(
-    occur_case, "A read of a script that fails is told, and is not tried again.",
+    occur_case, "A read of a script that fails is reported, and is not tried again.",
     Run("read", [], SCRIPT),
     [Answer(b"", SCRIPT_READ_ERROR, 2), Answer(REPLIES, SCRIPT_READ_ERROR, 2)])
 failing(
-    occur_case, "A read of a script that is named and fails is told, and is not tried again.",
+    occur_case, "A read of a script that is named and fails is reported, and is not tried again.",
     Run("read", ["script"]),
     [Answer(b"", SCRIPT_READ_ERROR, 2), Answer(REPLIES, SCRIPT_READ_ERROR, 2)])
 failing(
@@ -176,8 +176,8 @@ failing(
     occur_case, "A message of occur of which a write fails is not written again.",
     Run("write", ["nofile"]),
     [
-        Answer(b"", told, 2)
-        for told in (b"", b"occur: ", b"occur: nofile", b"occur: nofile:",
+        Answer(b"", said, 2)
+        for said in (b"", b"occur: ", b"occur: nofile", b"occur: nofile:",
                      b"occur: nofile: cannot open")
     ])
 failing(

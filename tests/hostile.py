@@ -26,7 +26,7 @@ cases = all_of(case, occur_case)
 
 
 def refused(syntax: str, byte: bytes, count: int, fault: str) -> None:
-    """A case of a pattern file that has a byte so many times, and of how it is refused."""
+    """A case of a pattern file that has a byte a number of times, and of how it is refused."""
 
     read_as = "extended" if syntax else "basic"
 
@@ -49,14 +49,14 @@ for one_byte, basic, extended in (
     refused("", one_byte, MEBIBYTE, basic)
     refused("-E", one_byte, MEBIBYTE, extended)
 
-for longest_syntax, repeated, told_fault in (
+for longest_syntax, repeated, fault in (
     ("-E", b"(", "TooDeep at 256"),
     ("", b"*", "TooDeep at 257"),
     ("-E", b"*", "NothingToRepeat at 0"),
     ("", b"[", "UnclosedBracket at 0"),
     ("", b"a", "TooLarge at 0"),
 ):
-    refused(longest_syntax, repeated, 100_000_000, told_fault)
+    refused(longest_syntax, repeated, 100_000_000, fault)
 
 
 @case("A fixed string of a mebibyte is found in a line that has it, and only there.")
@@ -107,7 +107,7 @@ EACH_BYTE = [bytes((byte,)) for byte in range(256) if byte != 10]
 """Each byte but the newline."""
 
 IN_EACH_LINE = {b"x", b"y", b".", b"^", b"$"}
-"""Bytes that as an expression are matched by each line of which a byte stands between x and y."""
+"""Bytes that as an expression are matched by each line of which a byte is between x and y."""
 
 NO_BASIC = {b"[": "UnclosedBracket", b"\\": "TrailingBackslash"}
 """Bytes that are no basic expression, and why."""
@@ -164,19 +164,19 @@ def each_byte_as_line(bench: Bench) -> Verdict:
 
 
 def answer_to_option(byte: bytes) -> Answer:
-    """What a command of one word gives, a hyphen with this byte behind it."""
+    """What a command of one word gives, a hyphen with this byte after it."""
     if byte in b"cilnoqsvxEF-":
-        told = b"grep: no pattern\n"
+        message = b"grep: no pattern\n"
     elif byte in b"efABC":
-        told = b"grep: option -%s needs an argument\n" % byte
+        message = b"grep: option -%s needs an argument\n" % byte
     elif byte.isascii():
-        told = b"grep: unknown option -%s\n" % byte
+        message = b"grep: unknown option -%s\n" % byte
     else:
-        told = b"grep: words must be UTF-8\n"
-    return Answer(b"", told + USAGE, 2)
+        message = b"grep: words must be UTF-8\n"
+    return Answer(b"", message + USAGE, 2)
 
 
-@case("Each byte but 0 behind a hyphen is an option, or is refused by its name.")
+@case("Each byte but 0 after a hyphen is an option, or is refused by its name.")
 def each_byte_as_option(bench: Bench) -> Verdict:
     letters = [bytes((byte,)) for byte in range(1, 256)]
     given = [bench.ask(b"-" + letter) for letter in letters]
@@ -186,7 +186,7 @@ def each_byte_as_option(bench: Bench) -> Verdict:
 # Long words and names
 
 
-@case("A word as long as Linux takes is a pattern, and is found where it stands.")
+@case("A word as long as Linux takes is a pattern, and is found where it is.")
 def longest_pattern(bench: Bench) -> Verdict:
     word = b"ab" * (LONGEST_WORD // 2) + b"c"
     given = bench.ask("-n", "-F", word, stdin=word[1:] + b"\nx" + word + b"\n")
@@ -195,11 +195,11 @@ def longest_pattern(bench: Bench) -> Verdict:
 
 @case("A word as long as Linux takes is a basic expression of too many positions.")
 def longest_expression(bench: Bench) -> Verdict:
-    told = b"grep: pattern 1: TooLarge at 0\n"
-    return Verdict(Answer(b"", told, 2), bench.ask(b"a" * LONGEST_WORD))
+    message = b"grep: pattern 1: TooLarge at 0\n"
+    return Verdict(Answer(b"", message, 2), bench.ask(b"a" * LONGEST_WORD))
 
 
-@case("A name as long as Linux takes of a word can't be opened, and is told whole.")
+@case("A name as long as Linux takes of a word can't be opened, and is reported whole.")
 def longest_name(bench: Bench) -> Verdict:
     name = b"n" * LONGEST_WORD
     wanted = Answer(b"", b"grep: " + name + b": cannot open\n", 2)
@@ -219,7 +219,7 @@ def longest_options(bench: Bench) -> Verdict:
     return Verdict(Answer(b"2:b\n"), given)
 
 
-@occur_case("A name of 1 MiB stands before each row where there are two files.")
+@occur_case("A name of 1 MiB is before each row where there are two files.")
 def long_name_in_script(bench: Bench) -> Verdict:
     name = b"n" * MEBIBYTE
     script = b"file %s 2\nab\nb\nfile g 1\na\npatterns 1\na\nmissing %s\nshow\n" % (name, name)
@@ -234,7 +234,7 @@ def long_word_in_script(bench: Bench) -> Verdict:
     return Verdict(wanted, bench.ask(stdin=script))
 
 
-@occur_case("A count of 1 MiB of digits is none, and one of so many zeros before it is.")
+@occur_case("A count of 1 MiB of digits is none, and one with this number of zeros before it is.")
 def long_count_in_script(bench: Bench) -> Verdict:
     zeros = b"0" * MEBIBYTE
     script = b"file f 1%s\nfile f %s1\nab\npatterns 1\na\nshow\n" % (zeros, zeros)
@@ -261,9 +261,9 @@ def long_line(bench: Bench) -> Verdict:
 
 
 def want_memory(size: int) -> None:
-    """Gives a case up where so many bytes of memory are not there."""
-    told = Path("/proc/meminfo").read_text(encoding="ascii")
-    free = next(line for line in told.splitlines() if line.startswith("MemAvailable:"))
+    """Gives a case up where this much memory is not there."""
+    text = Path("/proc/meminfo").read_text(encoding="ascii")
+    free = next(line for line in text.splitlines() if line.startswith("MemAvailable:"))
     if int(free.split()[1]) * 1024 < size:
         raise Skipped(f"less than {size >> 20} MiB of memory are there")
 

@@ -1,7 +1,8 @@
-"""Cases of `make install`: where it writes, and what becomes of a grep that is there. They want GNU make.
+"""Cases of `make install`: where it writes, and what becomes of a grep that is there; and of `make dist`:
+what it packs. They need GNU make.
 
 It runs in a checkout that has the given grep as build/grep, so that nothing is built or proved, and
-some text as build/occur. All stands in the folder of the case.
+some text as build/occur. All is in the folder of the case.
 """
 
 from __future__ import annotations
@@ -9,6 +10,7 @@ from __future__ import annotations
 import os
 import shutil
 import subprocess
+import tarfile
 from pathlib import Path
 
 from program import SECONDS, Answer, Bench, Cases, Skipped, Verdict, all_of
@@ -19,6 +21,9 @@ OCCUR = b"occur"
 
 OTHER_GREP = b"#!/bin/sh\necho 'usage: grep [-abc] pattern [file ...]' >&2\nexit 2\n"
 INSTALLED = ["bin/grep", "bin/occur", "share/man/man1/grep.1", "share/man/man1/occur.1"]
+PACKED = ["LICENSE-APACHE", "LICENSE-MIT", "README", *INSTALLED[:2],
+          "share/emacs/site-lisp/live-occur.el", *INSTALLED[2:]]
+CHECKED_OUT = ["LICENSE-APACHE", "LICENSE-MIT", "Makefile", "VERSION", "dist", "editors", "man", "tools"]
 FAILED = 2
 """The exit status of make where a command failed."""
 
@@ -31,21 +36,25 @@ def checkout(bench: Bench) -> Path:
     """A checkout in which both programs are built."""
     bench.write("checkout/build/occur", OCCUR)
     shutil.copy(bench.program, bench.folder / "checkout/build/grep")
-    for name in ("Makefile", "editors", "man", "tools"):
+    for name in CHECKED_OUT:
         (bench.folder / "checkout" / name).symlink_to(REPOSITORY / name)
     return bench.folder / "checkout"
 
 
-def install(bench: Bench, *words: str, **variables: str) -> int:
-    """Runs `make install` to the folder `there`, and answers its exit status. Of the environment
-    it has the path and these variables alone, so that no setting of a make above comes in."""
+def make(bench: Bench, *words: str, **variables: str) -> int:
+    """Runs make in a checkout, and answers its exit status. Of the environment it has the path and
+    these variables alone, and so no setting of a make above."""
     if not shutil.which("make"):
         raise Skipped("no make")
-    command = ["make", "-s", "install", f"PREFIX={bench.folder / 'there'}", *words]
     environment = {"PATH": os.environ["PATH"], **variables}
-    ran = subprocess.run(command, cwd=checkout(bench), env=environment, timeout=SECONDS,
+    ran = subprocess.run(["make", "-s", *words], cwd=checkout(bench), env=environment, timeout=SECONDS,
                          stdin=subprocess.DEVNULL, capture_output=True, check=False)
     return ran.returncode
+
+
+def install(bench: Bench, *words: str, **variables: str) -> int:
+    """Runs `make install` to the folder `there`, and answers its exit status."""
+    return make(bench, "install", f"PREFIX={bench.folder / 'there'}", *words, **variables)
 
 
 def put_grep(bench: Bench, content: bytes, mode: int = 0o755) -> None:
@@ -122,3 +131,14 @@ def forced_by_a_variable(bench: Bench) -> Verdict:
 def same_grep(bench: Bench) -> Verdict:
     put_grep(bench, bench.program.read_bytes() + b"\n")
     return installed_over(bench, replaced(bench))
+
+
+@grep_case("`make dist` packs both programs, their pages, the Emacs client, the licences and a README.")
+def packed(bench: Bench) -> Verdict:
+    status = make(bench, "dist")
+    version = (REPOSITORY / "VERSION").read_text(encoding="ascii").strip()
+    name = f"gaxtrel-{version}-x86_64-linux"
+    with tarfile.open(bench.folder / f"checkout/build/{name}.tar.gz") as archive:
+        files = [member.name for member in archive if member.isfile()]
+    wanted = "\n".join(f"{name}/{file}" for file in PACKED).encode()
+    return Verdict(Answer(wanted), Answer("\n".join(files).encode(), b"", status))

@@ -22,7 +22,7 @@ cases = all_of(case)
 # When rows go out
 
 
-@case("Through pipes a row is seen while the input pauses, and behind it the next one.")
+@case("Through pipes a row is seen while the input pauses, and after it the next one.")
 def pipe_that_pauses(bench: Bench) -> Verdict:
     process = bench.start("-n", "b")
     seen = []
@@ -124,7 +124,7 @@ def around_blocks(shift: int) -> bytes:
 for shift in (*range(9), 64, 4_000):
     for words, inverted in ((["-n", "needle"], False), (["-n", "-F", "needle"], False), (["-n", "-v", "needle"], True)):
 
-        @case(f"{' '.join(words)}: the string stands {shift} bytes before the end of a block.")
+        @case(f"{' '.join(words)}: the string is {shift} bytes before the end of a block.")
         def rare(
             bench: Bench, words: list[str] = words, inverted: bool = inverted, shift: int = shift
         ) -> Verdict:
@@ -133,7 +133,7 @@ for shift in (*range(9), 64, 4_000):
             return Verdict(Answer(rare_rows(text, b"needle", inverted)), bench.ask(*words, "f"))
 
 
-@case("Lines that are passed are counted, and those behind them have their numbers.")
+@case("Lines that are passed are counted, and those after them have their numbers.")
 def passed_lines_counted(bench: Bench) -> Verdict:
     text = b"".join(b"line %d\n" % number for number in range(200_000))
     bench.write("f", text)

@@ -1,5 +1,5 @@
 """Cases of occur on real devices: dialogues over pipes, folders, full and failing devices, terminals,
-and the surroundings of a process. They want Linux.
+and the surroundings of a process. They need Linux.
 """
 
 from __future__ import annotations
@@ -43,8 +43,8 @@ cases = all_of(case)
 @case("Help is written to standard output, names the words, and gives 0.")
 def help_wanted(bench: Bench) -> Verdict:
     given = bench.ask("--help", stdin=b"show\n")
-    told = [word for word in (b"--states", b"SCRIPT") if word in given.out]
-    return Verdict(Answer(b"--states SCRIPT"), Answer(b" ".join(told), given.err, given.status))
+    named = [word for word in (b"--states", b"SCRIPT") if word in given.out]
+    return Verdict(Answer(b"--states SCRIPT"), Answer(b" ".join(named), given.err, given.status))
 
 
 # Dialogues. That each reply of a script comes before the next command is sent is tried with each of
@@ -128,7 +128,7 @@ dialogue(
     "An input that ends in the midst of counted lines is cut off.",
     [(b"file f 3\na\n", b"")], b"b", Answer(b"refused Truncated\n", b"", 1))
 dialogue(
-    "An input that ends behind a whole reply has no other.",
+    "An input that ends after a whole reply has no other.",
     [(b"show\n", b"status 1\n")], b"", Answer(b"status 1\n"))
 
 
@@ -176,7 +176,7 @@ def named_pipe(bench: Bench) -> Verdict:
     return Verdict(Answer(REPLIES), bench.ask("p"))
 
 
-@case("A script on standard input is read from where it stands.")
+@case("A script on standard input is read from where it is.")
 def script_at_a_place(bench: Bench) -> Verdict:
     bench.write("s", b"flag n on\nshow\n")
     with opened(bench.folder / "s") as handle:
@@ -226,7 +226,7 @@ def folder_as_input(bench: Bench) -> Verdict:
 
 
 def broken_script(name: str, content: bytes, out: bytes) -> None:
-    """A case of a script whose read fails behind this content: replies stand to what was whole."""
+    """A case of a script whose read fails after this content: what was whole has its replies."""
 
     @case(name)
     def judge(bench: Bench) -> Verdict:
@@ -234,8 +234,8 @@ def broken_script(name: str, content: bytes, out: bytes) -> None:
             return Verdict(Answer(out, SCRIPT_READ_ERROR, 2), bench.ask(stdin=handle))
 
 
-def replies_behind(read: int) -> bytes:
-    """The replies to the commands that are whole in so many bytes of the script."""
+def replies_after(read: int) -> bytes:
+    """The replies to the commands that are whole in this number of bytes of the script."""
     whole = [replies for end, replies in ((12, 3), (25, 6), (30, 20)) if end <= read]
     return REPLIES[:max(whole, default=0)]
 
@@ -243,7 +243,7 @@ def replies_behind(read: int) -> bytes:
 for bytes_read in range(len(SCRIPT) + 1):
     broken_script(
         f"The read of a script fails after {bytes_read} bytes: replies stand to the whole commands.",
-        SCRIPT[:bytes_read], replies_behind(bytes_read))
+        SCRIPT[:bytes_read], replies_after(bytes_read))
 broken_script(
     "A command whose line is not ended when a read fails is not answered.",
     b"show\nshow", b"status 1\n")
@@ -269,13 +269,13 @@ def full_output(name: str, words: list[Word], content: bytes, wanted: Answer) ->
 
 
 full_output(
-    "Replies that can't be written are told with status 2.",
+    "Replies that can't be written are reported with status 2.",
     [], SCRIPT, Answer(b"", REPLY_WRITE_ERROR, 2))
 full_output(
-    "Replies to a script that is named and can't be written are told with status 2.",
+    "Replies to a script that is named and can't be written are reported with status 2.",
     ["s"], b"", Answer(b"", REPLY_WRITE_ERROR, 2))
 full_output(
-    "A refusal that can't be written is told with status 2.",
+    "A refusal that can't be written is reported with status 2.",
     [], b"close 0\n", Answer(b"", REPLY_WRITE_ERROR, 2))
 full_output(
     "Where a script has no reply nothing is written, and no write fails.",
@@ -284,18 +284,18 @@ full_output(
     "A write fails in the midst of many replies.",
     [], b"flag n on\nflag n off\n" * 50_000, Answer(b"", REPLY_WRITE_ERROR, 2))
 full_output(
-    "A script that can't be opened is told, whether replies can be written or not.",
+    "A script that can't be opened is reported, whether replies can be written or not.",
     ["nofile"], b"", Answer(b"", SCRIPT_CANNOT_OPEN, 2))
 full_output(
     "Help that can't be written gives 2.", ["--help"], b"", Answer(b"", REPLY_WRITE_ERROR, 2))
 
 
 def small_output(room: int) -> None:
-    """A case of standard output that takes so many bytes."""
+    """A case of standard output that takes a number of bytes."""
     cut_off = Answer(REPLIES[:room], REPLY_WRITE_ERROR, 2)
     wanted = Answer(REPLIES) if room == len(REPLIES) else cut_off
 
-    @case(f"Standard output takes {room} bytes of the replies: a beginning of them stands there.")
+    @case(f"Standard output takes {room} bytes of the replies: a beginning of them is there.")
     def judge(bench: Bench) -> Verdict:
         with (bench.folder / "out").open("wb") as out:
             given = bench.ask(stdin=SCRIPT, stdout=out, preexec_fn=with_room(room))
@@ -340,11 +340,11 @@ def full_messages(name: str, words: list[Word], wanted: Answer) -> None:
 full_messages(
     "Without a message of occur a full standard error is not noticed.", [], Answer(REPLIES))
 full_messages(
-    "A missing script that can't be told gives 2.", ["nofile"], Answer(b"", b"", 2))
+    "A missing script that can't be reported gives 2.", ["nofile"], Answer(b"", b"", 2))
 full_messages(
-    "Words of occur that are not UTF-8 and can't be told give 2.", [b"\xff"], Answer(b"", b"", 2))
+    "Words of occur that are not UTF-8 and can't be reported give 2.", [b"\xff"], Answer(b"", b"", 2))
 full_messages(
-    "Wrong words of occur that can't be told give 2.", ["--states", "0"], Answer(b"", b"", 2))
+    "Wrong words of occur that can't be reported give 2.", ["--states", "0"], Answer(b"", b"", 2))
 
 
 @case("Replies and messages that can't be written give 2.")
@@ -361,7 +361,7 @@ little_memory = partial(resource.setrlimit, resource.RLIMIT_AS, (1 << 27, 1 << 2
 
 
 def too_long(name: str, script: bytes, out: bytes) -> None:
-    """A case of a script behind which a line of half a GiB follows, which does not fit into memory."""
+    """A case of a script after which a line of half a GiB follows, which does not fit into memory."""
 
     @case(name)
     def judge(bench: Bench) -> Verdict:
@@ -372,10 +372,10 @@ def too_long(name: str, script: bytes, out: bytes) -> None:
 
 
 too_long(
-    "A command that does not fit into memory is told, and the replies before it stand.",
+    "A command that does not fit into memory is reported, and the replies before it are kept.",
     b"show\n", b"status 1\n")
 too_long(
-    "A counted line that does not fit into memory is told, and the replies before it stand.",
+    "A counted line that does not fit into memory is reported, and the replies before it are kept.",
     b"show\nfile f 1\n", b"status 1\n")
 
 
@@ -398,10 +398,10 @@ def states_kept(bench: Bench) -> Verdict:
     given_few, long = timed(bench, "1", script)
     given_many, short = timed(bench, "256", script)
     wanted = Answer(b"ok\nok\nok\nstatus 1\n", b"faster with 256")
-    told = b"faster with 256" if long > 5 * short else b"%.2f s and %.2f s" % (long, short)
+    found = b"faster with 256" if long > 5 * short else b"%.2f s and %.2f s" % (long, short)
     if given_few != given_many:
         return Verdict(given_few, given_many)
-    return Verdict(wanted, Answer(given_many.out, given_many.err + told, given_many.status))
+    return Verdict(wanted, Answer(given_many.out, given_many.err + found, given_many.status))
 
 
 # The surroundings of the process
@@ -420,6 +420,6 @@ def no_variables(bench: Bench) -> Verdict:
     return Verdict(Answer(REPLIES), bench.ask(stdin=SCRIPT, env={}))
 
 
-@case("Messages begin with `occur:` by whatever name the program is called.")
+@case("Messages begin with `occur:` by any name of the program.")
 def other_name(bench: Bench) -> Verdict:
     return Verdict(Answer(b"", SCRIPT_CANNOT_OPEN, 2), bench.ask("nofile", called="editor"))

@@ -1,5 +1,5 @@
 """Cases of both programs as processes: streams that are closed, signals, and terminals that go away
-while they run. They want Linux.
+while they run. They need Linux.
 """
 
 from __future__ import annotations
@@ -96,7 +96,7 @@ closed_streams(
 
 
 def stopped_between(bench: Bench, words: list[str], pieces: list[bytes]) -> Answer:
-    """Gives the input in pieces; behind each the process is stopped while it waits for the next one,
+    """Gives the input in pieces; after each the process is stopped while it waits for the next one,
     and goes on; a signal that it ignores comes, too."""
     process = bench.start(*words)
     for piece in pieces:
@@ -137,7 +137,7 @@ def stopped_writing(bench: Bench) -> Verdict:
 
 
 def gone_terminal(bench: Bench, first: bytes, rest: bytes, seen: int) -> Answer:
-    """Runs on a terminal that goes away once so many bytes were seen there; then comes the rest."""
+    """Runs on a terminal that goes away once a number of bytes was seen there; then it gets the rest."""
     ours, theirs = pty.openpty()
     tty.setraw(theirs)
     process = bench.start(*(["b"] if bench.name == "grep" else []), stdout=theirs)

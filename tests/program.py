@@ -72,7 +72,7 @@ Judge = Callable[[Bench], Verdict]
 
 @dataclass(frozen=True)
 class Case:
-    """A question to a program: which one, where the question stands, what it shows, and the judging
+    """A question to a program: which one, where the question is from, what it shows, and the judging
     of one run."""
 
     program: str

@@ -225,7 +225,7 @@ def play(grep: Path, occur: Path, dice: random.Random, edits: int) -> tuple[int,
                 made += 1
                 if shown != wanted:
                     differing += 1
-                    print(f"differs behind {edit.text!r}:\n  {session}\n  occur {shown}\n  grep  {wanted}")
+                    print(f"differs after {edit.text!r}:\n  {session}\n  occur {shown}\n  grep  {wanted}")
     running.close()
     return made, differing
 

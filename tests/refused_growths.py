@@ -5,9 +5,9 @@
 
 A run in which one request was refused has to go on as if nothing had happened; or to answer one
 edit that may need memory with `refused Memory`, and all else as the script without that edit is
-answered; or to end behind some whole reply with `occur: out of memory` and status 2. Each kind of
+answered; or to end after some whole reply with `occur: out of memory` and status 2. Each kind of
 edit that may need memory has to be refused for it in some run. At the end programs that are wrong
-on purpose are judged in the same way: each has to fail. It wants a C compiler.
+on purpose are judged in the same way: each has to fail. It needs a C compiler.
 """
 
 from __future__ import annotations
@@ -38,7 +38,7 @@ STATES = ("1", "4096")
 """How many states the patterns' matchers may have."""
 
 ASKING = frozenset(("file", "missing", "splice", "patterns", "flag", "syntax"))
-"""The kinds of edit of which some have to be refused for want of memory. `drop` may be too, where
+"""The kinds of edit of which some have to be refused as out of memory. `drop` may be too, where
 parts are kept."""
 
 FLAGS_OF_OUTPUT = frozenset(b"clnqsv")
@@ -91,7 +91,7 @@ def kind_of(step: Step) -> str:
 
 
 def may_need_memory(step: Step) -> bool:
-    """Whether a command is an edit that may be refused for want of memory."""
+    """Whether a command is an edit that may be refused as out of memory."""
     words = step.sent.split(b"\n")[0].split(b" ")
     if words[0] == b"flag":
         return len(words) == 3 and words[1] not in {bytes([letter]) for letter in FLAGS_OF_OUTPUT}
@@ -99,7 +99,7 @@ def may_need_memory(step: Step) -> bool:
 
 
 def whole_fronts(steps: Sequence[Step]) -> set[bytes]:
-    """What has gone out behind each whole reply, and before the first."""
+    """What has gone out after each whole reply, and before the first."""
     return {replies_of(steps[:count]) for count in range(len(steps) + 1)}
 
 
@@ -121,7 +121,7 @@ def judge(steps: Steps, given: Answer, without: Callable[[int], Answer]) -> str:
     if given.status == 2 and given.err == ENDED and given.out in whole_fronts(steps):
         return "ended"
     if given.err:
-        raise Wrong(f"{given} is no end behind a whole reply")
+        raise Wrong(f"{given} is no end after a whole reply")
     if given.out == replies_of(steps):
         return "went on"
     kind = edit_not_made(steps, given, without)
@@ -215,7 +215,7 @@ def refuses_to_close(given: Answer, refused: bool) -> Answer:
 
 
 def loses_a_reply(given: Answer, refused: bool) -> Answer:
-    """The command behind the refused one has no reply."""
+    """The command after the refused one has no reply."""
     return Answer(b"refused Memory\nok\nok\n", b"", 1) if refused else given
 
 
@@ -225,7 +225,7 @@ def breaks_a_reply(given: Answer, refused: bool) -> Answer:
 
 
 def ends_as_success(given: Answer, refused: bool) -> Answer:
-    """The exit status does not tell of the refusal."""
+    """The exit status does not show the refusal."""
     return Answer(given.out, given.err, 0)
 
 
@@ -269,15 +269,16 @@ def main() -> int:
             return 1
         passed = passed_mutants(program, library)
     edits = {kind: count for kind, count in sorted(ends.items()) if kind not in ("ended", "went on")}
-    told = ", ".join(f"{count} of {kind}" for kind, count in edits.items())
-    print(f"{sum(ends.values())} runs of {len(scripts())} scripts, with {' and with '.join(STATES)} states")
-    print(f"went on {ends['went on']}, ended {ends['ended']}, edits refused: {told}")
+    refused = ", ".join(f"{count} of {kind}" for kind, count in edits.items())
+    print(f"{len(scripts())} scripts, with {' and with '.join(STATES)} states")
+    print(f"went on {ends['went on']}, ended {ends['ended']}, edits refused: {refused}")
     if missing := ASKING - edits.keys():
         print(f"never refused for memory: {sorted(missing)}")
     if passed:
         print(f"wrong on purpose, and not found: {passed}")
     else:
         print(f"{len(MUTANTS)} programs that are wrong on purpose failed, as they have to")
+    print(f"{sum(ends.values())} runs with a request for memory refused")
     return 1 if missing or passed else 0
 
 

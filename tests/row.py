@@ -6,7 +6,7 @@ A text in a row is one of these:
 
 - a string, which stands for its UTF-8 bytes;
 - a number from 0 to 255, which stands for that byte;
-- a table { text = TEXT, times = N }, the text so many times;
+- a table { text = TEXT, times = N }, the text this number of times;
 - a table { bytes = [...] }, each byte of the list; a member is a byte, as a number or a string of
   one character, or a list of the first and the last byte of a range;
 - a table { lines = [...] }, each byte of such a list on a line of its own;
@@ -38,7 +38,7 @@ class BadRow(Exception):
 @dataclass(frozen=True)
 class Row:
     """One command line: what the program is given, and what it has to answer. Streams that are left
-    open have some text, whatever it is."""
+    open have some text."""
 
     program: str
     source: str

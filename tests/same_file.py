@@ -1,4 +1,4 @@
-"""Cases of both programs whose input is the file to which they write. They want Linux."""
+"""Cases of both programs whose input is the file to which they write. They need Linux."""
 
 from __future__ import annotations
 
@@ -16,7 +16,7 @@ cases = all_of(grep_case, occur_case)
 
 def appended(bench: Bench, words: list[str], content: bytes, as_input: bool = False) -> Answer:
     """Runs the program on a file `both` of this content, to whose end standard output goes and which
-    may be standard input too. What it wrote is what then stands behind the content."""
+    may be standard input too. What it wrote is what then is after the content."""
     bench.write("both", content)
     with (
         opened(bench.folder / "both", os.O_WRONLY | os.O_APPEND) as output,
@@ -50,7 +50,7 @@ grep_of_both(
     "A file that is standard output too is a read error, and none of it is read.",
     ["a", "both"], Answer(b"", read_error("both"), 2))
 grep_of_both(
-    "Files before and behind the one that is standard output are searched.",
+    "Files before and after the one that is standard output are searched.",
     ["a", "f", "both", "f"], Answer(b"f:a\nf:a\n", read_error("both"), 2))
 grep_of_both(
     "The file that is standard output is known by another name.",
@@ -65,7 +65,7 @@ grep_of_both(
     "`-s` silences the read error of the file that is standard output.",
     ["-s", "a", "both"], Answer(b"", b"", 2))
 grep_of_both(
-    "Under `-c` the file that is standard output is read: its count goes out behind that.",
+    "Under `-c` the file that is standard output is read: its count goes out after that.",
     ["-c", "a", "both"], Answer(b"2\n"))
 grep_of_both(
     "Under `-l` the file that is standard output is read up to its first selected line.",
@@ -85,7 +85,7 @@ grep_of_both(
 
 
 grep_of_both(
-    "Standard input that is two pattern files is two, and a file behind them is not searched.",
+    "Standard input that is two pattern files is two, and a file after them is not searched.",
     ["-f", "-", "-f", "-", "both"], Answer(b"", read_error("both"), 2))
 
 

@@ -1,5 +1,5 @@
 """Streams and limits that cases hand to a program: folders, full and failing devices, pipes without
-a reader, and inputs that come late. They want Linux.
+a reader, and inputs that come late. They need Linux.
 """
 
 from __future__ import annotations

@@ -1,10 +1,10 @@
 #!/usr/bin/env bash
 # Proves and builds programs, with the crates that they stand on and no others: tools/build.sh PROGRAM..
 #
-# A crate begins as soon as those that it stands on are proved; the first program's crates go first. Crates that are
-# ready at once share the cores: RT_JOBS, or else all, but four at most. A program comes to build/, and is tried as
-# soon as it is there. What the toolchain says goes to build/log/CRATE, and to build/make.log as each crate ends.
-# It wants bash 5.1.
+# A crate begins as soon as those that it stands on are proved; the first program's crates are first. Crates that are
+# ready at once share the cores: RT_JOBS, or else all, but four at most. A program is put into build/, and is tried at
+# once. What the toolchain says is in build/log/CRATE, and in build/make.log as each crate ends.
+# It needs bash 5.1.
 set -euo pipefail
 cd "$(dirname "${BASH_SOURCE[0]}")/.."
 
@@ -18,8 +18,8 @@ declare -A state=() # of each crate that is wanted: waits, runs or proved
 declare -A crate_of=() share_of=() # of each job, by its process: its crate, and its cores
 declare -A words=([grep]=b) # of a program: its words for the run on its stored input
 
-tell() { printf '[%2d.%d min] %s\n' $((SECONDS / 60)) $((SECONDS % 60 / 6)) "$1"; }
-fail() { tell "$1" >&2; exit 1; }
+report() { printf '[%2d.%d min] %s\n' $((SECONDS / 60)) $((SECONDS % 60 / 6)) "$1"; }
+fail() { report "$1" >&2; exit 1; }
 is_program() { [[ -e crates/$1/src/main.rt ]]; }
 
 read_crates() {
@@ -49,7 +49,7 @@ start() {
         rt=(rt run --jobs "$share" -- ${words[$crate]-}) input=crates/$crate/stdin
     fi
     if [[ $here ]]; then place=(tools/in_copy.sh "$crate" "${proved[*]}"); else here=$crate; fi
-    tell "$crate begins, with $share of $cores cores"
+    report "$crate begins, with $share of $cores cores"
     "${place[@]}" "${rt[@]}" < "$input" > "build/log/$crate" 2>&1 &
     crate_of[$!]=$crate share_of[$!]=$share state[$crate]=runs free=$((free - share))
 }
@@ -67,7 +67,7 @@ try_occur() {
     printf 'file f 1\nab\npatterns 1\na\nshow\n' | build/occur | diff - <(printf 'ok\nok\no ab\nstatus 0\n')
 }
 
-# Waits until a crate ends, and tells of it.
+# Waits until a crate ends, and reports it.
 finish_one() {
     local job crate what it left=() status=0
     wait -n -p job || status=$?
@@ -88,7 +88,7 @@ finish_one() {
         proved+=("$crate")
     fi
     for it in "${order[@]}"; do [[ ${state[$it]} == proved ]] || left+=("$it"); done
-    tell "$what; ${#left[@]} of ${#order[@]} crates left${left:+: ${left[*]}}"
+    report "$what; ${#left[@]} of ${#order[@]} crates left${left:+: ${left[*]}}"
 }
 
 # Ends what still runs. What rt has kept so far serves the next time.
@@ -100,7 +100,7 @@ stop() {
 
 mkdir -p build/log
 exec {lock}> build/lock
-flock -n "$lock" || { tell 'waiting for another build here to end'; flock "$lock"; }
+flock -n "$lock" || { report 'waiting for another build here to end'; flock "$lock"; }
 trap stop EXIT
 trap 'exit 130' INT TERM HUP
 : > build/make.log

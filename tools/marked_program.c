@@ -11,7 +11,7 @@ static int is_granted(size_t size) {
     return granted;
 }
 
-/* Has the N-th request refused, makes so many, and answers whether one was refused. */
+/* Has the N-th request refused, makes this number of them, and answers whether one was refused. */
 static int meets_refusal(int n, int requests) {
     is_granted(REFUSE + n);
     for (int made = 0; made < requests; made += 1) is_granted(100);

@@ -1,7 +1,7 @@
 #!/usr/bin/env bash
 # Runs build/grep with each of its allocations refused in turn: a run that can't go on without it has to end with
 # status 2, the message and whole first lines of the output; any other run has to do what it does without refusal.
-# At first programs that are wrong on purpose are run so: each has to be found. It wants a C compiler.
+# At first programs that are wrong on purpose are run so: each has to be found. It needs a C compiler.
 set -euo pipefail
 cd "$(dirname "${BASH_SOURCE[0]}")/.."
 program=$PWD/build/grep
@@ -49,11 +49,11 @@ try() {
 # Makes a program that is wrong in the way of this number, and answers whether it goes through.
 passes() {
     "${CC:-cc}" "-DWRONG=$1" -o wrong_grep "$wrong"
-    (program=./wrong_grep && try 0 -F b) > told 2>&1
+    (program=./wrong_grep && try 0 -F b) > said 2>&1
 }
 
 if ! passes 0; then
-    cat told
+    cat said
     exit 1
 fi
 for number in 1 2 3 4 5 6 7; do

@@ -13,26 +13,26 @@ folder=$(mktemp -d)
 trap 'rm -rf "$folder"' EXIT
 "${CC:-cc}" -shared -fPIC -O1 -o "$folder/refuse.so" tools/refuse_marked_request.c -ldl
 
-# Runs a command, and counts the requests that were refused, and the marks behind which none was.
+# Runs a command, and counts the requests that were refused, and the marks after which none was.
 count() {
     : > "$folder/log"
-    REFUSE_LOG=$folder/log LD_PRELOAD=$folder/refuse.so "$@" > "$folder/told" 2>&1 || return 1
+    REFUSE_LOG=$folder/log LD_PRELOAD=$folder/refuse.so "$@" > "$folder/said" 2>&1 || return 1
     refused=$(tr -cd r < "$folder/log" | wc -c)
     granted=$(($(tr -cd c < "$folder/log" | wc -c) - refused))
 }
 
-# Whether a command ends well, and between its marks makes no request; or makes some, and ends behind marks between
+# Whether a command ends well, and between its marks makes no request; or makes some, and ends after marks between
 # which none was left to refuse.
 asks_for_none() { count "$@" && [ "$refused" -eq 0 ] && [ "$granted" -gt 0 ]; }
 goes_on() { count "$@" && [ "$refused" -gt 0 ] && [ "$granted" -gt 0 ]; }
 
 # What has to be said of the stand-in of a kind.
 expect() {
-    local wanted=$1 judge=$2 kind=$3 told=wrong
+    local wanted=$1 judge=$2 kind=$3 found=wrong
     "${CC:-cc}" "-DKIND=$kind" -o "$folder/marked" tools/marked_program.c
-    if "$judge" "$folder/marked"; then told=right; fi
-    if [ "$told" != "$wanted" ]; then
-        echo "tools/marked_program.c of kind $kind: $judge says it is $told"
+    if "$judge" "$folder/marked"; then found=right; fi
+    if [ "$found" != "$wanted" ]; then
+        echo "tools/marked_program.c of kind $kind: $judge says it is $found"
         exit 1
     fi
 }
@@ -49,7 +49,7 @@ try() {
     local judge=$1 crate=$2 test=$3
     (cd "crates/$crate" && rt test --jobs 1 -- "${test##*::}")
     if ! "$judge" "crates/$crate/out/${crate}_tests" "$test"; then
-        cat "$folder/told"
+        cat "$folder/said"
         echo "$crate, $test: ${refused:-no} requests refused, and ${granted:-no} marks without one"
         exit 1
     fi

@@ -1,5 +1,5 @@
 /* Loaded before the C library, it takes requests for memory of two sizes as commands. One of REFUSE and N more bytes has
-   the N-th request behind it refused, of malloc, calloc, realloc and posix_memalign together. One of WAS_REFUSED bytes
+   the N-th request after it refused, of malloc, calloc, realloc and posix_memalign together. One of WAS_REFUSED bytes
    ends that, and is refused itself where a request was. The file $REFUSE_LOG gets a c for each command to refuse and an
    r for each request that was refused. */
 #define _GNU_SOURCE

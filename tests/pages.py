@@ -1,0 +1,190 @@
+"""Cases of the pages of the repository: links and anchors, the number of words, numbers that a script
+counts, names of contracts, manual pages. They run no program, and need git.
+"""
+
+from __future__ import annotations
+
+import re
+import shutil
+import subprocess
+import sys
+from fnmatch import fnmatch
+from functools import cache
+from pathlib import Path
+
+from program import SECONDS, Answer, Bench, Cases, Skipped, Verdict, all_of
+
+REPOSITORY = Path(__file__).resolve().parent.parent
+sys.path.insert(0, str(REPOSITORY / "tools"))
+
+import count  # noqa: E402
+
+MOST_WORDS = {
+    "README.md": 1_400,
+    "CONTRIBUTING.md": 500,
+    "docs/GUARANTEES.md": 1_500,
+    "docs/SPECIFICATION.md": 5_300,
+    "docs/ARCHITECTURE.md": 2_500,
+    "docs/PROVING.md": 6_000,
+    "docs/DECISIONS.md": 4_000,
+    "docs/PERFORMANCE.md": 1_500,
+    "docs/CHANGING.md": 1_900,
+    "docs/ROADMAP.md": 1_000,
+    "docs/GLOSSARY.md": 800,
+    "crates/*/README.md": 3_300,
+    "tests/README.md": 1_000,
+    "editors/emacs/README.md": 1_500,
+    "*": 34_000,
+}
+"""How many words pages have at most, by the pattern of their names."""
+
+NOT_YET = {"editors/emacs/README.md"}
+"""The patterns whose pages are still too long. A page that gets there loses its place here."""
+
+COUNTS = {"docs/EVIDENCE.md", "docs/PERFORMANCE.md", "docs/PROVING.md"}
+"""The pages that may name counts of functions, edits, cases and runs."""
+
+case = Cases("grep", "pages.py")
+cases = all_of(case)
+"""All cases of this file."""
+
+
+def judged(faults: list[str]) -> Verdict:
+    """There has to be no fault."""
+    return Verdict(Answer(), Answer("\n".join(faults).encode()))
+
+
+@cache
+def pages() -> dict[str, str]:
+    """The texts of all pages that git knows, by their names."""
+    if shutil.which("git") is None:
+        raise Skipped("there is no git")
+    listed = subprocess.run(["git", "ls-files", "-z", "*.md"], cwd=REPOSITORY, timeout=SECONDS,
+                            capture_output=True, check=False)
+    if listed.returncode:
+        raise Skipped("the pages are in no repository of git")
+    names = [name for name in listed.stdout.decode().split("\0") if (REPOSITORY / name).is_file()]
+    return {name: (REPOSITORY / name).read_text(encoding="utf-8") for name in names}
+
+
+# Links
+
+
+def without_blocks(text: str) -> str:
+    """A page without its blocks of code."""
+    return re.sub(r"^```.*?^```", "", text, flags=re.MULTILINE | re.DOTALL)
+
+
+def without_code(text: str) -> str:
+    """A page without what is shown as it is."""
+    return re.sub(r"(`+)[^\n]*?\1", "", without_blocks(text))
+
+
+def anchors_of(text: str) -> set[str]:
+    """The anchors of a page's headings, as GitHub makes them."""
+    found: list[str] = []
+    for heading in re.findall(r"^#{1,6} +(.+?) *$", without_blocks(text), re.MULTILINE):
+        shown = re.sub(r"\[([^\]]*)\]\([^)]*\)", r"\1", heading).lower()
+        anchor = re.sub(r"[^\w\- ]", "", shown).replace(" ", "-")
+        twice = found.count(anchor)
+        found.append(anchor)
+        if twice:
+            found.append(f"{anchor}-{twice}")
+    return set(found)
+
+
+def fault_of_link(page: str, link: str) -> str | None:
+    """What is wrong with a link of a page."""
+    name, _, anchor = link.partition("#")
+    target = (REPOSITORY / page).parent / name if name else REPOSITORY / page
+    if not target.exists():
+        return f"{page}: there is no {link}"
+    if anchor and anchor not in anchors_of(target.read_text(encoding="utf-8")):
+        return f"{page}: there is no heading for {link}"
+    return None
+
+
+@case("Each link of a page leads to a file and a heading that are there.")
+def links(bench: Bench) -> Verdict:
+    faults = []
+    for page, text in pages().items():
+        for link in re.findall(r"\]\(([^)\s]+)\)", without_code(text)):
+            if not re.match(r"[a-z]+:", link):
+                faults.append(fault_of_link(page, link))
+    return judged([fault for fault in faults if fault])
+
+
+# Words and numbers
+
+
+def words_of(pattern: str) -> int:
+    """How many words the pages of a pattern have."""
+    return sum(len(text.split()) for page, text in pages().items() if fnmatch(page, pattern))
+
+
+for pattern, most in MOST_WORDS.items():
+    if pattern not in NOT_YET:
+
+        @case(f"{pattern} has at most {most:,} words.")
+        def words(bench: Bench, pattern: str = pattern, most: int = most) -> Verdict:
+            number = words_of(pattern)
+            return judged([f"{pattern} has {number:,} words"] if number > most else [])
+
+
+@case("No page names a number of functions, edits, cases or runs: they are in EVIDENCE, or tools/count.py says them.")
+def counts_in_pages(bench: Bench) -> Verdict:
+    faults = []
+    for page, text in pages().items():
+        if page not in COUNTS and not any(fnmatch(page, pattern) for pattern in NOT_YET - {"*"}):
+            faults += [f"{page}: {named}" for named in
+                       re.findall(r"\b\d[\d,]+\d (?:functions|edits|cases|runs)\b", without_code(text))]
+    return judged(faults)
+
+
+# Definitions and contracts
+
+
+@case("The table of definitions in SPECIFICATION is the one that tools/count.py makes.")
+def definitions(bench: Bench) -> Verdict:
+    return Verdict(Answer(count.table().encode()), Answer(count.table_of_page().encode()))
+
+
+@case("Each contract and law that GUARANTEES names is a function or a type of the crates.")
+def contracts(bench: Bench) -> Verdict:
+    sources = "\n".join(file.read_text(encoding="utf-8") for file in count.CRATES.glob("*/src/**/*.rt"))
+    known = set(re.findall(r"\b(?:fn|struct|enum|trait) (\w+)", sources))
+    promised = pages().get("docs/GUARANTEES.md", "").partition("## What no contract says")[0]
+    named: list[str] = []
+    for row in re.findall(r"^\| [^|\n]*\|([^|\n]*\|[^|\n]*)\|$", promised, re.MULTILINE):
+        for name in re.findall(r"`([^`]+)`", row):
+            named += name.split("::")
+    return judged([name for name in named if name not in known] if named else ["no contract is named"])
+
+
+# Manual pages
+
+NO_FAULTS = r"operating system explicitly specified|referenced manual not found|outdated mandoc.db"
+"""What mandoc says of the name Gaxtrel, and of manual pages that this machine has not."""
+
+
+def said_of_manual_pages(*command: str) -> Verdict:
+    """What a program says of the manual pages has to be nothing."""
+    if shutil.which(command[0]) is None:
+        raise Skipped(f"there is no {command[0]}")
+    said = []
+    for page in ("grep.1", "occur.1"):
+        ran = subprocess.run([*command, str(REPOSITORY / "man" / page)], stdin=subprocess.DEVNULL,
+                             capture_output=True, timeout=SECONDS, check=False)
+        text = ran.stderr if command[0] == "groff" else ran.stdout + ran.stderr
+        said += [line for line in text.decode().splitlines() if not re.search(NO_FAULTS, line)]
+    return judged(said)
+
+
+@case("mandoc finds no fault in the manual pages.")
+def mandoc(bench: Bench) -> Verdict:
+    return said_of_manual_pages("mandoc", "-T", "lint")
+
+
+@case("groff finds no fault in the manual pages.")
+def groff(bench: Bench) -> Verdict:
+    return said_of_manual_pages("groff", "-ww", "-man", "-Tutf8")
