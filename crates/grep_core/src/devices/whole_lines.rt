@@ -8,7 +8,7 @@ ghost use Rattle.grep_core.specs.Buffer.{Sends, all_contents};
 ghost use Rattle.grep_core.specs.Working.Sent.{SendsLine};
 
 use crate::devices::counted::{CountedWrite, WriteFault};
-use crate::devices::sending::{gather, rows_end, send_front};
+use crate::devices::sending::{gather, rows_end, send_front, take_off};
 use std::alloc::{AllocError, Global};
 use std::marker::Model;
 
@@ -127,7 +127,7 @@ fn push_line<W: CountedWrite>(out: &mut W, buffer: &mut Vec<u8>, line: &[u8]) ->
     let sent = push_past(out, buffer, held);
     if sent <= held {
         buffer.truncate(held);
-        buffer.drain(..sent);
+        take_off(buffer, sent);
         return None;
     }
     buffer.clear();
