@@ -108,4 +108,4 @@ module _ {W : Type 0} (contents : W → Option Text) (failures : W → ℕ) wher
       omega (arith, short, none)
   none_waits_behind waits old mid inner last waiting (Err e) is sent none = tt
 
-pub ruleset moving = (all_sent, rows_sent, part_sent, rows_make_room, kept_by_all, kept_by_rows, kept_by_some, append_known-grown, stops_with_none)
+pub ruleset moving = (all_sent, kept_by_all, kept_by_rows, kept_by_some, append_known-grown)

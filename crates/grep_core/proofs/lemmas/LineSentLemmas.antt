@@ -49,8 +49,6 @@ module _ {W : Type 0} (contents : W → Option Text) (failures : W → ℕ) wher
         subst (Appends (contents a) (contents b)) (ap (take n) joined ∙ take_behind held line n (omega (arith, low, is)) ∙ ap (λ m. held ++ take m line) place) went,
       )
 
-pub ruleset sending_lines = (line_stays, line_goes)
-
 -- a text was written behind what waited
 passed_behind : (a b c : Option Text) (held rest bytes : Text) → Keeps a (append_known b held) → Appends b c (held ++ bytes) → rest ≡ [] → Appends a (append_known c rest) bytes
 passed_behind None b c held rest bytes p q none = tt
@@ -124,5 +122,3 @@ module _ {W : Type 0} (contents : W → Option Text) (failures : W → ℕ) wher
       → Keeps (all_contents contents old) (all_contents contents mid) → more ≡ waiting ++ bytes → Appends (all_contents contents old) (append_known (contents inner) more) bytes
   text_gathered old mid inner waiting more bytes is kept joined =
       append_known-grown (all_contents contents old) (contents inner) waiting more bytes (subst (λ b. Keeps (all_contents contents old) (all_contents contents b)) (sym is) kept) joined
-
-pub ruleset gathering_lines = (no_newline_in_both)

@@ -112,7 +112,6 @@ fn push_past<W: CountedWrite>(out: &mut W, bytes: &[u8], few: usize) -> usize
 
 // Sends what waits and a line behind it, and answers how many bytes of the line went out. Where a
 // write fails before any of them went out, none of them waits.
-#[tactic(auto, using(crate::proofs::lemmas::LineSentLemmas::sending_lines))]
 fn push_line<W: CountedWrite>(out: &mut W, buffer: &mut Vec<u8>, line: &[u8]) -> Option<usize>
     requires some { 0 < length line.now }
     requires room { vec_len buffer.old + length line.now ≤ vec_capacity buffer.old }
@@ -134,7 +133,7 @@ fn push_line<W: CountedWrite>(out: &mut W, buffer: &mut Vec<u8>, line: &[u8]) ->
     Some(sent - held)
 }
 
-#[tactic(auto, using(crate::proofs::lemmas::LineSentLemmas::gathering_lines))]
+#[tactic(auto, using(crate::proofs::lemmas::LineSentLemmas::no_newline_in_both))]
 impl<W: CountedWrite> CountedWrite for WholeLines<W> {
     ghost contents = { all_contents W.contents };
 

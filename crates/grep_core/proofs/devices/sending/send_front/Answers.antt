@@ -1,4 +1,4 @@
-use Rattle.std.proofs.Common.{◌≡◌, ◌≤◌, length, take, ap, ◌∙◌, arith, subst}
+use Rattle.std.proofs.Common.{◌≡◌, length, take, arith, subst}
 use Rattle.std.proofs.lemmas.List.{length-take-le}
 use Rattle.std.specs.Io.KnownBytes.{Appends}
 use Rattle.grep_core.proofs.lemmas.SentLemmas.{front_sent, some_sent}

@@ -1,4 +1,5 @@
 use Rattle.std.proofs.Common.{◌≡◌, ◌+◌, ◌-◌, ◌<◌, ◌≤◌, ◌++◌, length, length-take, drop, get_or, slice_range, refl, ap, sym, ◌∙◌, arith, subst}
+use Rattle.re_syntax.specs.Bytes.{Text}
 use Rattle.re_syntax.specs.Lines.{newline}
 use Rattle.re_syntax.proofs.lemmas.LinesLaws.{none_in_empty}
 use Rattle.grep_core.specs.Working.Held.{Held, IsOneLineAndFew, waiting}
@@ -48,7 +49,7 @@ pub returns-in_err-self-inside-clause-err : goal.returns-in_err-self-inside-clau
 returns-in_err-self-inside-clause-err c =
     let a = c.self.inside in
     let same : c.show.new.spill.items ++ slice_range a.buffer.items a.start a.end ≡ c.args.self.now.ahead =
-    ap (λ l. l ++ slice_range a.buffer.items a.start a.end) (c.in_err-self-inside.ensures.err ∙ c.empty_where_shown.ensures) ∙ ap (λ (h : Held). h.ahead) c.self.view_is in
+    ap (λ l. l ++ slice_range a.buffer.items a.start a.end) (◌∙◌ {A = Text} c.in_err-self-inside.ensures.err c.empty_where_shown.ensures) ∙ ap (λ (h : Held). h.ahead) c.self.view_is in
     at_failure c.from_residual.result _ (same, refl)
 
 pub returns-in_err-self-inside-clause-err_few : goal.returns-in_err-self-inside-clause-err_few
@@ -57,6 +58,6 @@ returns-in_err-self-inside-clause-err_few c =
     let i = c.self.invariant in
     let before = waiting a.shown a.spill.items in
     let more = slice_range a.buffer.items a.start a.end in
-    let same : c.show.new.spill.items ≡ before = c.in_err-self-inside.ensures.err ∙ c.empty_where_shown.ensures in
+    let same : c.show.new.spill.items ≡ before = ◌∙◌ {A = Text} c.in_err-self-inside.ensures.err c.empty_where_shown.ensures in
     let few : length more ≤ 65536 = omega (arith, i.within, length-take (a.end - a.start) (drop a.start a.buffer.items)) in
     at_failure c.from_residual.result _ (subst (λ b. IsOneLineAndFew (b ++ more)) (sym same) (one_line_and_few before more i.unfinished few))

@@ -35,12 +35,12 @@ pub returns-in_err-extend_from_slice-clause-err : goal.returns-in_err-extend_fro
 returns-in_err-extend_from_slice-clause-err g c =
     let a = c.self.inside in
     let same : c.extend_from_slice.new.self.items ++ slice_range a.buffer.items a.start a.end ≡ c.args.self.now.ahead =
-    ap (λ l. l ++ slice_range a.buffer.items a.start a.end) (c.in_err-extend_from_slice.ensures.items ∙ c.empty_where_shown.ensures) ∙ ap (λ (h : Held). h.ahead) c.self.view_is in
+    ap (λ l. l ++ slice_range a.buffer.items a.start a.end) (◌∙◌ {A = Text} c.in_err-extend_from_slice.ensures.items c.empty_where_shown.ensures) ∙ ap (λ (h : Held). h.ahead) c.self.view_is in
     at_failure c.from_residual.result _ (same, refl)
 
 pub returns-in_err-extend_from_slice-clause-err_few : goal.returns-in_err-extend_from_slice-clause-err_few
 returns-in_err-extend_from_slice-clause-err_few g c =
     let a = c.self.inside in
     let same : c.extend_from_slice.new.self.items ++ slice_range a.buffer.items a.start a.end ≡ c.args.self.now.ahead =
-    ap (λ l. l ++ slice_range a.buffer.items a.start a.end) (c.in_err-extend_from_slice.ensures.items ∙ c.empty_where_shown.ensures) ∙ ap (λ (h : Held). h.ahead) c.self.view_is in
+    ap (λ l. l ++ slice_range a.buffer.items a.start a.end) (◌∙◌ {A = Text} c.in_err-extend_from_slice.ensures.items c.empty_where_shown.ensures) ∙ ap (λ (h : Held). h.ahead) c.self.view_is in
     at_failure c.from_residual.result _ (subst IsOneLineAndFew (sym same) (one_line c.args.self.now.ahead c.requires))
