@@ -217,3 +217,30 @@ returns-in_err-pass_waiting-clause-memory g c = λ count is.
     let kept = c.in_err-pass_waiting.ensures.err in
     let same = handed_count c.from_residual.result c.in_err-pass_waiting.field-0.0 c.loop-lines.lines.number count c.from_residual.ensures.1 kept.0 is in
     rw kept.1 (followed_out g.R.CountedRead.remaining g.R.CountedRead.failures es w.options w.many c.args.shown w.name.now reader c.args.context c.requires.is_asked c.loop-lines.lines c.loop-lines.lines _ _ _ _ c.loop-lines.selected c.loop-lines.progress c.loop-lines.behind.lines before before.handed count same)
+
+pub pass_waiting-requires-clause-whole : goal.pass_waiting-requires-clause-whole
+pass_waiting-requires-clause-whole g c = rw c.loop-lines.invariant.same_matchers.same_wholes c.requires.whole
+
+pub is_selected_behind-found-requires-clause-whole : goal.is_selected_behind-found-requires-clause-whole
+is_selected_behind-found-requires-clause-whole g c = rw c.loop-lines.invariant.same_matchers.same_wholes c.requires.whole
+
+pub returns-in_err-pass_waiting-clause-same_matchers : goal.returns-in_err-pass_waiting-clause-same_matchers
+returns-in_err-pass_waiting-clause-same_matchers g c = c.loop-lines.invariant.same_matchers
+
+pub returns-in_err-send_before_read-clause-same_matchers : goal.returns-in_err-send_before_read-clause-same_matchers
+returns-in_err-send_before_read-clause-same_matchers g c = c.loop-lines.invariant.same_matchers
+
+pub returns-in-Ok-false-clause-same_matchers : goal.returns-in-Ok-false-clause-same_matchers
+returns-in-Ok-false-clause-same_matchers g c = c.loop-lines.invariant.same_matchers
+
+pub returns-in-Err-Device-clause-same_matchers : goal.returns-in-Err-Device-clause-same_matchers
+returns-in-Err-Device-clause-same_matchers g c = c.loop-lines.invariant.same_matchers
+
+pub returns-in-Err-Memory-clause-same_matchers : goal.returns-in-Err-Memory-clause-same_matchers
+returns-in-Err-Memory-clause-same_matchers g c = c.loop-lines.invariant.same_matchers
+
+pub returns-in_err-write_shown-in-Ok-true-clause-same_matchers : goal.returns-in_err-write_shown-in-Ok-true-clause-same_matchers
+returns-in_err-write_shown-in-Ok-true-clause-same_matchers g c = same_over c.is_selected_behind-found.ensures.same_matchers c.loop-lines.invariant.same_matchers
+
+pub returns-then-is_err-clause-same_matchers : goal.returns-then-is_err-clause-same_matchers
+returns-then-is_err-clause-same_matchers g c = same_over c.is_selected_behind-found.ensures.same_matchers c.loop-lines.invariant.same_matchers
