@@ -12,7 +12,7 @@ use Rattle.re_search.specs.Searching.{AddsAtMost}
 use Rattle.grep_core.specs.declared.options.Options.{Options}
 use Rattle.grep_core.specs.Files.{File}
 use Rattle.grep_core.specs.Output.{Form, nothing, names, counts, parts, lines, around, form}
-use Rattle.grep_core.specs.Cost.{search_cost, PartsAsked, SearchesLine, LinesCost, FilesCost, SearchesLines, SearchesFiles}
+use Rattle.grep_core.specs.Cost.{search_cost, PartsAsked, AsksParts, SearchesLine, LinesCost, FilesCost, SearchesLines, SearchesFiles}
 
 -- steps after steps
 pub adds_both : (first next : ℕ) (old mid new : Steps) → AddsAtMost first old mid → AddsAtMost next mid new → AddsAtMost (first + next) old new
@@ -83,6 +83,16 @@ module _ (es : List Expression) (options : Options) (line : Text) where
       let asked = parts_exist (form options) in
       let least : search_cost matchers line ≤ (asked.0 + 1) * search_cost matchers line = omega arith in
       record { times = asked.0; are_times = asked.1; few = adds_within (search_cost matchers line) ((asked.0 + 1) * search_cost matchers line) old new least a }
+
+-- a line was searched, and then its parts were asked for, by the matchers as they were then
+pub line_asked : {M : Type 0} (expression : M → Expression) (old now : List M) (options : Options) (line : Text) (first mid last : Steps) → map expression now ≡ map expression old
+    → AddsAtMost (search_cost (length old) line) first mid → AsksParts (map expression now) options (length now) line mid last → SearchesLine (map expression old) options (length old) line first last
+line_asked expression old now options line first mid last e once asked =
+    let counted = subst (λ n. AsksParts (map expression now) options n line mid last) (same_length expression now old e) asked in
+    let a = subst (λ ds. AsksParts ds options (length old) line mid last) e counted in
+    let cost = search_cost (length old) line in
+    let both : cost + a.times * cost ≤ (a.times + 1) * cost = omega arith in
+    record { times = a.times; are_times = a.are_times; few = adds_within (cost + a.times * cost) ((a.times + 1) * cost) first last both (adds_both cost (a.times * cost) first mid last once a.few) }
 
 module _ (es : List Expression) (options : Options) (matchers : ℕ) where
   -- ---- lines

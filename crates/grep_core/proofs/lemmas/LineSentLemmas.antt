@@ -49,8 +49,6 @@ module _ {W : Type 0} (contents : W → Option Text) (failures : W → ℕ) wher
         subst (Appends (contents a) (contents b)) (ap (take n) joined ∙ take_behind held line n (omega (arith, low, is)) ∙ ap (λ m. held ++ take m line) place) went,
       )
 
-pub ruleset sending_lines = (line_stays, line_goes)
-
 -- a text was written behind what waited
 passed_behind : (a b c : Option Text) (held rest bytes : Text) → Keeps a (append_known b held) → Appends b c (held ++ bytes) → rest ≡ [] → Appends a (append_known c rest) bytes
 passed_behind None b c held rest bytes p q none = tt
@@ -91,19 +89,36 @@ module _ {W : Type 0} (contents : W → Option Text) (failures : W → ℕ) wher
   line_within old new from m None went = tt
   line_within old new from m (Some n) went = omega (arith, went.1, length-take m from)
 
-  -- what was given before and the line are the bytes of the whole call
-  pub line_written : (old mid new : BufferedWriter W) (from : Text) (m : ℕ) (sent : Option ℕ) → Keeps (all_contents contents old) (all_contents contents mid)
-      → SendsLine contents failures mid new (take m from) sent → PushAppends (all_contents contents old) (all_contents contents new) sent from
-  line_written old mid new from m None kept went =
-      Keeps-trans (all_contents contents old) (all_contents contents mid) (all_contents contents new) kept (kept_by_some contents failures mid new went)
-  line_written old mid new from m (Some n) kept went =
+  line_written_behind : (old : BufferedWriter W) (inner last : W) (waiting rest from : Text) (m : ℕ) (sent : Option ℕ) → Keeps (all_contents contents old) (append_known (contents inner) waiting)
+      → SendsLine contents failures (record { inner = inner; waiting = waiting }) (record { inner = last; waiting = rest }) (take m from) sent → PushAppends (all_contents contents old) (append_known (contents last) rest) sent from
+  line_written_behind old inner last waiting rest from m None kept went =
+      Keeps-trans (all_contents contents old) (append_known (contents inner) waiting) (append_known (contents last) rest) kept
+      (kept_by_some contents failures (record { inner = inner; waiting = waiting }) (record { inner = last; waiting = rest }) went)
+  line_written_behind old inner last waiting rest from m (Some n) kept went =
       let part : take n (take m from) ≡ take n from = take-take n m from (omega (arith, went.1, length-take m from)) in
-      passed_behind (all_contents contents old) (contents mid.inner) (contents new.inner) mid.waiting new.waiting (take n from) kept
-      (subst (λ l. Appends (contents mid.inner) (contents new.inner) (mid.waiting ++ l)) part went.4) went.2
+      passed_behind (all_contents contents old) (contents inner) (contents last) waiting rest (take n from) kept
+      (subst (λ l. Appends (contents inner) (contents last) (waiting ++ l)) part went.4) went.2
 
-  pub line_counted : (old mid new : BufferedWriter W) (line : Text) (sent : Option ℕ) → failures mid.inner ≡ failures old.inner
-      → SendsLine contents failures mid new line sent → Counts (failures old.inner) (failures new.inner) sent
-  line_counted old mid new line None same went = went.counted ∙ ap one_more same
-  line_counted old mid new line (Some n) same went = went.3 ∙ same
+  -- what was given before and the line are the bytes of the whole call
+  pub line_written : (old mid : BufferedWriter W) (inner last : W) (waiting rest from : Text) (m : ℕ) (sent : Option ℕ) → (let now : BufferedWriter W = record { inner = inner; waiting = waiting } in now ≡ mid)
+      → Keeps (all_contents contents old) (all_contents contents mid) → SendsLine contents failures (record { inner = inner; waiting = waiting }) (record { inner = last; waiting = rest }) (take m from) sent
+      → PushAppends (all_contents contents old) (append_known (contents last) rest) sent from
+  line_written old mid inner last waiting rest from m sent is kept went =
+      line_written_behind old inner last waiting rest from m sent (subst (λ b. Keeps (all_contents contents old) (all_contents contents b)) (sym is) kept) went
 
-pub ruleset gathering_lines = (no_newline_in_both, no_newline_waits, line_taken, line_within, line_written, line_counted, append_known-grown)
+  line_counted_behind : (old : BufferedWriter W) (inner last : W) (waiting rest line : Text) (sent : Option ℕ) → failures inner ≡ failures old.inner
+      → SendsLine contents failures (record { inner = inner; waiting = waiting }) (record { inner = last; waiting = rest }) line sent → Counts (failures old.inner) (failures last) sent
+  line_counted_behind old inner last waiting rest line None same went = went.counted ∙ ap one_more same
+  line_counted_behind old inner last waiting rest line (Some n) same went = went.3 ∙ same
+
+  pub line_counted : (old mid : BufferedWriter W) (inner last : W) (waiting rest line : Text) (sent : Option ℕ) → (let now : BufferedWriter W = record { inner = inner; waiting = waiting } in now ≡ mid)
+      → failures mid.inner ≡ failures old.inner
+      → SendsLine contents failures (record { inner = inner; waiting = waiting }) (record { inner = last; waiting = rest }) line sent → Counts (failures old.inner) (failures last) sent
+  line_counted old mid inner last waiting rest line sent is same went =
+      line_counted_behind old inner last waiting rest line sent (ap (λ (b : BufferedWriter W). failures b.inner) is ∙ same) went
+
+  -- bytes were put behind what waited
+  pub text_gathered : (old mid : BufferedWriter W) (inner : W) (waiting more bytes : Text) → (let now : BufferedWriter W = record { inner = inner; waiting = waiting } in now ≡ mid)
+      → Keeps (all_contents contents old) (all_contents contents mid) → more ≡ waiting ++ bytes → Appends (all_contents contents old) (append_known (contents inner) more) bytes
+  text_gathered old mid inner waiting more bytes is kept joined =
+      append_known-grown (all_contents contents old) (contents inner) waiting more bytes (subst (λ b. Keeps (all_contents contents old) (all_contents contents b)) (sym is) kept) joined

@@ -1,16 +1,17 @@
 -- What was written for one line.
-use Rattle.std.proofs.Common.{◌≡◌, ℕ, Bool, true, false, Decides, List, [], ◌∷◌, ◌++◌, Option, Result, Ok, Err, IfOk, OnErr, refl, sym, subst, inl, inr}
+use Rattle.std.proofs.Common.{◌≡◌, ℕ, Bool, true, false, not, MatchBool, if◌then◌else◌, Decides, List, [], ◌∷◌, ◌++◌, Option, Result, Ok, Err, IfOk, OnErr, refl, sym, subst, inl, inr}
 use Rattle.std.proofs.lemmas.Bool.{false≢true}
 use Rattle.re_syntax.specs.Bytes.{Text}
 use Rattle.re_syntax.specs.Expression.{Expression}
 use Rattle.grep_core.specs.declared.options.Options.{Options}
 use Rattle.grep_core.specs.Row.{output_line}
 use Rattle.grep_core.specs.Written.{Writes}
-use Rattle.grep_core.specs.Files.{Selected}
+use Rattle.grep_core.specs.Files.{Matched, Selected}
 use Rattle.grep_core.specs.Output.{lines, counts, form, head_of}
 use Rattle.grep_core.specs.Run.{Writer, writer}
 use Rattle.grep_core.specs.Working.Handed.{file_so_far}
-use Rattle.grep_core.specs.Working.OneLine.{RowsOfSelected, WritesSelected, BreaksSelected, TakesLine}
+use Rattle.grep_core.specs.Working.Wanted.{selects}
+use Rattle.grep_core.specs.Working.OneLine.{RowsOfSelected, WritesSelected, BreaksSelected, TakesLine, BreaksLine}
 use Rattle.grep_core.proofs.lemmas.PassLemmas.{TakesAll-line, TakesFront-line}
 use Rattle.grep_core.proofs.lemmas.WriterLaws.{TakesAll-nothing}
 
@@ -51,3 +52,27 @@ pub line_passed : (es : List Expression) (options : Options) (many : Bool) (name
     → TakesLine es options many name number line w w false
 line_passed es options many name number line w true e d = absurd (false≢true (sym e))
 line_passed es options many name number line w false e d = record { rows = []; are_rows = inr ((λ s. false≢true (d.1 s)), refl); wrote = TakesAll-nothing w; told = d }
+
+-- a selected line has the rows that were written for it
+pub line_selected : (es ds : List Expression) (options : Options) (many : Bool) (name : Text) (number : ℕ) (line : Text) (a b : Writer) (verdict : Bool) → verdict ≡ true → Decides verdict (Selected es options line)
+    → ds ≡ es → WritesSelected ds options many name number line a b → TakesLine es options many name number line a b true
+line_selected es ds options many name number line a b verdict e d same went =
+    let s = d.0 e in
+    let w = subst (λ fs. WritesSelected fs options many name number line a b) same went in
+    record { rows = w.rows; are_rows = inl (s, w.are_rows); wrote = w.wrote; told = ((λ _. s), (λ _. refl)) }
+
+-- a beginning of them was written
+pub line_broken : (es ds : List Expression) (options : Options) (many : Bool) (name : Text) (number : ℕ) (line : Text) (a b : Writer) (verdict : Bool) → verdict ≡ true → Decides verdict (Selected es options line)
+    → ds ≡ es → BreaksSelected ds options many name number line a b → BreaksLine es options many name number line a b
+line_broken es ds options many name number line a b verdict e d same went =
+    let w = subst (λ fs. BreaksSelected fs options many name number line a b) same went in
+    record { rows = w.rows; are_rows = inl (d.0 e, w.are_rows); wrote = w.wrote; counted = w.counted }
+
+-- a line is selected by whether it is matched
+by_sign : (invert matched : Bool) (P : Type 0) → Decides matched P → Decides (if invert then not matched else matched) (MatchBool invert (P → ⊥) P)
+by_sign false matched P d = d
+by_sign true true P d = ((λ f. absurd (false≢true f)), (λ none. absurd (none (d.0 refl))))
+by_sign true false P d = ((λ _ m. false≢true (d.1 m)), (λ _. refl))
+
+pub selected_by : (es : List Expression) (options : Options) (line : Text) (matched verdict : Bool) → verdict ≡ selects options matched → Decides matched (Matched es options line) → Decides verdict (Selected es options line)
+selected_by es options line matched verdict is d = subst (λ v. Decides v (Selected es options line)) (sym is) (by_sign options.invert_match matched (Matched es options line) d)

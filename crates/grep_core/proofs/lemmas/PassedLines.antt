@@ -38,6 +38,12 @@ unselected_block es options now wholes ready rest bytes count plain alike is pas
           subst (AreUnselected es options) (sym are) (λ i d below s. none i d below (rw plain at s)),
         )
 
+-- what a sweep passes is whole lines
+pub swept_block : (es : List Expression) (whole : Bool) (ready : Text) (bytes : ℕ) → PassesAll (λ line. ¬ SomeMatches es line whole) ready bytes → IsBlock (take bytes ready) × (bytes ≡ length (take bytes ready))
+swept_block es whole ready bytes (lines, more, free, none, cut, width) =
+    let taken : take bytes ready ≡ terminated lines = ap (take bytes) cut ∙ ap (λ n. take n (terminated lines ++ more)) width ∙ take-append_seam (terminated lines) more in
+    ((lines, free, taken), width ∙ ap length (sym taken))
+
 -- its lines are passed
 pub passed_block : {R : Type 0} (remaining : R → Option Text) (failures : R → ℕ) (reader : R) (handed : List Text) (old new : Numbered R) (block : Text) (count : ℕ) → AreAhead old block count → PassesNext remaining failures old new (lines_of (take (length block) old.lines.ahead))
     → HasHanded remaining failures reader old handed → HasHanded remaining failures reader new (handed ++ lines_of block)

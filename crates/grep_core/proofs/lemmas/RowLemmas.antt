@@ -1,7 +1,8 @@
 -- Writes one after another.
-use Rattle.std.proofs.Common.{◌≡◌, ℕ, ◌+◌, ◌≤◌, [], ◌∷◌, ◌++◌, Option, Result, Ok, Err, length, take, drop, slice_range, refl, sym, ap, ◌∙◌, arith, append_assoc, append-nil, take-append-drop, subst}
+use Rattle.std.proofs.Common.{◌≡◌, ℕ, ◌+◌, ◌≤◌, [], ◌∷◌, ◌++◌, Option, Result, Ok, Err, IsErr, length, take, drop, slice_range, refl, sym, ap, ◌∙◌, arith, append_assoc, append-nil, take-append-drop, subst}
 use Rattle.std.proofs.KnownBytes.{Appends-trans, Appends-nil}
 use Rattle.std.specs.Io.KnownBytes.{Appends}
+use Rattle.std.proofs.lemmas.Bool.{false≢true}
 use Rattle.std.proofs.lemmas.List.{take-take, drop-take, take_rest, take_all}
 use Rattle.re_syntax.specs.Bytes.{Text}
 use Rattle.re_syntax.specs.Lines.{newline}
@@ -78,6 +79,11 @@ module _ {W : Type 0} (contents : W → Option Text) (failures : W → ℕ) wher
     written = Appends-trans (contents a) (contents b) (contents c) xs q.front p.written q.written;
     counted = q.counted ∙ ap one_more p.none_failed;
   }
+
+  -- a write failed within the bytes, and this is answered
+  pub writes_no_more : {T E : Type 0} (a b : W) (bytes : Text) (r : Result T E) → IsErr r → StopsWithin contents failures a b bytes → Writes contents failures a b bytes r
+  writes_no_more a b bytes (Ok v) failed p = absurd (false≢true failed)
+  writes_no_more a b bytes (Err e) failed p = p
 
   -- the first bytes went out, and the second as the last call answers
   pub writes_last : {T E : Type 0} (a b c : W) (xs ys : Text) (r : Result T E) → GoesOut contents failures a b xs → Writes contents failures b c ys r → Writes contents failures a c (xs ++ ys) r

@@ -49,5 +49,3 @@ module _ {W : Type 0} (contents : W → Option Text) (failures : W → ℕ) wher
   }
 
 pub ruleset ending = (no_row_ends, rows_end_behind)
-
-pub ruleset sending = (front_sent, some_sent)

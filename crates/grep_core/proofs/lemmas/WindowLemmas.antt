@@ -1,5 +1,5 @@
 -- The parts of a buffer before and after a newline.
-use Rattle.std.proofs.Common.{◌≡◌, ◌≢◌, ℕ, ◌+◌, ◌-◌, ◌<◌, ◌≤◌, [], ◌∷◌, ◌++◌, Option, Some, None, MatchOption, IfSome, is_some, length, take, drop, slice_range, refl, sym, ap, ◌∙◌, arith, append_assoc, subst}
+use Rattle.std.proofs.Common.{◌≡◌, ◌≢◌, ℕ, ◌+◌, ◌-◌, ◌<◌, ◌≤◌, [], ◌∷◌, ◌++◌, Option, Some, None, Result, Ok, Err, OnErr, MatchOption, IfSome, is_some, length, take, drop, slice_range, refl, sym, ap, ◌∙◌, arith, append_assoc, subst}
 use Rattle.std.proofs.lemmas.List.{length-append, take-append-le, length-take, take-take, drop-take, drop-drop}
 use Rattle.std.proofs.lemmas.List.Elements.{All-append, All-take, All-head, All-tail}
 use Rattle.re_syntax.specs.Bytes.{Text}
@@ -65,4 +65,7 @@ has_whole_line before part (Some k) h none some =
     λ all. line_ends (before ++ take k part) (drop (k + 1) part)
     (subst HasNoNewline (ap (λ l. before ++ l) some.1 ∙ sym (append_assoc before (take k part) (newline ∷ drop (k + 1) part))) all)
 
-pub ruleset keeping_few = (one_line_and_few, one_line)
+-- what holds anyway holds at a failure
+pub at_failure : {T E : Type 0} (result : Result T E) (P : Type 0) → P → OnErr result P
+at_failure (Ok v) P holds = tt
+at_failure (Err e) P holds = holds

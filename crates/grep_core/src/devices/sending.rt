@@ -1,6 +1,6 @@
 // Bytes that come into a buffer and leave it for the writer beneath, and where rows end.
-ghost use Rattle.std.specs.Prelude.{◌≡◌, ◌+◌, ◌≤◌, ◌++◌, MatchOption, MatchResult, length, vec_len};
-ghost use Rattle.std.specs.Prelude.{vec_capacity};
+ghost use Rattle.std.specs.Prelude.{◌≡◌, ◌+◌, ◌≤◌, ◌++◌, MatchOption, MatchResult, drop, length};
+ghost use Rattle.std.specs.Prelude.{vec_len, vec_capacity};
 ghost use Rattle.re_syntax.specs.Lines.{HasNoNewline};
 ghost use Rattle.grep_core.specs.Buffer.{SendsSome};
 ghost use Rattle.grep_core.specs.Working.Sent.{EndsRows, SendsFront};
@@ -33,10 +33,19 @@ pub fn gather(buffer: &mut Vec<u8>, bytes: &[u8])
     }
 }
 
+/// Takes the first bytes off a buffer.
+#[inline]
+pub fn take_off(buffer: &mut Vec<u8>, count: usize)
+    requires { count ≤ vec_len buffer.old }
+    ensures items { buffer.new.items ≡ drop count buffer.old.items }
+    ensures capacity { vec_capacity buffer.old ≤ vec_capacity buffer.new }
+{
+    buffer.drain(..count);
+}
+
 /// Sends the first bytes of a buffer, as many as `end` says, and takes off it what went out.
 ///
 /// `WriteFault` comes where a write fails. What it did not take stays in the buffer.
-#[tactic(auto, using(crate::proofs::lemmas::SentLemmas::sending))]
 pub fn send_front<W: CountedWrite>(
     out: &mut W,
     buffer: &mut Vec<u8>,
@@ -54,7 +63,7 @@ pub fn send_front<W: CountedWrite>(
     ensures capacity { vec_capacity buffer.old ≤ vec_capacity buffer.new }
 {
     let sent = push_most(out, &buffer[..end]);
-    buffer.drain(..sent);
+    take_off(buffer, sent);
     if sent < end {
         return Err(WriteFault);
     }

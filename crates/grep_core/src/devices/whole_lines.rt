@@ -8,7 +8,7 @@ ghost use Rattle.grep_core.specs.Buffer.{Sends, all_contents};
 ghost use Rattle.grep_core.specs.Working.Sent.{SendsLine};
 
 use crate::devices::counted::{CountedWrite, WriteFault};
-use crate::devices::sending::{gather, rows_end, send_front};
+use crate::devices::sending::{gather, rows_end, send_front, take_off};
 use std::alloc::{AllocError, Global};
 use std::marker::Model;
 
@@ -112,7 +112,6 @@ fn push_past<W: CountedWrite>(out: &mut W, bytes: &[u8], few: usize) -> usize
 
 // Sends what waits and a line behind it, and answers how many bytes of the line went out. Where a
 // write fails before any of them went out, none of them waits.
-#[tactic(auto, using(crate::proofs::lemmas::LineSentLemmas::sending_lines))]
 fn push_line<W: CountedWrite>(out: &mut W, buffer: &mut Vec<u8>, line: &[u8]) -> Option<usize>
     requires some { 0 < length line.now }
     requires room { vec_len buffer.old + length line.now ≤ vec_capacity buffer.old }
@@ -127,14 +126,14 @@ fn push_line<W: CountedWrite>(out: &mut W, buffer: &mut Vec<u8>, line: &[u8]) ->
     let sent = push_past(out, buffer, held);
     if sent <= held {
         buffer.truncate(held);
-        buffer.drain(..sent);
+        take_off(buffer, sent);
         return None;
     }
     buffer.clear();
     Some(sent - held)
 }
 
-#[tactic(auto, using(crate::proofs::lemmas::LineSentLemmas::gathering_lines))]
+#[tactic(auto, using(crate::proofs::lemmas::LineSentLemmas::no_newline_in_both))]
 impl<W: CountedWrite> CountedWrite for WholeLines<W> {
     ghost contents = { all_contents W.contents };
 

@@ -148,7 +148,6 @@ impl Window {
     }
 
     /// Hands out the next line, where its newline is ahead.
-    #[tactic(auto, using(crate::proofs::lemmas::WindowLemmas::keeping_few))]
     pub fn next_line(&mut self) -> Result<bool, AllocError>
         ensures more { IfOk result (λ more. MatchBool more
             (self.old.ahead ≡ self.new.line ++ newline ∷ self.new.ahead)
@@ -172,7 +171,6 @@ impl Window {
 
     /// Reads once, where no line ends in what is ahead. At the end all that was ahead is handed
     /// out.
-    #[tactic(auto, using(crate::proofs::lemmas::WindowLemmas::keeping_few))]
     pub fn refill<R: CountedRead>(&mut self, reader: &mut R) -> Result<Refill, AllocError>
         requires { HasNoNewline self.old.ahead }
         ensures ok { IfOk result

@@ -10,7 +10,6 @@ use crate::devices::counted::{CountedWrite, WriteFault};
 use crate::output::push::push_all;
 use crate::output::rows::{write_decimal, write_line_behind, write_prefix};
 
-#[tactic(auto, using(crate::proofs::lemmas::RowLemmas::writing))]
 fn write_decimal_line<W: CountedWrite>(out: &mut W, number: u64) -> Result<(), WriteFault>
     ensures { Writes W.contents W.failures out.old out.new (decimal number ++ newline ∷ []) result }
 {
@@ -18,7 +17,6 @@ fn write_decimal_line<W: CountedWrite>(out: &mut W, number: u64) -> Result<(), W
     push_all(out, b"\n")
 }
 
-#[tactic(auto, using(crate::proofs::lemmas::RowLemmas::writing))]
 fn write_prefixed_decimal<W: CountedWrite>(
     out: &mut W,
     name: Option<&[u8]>,
@@ -35,7 +33,6 @@ fn write_prefixed_decimal<W: CountedWrite>(
 /// is a name; the count in decimal and a newline.
 ///
 /// `WriteFault` comes where a write fails. It is not tried again.
-#[tactic(auto, using(crate::proofs::lemmas::RowLemmas::writing))]
 pub fn write_count<W: CountedWrite>(
     out: &mut W,
     margin: &[u8],

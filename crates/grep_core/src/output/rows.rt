@@ -50,7 +50,6 @@ fn write_number_part<W: CountedWrite>(
     push_all(out, &[separator])
 }
 
-#[tactic(auto, using(crate::proofs::lemmas::RowLemmas::writing))]
 fn write_head<W: CountedWrite>(
     out: &mut W,
     separator: u8,
@@ -67,7 +66,6 @@ fn write_head<W: CountedWrite>(
 /// Writes the text and a newline.
 ///
 /// `WriteFault` comes where a write fails. It is not tried again.
-#[tactic(auto, using(crate::proofs::lemmas::RowLemmas::writing))]
 pub fn write_line<W: CountedWrite>(out: &mut W, text: &[u8]) -> Result<(), WriteFault>
     ensures { Writes W.contents W.failures out.old out.new (output_line [] text.now) result }
 {
@@ -78,7 +76,6 @@ pub fn write_line<W: CountedWrite>(out: &mut W, text: &[u8]) -> Result<(), Write
 /// Writes the margin, the line and a newline.
 ///
 /// `WriteFault` comes where a write fails. It is not tried again.
-#[tactic(auto, using(crate::proofs::lemmas::WrittenLemmas::as_written))]
 pub fn write_line_behind<W: CountedWrite>(
     out: &mut W,
     margin: &[u8],
@@ -101,7 +98,6 @@ pub fn write_separator<W: CountedWrite>(out: &mut W, margin: &[u8]) -> Result<()
     write_line_behind(out, margin, b"--")
 }
 
-#[tactic(auto, using(crate::proofs::lemmas::RowLemmas::writing))]
 fn write_headed<W: CountedWrite>(
     out: &mut W,
     separator: u8,
@@ -121,7 +117,6 @@ fn write_headed<W: CountedWrite>(
 /// newline.
 ///
 /// `WriteFault` comes where a write fails. It is not tried again.
-#[tactic(auto, using(crate::proofs::lemmas::RowLemmas::writing))]
 pub fn write_row<W: CountedWrite>(
     out: &mut W,
     margin: &[u8],

@@ -51,7 +51,6 @@ pub fn write_summary<W: CountedWrite>(
     }
 }
 
-#[tactic(auto, using(crate::proofs::lemmas::WrittenLemmas::as_written))]
 fn tell_missing<N: CountedWrite>(
     name: &[u8],
     messages: &mut N,
@@ -64,7 +63,6 @@ fn tell_missing<N: CountedWrite>(
     write_cannot_open(messages, name)
 }
 
-#[tactic(auto, using(crate::proofs::lemmas::WrittenLemmas::as_written))]
 fn tell_broken<N: CountedWrite>(
     name: &[u8],
     messages: &mut N,

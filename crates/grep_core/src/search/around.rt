@@ -28,7 +28,6 @@ use crate::search::looks::Looks;
 use crate::search::matching::is_selected_behind;
 use crate::search::passing::unselected_ahead;
 use crate::search::sending::send_before_read;
-use crate::search::setting::Asked;
 use re_search::{Filter, LineMatch, Meter, look_cost};
 use std::alloc::AllocError;
 
@@ -159,11 +158,13 @@ fn pass_waiting<R: CountedRead, M: LineMatch>(
 /// Searches the lines of a reader, from the first on: writes the rows of the selected lines and of
 /// those around them. What was gathered is sent before a read, which may wait.
 ///
-/// `shown` tells whether a line of a source before is selected.
+/// `shown` tells whether a line of a source before is selected. `behind` is for the lines that may
+/// be shown before the next selected one, and holds none yet.
 pub fn search_around<R: CountedRead, M: LineMatch, W: CountedWrite>(
-    asked: &Asked,
+    filter: Option<&Filter>,
     context: Context,
     shown: bool,
+    behind: &mut Behind,
     lines: &mut NumberedLines<R>,
     matchers: &mut [M],
     wanted: &Wanted,
@@ -175,8 +176,8 @@ pub fn search_around<R: CountedRead, M: LineMatch, W: CountedWrite>(
     requires none_numbered { lines.old.number ≡ 0 }
     requires is_asked { form wanted.now.options ≡ around context }
     requires whole { AllAnswer wanted.now.options.line_regexp (map M.whole matchers.old) }
-    requires needed { IfSome asked.now.filter
-        (λ f. AreNeeded f.now (map M.expression matchers.old)) }
+    requires needed { IfSome filter (λ f. AreNeeded f.now (map M.expression matchers.old)) }
+    requires none_behind { behind.old ≡ record { limit = context.before; lines = [] } }
     ensures ok { IfOk result
         (λ found. SearchesSource (map M.expression matchers.old) wanted.now.options wanted.now.many
         shown (open_source wanted.now.name.now (R.remaining lines.old.lines.reader))
@@ -201,28 +202,27 @@ pub fn search_around<R: CountedRead, M: LineMatch, W: CountedWrite>(
     ensures same_matchers { SameMatchers M.expression M.whole matchers.old matchers.new }
 {
     let mut progress = Progress::new(context, shown);
-    let mut behind = Behind::new(asked.alloc, context.before);
-    let mut looks = Looks::new(look_cost(matchers, asked.filter));
+    let mut looks = Looks::new(look_cost(matchers, filter));
     let mut selected: u64 = 0;
     loop {
         pass_waiting(
             lines,
             matchers,
-            asked.filter,
+            filter,
             &wanted.options,
             &mut looks,
             &mut progress,
-            &mut behind,
+            behind,
         )?;
         send_before_read(lines, out)?;
         match lines.next_line() {
             Ok(true) => {
                 let count = lines.number();
                 let line = lines.line();
-                let found = is_selected_behind(matchers, asked.filter, wanted.options, line, meter);
+                let found = is_selected_behind(matchers, filter, wanted.options, line, meter);
                 let at = progress.step(found);
-                write_shown(wanted, &behind, at, found, count, line, out)?;
-                if keep(&mut behind, at.itself, line).is_err() {
+                write_shown(wanted, behind, at, found, count, line, out)?;
+                if keep(behind, at.itself, line).is_err() {
                     return Err(SearchFault::Memory(count));
                 }
                 selected = count_found(selected, found);

@@ -17,6 +17,7 @@ use crate::input::numbered::NumberedLines;
 use crate::input::sources::Sources;
 use crate::output::wanted::Wanted;
 use crate::search::around::search_around;
+use crate::search::behind::Behind;
 use crate::search::counting::count_lines;
 use crate::search::line::search_line;
 use crate::search::looks::Looks;
@@ -223,8 +224,18 @@ fn search_opened<R: CountedRead, M: LineMatch, W: CountedWrite>(
     let Some(context) = wanted.options.shown_around() else {
         return search_lines(lines, matchers, asked.filter, wanted, out, meter);
     };
-    let shown = setting.shown;
-    search_around(asked, context, shown, lines, matchers, wanted, out, meter)
+    let mut behind = Behind::new(asked.alloc, context.before);
+    search_around(
+        asked.filter,
+        context,
+        setting.shown,
+        &mut behind,
+        lines,
+        matchers,
+        wanted,
+        out,
+        meter,
+    )
 }
 
 /// Opens the next source, searches its lines and gives its reader back.

@@ -1,4 +1,4 @@
-use Rattle.std.proofs.Common.{◌≡◌, [], ◌∷◌, map, ap, subst, ◌∙◌}
+use Rattle.std.proofs.Common.{◌≡◌, ◌+◌, [], ◌∷◌, map, ap, subst, ◌∙◌}
 use Rattle.grep_core.specs.Working.Numbered.{Numbered}
 use Rattle.grep_core.specs.Run.{writer, count_more}
 use Rattle.grep_core.specs.Sources.{source_at, GivesBack}
@@ -57,3 +57,18 @@ returns-clause-memory g c = λ count is.
     (gives_both g.S.Sources.given_back c.args.sources.now c.open.new.self c.close-2.new.self [] _ c.open.ensures.none_back c.close-2.ensures.back) in
     stopped_in g.S.Reader.CountedRead.remaining g.S.Reader.CountedRead.failures es c.args.setting.now.asked.options c.args.setting.now.many c.args.setting.now.shown source _ _ gives opened.0 c.in-Some.reader opened.1 opened.2 c.in-Ok.lines.lines (ap (λ (n : Numbered _). n.lines.reader) c.in-Ok.ensures.ok)
     c.name.result.now named _ _ _ _ _ _ _ counted count (c.search_opened-found.ensures.memory count is)
+
+pub search_opened-found-requires-clause-whole : goal.search_opened-found-requires-clause-whole
+search_opened-found-requires-clause-whole g c = c.requires.whole
+
+pub search_opened-found-requires-clause-still_open : goal.search_opened-found-requires-clause-still_open
+search_opened-found-requires-clause-still_open g c = ap (λ (n : Numbered _). n.lines.stage) c.in-Ok.ensures.ok
+
+pub returns-clause-same_loan : goal.returns-clause-same_loan
+returns-clause-same_loan g c = c.close-2.ensures.same_loan ∙ c.open.ensures.same_loan
+
+pub returns-clause-next : goal.returns-clause-next
+returns-clause-next g c = c.close-2.ensures.same_place (c.args.k + 1) c.open.ensures.next
+
+pub returns-clause-same_matchers : goal.returns-clause-same_matchers
+returns-clause-same_matchers g c = c.search_opened-found.ensures.same_matchers

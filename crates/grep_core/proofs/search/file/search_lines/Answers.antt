@@ -138,3 +138,27 @@ returns-in-Err-Memory-clause-memory g c = λ count is.
     let reader = c.args.lines.now.lines.reader in
     let next = subst (λ (r : Result Bool ReadFault). NextIs g.R.CountedRead.remaining g.R.CountedRead.failures reader s.lines c.next_line.new.self r) (ap Err c.in-Err-Memory.field-0-is) (c.in-Err-Memory.ensures.next reader s.lines s.handed) in
     runs_out g.R.CountedRead.remaining g.R.CountedRead.failures es w.options w.many false w.name.now c.args.lines.now.lines.reader c.pass_unselected.new.lines c.next_line.new.self _ _ _ _ c.loop-lines.selected s next count same
+
+pub pass_unselected-requires-clause-whole : goal.pass_unselected-requires-clause-whole
+pass_unselected-requires-clause-whole g c = rw c.loop-lines.invariant.same_matchers.same_wholes c.requires.whole
+
+pub search_line-requires-clause-whole : goal.search_line-requires-clause-whole
+search_line-requires-clause-whole g c = rw c.loop-lines.invariant.same_matchers.same_wholes c.requires.whole
+
+pub returns-in_err-send_before_read-clause-same_matchers : goal.returns-in_err-send_before_read-clause-same_matchers
+returns-in_err-send_before_read-clause-same_matchers g c = c.loop-lines.invariant.same_matchers
+
+pub returns-in-Ok-false-clause-same_matchers : goal.returns-in-Ok-false-clause-same_matchers
+returns-in-Ok-false-clause-same_matchers g c = c.loop-lines.invariant.same_matchers
+
+pub returns-in-Err-Device-clause-same_matchers : goal.returns-in-Err-Device-clause-same_matchers
+returns-in-Err-Device-clause-same_matchers g c = c.loop-lines.invariant.same_matchers
+
+pub returns-in-Err-Memory-clause-same_matchers : goal.returns-in-Err-Memory-clause-same_matchers
+returns-in-Err-Memory-clause-same_matchers g c = c.loop-lines.invariant.same_matchers
+
+pub returns-then-found-early-clause-same_matchers : goal.returns-then-found-early-clause-same_matchers
+returns-then-found-early-clause-same_matchers g c = same_over c.in_ok-found-in-Ok-true.ensures.same_matchers c.loop-lines.invariant.same_matchers
+
+pub returns-in_err-found-in-Ok-true-clause-same_matchers : goal.returns-in_err-found-in-Ok-true-clause-same_matchers
+returns-in_err-found-in-Ok-true-clause-same_matchers g c = same_over c.in_err-found-in-Ok-true.ensures.same_matchers c.loop-lines.invariant.same_matchers

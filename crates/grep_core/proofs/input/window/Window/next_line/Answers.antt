@@ -1,9 +1,10 @@
-use Rattle.std.proofs.Common.{◌≡◌, ◌+◌, ◌<◌, ◌≤◌, length, get_or, slice_range, ap, sym, ◌∙◌, arith}
+use Rattle.std.proofs.Common.{◌≡◌, ◌+◌, ◌-◌, ◌<◌, ◌≤◌, ◌++◌, length, length-take, drop, get_or, slice_range, refl, ap, sym, ◌∙◌, arith, subst}
+use Rattle.re_syntax.specs.Bytes.{Text}
 use Rattle.re_syntax.specs.Lines.{newline}
 use Rattle.re_syntax.proofs.lemmas.LinesLaws.{none_in_empty}
-use Rattle.grep_core.specs.Working.Held.{Held, waiting}
+use Rattle.grep_core.specs.Working.Held.{Held, IsOneLineAndFew, waiting}
 use Rattle.grep_core.proofs.lemmas.WindowBlocks.{at_range, byte_at, newline_before}
-use Rattle.grep_core.proofs.lemmas.WindowLemmas.{ahead_at_newline, line_has_no_newline, below_range}
+use Rattle.grep_core.proofs.lemmas.WindowLemmas.{at_failure, one_line_and_few, ahead_at_newline, line_has_no_newline, below_range}
 use Rattle.grep_core.proofs.input.window.Window.next_line.Goals as goal
 
 pub returns-clause-more : goal.returns-clause-more
@@ -43,3 +44,20 @@ invariant_of-self-2 c =
       shown_fits = c.in_ok-self-inside.ensures.fits;
       unfinished = rw c.in_ok-self-inside.ensures.none_waiting none_in_empty;
     }
+
+pub returns-in_err-self-inside-clause-err : goal.returns-in_err-self-inside-clause-err
+returns-in_err-self-inside-clause-err c =
+    let a = c.self.inside in
+    let same : c.show.new.spill.items ++ slice_range a.buffer.items a.start a.end ≡ c.args.self.now.ahead =
+    ap (λ l. l ++ slice_range a.buffer.items a.start a.end) (◌∙◌ {A = Text} c.in_err-self-inside.ensures.err c.empty_where_shown.ensures) ∙ ap (λ (h : Held). h.ahead) c.self.view_is in
+    at_failure c.from_residual.result _ (same, refl)
+
+pub returns-in_err-self-inside-clause-err_few : goal.returns-in_err-self-inside-clause-err_few
+returns-in_err-self-inside-clause-err_few c =
+    let a = c.self.inside in
+    let i = c.self.invariant in
+    let before = waiting a.shown a.spill.items in
+    let more = slice_range a.buffer.items a.start a.end in
+    let same : c.show.new.spill.items ≡ before = ◌∙◌ {A = Text} c.in_err-self-inside.ensures.err c.empty_where_shown.ensures in
+    let few : length more ≤ 65536 = omega (arith, i.within, length-take (a.end - a.start) (drop a.start a.buffer.items)) in
+    at_failure c.from_residual.result _ (subst (λ b. IsOneLineAndFew (b ++ more)) (sym same) (one_line_and_few before more i.unfinished few))

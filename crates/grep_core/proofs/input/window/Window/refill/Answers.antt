@@ -1,6 +1,8 @@
-use Rattle.std.proofs.Common.{◌≡◌, ◌-◌, ◌<◌, ◌≤◌, length, get_or, take, drop, length-take, subst, rules, arith}
+use Rattle.std.proofs.Common.{◌≡◌, ◌-◌, ◌<◌, ◌≤◌, ◌++◌, length, get_or, take, drop, slice_range, refl, sym, ap, ◌∙◌, length-take, subst, rules, arith}
 use Rattle.re_syntax.specs.Bytes.{Text}
 use Rattle.re_syntax.specs.Lines.{newline, HasNoNewline}
+use Rattle.grep_core.specs.Working.Held.{Held, IsOneLineAndFew}
+use Rattle.grep_core.proofs.lemmas.WindowLemmas.{one_line, at_failure}
 use Rattle.grep_core.proofs.lemmas.WindowBlocks.{fresh_ended, fresh_cut_off}
 use Rattle.grep_core.proofs.input.window.Window.refill.Goals as goal
 
@@ -28,3 +30,17 @@ invariant_of-self-in-Some g c =
       shown_fits = tt;
       unfinished = search rules;
     }
+
+pub returns-in_err-extend_from_slice-clause-err : goal.returns-in_err-extend_from_slice-clause-err
+returns-in_err-extend_from_slice-clause-err g c =
+    let a = c.self.inside in
+    let same : c.extend_from_slice.new.self.items ++ slice_range a.buffer.items a.start a.end ≡ c.args.self.now.ahead =
+    ap (λ l. l ++ slice_range a.buffer.items a.start a.end) (◌∙◌ {A = Text} c.in_err-extend_from_slice.ensures.items c.empty_where_shown.ensures) ∙ ap (λ (h : Held). h.ahead) c.self.view_is in
+    at_failure c.from_residual.result _ (same, refl)
+
+pub returns-in_err-extend_from_slice-clause-err_few : goal.returns-in_err-extend_from_slice-clause-err_few
+returns-in_err-extend_from_slice-clause-err_few g c =
+    let a = c.self.inside in
+    let same : c.extend_from_slice.new.self.items ++ slice_range a.buffer.items a.start a.end ≡ c.args.self.now.ahead =
+    ap (λ l. l ++ slice_range a.buffer.items a.start a.end) (◌∙◌ {A = Text} c.in_err-extend_from_slice.ensures.items c.empty_where_shown.ensures) ∙ ap (λ (h : Held). h.ahead) c.self.view_is in
+    at_failure c.from_residual.result _ (subst IsOneLineAndFew (sym same) (one_line c.args.self.now.ahead c.requires))
