@@ -103,7 +103,7 @@ pub fn read_by<'a>(file: MemoryFile<'a>, step: usize) -> MemoryFile<'a> {
 }
 
 /// The files that the rows name.
-pub fn folder() -> [MemoryFile<'static>; 10] {
+pub fn folder() -> [MemoryFile<'static>; 6] {
     [
         file("f", b"a\nba\n"),
         broken_file("g", b"ab\na"),
@@ -111,13 +111,6 @@ pub fn folder() -> [MemoryFile<'static>; 10] {
         file("k", b"b\na\n"),
         file("empty", b""),
         file("bc", b"b\nc"),
-        file("-x", b"b\n"),
-        MemoryFile {
-            name: "locked",
-            content: None,
-        },
-        file("bracket", b"a\n[\n"),
-        file("blank", b"\n"),
     ]
 }
 

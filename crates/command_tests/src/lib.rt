@@ -1,4 +1,4 @@
-//! The tests of `grep_cmd`, and of searches by their words: nothing but tests, by what it shows.
+//! The tests of `grep_core`, `grep_session` and `grep_cmd`: nothing but tests, by what these show.
 #![tactic(auto)]
 
 #[cfg(test)]
@@ -6,24 +6,20 @@ mod around;
 #[cfg(test)]
 mod commands;
 #[cfg(test)]
+mod devices;
+#[cfg(test)]
 mod faults;
 #[cfg(test)]
 mod harness;
 #[cfg(test)]
 mod long_lines;
 #[cfg(test)]
-mod many;
-#[cfg(test)]
 mod marks;
 #[cfg(test)]
 mod memory;
-#[cfg(test)]
-mod options;
 #[cfg(test)]
 mod rows;
 #[cfg(test)]
 mod scripts;
 #[cfg(test)]
-mod usage;
-#[cfg(test)]
-mod words;
+mod sessions;

@@ -294,16 +294,20 @@ fn failed_messages_are_not_written_again(rt: HostRuntime) -> Result<(), Fail> {
     Ok(())
 }
 
+// The first line counts once its newline was read.
 #[test]
 fn failed_standard_input_is_told(rt: HostRuntime) -> Result<(), Fail> {
-    let content = Content::new(b"ab\ncd");
-    let input = Content { left: 5, ..content };
     let told = b"grep: (standard input): read error\n";
-    let search = searched(rt.alloc(), "-c .", &[], input, UNLIMITED)?;
-    assert_eq!(rt; status_of(search.answer), 2);
-    assert_written(&rt, &search, b"1\n", told, "-c .", 5);
-    let command = commanded(rt.alloc(), "-c .", &[], input, UNLIMITED)?;
-    assert_eq!(rt; command.answer, 2);
-    assert_written(&rt, &command, b"1\n", told, "-c .", 5);
+    for left in 0..=5 {
+        let content = Content::new(b"ab\ncd");
+        let input = Content { left, ..content };
+        let count = if left < 3 { b"0\n" } else { b"1\n" };
+        let search = searched(rt.alloc(), "-c .", &[], input, UNLIMITED)?;
+        assert_eq!(rt; status_of(search.answer), 2);
+        assert_written(&rt, &search, count, told, "-c .", left);
+        let command = commanded(rt.alloc(), "-c .", &[], input, UNLIMITED)?;
+        assert_eq!(rt; command.answer, 2);
+        assert_written(&rt, &command, count, told, "-c .", left);
+    }
     Ok(())
 }

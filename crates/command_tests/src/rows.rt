@@ -7,7 +7,7 @@ aaaaaaaaaaaaaaaaaaaaaaaaaaaaaaaaaaaaaaaaaaaaaaaaaaaaaaaaaaaaaaaa\
 aaaaaaaaaaaaaaaaaaaaaaaaaaaaaaaaaaaaaaaaaaaaaaaaaaaaaaaaaaaaaaaa\
 aaaaaaaaaaaaaaaaaaaaaaaaaaaaaaaaaaaaaaaaaaaaaaaaaaaaaaaaaaaaaaa";
 
-static OF_INPUT: [Row<'static>; 45] = [
+static OF_INPUT: [Row<'static>; 22] = [
     ("b", b"b\nab\nB\n", b"b\nab\n", "", 0),
     ("", b"", b"", "", 1),
     ("", b"x", b"x\n", "", 0),
@@ -20,6 +20,7 @@ static OF_INPUT: [Row<'static>; 45] = [
     ("-i -o [^a]", b"aAb\n", b"b\n", "", 0),
     ("-E (^a|b)c", b"ac\nbc\nxac\n", b"ac\nbc\n", "", 0),
     ("-v -o b", b"a\nb\n", b"", "", 0),
+    ("-o -v -c b", b"a\nb\n", b"1\n", "", 0),
     (".", b"\xff\n\0\n", b"\xff\n", "", 0),
     ("-E -x (^a|b)*", b"abb\nbab\n\n", b"abb\n\n", "", 0),
     ("-n -v ^$", b"a\n\nb\n", b"1:a\n3:b\n", "", 0),
@@ -29,39 +30,33 @@ static OF_INPUT: [Row<'static>; 45] = [
     ("-E ((((){255}){255}){255}){255}", b"x\n", b"x\n", "", 0),
     ("-E x{,2}", b"x{,2}\nxx\n", b"x{,2}\nxx\n", "", 0),
     ("-E -o x{,2}", b"x{,2}\nxx\n", b"x\nxx\n", "", 0),
-    ("-x a\\|b\\+", b"a\nbb\nab\n\n", b"a\nbb\n", "", 0),
-    (
-        "-x ab\\?\\|c\\{,2\\}",
-        b"a\nab\ncc\n\nac\n",
-        b"a\nab\ncc\n\n",
-        "",
-        0,
-    ),
-    ("-o -v -c b", b"a\nb\n", b"1\n", "", 0),
+];
+
+static OF_STRINGS: [Row<'static>; 8] = [
     ("-F -n b", b"b\nab\nB\n", b"1:b\n2:ab\n", "", 0),
     ("-Fnv b", b"b\nab\nB", b"3:B\n", "", 0),
     ("-F .", b"a\n", b"", "", 1),
     ("-F ", b"", b"", "", 1),
     ("-F ", b"\n", b"\n", "", 0),
-    ("-F a\n", b"x\n", b"x\n", "", 0),
-    ("-F b\nc", b"ac\nad\nab\n", b"ac\nab\n", "", 0),
-    ("-F aab", b"aaab\n", b"aaab\n", "", 0),
-    ("-F \0", b"\xff\0\r\n", b"\xff\0\r\n", "", 0),
     ("-e -x", b"a-x\nx\n", b"a-x\n", "", 0),
-    ("-", b"a-\nb\n", b"a-\n", "", 0),
-    ("-x a\n", b"a\n\nb\n", b"a\n\n", "", 0),
-    ("-c a", b"aba\nb\n\nba", b"2\n", "", 0),
-    ("-c -F aa", b"aaa\na\naaaa\n", b"2\n", "", 0),
-    ("-c -v a", b"aba\nb\n\nba", b"2\n", "", 0),
-    ("-c -n -i 1", b"11\n2\n", b"1\n", "", 0),
-    ("-c -x a", b"a\naa\n", b"1\n", "", 0),
-    ("-c z", b"a\nb\n", b"0\n", "", 1),
-    ("-c ^$", b"a\n\nb\n\n\nc\nd", b"3\n", "", 0),
-    ("-c -v ^$", b"a\n\nb\n\n\nc\nd", b"4\n", "", 0),
-    ("-x ab*", b"ba\nab\ncab\na\nabc\n\n", b"ab\na\n", "", 0),
+    // Many strings at once, and many expressions that each need a string.
+    (
+        "-F -o ab\nabc\nc\nbcd\nx\ny\nz\nhe\nshe",
+        b"abcc\nq\nushe\n",
+        b"abc\nc\nshe\n",
+        "",
+        0,
+    ),
+    (
+        "-c a[0-9]*b\nfoo.\nbar$\n^baz\nqux[xy]\nquux*\ncorge\ngrault",
+        b"foo\nfoox\nxbar\nbarx\nbaz\nqu\nquu\n",
+        b"4\n",
+        "",
+        0,
+    ),
 ];
 
-static OF_FILES: [Row<'static>; 17] = [
+static OF_FILES: [Row<'static>; 11] = [
     (
         "-c a f nofile",
         b"",
@@ -79,41 +74,16 @@ static OF_FILES: [Row<'static>; 17] = [
     ("a -c f", b"", b"2\n", "", 0),
     ("-- -n f", b"", b"", "", 1),
     ("-s a nofile f", b"", b"f:a\nf:ba\n", "", 2),
-    (
-        "a locked empty f",
-        b"",
-        b"f:a\nf:ba\n",
-        "grep: locked: cannot open\n",
-        2,
-    ),
-    (
-        "-q a nofile g f",
-        b"",
-        b"",
-        "grep: nofile: cannot open\n",
-        0,
-    ),
-    ("-s -q x nofile", b"", b"", "", 2),
-    ("a locked", b"", b"", "grep: locked: cannot open\n", 2),
-    (
-        "-n b f locked",
-        b"",
-        b"f:2:ba\n",
-        "grep: locked: cannot open\n",
-        2,
-    ),
-    (
-        "-v a nofile k",
-        b"",
-        b"k:b\n",
-        "grep: nofile: cannot open\n",
-        2,
-    ),
 ];
 
 /// Rows over standard input.
 fn of_input() -> &'static [Row<'static>] {
     &OF_INPUT
+}
+
+/// Rows over standard input, of strings.
+fn of_strings() -> &'static [Row<'static>] {
+    &OF_STRINGS
 }
 
 /// Rows over the files of the folder.
@@ -127,13 +97,11 @@ fn searches_give_their_rows(rt: HostRuntime) -> Result<(), Fail> {
     for step in [1, usize::MAX] {
         let folder = folder().map(|file| read_by(file, step));
         let files = folder.as_slice();
-        for row in of_input() {
-            assert_search(&rt, alloc, *row, files, step)?;
-            assert_command(&rt, alloc, *row, files, step)?;
-        }
-        for row in of_files() {
-            assert_search(&rt, alloc, *row, files, step)?;
-            assert_command(&rt, alloc, *row, files, step)?;
+        for rows in [of_input(), of_strings(), of_files()] {
+            for row in rows {
+                assert_search(&rt, alloc, *row, files, step)?;
+                assert_command(&rt, alloc, *row, files, step)?;
+            }
         }
     }
     Ok(())

@@ -1,5 +1,5 @@
 //! Edits of a session as data.
-use grep_core::{Context, Flag, Options};
+use grep_core::{Context, Flag};
 use grep_session::{EditFault, Session};
 use re_search::{Meter, Syntax};
 use re_syntax::split_file;
@@ -87,21 +87,4 @@ pub fn make_edit(session: &mut Session, edit: Edit, handed: Handed, meter: &mut 
             Ok(())
         }
     }
-}
-
-/// The options with one of them set so.
-pub fn with_option(options: Options, flag: Flag, on: bool) -> Options {
-    let mut options = options;
-    match flag {
-        Flag::Count => options.count = on,
-        Flag::IgnoreCase => options.ignore_case = on,
-        Flag::FilesWithMatches => options.files_with_matches = on,
-        Flag::LineNumber => options.line_number = on,
-        Flag::OnlyMatching => options.only_matching = on,
-        Flag::Quiet => options.quiet = on,
-        Flag::NoMessages => options.no_messages = on,
-        Flag::InvertMatch => options.invert_match = on,
-        Flag::LineRegexp => options.line_regexp = on,
-    }
-    options
 }

@@ -4,13 +4,14 @@
 //! edit is made once.
 ghost use Rattle.std.specs.Prelude.{◌≤◌};
 
-use crate::devices::Devices;
-use crate::edits::{handed_by, make_edit};
-use crate::game::Game;
-use crate::harness::{Row, assert_row, assert_same, assert_seen, number_of, observed, written_by};
+use super::edits::{Edit, handed_by, make_edit};
+use super::harness::{Row, assert_row, assert_same, assert_seen, number_of, observed, written_by};
+use super::worked;
+use crate::harness::Devices;
 use crate::marks::{refuse, was_refused};
-use crate::{flags, numbered, refused, worked};
 use grep_session::{EditFault, Session};
+use re_auto::fresh_meter;
+use re_search::Meter;
 use std::alloc::Global;
 use std::process::Abort;
 use std::test::Fail;
@@ -37,37 +38,42 @@ fn assert_seen_without_memory(
     Ok(())
 }
 
+/// Whether the edit of a row may ask for memory: it adds something, reads patterns or takes steps.
+fn may_grow(row: Row) -> bool {
+    let (edit, answer, _, _, _, most) = row;
+    match edit {
+        Edit::AddFile(_, _) | Edit::AddMissing(_) | Edit::AddPatterns(_) => true,
+        _ => answer.is_err() || most > 0,
+    }
+}
+
 /// Makes the edit of a row while its N-th request for memory is refused; whether one was. Where the
 /// edit was refused for that, the session is as before, and the edit is made again.
 fn assert_refusal(
     rt: &impl Abort,
     alloc: Global,
-    game: &mut Game,
+    session: &mut Session,
+    meter: &mut Meter,
     row: Row,
     n: usize,
 ) -> Result<bool, Fail> {
     let (edit, answer, _, _, _, _) = row;
-    let before = observed(rt, alloc, &game.session)?;
+    let before = observed(rt, alloc, session)?;
     let handed = handed_by(alloc, edit)?;
     refuse(alloc, n)?;
-    let given = make_edit(&mut game.session, edit, handed, &mut game.meter);
+    let given = make_edit(session, edit, handed, meter);
     let refused = was_refused(alloc);
-    assert!(rt; !refused || game.inputs.may_grow(edit), "{edit:?}");
+    assert!(rt; !refused || may_grow(row), "{edit:?}");
     if given == Err(EditFault::Memory) {
         assert!(rt; refused, "{edit:?}");
-        let now = observed(rt, alloc, &game.session)?;
+        let now = observed(rt, alloc, session)?;
         assert_same(rt, &now, &before, edit);
-        assert_granted(rt, alloc, game, row)?;
+        assert_row(rt, alloc, session, meter, row)?;
     } else {
         assert_eq!(rt; given, answer, "{edit:?}");
     }
-    assert_seen_without_memory(rt, alloc, &game.session, row)?;
+    assert_seen_without_memory(rt, alloc, session, row)?;
     Ok(refused)
-}
-
-/// Makes the edit of a row while each request for memory is granted.
-fn assert_granted(rt: &impl Abort, alloc: Global, game: &mut Game, row: Row) -> Result<(), Fail> {
-    assert_row(rt, alloc, &mut game.session, &mut game.meter, row)
 }
 
 /// Makes the edits of the rows in a new session, while the N-th request for memory of the one at
@@ -83,16 +89,16 @@ fn assert_refused_at(
     requires some { 1 ≤ states }
     requires few { states ≤ 65536 }
 {
-    let mut game = Game::new(alloc, states);
+    let mut session = Session::new(alloc, states);
+    let mut meter = fresh_meter();
     let mut refused = false;
     for at in 0..rows.len() {
         let row = rows[at];
         if at == place {
-            refused = assert_refusal(rt, alloc, &mut game, row, n)?;
+            refused = assert_refusal(rt, alloc, &mut session, &mut meter, row, n)?;
         } else {
-            assert_granted(rt, alloc, &mut game, row)?;
+            assert_row(rt, alloc, &mut session, &mut meter, row)?;
         }
-        game.note(alloc, row)?;
     }
     Ok(refused)
 }
@@ -128,15 +134,6 @@ fn assert_without_memory(rt: &impl Abort, alloc: Global, rows: &'static [Row]) -
 #[test]
 fn edits_without_memory(rt: HostRuntime) -> Result<(), Fail> {
     for rows in worked::sessions() {
-        assert_without_memory(&rt, rt.alloc(), rows)?;
-    }
-    for rows in refused::sessions() {
-        assert_without_memory(&rt, rt.alloc(), rows)?;
-    }
-    for rows in flags::sessions() {
-        assert_without_memory(&rt, rt.alloc(), rows)?;
-    }
-    for rows in numbered::sessions() {
         assert_without_memory(&rt, rt.alloc(), rows)?;
     }
     Ok(())

@@ -1,6 +1,6 @@
 //! Sessions by their rows.
-use crate::devices::{Devices, Outcome};
-use crate::edits::{Answer, Edit, handed_by, make_edit};
+use super::edits::{Answer, Edit, handed_by, make_edit};
+use crate::harness::{Devices, Outcome, UNLIMITED};
 use grep_core::Status;
 use grep_session::{EditFault, Session};
 use re_auto::fresh_meter;
@@ -26,8 +26,6 @@ pub const FILE_IS_MISSING: Answer = Err(EditFault::FileIsMissing);
 pub const OUT_OF_RANGE: Answer = Err(EditFault::OutOfRange);
 
 pub const LINE_HAS_NEWLINE: Answer = Err(EditFault::LineHasNewline);
-
-pub const NO_SUCH_PATTERN: Answer = Err(EditFault::NoSuchPattern);
 
 pub const TOO_MANY_PATTERNS: Answer = Err(EditFault::TooManyPatterns);
 
@@ -61,7 +59,7 @@ pub fn written_by(session: &Session, devices: &mut Devices) -> Result<u8, Fail> 
 
 /// The report, the messages and the exit status of the session.
 pub fn observed(rt: &impl Abort, alloc: Global, session: &Session) -> Result<Outcome<u8>, Fail> {
-    let mut devices = Devices::new(alloc);
+    let mut devices = Devices::new(alloc, UNLIMITED);
     let status = written_by(session, &mut devices)?;
     assert_eq!(rt; status, number_of(session.status()));
     Ok(devices.outcome(status))

@@ -114,32 +114,6 @@ fn unwritten(rt: &HostRuntime, step: usize, good: usize) -> Tally<Barred> {
 }
 
 #[test]
-fn rows_are_sent_whole(rt: HostRuntime) -> Result<(), Fail> {
-    let row = vec![in rt.alloc(); b'a'; 65_530]?;
-    let mut out = Buffered::new(rt.alloc(), unwritten(&rt, usize::MAX, usize::MAX))?;
-    assert_eq!(rt; write_line(&mut out, &row), Ok(()));
-    assert_eq!(rt; push_all(&mut out, b"bbbb"), Ok(()));
-    assert_eq!(rt; write_line(&mut out, b"cccc"), Ok(()));
-    assert_eq!(rt; out.send(), Ok(()));
-    let bytes = out.into_inner().into_inner().bytes;
-    assert_eq!(rt; bytes.len(), 65_542);
-    assert!(rt; bytes.ends_with(b"aa\n|bbbbcccc\n|"));
-    Ok(())
-}
-
-#[test]
-fn a_row_longer_than_the_buffer_is_parted(rt: HostRuntime) -> Result<(), Fail> {
-    let row = vec![in rt.alloc(); b'a'; 65_540]?;
-    let mut out = Buffered::new(rt.alloc(), unwritten(&rt, usize::MAX, usize::MAX))?;
-    assert_eq!(rt; write_line(&mut out, &row), Ok(()));
-    assert_eq!(rt; out.send(), Ok(()));
-    let bytes = out.into_inner().into_inner().bytes;
-    assert_eq!(rt; bytes.len(), 65_543);
-    assert!(rt; bytes.ends_with(b"aa|aaaa\n|"));
-    Ok(())
-}
-
-#[test]
 fn a_message_is_one_write(rt: HostRuntime) -> Result<(), Fail> {
     let mut out = WholeLines::new(rt.alloc(), unwritten(&rt, usize::MAX, usize::MAX))?;
     assert_eq!(rt; write_cannot_open(&mut out, b"a.txt"), Ok(()));
@@ -150,17 +124,6 @@ fn a_message_is_one_write(rt: HostRuntime) -> Result<(), Fail> {
     let bytes = out.into_inner().into_inner().bytes;
     let want = b"grep: a.txt: cannot open\n|ab\ncd\n|efgh\n|ij|";
     assert_eq!(rt; bytes.as_slice(), want.as_slice());
-    Ok(())
-}
-
-#[test]
-fn a_line_longer_than_the_room_goes_in_pieces(rt: HostRuntime) -> Result<(), Fail> {
-    let line = vec![in rt.alloc(); b'a'; 4_100]?;
-    let mut out = WholeLines::new(rt.alloc(), unwritten(&rt, usize::MAX, usize::MAX))?;
-    assert_eq!(rt; write_line(&mut out, &line), Ok(()));
-    let bytes = out.into_inner().into_inner().bytes;
-    assert_eq!(rt; bytes.len(), 4_103);
-    assert!(rt; bytes.ends_with(b"aa|aaaa\n|"));
     Ok(())
 }
 
