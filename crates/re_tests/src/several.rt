@@ -31,7 +31,7 @@ pub(crate) fn assert_steps(rt: &impl Abort, meter: &Meter, built: u64, reused: u
 }
 
 // All parts of the line, each as the places of its first byte and behind its last.
-pub(crate) fn all_parts<M: LineMatch>(
+fn all_parts<M: LineMatch>(
     alloc: Global,
     matchers: &mut [M],
     line: &[u8],
