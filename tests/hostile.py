@@ -153,8 +153,8 @@ each_byte_alone("a basic", [], IN_EACH_LINE, NO_BASIC)
 each_byte_alone("an extended", ["-E"], IN_EACH_LINE | {b"|"}, NO_EXTENDED)
 
 
-def fault_behind(byte: bytes, special: dict[bytes, str]) -> str | None:
-    """How a backslash with this byte behind it is refused, none where it stands for the byte."""
+def fault_after(byte: bytes, special: dict[bytes, str]) -> str | None:
+    """How a backslash with this byte after it is refused, none where it stands for the byte."""
     if byte in special:
         return special[byte]
     if byte in b"123456789":
@@ -174,7 +174,7 @@ def each_byte_escaped(
         for byte in EACH_BYTE:
             bench.write("p", b"\\" + byte + b"\n")
             given.append(bench.ask(*words, "-c", "-f", "p", "f"))
-            fault = fault_behind(byte, special)
+            fault = fault_after(byte, special)
             if fault is not None:
                 told = f"grep: pattern 1: {fault} at 0\n".encode()
                 wanted.append(Answer(b"", told, 2))

@@ -173,7 +173,7 @@ fn a_long_line_takes_no_step_where_nothing_can_begin(rt: HostRuntime) -> Result<
 }
 
 // A pattern, a block, which lacks its last newline, where its first line begins that may be matched,
-// or behind the last one, and how many of its lines are matched, where that is known without a step.
+// or after the last one, and how many of its lines are matched, where that is known without a step.
 type Block = (Pattern, &'static [u8], usize, Option<u64>);
 
 static BLOCKS: [Block; 12] = [
