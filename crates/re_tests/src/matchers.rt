@@ -125,9 +125,17 @@ fn needed() -> &'static [Search] {
     &NEEDED
 }
 
-fn assert_search(rt: &impl Abort, alloc: Global, row: &Search) -> Result<(), Fail> {
-    let ((syntax, text, fold, whole), line, is_selected, from, expected, most) = *row;
-    let mut matcher = Matcher::new(alloc, text, syntax, fold, whole, 65_536)?;
+// The matcher of a pattern, in a vector: a function that drops one by itself is dear to prove.
+fn made(alloc: Global, pattern: Pattern) -> Result<Vec<Matcher>, Fail> {
+    let (syntax, text, fold, whole) = pattern;
+    let matcher = Matcher::new(alloc, text, syntax, fold, whole, 1)?;
+    let mut matchers = Vec::new(alloc);
+    matchers.push(matcher)?;
+    Ok(matchers)
+}
+
+fn assert_found(rt: &impl Abort, matcher: &mut Matcher, row: &Search) {
+    let ((_, text, _, _), line, is_selected, from, expected, most) = *row;
     let mut meter = fresh_meter();
     assert!(rt; from <= line.len());
     let found = matcher.find(line, from, &mut meter);
@@ -140,6 +148,13 @@ fn assert_search(rt: &impl Abort, alloc: Global, row: &Search) -> Result<(), Fai
     let is_match = matcher.is_match(line, &mut meter);
     assert_eq!(rt; is_match, is_selected, "{text:?} on {line:?}");
     assert!(rt; most > 0 || meter.built() == 0, "{text:?} on {line:?}");
+}
+
+fn assert_search(rt: &impl Abort, alloc: Global, row: &Search) -> Result<(), Fail> {
+    let mut matchers = made(alloc, row.0)?;
+    for matcher in &mut matchers {
+        assert_found(rt, matcher, row);
+    }
     Ok(())
 }
 
@@ -159,16 +174,26 @@ fn a_line_without_what_is_needed_takes_no_step(rt: HostRuntime) -> Result<(), Fa
     Ok(())
 }
 
+const LETTER: Pattern = (Syntax::Basic, b"[bB]c*", false, false);
+
+// The steps at the first byte are built, and kept at the second line.
+fn assert_passed(rt: &impl Abort, matcher: &mut Matcher, line: &[u8], longer: &[u8]) {
+    let mut meter = fresh_meter();
+    assert!(rt; !matcher.is_match(line, &mut meter));
+    assert_steps(rt, &meter, 1, 0, b"[bB]c*");
+    assert!(rt; matcher.is_match(longer, &mut meter));
+    assert_steps(rt, &meter, 2, 1, b"[bB]c*");
+}
+
 #[test]
 fn a_long_line_takes_no_step_where_nothing_can_begin(rt: HostRuntime) -> Result<(), Fail> {
-    let mut line = vec![in rt.alloc(); b'a'; 100_000]?;
-    let mut matcher = Matcher::new(rt.alloc(), b"[bB]c*", Syntax::Basic, false, false, 1)?;
-    let mut meter = fresh_meter();
-    assert!(rt; !matcher.is_match(&line, &mut meter));
-    assert_steps(&rt, &meter, 1, 0, b"[bB]c*");
-    line.extend_from_slice(b"bcca")?;
-    assert!(rt; matcher.is_match(&line, &mut meter));
-    assert_steps(&rt, &meter, 2, 1, b"[bB]c*");
+    let line = vec![in rt.alloc(); b'a'; 100_000]?;
+    let mut longer = vec![in rt.alloc(); b'a'; 100_000]?;
+    longer.extend_from_slice(b"bcca")?;
+    let mut matchers = made(rt.alloc(), LETTER)?;
+    for matcher in &mut matchers {
+        assert_passed(&rt, matcher, &line, &longer);
+    }
     Ok(())
 }
 
@@ -238,13 +263,25 @@ fn count_in(alloc: Global, matcher: &Matcher, lines: &[u8]) -> Result<Option<u64
     Ok(matcher.count_matched(&block))
 }
 
-fn assert_block(rt: &impl Abort, alloc: Global, row: &Block) -> Result<(), Fail> {
-    let ((syntax, text, fold, whole), lines, first, matched) = *row;
-    let matcher = Matcher::new(alloc, text, syntax, fold, whole, 1)?;
-    let place = candidate_in(alloc, &matcher, lines)?;
+fn assert_looked_over(
+    rt: &impl Abort,
+    alloc: Global,
+    matcher: &Matcher,
+    row: &Block,
+) -> Result<(), AllocError> {
+    let ((_, text, _, _), lines, first, matched) = *row;
+    let place = candidate_in(alloc, matcher, lines)?;
     assert_eq!(rt; place, first, "{text:?} on {lines:?}");
-    let count = count_in(alloc, &matcher, lines)?;
+    let count = count_in(alloc, matcher, lines)?;
     assert_eq!(rt; count, matched, "{text:?} on {lines:?}");
+    Ok(())
+}
+
+fn assert_block(rt: &impl Abort, alloc: Global, row: &Block) -> Result<(), Fail> {
+    let matchers = made(alloc, row.0)?;
+    for matcher in &matchers {
+        assert_looked_over(rt, alloc, matcher, row)?;
+    }
     Ok(())
 }
 
