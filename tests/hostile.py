@@ -153,6 +153,67 @@ each_byte_alone("a basic", [], IN_EACH_LINE, NO_BASIC)
 each_byte_alone("an extended", ["-E"], IN_EACH_LINE | {b"|"}, NO_EXTENDED)
 
 
+def fault_after(byte: bytes, special: dict[bytes, str]) -> str | None:
+    """How a backslash with this byte after it is refused, none where it stands for the byte."""
+    if byte in special:
+        return special[byte]
+    if byte in b"123456789":
+        return "BackReference"
+    return "UndefinedEscape" if byte.isalnum() or byte in b"<>`'" else None
+
+
+def each_byte_escaped(
+    read_as: str, words: list[str], special: dict[bytes, str], in_each_line: set[bytes]
+) -> None:
+    """A case of a backslash before each byte, as an expression that is read in this way."""
+
+    @case(f"A backslash before each byte but the newline, as {read_as} expression.")
+    def judge(bench: Bench) -> Verdict:
+        bench.write("f", b"".join(b"x" + byte + b"y\n" for byte in EACH_BYTE))
+        wanted, given = [], []
+        for byte in EACH_BYTE:
+            bench.write("p", b"\\" + byte + b"\n")
+            given.append(bench.ask(*words, "-c", "-f", "p", "f"))
+            fault = fault_after(byte, special)
+            if fault is not None:
+                told = f"grep: pattern 1: {fault} at 0\n".encode()
+                wanted.append(Answer(b"", told, 2))
+            else:
+                many = byte in in_each_line
+                wanted.append(Answer(b"255\n" if many else b"1\n"))
+        return Verdict(joined(wanted), joined(given))
+
+
+each_byte_escaped(
+    "a basic", [],
+    {b"(": "UnclosedGroup", b")": "UnopenedGroup", **dict.fromkeys((b"{", b"+", b"?"), "NothingToRepeat")},
+    {b"|"})
+each_byte_escaped("an extended", ["-E"], {}, set())
+
+
+@case("Each byte but the newline is one of many strings, and then all of them in order are another.")
+def each_byte_among_many(bench: Bench) -> Verdict:
+    line = b"".join(EACH_BYTE)
+    bench.write("f", line + b"\n" + line[::-1] + b"\n")
+    bench.write("p", b"".join(byte + b"\n" for byte in EACH_BYTE))
+    single = bench.ask("-F", "-n", "-o", "-f", "p", "f")
+    whole = bench.ask("-F", "-n", "-o", "-f", "p", "-f", "f", "f")
+    parts = [b"".join(b"%d:%c\n" % (number, byte) for byte in text)
+             for number, text in ((1, line), (2, line[::-1]))]
+    rows = b"1:" + line + b"\n2:" + line[::-1] + b"\n"
+    return Verdict(joined([Answer(b"".join(parts)), Answer(rows)]), joined([single, whole]))
+
+
+@case("65,535 numbers as strings: their parts, and whole lines that are one.")
+def many_numbers(bench: Bench) -> Verdict:
+    bench.write("p", b"".join(b"%d\n" % number for number in range(65_535)))
+    bench.write("f", b"x65534\n65535\n007\nnone\n65534\n")
+    parts = bench.ask("-F", "-n", "-o", "-f", "p", "f")
+    whole = bench.ask("-F", "-n", "-x", "-f", "p", "f")
+    rows = b"1:65534\n2:6553\n2:5\n3:0\n3:0\n3:7\n5:65534\n"
+    return Verdict(joined([Answer(rows), Answer(b"5:65534\n")]), joined([parts, whole]))
+
+
 @case("Each byte but the newline is a line, which a period matches but for the byte 0.")
 def each_byte_as_line(bench: Bench) -> Verdict:
     bench.write("f", b"".join(byte + b"\n" for byte in EACH_BYTE))

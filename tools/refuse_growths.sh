@@ -1,11 +1,10 @@
 #!/usr/bin/env bash
 # Runs tests in which requests for memory between two marks are refused. In one of crates/re_tests none is made: folding
 # and stepping take no memory. In the others each request is refused in turn, one a run, until none is left to refuse: in
-# crates/re_tests of a matcher's searches, which go on without the cache; in crates/core_tests of lines, which are
-# handed out whole by the next call; in crates/grep_tests of words and of whole searches, which tell so, with the output
-# up to there; in crates/session_tests of the edits of sessions: one that is refused for that leaves the session as it
-# was, and made again answers as its row says. Edits that need no memory, reports, messages and the status make no
-# request.
+# crates/re_tests of a matcher's searches, which go on without the cache; in crates/command_tests of lines, which are
+# handed out whole by the next call, of words and of whole searches, which tell so, with the output up to there, and of
+# the edits of sessions: one that is refused for that leaves the session as it was, and made again answers as its row
+# says. Edits that need no memory, reports, messages and the status make no request.
 # At first programs are run in the place of tests that are wrong on purpose: each has to be found. It wants a C compiler.
 set -euo pipefail
 cd "$(dirname "${BASH_SOURCE[0]}")/.."
@@ -62,7 +61,7 @@ try() {
 
 try asks_for_none re_tests automata::memory::stepping_takes_no_memory "folding and stepping"
 try goes_on re_tests cache::searches_without_memory "searches of a matcher"
-try goes_on core_tests long_lines::memory::lines_without_memory "lines"
-try goes_on grep_tests memory::words_without_memory "words"
-try goes_on grep_tests memory::searches_without_memory "searches of sources"
-try goes_on session_tests memory::edits_without_memory "edits of sessions"
+try goes_on command_tests long_lines::memory::lines_without_memory "lines"
+try goes_on command_tests memory::words_without_memory "words"
+try goes_on command_tests memory::searches_without_memory "searches of sources"
+try goes_on command_tests sessions::memory::edits_without_memory "edits of sessions"

@@ -127,14 +127,14 @@ fn searched(rt: &impl Abort, matcher: &mut Matcher, line: &[u8], row: &Row) -> M
     meter
 }
 
-// The matcher of a row, and its line.
-fn made(rt: &impl Abort, alloc: Global, row: &Row) -> Result<(Matcher, Vec<u8>), Fail> {
-    let (text, whole, part, times, _, states, _, _) = *row;
+// The matcher of a row, in a vector: a function that drops one by itself is dear to prove.
+fn made(rt: &impl Abort, alloc: Global, row: &Row) -> Result<Vec<Matcher>, Fail> {
+    let (text, whole, _, _, _, states, _, _) = *row;
     assert!(rt; 1 <= states && states <= 65_536);
-    let line = repeated(alloc, part, times)?;
     let matcher = Matcher::new(alloc, text, Syntax::Extended, false, whole, states)?;
-    assert_eq!(rt; matcher.cached(), 0, "{text:?}");
-    Ok((matcher, line))
+    let mut matchers = Vec::new(alloc);
+    matchers.push(matcher)?;
+    Ok(matchers)
 }
 
 // Searches the line once more, and compares its steps of both kinds.
@@ -151,12 +151,21 @@ fn assert_steps(
     assert_eq!(rt; meter.reused(), reused, "{:?}, {} entries", row.0, row.5);
 }
 
-fn assert_row(rt: &impl Abort, alloc: Global, row: &Row) -> Result<(), Fail> {
-    let (mut matcher, line) = made(rt, alloc, row)?;
+// Searches the line twice, and compares the steps, and how many entries the cache has after them.
+fn assert_searched_twice(rt: &impl Abort, matcher: &mut Matcher, line: &[u8], row: &Row) {
+    assert_eq!(rt; matcher.cached(), 0, "{:?}", row.0);
     let (built, reused, built_again, reused_again) = row.6;
-    assert_steps(rt, &mut matcher, &line, row, built, reused);
-    assert_steps(rt, &mut matcher, &line, row, built_again, reused_again);
+    assert_steps(rt, matcher, line, row, built, reused);
+    assert_steps(rt, matcher, line, row, built_again, reused_again);
     assert_eq!(rt; matcher.cached(), row.7, "{:?}, {} entries", row.0, row.5);
+}
+
+fn assert_row(rt: &impl Abort, alloc: Global, row: &Row) -> Result<(), Fail> {
+    let line = repeated(alloc, row.2, row.3)?;
+    let mut matchers = made(rt, alloc, row)?;
+    for matcher in &mut matchers {
+        assert_searched_twice(rt, matcher, &line, row);
+    }
     Ok(())
 }
 
@@ -210,11 +219,28 @@ fn searched_without(
 
 // Searches the line twice while the N-th request for memory is refused, and once more; whether one
 // was. The answers and the steps are as ever, and no more is held than may be.
-fn assert_refused(rt: &impl Abort, alloc: Global, row: &Row, n: usize) -> Result<bool, Fail> {
-    let (mut matcher, line) = made(rt, alloc, row)?;
-    let refused = searched_without(rt, alloc, &mut matcher, &line, row, n)?;
-    assert_gone_over(rt, &mut matcher, &line, row);
+fn assert_searched_without(
+    rt: &impl Abort,
+    alloc: Global,
+    matcher: &mut Matcher,
+    line: &[u8],
+    row: &Row,
+    n: usize,
+) -> Result<bool, AllocError> {
+    let refused = searched_without(rt, alloc, matcher, line, row, n)?;
+    assert_gone_over(rt, matcher, line, row);
     assert!(rt; matcher.cached() <= row.5, "{:?}", row.0);
+    Ok(refused)
+}
+
+// The same for a new matcher of the row.
+fn assert_refused(rt: &impl Abort, alloc: Global, row: &Row, n: usize) -> Result<bool, Fail> {
+    let line = repeated(alloc, row.2, row.3)?;
+    let mut matchers = made(rt, alloc, row)?;
+    let mut refused = false;
+    for matcher in &mut matchers {
+        refused = assert_searched_without(rt, alloc, matcher, &line, row, n)?;
+    }
     Ok(refused)
 }
 

@@ -8,20 +8,10 @@ use std::test::Fail;
 // it; none where they are not known to need some.
 type Row = (&'static [u8], &'static [u8], Option<bool>);
 
-static ROWS: [Row; 14] = [
+static ROWS: [Row; 4] = [
     (b"foo[0-9]*\nba+r\n", b"x foo", Some(true)),
-    (b"foo[0-9]*\nba+r\n", b"bar", Some(true)),
     (b"foo[0-9]*\nba+r\n", b"fo or far", Some(false)),
-    (b"foo[0-9]*\nba+r\n", b"fo of fab", Some(false)),
-    (b"foo[0-9]*\nba+r\n", b"fo of bat", Some(true)),
-    (b"foo[0-9]*\n(x*ab)+y\n", b"fo of lab", Some(true)),
-    (b"foo[0-9]*\n^ab.cde$\n", b"ab cd", Some(false)),
-    (b"foo[0-9]*\n^ab.cde$\n", b"cde", Some(true)),
-    (b"foo\nbar\n", b"", Some(false)),
     (b"foo\n[a-z]*\n", b"foo", None),
-    (b"[ab]\nfoo\n", b"foo", None),
-    (b"foo\n(a|b)\n", b"foo", None),
-    (b"foo\n\n", b"foo", None),
     (b"", b"foo", Some(false)),
 ];
 

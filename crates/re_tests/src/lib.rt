@@ -4,8 +4,6 @@
 #[cfg(test)]
 mod automata;
 #[cfg(test)]
-mod building;
-#[cfg(test)]
 mod cache;
 #[cfg(test)]
 mod filters;

@@ -6,27 +6,13 @@ use std::process::Abort;
 // A text, and whether it is read as the string that it is as a basic and as an extended expression.
 type Row = (&'static [u8], bool, bool);
 
-static ROWS: [Row; 20] = [
+static ROWS: [Row; 6] = [
     (b"", true, true),
-    (b"a", true, true),
-    (b"ab", true, true),
-    (b"host unreachable", true, true),
     (b"a]b}c-d,e", true, true),
-    (b"\xff\x00\x80", true, true),
     (b"a+b", true, false),
-    (b"a?", true, false),
-    (b"a|b", true, false),
-    (b"(a)", true, false),
-    (b"a{1}", true, false),
-    (b"a^b", true, false),
-    (b"a$b", true, false),
-    (b"a.b", false, false),
-    (b"a*", false, false),
-    (b"[a]", false, false),
-    (b"^a", false, false),
-    (b"a$", false, false),
-    (b"a\\.b", false, false),
     (b"*a", true, false),
+    (b"a.b", false, false),
+    (b"a\\.b", false, false),
 ];
 
 fn rows() -> &'static [Row] {

@@ -1,9 +1,14 @@
 //! What basic expressions are read as, and why others are refused.
-mod branches;
-
+use crate::shapes::Shape::{Alt, Begin, Byte, Cat, Empty, End, Repeat};
 use crate::shapes::{Copied, Shape, copies, is_tree};
 use re_syntax::{FaultKind, PatternFault, read_basic};
 use std::test::Fail;
+
+const A: Shape = Byte(b'a');
+
+const B: Shape = Byte(b'b');
+
+const STAR: Shape = Byte(b'*');
 
 fn is_read(rt: &HostRuntime, text: &[u8], shapes: &[Shape]) -> bool {
     match read_basic(rt.alloc(), text) {
@@ -19,334 +24,59 @@ fn is_refused(rt: &HostRuntime, text: &[u8], kind: FaultKind, at: usize) -> bool
     }
 }
 
-static ANCHORS_AND_STARS: [(&[u8], &[Shape]); 22] = [
-    (b"", &[Shape::Empty]),
-    (b"^", &[Shape::Begin]),
-    (
-        b"^*a",
-        &[
-            Shape::Cat(3),
-            Shape::Begin,
-            Shape::Byte(b'*'),
-            Shape::Byte(b'a'),
-        ],
-    ),
-    (
-        b"\\(^*\\)",
-        &[Shape::Cat(2), Shape::Begin, Shape::Byte(b'*')],
-    ),
-    (b"**", &[Shape::Repeat(0, None), Shape::Byte(b'*')]),
-    (
-        b"^**",
-        &[
-            Shape::Cat(2),
-            Shape::Begin,
-            Shape::Repeat(0, None),
-            Shape::Byte(b'*'),
-        ],
-    ),
+static READ: [(&[u8], &[Shape]); 17] = [
+    // Anchors and stars go by their place.
+    (b"", &[Empty]),
+    (b"^*a", &[Cat(3), Begin, STAR, A]),
+    (b"\\(^*\\)", &[Cat(2), Begin, STAR]),
+    (b"**", &[Repeat(0, None), STAR]),
+    (b"^**", &[Cat(2), Begin, Repeat(0, None), STAR]),
     (
         b"a^b$c",
-        &[
-            Shape::Cat(5),
-            Shape::Byte(b'a'),
-            Shape::Byte(b'^'),
-            Shape::Byte(b'b'),
-            Shape::Byte(b'$'),
-            Shape::Byte(b'c'),
-        ],
+        &[Cat(5), A, Byte(b'^'), B, Byte(b'$'), Byte(b'c')],
     ),
-    (
-        b"a$b",
-        &[
-            Shape::Cat(3),
-            Shape::Byte(b'a'),
-            Shape::Byte(b'$'),
-            Shape::Byte(b'b'),
-        ],
-    ),
-    (b"$", &[Shape::End]),
-    (b"^$", &[Shape::Cat(2), Shape::Begin, Shape::End]),
-    (b"$*", &[Shape::Repeat(0, None), Shape::Byte(b'$')]),
-    (b"^^", &[Shape::Cat(2), Shape::Begin, Shape::Byte(b'^')]),
-    (b"$$", &[Shape::Cat(2), Shape::Byte(b'$'), Shape::End]),
-    (b"^*", &[Shape::Cat(2), Shape::Begin, Shape::Byte(b'*')]),
-    (b"a*", &[Shape::Repeat(0, None), Shape::Byte(b'a')]),
-    (
-        b"a**",
-        &[
-            Shape::Repeat(0, None),
-            Shape::Repeat(0, None),
-            Shape::Byte(b'a'),
-        ],
-    ),
-    (
-        b"^a*",
-        &[
-            Shape::Cat(2),
-            Shape::Begin,
-            Shape::Repeat(0, None),
-            Shape::Byte(b'a'),
-        ],
-    ),
-    (
-        b"\\(^a\\)",
-        &[Shape::Cat(2), Shape::Begin, Shape::Byte(b'a')],
-    ),
-    (
-        b"a\\(b$\\)",
-        &[
-            Shape::Cat(2),
-            Shape::Byte(b'a'),
-            Shape::Cat(2),
-            Shape::Byte(b'b'),
-            Shape::End,
-        ],
-    ),
-    (b"\\($\\)", &[Shape::End]),
-    (b"\\(*\\)", &[Shape::Byte(b'*')]),
-    (
-        b"a\\(^b\\)$",
-        &[
-            Shape::Cat(3),
-            Shape::Byte(b'a'),
-            Shape::Cat(2),
-            Shape::Begin,
-            Shape::Byte(b'b'),
-            Shape::End,
-        ],
-    ),
+    (b"$", &[End]),
+    (b"^$", &[Cat(2), Begin, End]),
+    (b"$*", &[Repeat(0, None), Byte(b'$')]),
+    // Duplications apply from left to right.
+    (b"a\\{2\\}*", &[Repeat(0, None), Repeat(2, Some(2)), A]),
+    (b"a\\{,2\\}", &[Repeat(0, Some(2)), A]),
+    (b"*\\+", &[Repeat(1, None), STAR]),
+    // A branch has ends of its own, and may be empty.
+    (b"a\\|*b", &[Alt(2), A, Cat(2), STAR, B]),
+    (b"a\\|^*b", &[Alt(2), A, Cat(3), Begin, STAR, B]),
+    (b"a$\\|b", &[Alt(2), Cat(2), A, End, B]),
+    (b"\\|", &[Alt(2), Empty, Empty]),
+    (b"\\(a\\|\\)", &[Alt(2), A, Empty]),
 ];
 
-fn anchors_and_stars() -> &'static [(&'static [u8], &'static [Shape])] {
-    &ANCHORS_AND_STARS
+fn read() -> &'static [(&'static [u8], &'static [Shape])] {
+    &READ
 }
 
 #[test]
-fn anchors_and_stars_go_by_their_place(rt: HostRuntime) {
-    for row in anchors_and_stars() {
+fn anchors_duplications_and_branches_are_read(rt: HostRuntime) {
+    for row in read() {
         let (text, shape) = *row;
         assert!(rt; is_read(&rt, text, shape), "{text:?}");
     }
 }
 
-static DUPLICATIONS: [(&[u8], &[Shape]); 15] = [
-    (
-        b"a\\{2\\}*",
-        &[
-            Shape::Repeat(0, None),
-            Shape::Repeat(2, Some(2)),
-            Shape::Byte(b'a'),
-        ],
-    ),
-    (
-        b"a*\\{2\\}",
-        &[
-            Shape::Repeat(2, Some(2)),
-            Shape::Repeat(0, None),
-            Shape::Byte(b'a'),
-        ],
-    ),
-    (b"a\\{3,\\}", &[Shape::Repeat(3, None), Shape::Byte(b'a')]),
-    (
-        b"a\\{1,2\\}",
-        &[Shape::Repeat(1, Some(2)), Shape::Byte(b'a')],
-    ),
-    (b"a\\{0\\}", &[Shape::Repeat(0, Some(0)), Shape::Byte(b'a')]),
-    (
-        b"a\\{,2\\}",
-        &[Shape::Repeat(0, Some(2)), Shape::Byte(b'a')],
-    ),
-    (
-        b"a\\{,255\\}",
-        &[Shape::Repeat(0, Some(255)), Shape::Byte(b'a')],
-    ),
-    (
-        b"a\\{007\\}",
-        &[Shape::Repeat(7, Some(7)), Shape::Byte(b'a')],
-    ),
-    (
-        b"a\\{255\\}",
-        &[Shape::Repeat(255, Some(255)), Shape::Byte(b'a')],
-    ),
-    (
-        b"a\\{0000000000000000000000000000000000000012\\}",
-        &[Shape::Repeat(12, Some(12)), Shape::Byte(b'a')],
-    ),
-    (b"\\(a\\)*", &[Shape::Repeat(0, None), Shape::Byte(b'a')]),
-    (b"\\(\\)*", &[Shape::Repeat(0, None), Shape::Empty]),
-    (b".*", &[Shape::Repeat(0, None), Shape::Any]),
-    (b"*\\{2\\}", &[Shape::Repeat(2, Some(2)), Shape::Byte(b'*')]),
-    (b"\\.*", &[Shape::Repeat(0, None), Shape::Byte(b'.')]),
-];
-
-fn duplications() -> &'static [(&'static [u8], &'static [Shape])] {
-    &DUPLICATIONS
-}
-
-#[test]
-fn duplications_apply_from_left_to_right(rt: HostRuntime) {
-    for row in duplications() {
-        let (text, shape) = *row;
-        assert!(rt; is_read(&rt, text, shape), "{text:?}");
-    }
-}
-
-static ORDINARY: [(&[u8], &[Shape]); 8] = [
-    (
-        b"a+b",
-        &[
-            Shape::Cat(3),
-            Shape::Byte(b'a'),
-            Shape::Byte(b'+'),
-            Shape::Byte(b'b'),
-        ],
-    ),
-    (
-        b"a?b",
-        &[
-            Shape::Cat(3),
-            Shape::Byte(b'a'),
-            Shape::Byte(b'?'),
-            Shape::Byte(b'b'),
-        ],
-    ),
-    (
-        b"a|b",
-        &[
-            Shape::Cat(3),
-            Shape::Byte(b'a'),
-            Shape::Byte(b'|'),
-            Shape::Byte(b'b'),
-        ],
-    ),
-    (
-        b"(a)",
-        &[
-            Shape::Cat(3),
-            Shape::Byte(b'('),
-            Shape::Byte(b'a'),
-            Shape::Byte(b')'),
-        ],
-    ),
-    (
-        b"a{b",
-        &[
-            Shape::Cat(3),
-            Shape::Byte(b'a'),
-            Shape::Byte(b'{'),
-            Shape::Byte(b'b'),
-        ],
-    ),
-    (
-        b"a}]",
-        &[
-            Shape::Cat(3),
-            Shape::Byte(b'a'),
-            Shape::Byte(b'}'),
-            Shape::Byte(b']'),
-        ],
-    ),
-    (
-        b"a\\}",
-        &[Shape::Cat(2), Shape::Byte(b'a'), Shape::Byte(b'}')],
-    ),
-    (
-        b"a\xff\x00",
-        &[
-            Shape::Cat(3),
-            Shape::Byte(b'a'),
-            Shape::Byte(255),
-            Shape::Byte(0),
-        ],
-    ),
-];
-
-fn ordinary() -> &'static [(&'static [u8], &'static [Shape])] {
-    &ORDINARY
-}
-
-#[test]
-fn other_bytes_stand_for_themselves(rt: HostRuntime) {
-    for row in ordinary() {
-        let (text, shape) = *row;
-        assert!(rt; is_read(&rt, text, shape), "{text:?}");
-    }
-}
-
-/// What a backslash before a byte, with nothing behind them, is refused for.
-fn escape_kind(byte: u8) -> Option<FaultKind> {
-    match byte {
-        b'(' => Some(FaultKind::UnclosedGroup),
-        b')' => Some(FaultKind::UnopenedGroup),
-        b'{' | b'+' | b'?' => Some(FaultKind::NothingToRepeat),
-        b'1'..=b'9' => Some(FaultKind::BackReference),
-        b'0' | b'a'..=b'z' | b'A'..=b'Z' => Some(FaultKind::UndefinedEscape),
-        b'<' | b'>' | b'`' | b'\'' => Some(FaultKind::UndefinedEscape),
-        _ => None,
-    }
-}
-
-#[test]
-fn a_backslash_stands_before_each_byte(rt: HostRuntime) {
-    for byte in 0..=255u8 {
-        let text = [b'\\', byte];
-        let right = match escape_kind(byte) {
-            Some(kind) => is_refused(&rt, &text, kind, 0),
-            None if byte == b'|' => is_read(
-                &rt,
-                &text,
-                &[Shape::Alt(2), Shape::Empty, Shape::Empty],
-            ),
-            None => is_read(&rt, &text, &[Shape::Byte(byte)]),
-        };
-        assert!(rt; right, "{byte}");
-    }
-}
-
-static FAULTS: [(&[u8], FaultKind, usize); 38] = [
-    (b"[b-a]", FaultKind::BadRange, 2),
-    (b"[a-m--o]", FaultKind::BadRange, 5),
-    (b"[a--@]", FaultKind::BadRange, 2),
-    (b"[a-[:digit:]]", FaultKind::BadRange, 2),
-    (b"[[:foo:]]", FaultKind::BadClass, 1),
-    (b"[[.ab.]]", FaultKind::BadCollatingSymbol, 1),
-    (b"[a", FaultKind::UnclosedBracket, 0),
-    (b"[]", FaultKind::UnclosedBracket, 0),
-    (b"\\([a", FaultKind::UnclosedBracket, 2),
+static FAULTS: [(&[u8], FaultKind, usize); 14] = [
     (b"a\\", FaultKind::TrailingBackslash, 1),
-    (b"\\(\\", FaultKind::TrailingBackslash, 2),
     (b"\\w", FaultKind::UndefinedEscape, 0),
-    (b"\\<", FaultKind::UndefinedEscape, 0),
-    (b"\\(a\\1\\)", FaultKind::BackReference, 3),
+    (b"\\(a\\)\\1", FaultKind::BackReference, 5),
     (b"\\)", FaultKind::UnopenedGroup, 0),
-    (b"a\\(b\\)c\\)", FaultKind::UnopenedGroup, 7),
     (b"\\(a", FaultKind::UnclosedGroup, 0),
-    (b"\\(\\(a\\)", FaultKind::UnclosedGroup, 0),
-    (b"a\\(b\\(c", FaultKind::UnclosedGroup, 4),
     (b"a\\{2", FaultKind::BadInterval, 1),
-    (b"a\\{", FaultKind::BadInterval, 1),
-    (b"a\\{\\}", FaultKind::BadInterval, 1),
-    (b"a\\{2,\\", FaultKind::BadInterval, 1),
-    (b"a\\{2x\\}", FaultKind::BadInterval, 1),
-    (b"a\\{2}", FaultKind::BadInterval, 1),
     (b"\\(a\\{2\\)", FaultKind::BadInterval, 3),
     (b"a\\{,\\}", FaultKind::BadInterval, 1),
-    (b"a\\{,2", FaultKind::BadInterval, 1),
-    (b"a\\{,256\\}", FaultKind::IntervalTooLarge, 1),
-    (b"^\\{,2\\}", FaultKind::NothingToRepeat, 1),
-    (b"a\\{2,1\\}", FaultKind::BadInterval, 1),
     (b"a\\{256\\}", FaultKind::IntervalTooLarge, 1),
-    (b"a\\{300,2\\}", FaultKind::IntervalTooLarge, 1),
-    (
-        b"a\\{0,9999999999999999999999999999999999999999\\}",
-        FaultKind::IntervalTooLarge,
-        1,
-    ),
     (b"\\{2\\}", FaultKind::NothingToRepeat, 0),
-    (b"\\+", FaultKind::NothingToRepeat, 0),
-    (b"^\\{300\\}", FaultKind::NothingToRepeat, 1),
-    (b"\\(^\\{1\\}\\)", FaultKind::NothingToRepeat, 3),
+    (b"\\+a", FaultKind::NothingToRepeat, 0),
+    (b"a\\|\\?", FaultKind::NothingToRepeat, 3),
+    (b"^\\{,2\\}", FaultKind::NothingToRepeat, 1),
+    (b"[b-a]", FaultKind::BadRange, 2),
 ];
 
 fn faults() -> &'static [(&'static [u8], FaultKind, usize)] {
@@ -361,20 +91,11 @@ fn a_refused_text_is_told_with_its_first_fault(rt: HostRuntime) {
     }
 }
 
-static DEEP: [Copied; 6] = [
+static DEEP: [Copied; 4] = [
     (b"\\(", 257, b"", 0, b"", Some((FaultKind::TooDeep, 512))),
     (b"\\(", 256, b"", 0, b"a*", Some((FaultKind::TooDeep, 513))),
     (b"a", 1, b"*", 256, b"", None),
     (b"a", 1, b"*", 257, b"", Some((FaultKind::TooDeep, 257))),
-    (b"\\(", 255, b"\\)", 255, b"*", None),
-    (
-        b"\\(",
-        256,
-        b"\\)",
-        256,
-        b"*",
-        Some((FaultKind::TooDeep, 1024)),
-    ),
 ];
 
 fn deep() -> &'static [Copied] {
@@ -394,7 +115,7 @@ fn is_told(rt: &HostRuntime, row: Copied) -> Result<bool, Fail> {
 #[test]
 fn groups_and_duplications_stand_256_deep(rt: HostRuntime) -> Result<(), Fail> {
     let deepest = copies(&rt, b"\\(", 256, b"\\)", 256, b"")?;
-    assert!(rt; is_read(&rt, &deepest, &[Shape::Empty]));
+    assert!(rt; is_read(&rt, &deepest, &[Empty]));
     for row in deep() {
         assert!(rt; is_told(&rt, *row)?, "{:?}, {}", row.0, row.1);
     }

@@ -6,14 +6,8 @@ mod basic;
 #[cfg(test)]
 mod brackets;
 #[cfg(test)]
-mod bytes;
-#[cfg(test)]
 mod extended;
-#[cfg(test)]
-mod folding;
 #[cfg(test)]
 mod positions;
 #[cfg(test)]
 mod shapes;
-#[cfg(test)]
-mod splitting;

@@ -2,14 +2,13 @@
 use re_syntax::{ByteSet, FaultKind, Tree};
 use std::test::Fail;
 
-/// What a node of a tree should be: a byte alone, any byte but NUL, an anchor, so many in order, so
+/// What a node of a tree should be: a byte alone, an anchor, so many in order, so
 /// many to choose from, or one repeated. A whole tree is its nodes, each before those that are in
 /// it.
 #[derive(Clone, Copy, Drop)]
 pub enum Shape {
     Empty,
     Byte(u8),
-    Any,
     Begin,
     End,
     Cat(usize),
@@ -18,7 +17,7 @@ pub enum Shape {
 }
 
 /// Whether the set has the bytes from one to another, and no other.
-pub fn has_exactly(set: &ByteSet, first: u8, last: u8) -> bool {
+fn has_exactly(set: &ByteSet, first: u8, last: u8) -> bool {
     for byte in 0..=255u8 {
         if set.has(byte) != (first <= byte && byte <= last) {
             return false;
@@ -39,7 +38,6 @@ fn nodes_behind(tree: &Tree, shapes: &[Shape], at: usize, depth: u16) -> Option<
         (Tree::Begin, Shape::Begin) => true,
         (Tree::End, Shape::End) => true,
         (Tree::Set(set), Shape::Byte(byte)) => has_exactly(set, byte, byte),
-        (Tree::Set(set), Shape::Any) => has_exactly(set, 1, 255),
         (Tree::Repeat(part, least, most), Shape::Repeat(low, high)) => {
             if *least != low || *most != high {
                 return None;

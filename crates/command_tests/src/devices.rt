@@ -1,0 +1,169 @@
+//! Readers that fail, and what is gathered before it is written.
+use grep_core::{
+    Buffered, CountedWrite, Limited, Lines, ReadFault, Tally, WholeLines, WriteFault, push_all,
+    write_cannot_open, write_count, write_line, write_name, write_read_error, write_row,
+};
+use std::io::{Error, ErrorKind, Read, Write};
+use std::test::Fail;
+
+// The file `ab` and `cd`, of which reads fail once so many bytes went.
+#[test]
+fn a_failed_read_is_answered_from_then_on(rt: HostRuntime) -> Result<(), Fail> {
+    for (left, whole) in [(0, 0), (1, 0), (2, 0), (3, 1), (4, 1), (5, 1)] {
+        let reader = Tally::new(Limited::new(b"ab\ncd".as_slice(), usize::MAX, left));
+        let Ok(mut lines) = Lines::new(rt.alloc(), reader) else {
+            return Err(Fail::from("no memory"));
+        };
+        for _ in 0..whole {
+            assert_eq!(rt; lines.next_line(), Ok(true), "{left}");
+            assert_eq!(rt; lines.line(), b"ab".as_slice(), "{left}");
+        }
+        for _ in 0..3 {
+            assert_eq!(rt; lines.next_line(), Err(ReadFault::Device), "{left}");
+            assert_eq!(rt; lines.line().len(), 0, "{left}");
+        }
+    }
+    Ok(())
+}
+
+#[test]
+fn rows_go_through_the_buffer(rt: HostRuntime) -> Result<(), Fail> {
+    let mut out = Buffered::new(rt.alloc(), Tally::new(Vec::new(rt.alloc())))?;
+    let row = write_row(
+        &mut out,
+        b"  ",
+        b':',
+        Some(b"a.txt"),
+        Some(u64::MAX),
+        b"text",
+    );
+    assert_eq!(rt; row, Ok(()));
+    assert_eq!(rt;
+        write_row(&mut out, b"", b'-', Some(b"b"), Some(7), b"beside"),
+        Ok(())
+    );
+    assert_eq!(rt; write_line(&mut out, b"--"), Ok(()));
+    assert_eq!(rt; out.send(), Ok(()));
+    let bytes = out.into_inner().into_inner();
+    let want = b"  a.txt:18446744073709551615:text\nb-7-beside\n--\n";
+    assert_eq!(rt; bytes.as_slice(), want.as_slice());
+    Ok(())
+}
+
+#[test]
+fn counts_names_and_messages_are_lines(rt: HostRuntime) -> Result<(), Fail> {
+    let mut out = Tally::new(Vec::new(rt.alloc()));
+    assert_eq!(rt; write_count(&mut out, b"  ", Some(b"a.txt"), 12), Ok(()));
+    assert_eq!(rt; write_count(&mut out, b"", None, 0), Ok(()));
+    assert_eq!(rt; write_name(&mut out, b"> ", b"a.txt"), Ok(()));
+    assert_eq!(rt; write_cannot_open(&mut out, b"b.txt"), Ok(()));
+    assert_eq!(rt; write_read_error(&mut out, b"c"), Ok(()));
+    let bytes = out.into_inner();
+    let want = b"  a.txt:12\n0\n> a.txt\ngrep: b.txt: cannot open\ngrep: c: read error\n";
+    assert_eq!(rt; bytes.as_slice(), want.as_slice());
+    Ok(())
+}
+
+#[test]
+fn a_failed_flush_keeps_a_beginning(rt: HostRuntime) -> Result<(), Fail> {
+    let device = Tally::new(Limited::new(Vec::new(rt.alloc()), 3, 7));
+    let mut out = Buffered::new(rt.alloc(), device)?;
+    assert_eq!(rt; write_line(&mut out, b"0123456789"), Ok(()));
+    assert_eq!(rt; out.send(), Err(WriteFault));
+    assert_eq!(rt; out.failures(), 1);
+    let bytes = out.into_inner().into_inner().into_inner();
+    assert_eq!(rt; bytes.as_slice(), b"0123456".as_slice());
+    Ok(())
+}
+
+/// A device of which each write takes at most `step` bytes and puts a bar behind them. The write
+/// after the first `good` ones fails, and those behind it go on.
+#[derive(Drop)]
+struct Barred {
+    bytes: Vec<u8>,
+    step: usize,
+    good: usize,
+}
+
+impl Write for Barred {
+    fn write(&mut self, buf: &[u8]) -> std::io::Result<usize> {
+        if self.good == 0 {
+            self.good = usize::MAX;
+            return Err(Error::from(ErrorKind::Other));
+        }
+        self.good -= 1;
+        let count = buf.len().min(self.step);
+        if self.bytes.extend_from_slice(&buf[..count]).is_err() {
+            return Err(Error::from(ErrorKind::Other));
+        }
+        if self.bytes.push(b'|').is_err() {
+            return Err(Error::from(ErrorKind::Other));
+        }
+        Ok(count)
+    }
+
+    fn flush(&mut self) -> std::io::Result<()> {
+        Ok(())
+    }
+}
+
+// A device on which nothing was written yet.
+fn unwritten(rt: &HostRuntime, step: usize, good: usize) -> Tally<Barred> {
+    let bytes = Vec::new(rt.alloc());
+    Tally::new(Barred { bytes, step, good })
+}
+
+#[test]
+fn a_message_is_one_write(rt: HostRuntime) -> Result<(), Fail> {
+    let mut out = WholeLines::new(rt.alloc(), unwritten(&rt, usize::MAX, usize::MAX))?;
+    assert_eq!(rt; write_cannot_open(&mut out, b"a.txt"), Ok(()));
+    assert_eq!(rt; push_all(&mut out, b"ab\ncd\nef"), Ok(()));
+    assert_eq!(rt; write_line(&mut out, b"gh"), Ok(()));
+    assert_eq!(rt; push_all(&mut out, b"ij"), Ok(()));
+    assert_eq!(rt; out.flush(), Ok(()));
+    let bytes = out.into_inner().into_inner().bytes;
+    let want = b"grep: a.txt: cannot open\n|ab\ncd\n|efgh\n|ij|";
+    assert_eq!(rt; bytes.as_slice(), want.as_slice());
+    Ok(())
+}
+
+#[test]
+fn a_line_that_is_taken_in_part_goes_on(rt: HostRuntime) -> Result<(), Fail> {
+    let mut out = WholeLines::new(rt.alloc(), unwritten(&rt, 1, usize::MAX))?;
+    assert_eq!(rt; write_line(&mut out, b"ab"), Ok(()));
+    assert_eq!(rt; push_all(&mut out, b"cd\ne"), Ok(()));
+    assert_eq!(rt; out.flush(), Ok(()));
+    let bytes = out.into_inner().into_inner().bytes;
+    assert_eq!(rt; bytes.as_slice(), b"a|b|\n|c|d|\n|e|".as_slice());
+    Ok(())
+}
+
+#[test]
+fn a_failed_line_goes_once(rt: HostRuntime) -> Result<(), Fail> {
+    let mut out = WholeLines::new(rt.alloc(), unwritten(&rt, 2, 1))?;
+    assert_eq!(rt; push_all(&mut out, b"abcd"), Ok(()));
+    assert_eq!(rt; push_all(&mut out, b"ef\n"), Err(WriteFault));
+    assert_eq!(rt; out.failures(), 1);
+    assert_eq!(rt; push_all(&mut out, b"ef\n"), Ok(()));
+    assert_eq!(rt; out.failures(), 1);
+    let bytes = out.into_inner().into_inner().bytes;
+    assert_eq!(rt; bytes.as_slice(), b"ab|cd|ef|\n|".as_slice());
+    Ok(())
+}
+
+#[test]
+fn devices_that_move_nothing(rt: HostRuntime) -> Result<(), Fail> {
+    let mut still = Limited::new(b"ab".as_slice(), 0, 9);
+    let mut buffer = [0u8; 2];
+    assert_eq!(rt; still.read(&mut buffer)?, 0);
+    assert_eq!(rt; still.into_inner().len(), 2);
+
+    let mut full = Limited::new(Vec::new(rt.alloc()), 0, 9);
+    assert_eq!(rt; full.write(b"ab")?, 0);
+    let mut out = Buffered::new(rt.alloc(), Tally::new(full))?;
+    assert!(rt; push_all(&mut out, b"ab").is_ok());
+    assert!(rt; out.send().is_err());
+    assert_eq!(rt; out.failures(), 1);
+    assert_eq!(rt; out.into_inner().into_inner().into_inner().len(), 0);
+    Ok(())
+}

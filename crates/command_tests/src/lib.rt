@@ -1,0 +1,25 @@
+//! The tests of `grep_core`, `grep_session` and `grep_cmd`: nothing but tests, by what these show.
+#![tactic(auto)]
+
+#[cfg(test)]
+mod around;
+#[cfg(test)]
+mod commands;
+#[cfg(test)]
+mod devices;
+#[cfg(test)]
+mod faults;
+#[cfg(test)]
+mod harness;
+#[cfg(test)]
+mod long_lines;
+#[cfg(test)]
+mod marks;
+#[cfg(test)]
+mod memory;
+#[cfg(test)]
+mod rows;
+#[cfg(test)]
+mod scripts;
+#[cfg(test)]
+mod sessions;

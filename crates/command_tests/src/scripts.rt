@@ -1,0 +1,127 @@
+//! Scripts and their replies, and devices that fail at each byte of them.
+use grep_cmd::{ScriptEnd, ScriptFault, run_script};
+use grep_core::{Limited, Tally};
+use std::alloc::Global;
+use std::process::Abort;
+use std::test::Fail;
+
+/// How many states each pattern of a script may keep.
+const STATES: usize = 16;
+
+/// A script, its replies, and how it ends.
+type Row = (&'static [u8], &'static [u8], ScriptEnd);
+
+/// How far a reader and a writer go before each further call fails, and the most bytes that one
+/// call moves.
+#[derive(Clone, Copy)]
+struct Limits {
+    step: usize,
+    read: usize,
+    written: usize,
+}
+
+const UNLIMITED: Limits = Limits {
+    step: usize::MAX,
+    read: usize::MAX,
+    written: usize::MAX,
+};
+
+/// Runs a script; its answer and its replies.
+fn replies_to(
+    alloc: Global,
+    script: &[u8],
+    limits: Limits,
+) -> (Result<ScriptEnd, ScriptFault>, Vec<u8>) {
+    let mut reader = Tally::new(Limited::new(script, limits.step, limits.read));
+    let replies = Limited::new(Vec::new(alloc), limits.step, limits.written);
+    let mut writer = Tally::new(replies);
+    let answer = run_script(alloc, &mut reader, &mut writer, STATES);
+    (answer, writer.into_inner().into_inner())
+}
+
+/// Runs the script of a row, which comes in one piece and byte by byte.
+fn assert_row(rt: &impl Abort, alloc: Global, row: Row) {
+    let (script, wanted, end) = row;
+    for step in [usize::MAX, 1] {
+        let limits = Limits { step, ..UNLIMITED };
+        let (answer, replies) = replies_to(alloc, script, limits);
+        assert_eq!(rt; replies.as_slice(), wanted, "{script:?}");
+        assert_eq!(rt; answer, Ok(end), "{script:?}");
+    }
+}
+
+static ROWS: [Row; 5] = [
+    // one command of each kind that is needed
+    (SCRIPT, REPLIES, ScriptEnd::Clean),
+    // a file, a pattern, an edit, a refusal that leaves all as it was, and a count past the end
+    (
+        b"file f 2\nab\nc\npatterns 1\na\nshow\nsplice 0 1 1 1\nca\npatterns 1\n(\nsyntax extended\nshow\nsplice 0 18446744073709551615 1 0\n",
+        b"ok\nok\no ab\nstatus 0\nok\nok\nrefused Pattern 1 UnclosedGroup 0\no ab\no ca\nstatus 0\nrefused OutOfRange\n",
+        ScriptEnd::Refused,
+    ),
+    // messages and the status with and without `-q` and `-s`, a prefix that comes and goes, and a command that is cut off
+    (
+        b"missing g\npatterns 1\na\nflag q on\nshow\nfile f 1\nxa\nshow\nflag s on\nflag q off\nshow\nclose 0\nshow\nFlag q on\npatterns 0\ndrop 1\nfile h 3\none\n",
+        b"ok\nok\nok\ne grep: g: cannot open\nstatus 2\nok\ne grep: g: cannot open\nstatus 0\nok\nok\no f:xa\nstatus 2\nok\no xa\nstatus 0\nrefused BadCommand\nrefused BadCommand\nrefused NoSuchPattern\nrefused Truncated\n",
+        ScriptEnd::Refused,
+    ),
+    // no memory is asked for by the greatest count, and a greater one is none
+    (
+        b"file f 18446744073709551615\na\nb\n",
+        b"refused Truncated\n",
+        ScriptEnd::Refused,
+    ),
+    (
+        b"file f 18446744073709551616\n",
+        b"refused BadCommand\n",
+        ScriptEnd::Refused,
+    ),
+];
+
+#[test]
+fn scripts_are_answered(rt: HostRuntime) {
+    for row in &ROWS {
+        assert_row(&rt, rt.alloc(), *row);
+    }
+}
+
+/// A script of 30 bytes, whose replies are 20.
+const SCRIPT: &[u8] = b"file f 1\nab\npatterns 1\na\nshow\n";
+
+const REPLIES: &[u8] = b"ok\nok\no ab\nstatus 0\n";
+
+/// How many bytes of the replies stand after so many of the script.
+fn answered_by(read: usize) -> usize {
+    match read {
+        0..12 => 0,
+        12..25 => 3,
+        25..30 => 6,
+        _ => 20,
+    }
+}
+
+#[test]
+fn devices_fail(rt: HostRuntime) {
+    for read in 0..=SCRIPT.len() {
+        let limits = Limits { read, ..UNLIMITED };
+        let (answer, replies) = replies_to(rt.alloc(), SCRIPT, limits);
+        assert_eq!(rt; answer, Err(ScriptFault::Read), "{read}");
+        let count = answered_by(read);
+        assert!(rt; count <= REPLIES.len());
+        assert_eq!(rt; replies.as_slice(), &REPLIES[..count], "{read}");
+    }
+    for written in 0..=REPLIES.len() {
+        let limits = Limits {
+            written,
+            ..UNLIMITED
+        };
+        let (answer, replies) = replies_to(rt.alloc(), SCRIPT, limits);
+        let wanted = if written < REPLIES.len() {
+            Err(ScriptFault::Write)
+        } else {
+            Ok(ScriptEnd::Clean)
+        };
+        assert_eq!(rt; answer, wanted, "{written}");
+        assert_eq!(rt; replies.as_slice(), &REPLIES[..written], "{written}");
+    }
+}

@@ -1,0 +1,17 @@
+//! Sessions under edits: what they answer, report and tell, and in how many steps.
+mod edits;
+mod harness;
+mod large;
+mod memory;
+mod worked;
+
+use harness::assert_session;
+use std::test::Fail;
+
+#[test]
+fn sessions_give_their_rows(rt: HostRuntime) -> Result<(), Fail> {
+    for rows in worked::sessions() {
+        assert_session(&rt, rt.alloc(), rows)?;
+    }
+    Ok(())
+}

@@ -1,0 +1,243 @@
+//! Sessions whose rows were worked out by hand, with their steps.
+use super::edits::Answer;
+use super::edits::Edit::{
+    AddFile, AddMissing, AddPatterns, DropFile, DropPattern, SetContext, SetFlag, SetSyntax, Splice,
+};
+use super::harness::{
+    ANY, DONE, FILE_IS_MISSING, LINE_HAS_NEWLINE, NO_SUCH_FILE, OUT_OF_RANGE, Row,
+};
+use grep_core::Context;
+use grep_core::Flag::{IgnoreCase, InvertMatch, LineNumber, LineRegexp, OnlyMatching};
+use grep_session::EditFault;
+use re_search::Syntax::{Extended, Fixed};
+use re_syntax::{FaultKind, PatternFault};
+
+const UNCLOSED_GROUP: Answer = Err(EditFault::Pattern(
+    0,
+    PatternFault {
+        kind: FaultKind::UnclosedGroup,
+        at: 0,
+    },
+));
+
+const UNCLOSED_BRACKET: Answer = Err(EditFault::Pattern(
+    0,
+    PatternFault {
+        kind: FaultKind::UnclosedBracket,
+        at: 0,
+    },
+));
+
+/// Only the line that comes in is searched.
+static ONE_LINE_COMES: [Row; 3] = [
+    (AddFile("f", b"ab\nc\n"), DONE, b"", b"", 1, 0),
+    (AddPatterns(b"a"), DONE, b"ab\n", b"", 0, 5),
+    (Splice(0, 1, 1, b"ca\n"), DONE, b"ab\nca\n", b"", 0, 3),
+];
+
+/// What is no extended expression leaves the session as it was.
+static ANOTHER_SYNTAX: [Row; 3] = [
+    (AddFile("f", b"a(\n"), DONE, b"", b"", 1, 0),
+    (AddPatterns(b"("), DONE, b"a(\n", b"", 0, 3),
+    (SetSyntax(Extended), UNCLOSED_GROUP, b"a(\n", b"", 0, 0),
+];
+
+/// All lines are searched anew where the patterns mean something else.
+static MEANINGS: [Row; 6] = [
+    (AddFile("f", b"A+\naa\n"), DONE, b"", b"", 1, 0),
+    (AddPatterns(b"a+"), DONE, b"", b"", 1, 6),
+    (SetFlag(IgnoreCase, true), DONE, b"A+\n", b"", 0, 6),
+    (SetSyntax(Extended), DONE, b"A+\naa\n", b"", 0, 6),
+    (SetSyntax(Fixed), DONE, b"A+\n", b"", 0, 6),
+    (SetFlag(IgnoreCase, false), DONE, b"", b"", 1, 6),
+];
+
+/// A search by two patterns costs twice a line's length and one; a search of its parts costs that
+/// once for each part and once more.
+static TOUCHED: [Row; 14] = [
+    (AddFile("f", b"aa\nb\nca\n"), DONE, b"", b"", 1, 0),
+    (AddPatterns(b"a\nb"), DONE, b"aa\nb\nca\n", b"", 0, 16),
+    (SetFlag(InvertMatch, true), DONE, b"", b"", 1, 0),
+    (SetFlag(InvertMatch, false), DONE, b"aa\nb\nca\n", b"", 0, 0),
+    (
+        SetFlag(LineNumber, true),
+        DONE,
+        b"1:aa\n2:b\n3:ca\n",
+        b"",
+        0,
+        0,
+    ),
+    (
+        SetFlag(OnlyMatching, true),
+        DONE,
+        b"1:a\n1:a\n2:b\n3:a\n",
+        b"",
+        0,
+        38,
+    ),
+    (DropPattern(1), DONE, b"1:a\n1:a\n3:a\n", b"", 0, 2),
+    (AddPatterns(b"c"), DONE, b"1:a\n1:a\n3:c\n3:a\n", b"", 0, 26),
+    (
+        SetFlag(OnlyMatching, true),
+        DONE,
+        b"1:a\n1:a\n3:c\n3:a\n",
+        b"",
+        0,
+        0,
+    ),
+    (
+        SetFlag(OnlyMatching, false),
+        DONE,
+        b"1:aa\n3:ca\n",
+        b"",
+        0,
+        0,
+    ),
+    (SetFlag(LineRegexp, true), DONE, b"", b"", 1, 16),
+    (Splice(0, 1, 1, b"xyz\n"), DONE, b"", b"", 1, 8),
+    (AddPatterns(b"["), UNCLOSED_BRACKET, b"", b"", 1, 0),
+    (DropFile(0), DONE, b"", b"", 1, 0),
+];
+
+/// Branches and repetitions of basic expressions have their parts.
+static BRANCHES: [Row; 3] = [
+    (AddFile("f", b"ab\n"), DONE, b"", b"", 1, 0),
+    (AddPatterns(b"a\\+\\|c"), DONE, b"ab\n", b"", 0, 3),
+    (SetFlag(OnlyMatching, true), DONE, b"a\n", b"", 0, ANY),
+];
+
+/// Parts that are kept go with their lines, through splices and files that go.
+static PARTS: [Row; 12] = [
+    (SetSyntax(Extended), DONE, b"", b"", 1, ANY),
+    (SetFlag(OnlyMatching, true), DONE, b"", b"", 1, ANY),
+    (SetFlag(LineNumber, true), DONE, b"", b"", 1, 0),
+    (AddPatterns(b"ab|abcd|bc"), DONE, b"", b"", 1, 0),
+    (AddFile("f", b"xabcde\n"), DONE, b"1:abcd\n", b"", 0, 21),
+    (
+        AddFile("g", b"abab\nx\nbc\n"),
+        DONE,
+        b"f:1:abcd\ng:1:ab\ng:1:ab\ng:3:bc\n",
+        b"",
+        0,
+        ANY,
+    ),
+    (
+        Splice(1, 0, 0, b"bcab\n"),
+        DONE,
+        b"f:1:abcd\ng:1:bc\ng:1:ab\ng:2:ab\ng:2:ab\ng:4:bc\n",
+        b"",
+        0,
+        20,
+    ),
+    (
+        Splice(1, 1, 2, b""),
+        DONE,
+        b"f:1:abcd\ng:1:bc\ng:1:ab\ng:2:bc\n",
+        b"",
+        0,
+        0,
+    ),
+    (DropFile(0), DONE, b"1:bc\n1:ab\n2:bc\n", b"", 0, 0),
+    (AddPatterns(b"b"), DONE, b"1:bc\n1:ab\n2:bc\n", b"", 0, ANY),
+    (DropPattern(0), DONE, b"1:b\n1:b\n2:b\n", b"", 0, 21),
+    (Splice(0, 0, 1, b""), DONE, b"1:b\n", b"", 0, 0),
+];
+
+const BEHIND: Option<Context> = Some(Context {
+    before: 0,
+    after: 1,
+});
+
+const BEFORE: Option<Context> = Some(Context {
+    before: 2,
+    after: 0,
+});
+
+const NONE_AROUND: Option<Context> = Some(Context {
+    before: 0,
+    after: 0,
+});
+
+/// Lines around selected ones are shown, also where lines go.
+static ONE_FILE: [Row; 10] = [
+    (AddFile("h", b"a\nb\nc\nd\ne\nf\na\n"), DONE, b"", b"", 1, 0),
+    (AddPatterns(b"a"), DONE, b"a\na\n", b"", 0, ANY),
+    (SetFlag(LineNumber, true), DONE, b"1:a\n7:a\n", b"", 0, 0),
+    (SetContext(BEHIND), DONE, b"1:a\n2-b\n--\n7:a\n", b"", 0, 0),
+    (
+        SetContext(BEFORE),
+        DONE,
+        b"1:a\n--\n5-e\n6-f\n7:a\n",
+        b"",
+        0,
+        0,
+    ),
+    (SetContext(NONE_AROUND), DONE, b"1:a\n--\n7:a\n", b"", 0, 0),
+    (SetContext(BEHIND), DONE, b"1:a\n2-b\n--\n7:a\n", b"", 0, 0),
+    (Splice(0, 2, 4, b""), DONE, b"1:a\n2-b\n3:a\n", b"", 0, 0),
+    (SetContext(None), DONE, b"1:a\n3:a\n", b"", 0, 0),
+    (SetContext(None), DONE, b"1:a\n3:a\n", b"", 0, 0),
+];
+
+const CANNOT_OPEN: &[u8] = b"grep: m: cannot open\n";
+
+/// A line with a newline is refused, for which a bar stands, and for other reasons before.
+static NEWLINES: [Row; 8] = [
+    (AddFile("f", b"a\nb|c\n"), LINE_HAS_NEWLINE, b"", b"", 1, 0),
+    (AddMissing("m"), DONE, b"", CANNOT_OPEN, 2, 0),
+    (
+        Splice(0, 5, 0, b"a|\n"),
+        FILE_IS_MISSING,
+        b"",
+        CANNOT_OPEN,
+        2,
+        0,
+    ),
+    (
+        Splice(1, 0, 0, b"a|b\n"),
+        NO_SUCH_FILE,
+        b"",
+        CANNOT_OPEN,
+        2,
+        0,
+    ),
+    (AddFile("f", b"a\nb\n"), DONE, b"", CANNOT_OPEN, 2, 0),
+    (
+        Splice(1, 3, 0, b"x|y\n"),
+        OUT_OF_RANGE,
+        b"",
+        CANNOT_OPEN,
+        2,
+        0,
+    ),
+    (
+        Splice(1, 0, 1, b"a\ny|z\n"),
+        LINE_HAS_NEWLINE,
+        b"",
+        CANNOT_OPEN,
+        2,
+        0,
+    ),
+    (
+        Splice(1, 2, 0, b"|\n"),
+        LINE_HAS_NEWLINE,
+        b"",
+        CANNOT_OPEN,
+        2,
+        0,
+    ),
+];
+
+/// The sessions.
+pub fn sessions() -> [&'static [Row]; 8] {
+    [
+        &ONE_LINE_COMES,
+        &ANOTHER_SYNTAX,
+        &MEANINGS,
+        &TOUCHED,
+        &BRANCHES,
+        &PARTS,
+        &ONE_FILE,
+        &NEWLINES,
+    ]
+}
