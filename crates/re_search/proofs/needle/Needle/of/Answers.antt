@@ -25,12 +25,12 @@ returns-then-is_uncommon c =
     rw c.deref-5.ensures.value (outline_alone c.new-marks.result.items c.add_outline.new.marks.items e c.new-marks.ensures.items c.in_ok-add_outline.ensures) in
     c.in_ok-single.ensures e outline
 
-pub returns-in-Some-3 : goal.returns-in-Some-3
-returns-in-Some-3 c =
+pub returns-in-Some-found : goal.returns-in-Some-found
+returns-in-Some-found c =
     let e = expression_of c.args.tree.now in
     let outline : IsOutline (map shown c.deref-7.result.now) e =
     rw c.deref-7.ensures.value (outline_alone c.new-marks.result.items c.add_outline.new.marks.items e c.new-marks.ensures.items c.in_ok-add_outline.ensures) in
-    rw c.in-Some-3.is at (c.in_ok-needle-3.ensures e outline)
+    rw c.in-Some-found.is at (c.in-Ok.ensures e outline)
 
 pub returns : goal.returns
 returns c =
