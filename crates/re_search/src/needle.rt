@@ -72,7 +72,12 @@ impl Needle {
             return Ok(single);
         }
         let wide = run_start(&marks, RunOf::Sets);
-        if let Some(needle) = wide_needle(alloc, &marks, wide)? {
+        let Ok(found) = wide_needle(alloc, &marks, wide) else {
+            drop(single);
+            return Err(AllocError);
+        };
+        if let Some(needle) = found {
+            drop(single);
             return Ok(Some(needle));
         }
         Ok(single)

@@ -5,9 +5,11 @@ ghost use Rattle.re_syntax.specs.Expression.{expression_of};
 ghost use Rattle.re_syntax.specs.Holds.{Matches, positions};
 ghost use Rattle.re_syntax.specs.Lines.{lines_of};
 ghost use Rattle.re_syntax.specs.Profile.{most_positions};
+ghost use Rattle.re_auto.specs.declared.build.BuildFault.TheVariants.{Memory};
 ghost use Rattle.re_auto.specs.Working.Tables.{IsRefused};
 ghost use Rattle.re_search.specs.Working.Needles.{IsNeeded};
 ghost use Rattle.re_auto.specs.Working.StateSets.{IsMadeFor};
+ghost use Rattle.re_search.specs.Working.Simulations.{AreSetsFor, AreStartsFor};
 ghost use Rattle.re_search.specs.Working.Stages.{Cache, Searches, FinishesFrom, IsSettled};
 ghost use Rattle.re_search.specs.Working.Stages.{mode_for};
 ghost use Rattle.re_search.specs.Searching.{FindsPart, AddsAtMost};
@@ -69,12 +71,25 @@ impl Simulated {
         ensures refused { IfErr result (IsRefused (positions (expression_of tree))) }
     {
         let needle = Needle::of(alloc, &tree);
-        let automaton = Automaton::build(alloc, tree)?;
+        let automaton = match Automaton::build(alloc, tree) {
+            Ok(automaton) => automaton,
+            Err(fault) => {
+                drop(needle);
+                return Err(fault);
+            }
+        };
         let Ok(needle) = needle else {
+            drop(automaton);
             return Err(BuildFault::Memory);
         };
-        let sets = SetPair::new(alloc, &automaton)?;
-        let starts = StartPair::new(alloc, &automaton)?;
+        let (sets, starts) = match pairs_for(alloc, &automaton) {
+            Ok(pairs) => pairs,
+            Err(fault) => {
+                drop(automaton);
+                drop(needle);
+                return Err(fault);
+            }
+        };
         Ok(Simulated {
             automaton,
             whole,
@@ -214,6 +229,18 @@ impl Simulated {
         }
         self.starts.find(&self.automaton, line, from, meter)
     }
+}
+
+// The sets and the starts for the automaton. The one error is `Memory`.
+fn pairs_for(alloc: Global, automaton: &Automaton) -> Result<(SetPair, StartPair), BuildFault>
+    ensures made { IfOk result
+        (λ pairs. AreSetsFor (expression_of automaton.now) pairs.0 ×
+        AreStartsFor (expression_of automaton.now) pairs.1) }
+    ensures refused { IfErr result (λ fault. fault ≡ Memory) }
+{
+    let sets = SetPair::new(alloc, automaton)?;
+    let starts = StartPair::new(alloc, automaton)?;
+    Ok((sets, starts))
 }
 
 impl LineMatch for Simulated {

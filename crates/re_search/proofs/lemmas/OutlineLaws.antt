@@ -252,3 +252,7 @@ module _ (marks : List (Option Bytes)) (e : Expression) (outline : IsOutline mar
 
       is : marks ≡ map Some run
       is = subst (λ n. drop n marks ≡ map Some run ++ rest) first stands ∙ nothing_more rest (omega (arith, lengths, some, all))
+
+-- what is added to no mark
+pub outline_alone : (old new : List Mark) (e : Expression) → old ≡ [] → AddsOutline old e new → IsOutline (map shown new) e
+outline_alone old new e none (more, same, outline) = subst (λ l. IsOutline (map shown l) e) (sym (same ∙ ap (λ l. l ++ more) none)) outline

@@ -93,3 +93,33 @@ linked_right all fails ends newf newe f own a isf ise lt s is_own own_is old =
                 (ends_with all.strings (all.label (length fails)) (all.label f) own (slice_index ends f) s (old.endings f (omega (arith, lt, same))) is_own own_is))
           ];
     }
+
+-- ---- the root alone
+
+pub root_linked : (fails ends : List ℕ) (count : ℕ) → count ≡ 1 → fails ≡ 0 ∷ [] → ends ≡ 0 ∷ [] → AreLinked count fails ends
+root_linked fails ends count one is_fails is_ends =
+    let few : length fails ≡ 1 = ap length is_fails in
+    let same : length ends ≡ 1 = ap length is_ends in
+    record {
+      fallbacks = λ n some below. omega (arith, some, below, few);
+      all_fails = few ∙ sym one;
+      all_ends = same ∙ sym one;
+    }
+
+pub root_linked_right : (all : Labels) (fails ends : List ℕ) → all.label 0 ≡ [] → fails ≡ 0 ∷ [] → ends ≡ 0 ∷ [] → AreLinkedFor all fails ends
+root_linked_right all fails ends root is_fails is_ends =
+    let few : length fails ≡ 1 = ap length is_fails in
+    let same : length ends ≡ 1 = ap length is_ends in
+    record {
+      fallbacks = λ n some below. let none : ⊥ = omega (arith, some, below, few) in absurd none;
+      endings = λ n below.
+          let first : n ≡ 0 = omega (arith, below, same) in
+          subst (λ k. EndsIn all.strings (all.label k) (slice_index ends k)) (sym first)
+          (subst (λ es. EndsIn all.strings (all.label 0) (slice_index es 0)) (sym is_ends)
+          (subst (λ l. EndsIn all.strings l 0) (sym root)
+          (record {
+            within = omega arith;
+            ends = λ some. let none : ⊥ = omega (arith, some) in absurd none;
+            longest = λ j inside _. omega (arith, inside);
+          })));
+    }

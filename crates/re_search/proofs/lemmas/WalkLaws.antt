@@ -25,6 +25,10 @@ use Rattle.re_search.specs.Working.Walks.{LeadsOn, Arrives}
 use Rattle.re_search.proofs.lemmas.StageLaws.{nothing_held, goes_nowhere, goes_on, same_sym}
 use Rattle.re_search.proofs.lemmas.RowLaws.{cell_within, same_place, number_within}
 
+-- over no byte
+pub walked_none : (place : ℕ) (steps : Steps) → walked (place - place) steps ≡ steps
+walked_none place steps = let none : place - place ≡ 0 = omega arith in ap (λ n. walked n steps) none
+
 -- steps that were reused, and one more
 pub walked_more : (n : ℕ) (steps : Steps) → many_reused 1 (walked n steps) ≡ walked (suc n) steps
 walked_more zero steps = refl

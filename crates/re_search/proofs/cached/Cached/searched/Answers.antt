@@ -1,7 +1,8 @@
-use Rattle.std.proofs.Common.{refl, inl}
+use Rattle.std.proofs.Common.{refl, inl, ap, ◌∙◌}
 use Rattle.re_syntax.specs.Expression.{expression_of}
 use Rattle.re_search.specs.Working.Stages.{mode_for}
 use Rattle.re_search.specs.Working.Rows.{cache_of}
+use Rattle.re_search.specs.Working.Simulated.{TreeMatcher}
 use Rattle.re_search.proofs.lemmas.StageLaws.{searches_readied}
 use Rattle.re_search.proofs.cached.Cached.searched.Goals as goal
 
@@ -37,3 +38,36 @@ returns-in-GaveUp-clause-searches c =
       steps = left.steps;
       finishes = c.finish.ensures.finishes left.first now none (left.goes now none);
     }))
+
+pub returns-then-not-is_ready-clause-same_tree : goal.returns-then-not-is_ready-clause-same_tree
+returns-then-not-is_ready-clause-same_tree c = rw (← c.self.view_is) (ap (λ (s : TreeMatcher). s.tree) c.step_over.ensures.same)
+
+pub returns-then-not-is_ready-clause-same_whole : goal.returns-then-not-is_ready-clause-same_whole
+returns-then-not-is_ready-clause-same_whole c = rw (← c.self.view_is) (ap (λ (s : TreeMatcher). s.whole) c.step_over.ensures.same)
+
+pub returns-in-GaveUp-clause-same_tree : goal.returns-in-GaveUp-clause-same_tree
+returns-in-GaveUp-clause-same_tree c = rw (← c.self.view_is) (ap (λ (s : TreeMatcher). s.tree) c.finish.ensures.same)
+
+pub returns-in-GaveUp-clause-same_whole : goal.returns-in-GaveUp-clause-same_whole
+returns-in-GaveUp-clause-same_whole c = rw (← c.self.view_is) (ap (λ (s : TreeMatcher). s.whole) c.finish.ensures.same)
+
+pub returns-in-Told-clause-same_tree : goal.returns-in-Told-clause-same_tree
+returns-in-Told-clause-same_tree c = rw (← c.self.view_is) refl
+
+pub returns-in-Told-clause-same_whole : goal.returns-in-Told-clause-same_whole
+returns-in-Told-clause-same_whole c = rw (← c.self.view_is) refl
+
+pub returns-then-not-is_ready-clause-same_most : goal.returns-then-not-is_ready-clause-same_most
+returns-then-not-is_ready-clause-same_most c = rw (← c.self.view_is) c.is_ready.ensures.most
+
+pub returns-in-Told-clause-same_most : goal.returns-in-Told-clause-same_most
+returns-in-Told-clause-same_most c = rw (← c.self.view_is) (c.in-Told.ensures.most ∙ c.is_ready.ensures.most)
+
+pub returns-in-GaveUp-clause-same_most : goal.returns-in-GaveUp-clause-same_most
+returns-in-GaveUp-clause-same_most c = rw (← c.self.view_is) (c.clear.ensures.most ∙ c.in-GaveUp.ensures.most ∙ c.is_ready.ensures.most)
+
+pub search-requires-clause-right : goal.search-requires-clause-right
+search-requires-clause-right c = c.if-not-is_ready.ensures.right refl
+
+pub search-requires-clause-into : goal.search-requires-clause-into
+search-requires-clause-into c = rw c.automaton-automaton.ensures c.self.invariant.0

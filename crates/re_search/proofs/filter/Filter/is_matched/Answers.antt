@@ -1,6 +1,7 @@
-use Rattle.std.proofs.Common.{◌≡◌, ◌∙◌, ap, subst, map}
+use Rattle.std.proofs.Common.{◌≡◌, ◌+◌, ◌∙◌, ap, subst, length, length-append, map}
 use Rattle.std.proofs.lemmas.List.{map-append}
-use Rattle.re_search.proofs.lemmas.PartedMatchers.{front_answers, back_answers, back_matches, front_decides}
+use Rattle.re_search.proofs.lemmas.KeptMatchers.{none_asked}
+use Rattle.re_search.proofs.lemmas.PartedMatchers.{front_answers, back_answers, back_matches, front_decides, same_joined, steps_joined, steps_of_rest}
 use Rattle.re_search.specs.Searching.{AllAnswer}
 use Rattle.re_search.proofs.filter.Filter.is_matched.Goals as goal
 
@@ -37,3 +38,29 @@ returns-clause-told g c =
     front_decides _ (map expression parts.0.now) (map expression parts.1.now) _ (map whole parts.0.now) (map whole parts.1.now)
     (ap (map expression) value ∙ map-append expression parts.0.now parts.1.now) (ap (map whole) value ∙ map-append whole parts.0.now parts.1.now)
     c.args.line.now c.is_matched_from-2.result (rw c.if-is_matched_from.false at c.is_matched_from.ensures.told) c.is_matched_from-2.ensures.told
+
+pub returns-then-is_matched_from-clause-same_matchers : goal.returns-then-is_matched_from-clause-same_matchers
+returns-then-is_matched_from-clause-same_matchers g c =
+    let parts = c.split_at_mut-before.result in
+    same_joined c.args.matchers.now parts.0.now parts.1.now parts.0.now c.is_matched_from.new.matchers c.split_at_mut-before.ensures.value
+    none_asked c.is_matched_from.ensures.same_matchers
+
+pub returns-clause-same_matchers : goal.returns-clause-same_matchers
+returns-clause-same_matchers g c =
+    let parts = c.split_at_mut-before.result in
+    same_joined c.args.matchers.now parts.0.now parts.1.now c.is_matched_from-2.new.matchers c.is_matched_from.new.matchers c.split_at_mut-before.ensures.value
+    c.is_matched_from-2.ensures.same_matchers c.is_matched_from.ensures.same_matchers
+
+pub returns-then-is_matched_from-clause-steps : goal.returns-then-is_matched_from-clause-steps
+returns-then-is_matched_from-clause-steps g c =
+    let parts = c.split_at_mut-before.result in
+    let count : length c.args.matchers.now ≡ length parts.0.now + length parts.1.now = ap length c.split_at_mut-before.ensures.value ∙ length-append parts.0.now parts.1.now in
+    rw count (steps_of_rest (length parts.0.now) (length parts.1.now) (length c.args.line.now + 1) c.args.meter.now c.is_matched_from.new.meter c.is_matched_from.ensures.steps)
+
+pub returns-clause-steps : goal.returns-clause-steps
+returns-clause-steps g c =
+    let parts = c.split_at_mut-before.result in
+    let count : length c.args.matchers.now ≡ length parts.0.now + length parts.1.now = ap length c.split_at_mut-before.ensures.value ∙ length-append parts.0.now parts.1.now in
+    rw count
+    (steps_joined (length parts.0.now) (length parts.1.now) (length c.args.line.now + 1) c.args.meter.now c.is_matched_from.new.meter c.is_matched_from-2.new.meter
+    c.is_matched_from.ensures.steps c.is_matched_from-2.ensures.steps)

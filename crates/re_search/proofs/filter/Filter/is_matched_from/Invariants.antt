@@ -1,4 +1,4 @@
-use Rattle.std.proofs.Common.{◌≡◌, ◌+◌, ◌*◌, length, map, take, false}
+use Rattle.std.proofs.Common.{◌+◌, ◌*◌, length, map, take, false}
 use Rattle.re_search.specs.Searching.{TellsMatchOfAll, AddsAtMost, SameMatchers}
 use Rattle.re_search.proofs.filter.Filter.is_matched_from.Given as goal
 

@@ -54,3 +54,9 @@ returns-clause-row c =
     let high : c.index-branch.result.now.high ≡ br.high = ap (λ (b : Branch). b.high) read in
     row_done texts br (c.requires.are c.args.node no_branch c.requires.within) c.runs.branches.items (length c.args.branches.now.items) c.runs.at (omega (arith, high))
     c.runs.invariant.child c.runs.invariant.covered
+
+pub returns-clause-grown : goal.returns-clause-grown
+returns-clause-grown c = c.runs.invariant.grown
+
+pub returns-clause-are : goal.returns-clause-are
+returns-clause-are c = c.runs.invariant.are

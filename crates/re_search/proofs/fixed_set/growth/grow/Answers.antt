@@ -1,6 +1,7 @@
-use Rattle.std.proofs.Common.{rules, ◌≡◌, ◌<◌, ◌++◌, ◌∷◌, [], List, length, map, sym, ap, ◌∙◌, arith}
+use Rattle.std.proofs.Common.{rules, ◌≡◌, ◌<◌, ◌++◌, ◌∷◌, [], List, length, map, sym, ap, subst, ◌∙◌, arith}
 use Rattle.std.proofs.lemmas.List.{length-map}
 use Rattle.re_syntax.specs.Bytes.{Text}
+use Rattle.re_search.specs.Working.Branches.{AreRows}
 use Rattle.re_search.proofs.lemmas.SetBranches.{rows_at_first, rows_more}
 use Rattle.re_search.proofs.fixed_set.growth.grow.Goals as goal
 
@@ -24,4 +25,12 @@ nodes-preserved c =
       rows = rows_more texts c.nodes.branches.items more c.expand.new.branches.items c.nodes.first.items c.add_entry-in-nodes.new.first.items c.nodes.node
           c.nodes.invariant.rows within grown c.in_ok-expand.ensures.are c.in_ok-expand.ensures.row added;
       few = few;
+    }
+
+pub returns : goal.returns
+returns c =
+    let end : c.nodes.node ≡ length c.nodes.branches.items = omega (arith, c.nodes.invariant.rows.few, c.nodes-test.false, c.len.ensures) in
+    record {
+      rows = subst (λ n. AreRows (map (λ s. s.now) c.args.strings.now) c.nodes.branches.items c.nodes.first.items n) end c.nodes.invariant.rows;
+      few = c.nodes.invariant.few;
     }

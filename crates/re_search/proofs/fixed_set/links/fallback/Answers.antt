@@ -18,3 +18,13 @@ pub returns-clause-right : goal.returns-clause-right
 returns-clause-right c = λ all t s f.
     let inside : 0 < c.args.node = omega arith in
     c.step.ensures.step all t (start_of_plain all c.args.starts.now s c.args.byte (omega arith)) f (all.label c.args.node) 1 (f c.args.node inside c.requires.within)
+
+pub returns-then-node-eq0-clause-before : goal.returns-then-node-eq0-clause-before
+returns-then-node-eq0-clause-before c =
+    let behind = c.requires.trie.behind c.args.node (let few = c.requires.few in let within = c.requires.within in omega (arith, few, within)) in omega (arith, behind)
+
+pub step-requires-clause-within : goal.step-requires-clause-within
+step-requires-clause-within c =
+    let less = c.requires.fails c.args.node (omega (arith, c.if-node-eq0.false)) c.requires.within in
+    let within = c.requires.within in
+    omega (arith, less, within)

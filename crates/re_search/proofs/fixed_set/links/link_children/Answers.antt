@@ -1,5 +1,6 @@
 use Rattle.std.proofs.Common.{rules, ◌≡◌, ◌+◌, ◌<◌, [], ◌∷◌, ◌++◌, length, slice_index, sym, ap, subst, ◌∙◌, arith, length-append}
-use Rattle.re_search.specs.Working.FixedSets.{StandsFor, longer_ending}
+use Rattle.std.proofs.lemmas.Grind.{get_or_default_zero}
+use Rattle.re_search.specs.Working.FixedSets.{AreLinked, StandsFor, longer_ending}
 use Rattle.re_search.proofs.lemmas.SetLinks.{linked_more, linked_right}
 use Rattle.re_search.proofs.lemmas.SetSearch.{row_read}
 use Rattle.re_search.proofs.fixed_set.links.link_children.Goals as goal
@@ -42,3 +43,25 @@ children-preserved c =
           linked_right all fails ends c.add_link.new.links.fails.items c.add_link.new.links.ends.items c.fallback-fail.result (slice_index c.args.owns.now (length fails))
           c.children.invariant.linked added.0 (added.1 ∙ ap (λ e. ends ++ e ∷ []) end) fail stands owned.0 owned.1 now;
     }
+
+pub children-init : goal.children-init
+children-init c =
+    let all = c.requires.linked.all_fails in
+    let ordered = c.requires.trie.ordered c.args.node c.requires.within in
+    record {
+      low = omega (arith, all);
+      high = omega (arith, all, ordered);
+      linked = subst (λ n. AreLinked n c.args.links.now.fails.items c.args.links.now.ends.items) (sym all) c.requires.linked;
+      right = λ _ _ _ _ linked. linked;
+    }
+
+pub returns-clause-linked : goal.returns-clause-linked
+returns-clause-linked c =
+    let first = c.args.trie.now.first.items in
+    let end : c.index.result.now ≡ slice_index first (c.args.node + 1) =
+    c.index.ensures ∙ get_or_default_zero first (c.args.node + 1) c.index.result.now (let r = c.requires.trie.rows in let w = c.requires.within in omega (arith, r, w)) in
+    let all : length c.children.links.fails.items ≡ slice_index first (c.args.node + 1) = omega (arith, end, c.children.invariant.high, c.children-test.false, c.len.ensures) in
+    subst (λ n. AreLinked n c.children.links.fails.items c.children.links.ends.items) all c.children.invariant.linked
+
+pub returns-clause-right : goal.returns-clause-right
+returns-clause-right c = c.children.invariant.right

@@ -1,4 +1,4 @@
-use Rattle.std.proofs.Common.{rules, ◌≡◌, ℕ, ◌+◌, ◌<◌, ◌≤◌, inl, inr, [], ◌∷◌, ◌++◌, length, slice_index, sym, ap, ◌∙◌, arith, length-append}
+use Rattle.std.proofs.Common.{rules, ◌≡◌, ℕ, ◌+◌, ◌<◌, ◌≤◌, inl, inr, [], ◌∷◌, ◌++◌, length, slice_index, refl, sym, ap, ◌∙◌, arith, length-append}
 use Rattle.re_search.proofs.lemmas.SetBranches.{split}
 use Rattle.re_search.proofs.lemmas.SetSearch.{row_read}
 use Rattle.re_search.proofs.fixed_set.making.depths_of.Goals as goal
@@ -45,4 +45,23 @@ nodes-preserved c =
                 let known = c.nodes.invariant.right these t node within in
                 omega (arith, is, longer, one, known)
           ];
+    }
+
+pub nodes-init : goal.nodes-init
+nodes-init c =
+    let pushed : c.push.new.self.items ≡ 0 ∷ [] = c.in_ok-push.ensures.items ∙ ap (λ l. l ++ 0 ∷ []) c.in_ok-depths.ensures.items in
+    let one : length c.push.new.self.items ≡ 1 = ap length pushed in
+    record {
+      all = one ∙ sym c.requires.trie.start;
+      small = λ n below. let first : n ≡ 0 = omega (arith, below, one) in rw (first, pushed) (omega arith);
+      right = λ all t n below. let first : n ≡ 0 = omega (arith, below, one) in rw (first, pushed, t.root) refl;
+    }
+
+pub returns : goal.returns
+returns c =
+    let end : c.nodes.node ≡ length c.args.trie.now.bytes.items = omega (arith, c.nodes-test.false, c.nodes.auto.node-end, c.len-node-end.ensures) in
+    let same : length c.nodes.depths.items ≡ length c.args.trie.now.bytes.items = c.nodes.invariant.all ∙ ap (slice_index c.args.trie.now.first.items) end ∙ c.requires.trie.last in
+    record {
+      all = same;
+      right = λ all t n below. c.nodes.invariant.right all t n (omega (arith, below, same));
     }

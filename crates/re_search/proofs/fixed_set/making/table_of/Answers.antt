@@ -20,3 +20,14 @@ returns-clause-right c = λ strings same.
         leaps = same_leaps (map (λ s. s.now) c.args.strings.now) strings same c.in_ok-leaps.leaps c.in_ok-leaps.ensures.right;
       },
     )
+
+pub returns-clause-table : goal.returns-clause-table
+returns-clause-table c = record {
+  trie = c.in_ok-nodes.ensures.trie;
+  starts = c.in_ok-starts.ensures.starts;
+  fallbacks = c.in_ok-links.ensures.linked.fallbacks;
+  fails = c.in_ok-links.ensures.linked.all_fails;
+  depths = c.in_ok-depths.ensures.all;
+  ends = c.in_ok-links.ensures.linked.all_ends;
+  leaps = c.in_ok-leaps.ensures.leaps;
+}

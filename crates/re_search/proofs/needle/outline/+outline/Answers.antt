@@ -1,10 +1,10 @@
 use Rattle.std.proofs.Common.{rules, ◌≡◌, map, take, refl, sym, ap, subst, ◌∙◌, arith}
 use Rattle.std.proofs.lemmas.List.{take_all}
-use Rattle.re_syntax.specs.Expression.{alt, expression_of}
+use Rattle.re_syntax.specs.Expression.{alt, cat, expression_of}
 use Rattle.re_syntax.specs.Sets.{members}
-use Rattle.re_syntax.proofs.lemmas.ExpressionLaws.{expression-Set, expression-Repeat}
+use Rattle.re_syntax.proofs.lemmas.ExpressionLaws.{expression-Alt, expression-Cat, expression-Set, expression-Repeat}
 use Rattle.re_search.proofs.lemmas.OutlineLaws.{adds_set, adds_stretch, adds_repeat, adds_more, ok_with}
-use Rattle.re_search.specs.Working.Outlines.{BeginsWith}
+use Rattle.re_search.specs.Working.Outlines.{AddsOutline, BeginsWith}
 use Rattle.re_search.proofs.lemmas.ChoiceOutlines.{adds_choice, begins_branch, joined_first, joined_second, no_branch, parts_more}
 use Rattle.re_search.proofs.needle.outline.+outline.Goals.{add_choice-then-i-eq0, add_choice-else-i-eq0}
 use Rattle.re_search.proofs.needle.outline.+outline.Goals as goal
@@ -67,3 +67,20 @@ add_choice-returns t c =
     ok_with c.add_mark.result
     (adds_choice c.args.marks.now.items c.add_sets.new.marks.items c.add_mark.new.marks.items (map members c.parts.front.items) choice choice refl begins (rw c.deref-2.ensures.value at c.in_ok-add_sets.ensures))
     c.add_mark.ensures
+
+pub add_outline-returns-in-Cat : goal.add_outline-returns-in-Cat
+add_outline-returns-in-Cat t c = rw (ap expression_of c.in-Cat.is ∙ expression-Cat c.in-Cat.parts, ← c.deref.ensures.value) c.add_all.ensures
+
+pub add_outline-returns-in-Alt : goal.add_outline-returns-in-Alt
+add_outline-returns-in-Alt t c = rw (ap expression_of c.in-Alt.is ∙ expression-Alt c.in-Alt.parts, ← c.deref-in-Alt.ensures.value) c.add_choice.ensures
+
+pub add_outline-returns-in-Some : goal.add_outline-returns-in-Some
+add_outline-returns-in-Some t c =
+    rw (ap expression_of c.in-Repeat.is ∙ expression-Repeat c.in-Repeat.part c.in-Repeat.least c.in-Repeat.most, ← c.deref-in-Repeat.ensures, c.in-Some.ensures) c.add_repeated.ensures
+
+pub add_all-returns : goal.add_all-returns
+add_all-returns t c =
+    subst (λ l. AddsOutline c.args.marks.now.items (cat (map expression_of l)) c.parts.marks.items) (take_all c.parts.i c.args.parts.now (omega (arith, c.parts-test.false))) c.parts.invariant
+
+pub add_choice-parts-init : goal.add_choice-parts-init
+add_choice-parts-init t c = no_branch (map members c.new-front.result.items)

@@ -5,7 +5,7 @@ use Rattle.re_auto.specs.Working.StateSets.{IsMadeFor, IsNextSet}
 use Rattle.re_search.specs.Working.Pairs.{unknown, IsKeptOrLost}
 use Rattle.re_search.specs.Working.Stages.{HoldsNoOther}
 use Rattle.re_search.specs.Working.Rows.{IsRowOf, IsSoundTable, cache_of}
-use Rattle.re_search.proofs.lemmas.RowLaws.{sound_held, tells_cell, set_of_row, row_small}
+use Rattle.re_search.proofs.lemmas.RowLaws.{cell_within, sound_held, tells_cell, set_of_row, row_small}
 use Rattle.re_search.proofs.lemmas.WalkLaws.{holds_no_other}
 use Rattle.re_search.proofs.cached.table.Table.learn.Goals as goal
 
@@ -106,3 +106,56 @@ returns-clause-others c = λ set row.
     (λ r other at. record { number = at.number; row = at.row; is = kept.sets at.number other at.is }) c.put.new.self.cells c.put.new.self.entries c.put.ensures.mirrors c.args.row c.args.byte set row c.ranges.byte.fits
     (subst (λ classes. (k : ℕ) → (k ≡ c.args.row + slice_index classes c.args.byte → ⊥) → IsKeptOrLost (slice_index new.pairs.cells k) (slice_index c.put.new.self.cells k)) (c.as_slice-2.ensures.value ∙ kept.classes) c.put.ensures.others)
     c.put.ensures.len))
+
+pub number_of-requires-clause-sound : goal.number_of-requires-clause-sound
+number_of-requires-clause-sound c = c.requires.right.sound
+
+pub number_of-requires-clause-made : goal.number_of-requires-clause-made
+number_of-requires-clause-made c = c.advance.ensures.made
+
+pub returns-in_err-number-clause-into : goal.returns-in_err-number-clause-into
+returns-in_err-number-clause-into c = c.advance.ensures.made
+
+pub returns-in_err-number-clause-most : goal.returns-in_err-number-clause-most
+returns-in_err-number-clause-most c = c.in_err-number.ensures.most
+
+pub returns-in_err-number-clause-counted : goal.returns-in_err-number-clause-counted
+returns-in_err-number-clause-counted c = c.advance.ensures.counted
+
+pub returns-in_err-number-clause-right : goal.returns-in_err-number-clause-right
+returns-in_err-number-clause-right c = rw c.from_residual.ensures tt
+
+pub returns-in_err-number-clause-found : goal.returns-in_err-number-clause-found
+returns-in_err-number-clause-found c = λ set row. rw c.from_residual.ensures tt
+
+pub returns-in_err-number-clause-others : goal.returns-in_err-number-clause-others
+returns-in_err-number-clause-others c = λ set row. rw c.from_residual.ensures tt
+
+pub put-requires-clause-within : goal.put-requires-clause-within
+put-requires-clause-within c =
+    let known = c.args.self.now in
+    let row = c.requires.row in
+    let kept = c.in_ok-number.ensures.kept in
+    let inside = cell_within (expression_of c.args.automaton.now) c.args.mode known.classes.items known.stride known.sets.keys known.marks.items known.pairs.cells known.pairs.entries
+    c.requires.right.sound c.args.row c.args.byte row.0 row.1 c.ranges.byte.fits in
+    let classes : c.as_slice-2.result.now ≡ known.classes.items = c.as_slice-2.ensures.value ∙ kept.classes in
+    rw classes (omega (arith, inside, kept.more))
+
+pub put-requires-clause-none : goal.put-requires-clause-none
+put-requires-clause-none c =
+    let known = c.args.self.now in
+    let row = c.requires.row in
+    let kept = c.in_ok-number.ensures.kept in
+    let inside = cell_within (expression_of c.args.automaton.now) c.args.mode known.classes.items known.stride known.sets.keys known.marks.items known.pairs.cells known.pairs.entries
+    c.requires.right.sound c.args.row c.args.byte row.0 row.1 c.ranges.byte.fits in
+    let classes : c.as_slice-2.result.now ≡ known.classes.items = c.as_slice-2.ensures.value ∙ kept.classes in
+    rw classes (kept.cells (c.args.row + slice_index known.classes.items c.args.byte) inside ∙ c.requires.none)
+
+pub returns-clause-into : goal.returns-clause-into
+returns-clause-into c = c.advance.ensures.made
+
+pub returns-clause-most : goal.returns-clause-most
+returns-clause-most c = c.put.ensures.most ∙ c.in_ok-number.ensures.most
+
+pub returns-clause-counted : goal.returns-clause-counted
+returns-clause-counted c = c.advance.ensures.counted

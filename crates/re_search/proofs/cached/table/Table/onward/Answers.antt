@@ -31,3 +31,40 @@ returns-in-None-clause-arrives c =
       goes = λ first cache none came. rw (add-one walk.place) (c.in-None.ensures.alone line first walk.place (slice_get-get_or line walk.place 0 inside)
           (subst (λ s. ComesTo e c.args.mode line first (cache_of known) s walk.place walk.row) (sym counted) (c.walk-walk.ensures.comes first c.args.meter.now came)) cache none);
     }
+
+pub returns-in-Some-clause-into : goal.returns-in-Some-clause-into
+returns-in-Some-clause-into c = c.in-Some.ensures.into
+
+pub returns-in-None-clause-into : goal.returns-in-None-clause-into
+returns-in-None-clause-into c = c.in-None.ensures.into
+
+pub returns-in-Some-clause-most : goal.returns-in-Some-clause-most
+returns-in-Some-clause-most c = c.in-Some.ensures.most
+
+pub returns-in-None-clause-most : goal.returns-in-None-clause-most
+returns-in-None-clause-most c = c.in-None.ensures.most
+
+pub step-requires-clause-right : goal.step-requires-clause-right
+step-requires-clause-right c = c.requires.right
+
+pub step-requires-clause-row : goal.step-requires-clause-row
+step-requires-clause-row c = c.walk-walk.ensures.row
+
+pub step-requires-clause-cell : goal.step-requires-clause-cell
+step-requires-clause-cell c = c.walk-walk.ensures.cell (omega (arith, c.if-walk-line.false))
+
+pub returns-then-walk-line-clause-arrives : goal.returns-then-walk-line-clause-arrives
+returns-then-walk-line-clause-arrives c =
+    let e = expression_of c.args.automaton.now in
+    let line = c.args.line.now in
+    let known = c.args.self.now in
+    let walk = c.walk-walk.result in
+    let counted = walked_is (walk.place - c.args.spot.place) c.args.meter.now c.add_reused_steps.new.self c.add_reused_steps.ensures.counted c.add_reused_steps.ensures.none in
+    record {
+      right = c.requires.right;
+      on = omega (arith, c.requires.within, c.if-walk-line.true);
+      within = c.walk-walk.ensures.on.1;
+      row = c.walk-walk.ensures.row;
+      comes = λ first came.
+          subst (λ s. ComesTo e c.args.mode line first (cache_of known) s walk.place walk.row) (sym counted) (c.walk-walk.ensures.comes first c.args.meter.now came);
+    }

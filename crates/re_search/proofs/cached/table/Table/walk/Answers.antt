@@ -1,7 +1,7 @@
 use Rattle.std.proofs.Common.{arith, ◌≡◌, suc, ◌+◌, ◌-◌, ◌<◌, slice_index, refl, sym, subst, add-one}
 use Rattle.re_syntax.specs.Expression.{expression_of}
 use Rattle.re_search.specs.Working.Rows.{ComesTo, IsRow, cell_at, cache_of, walked}
-use Rattle.re_search.proofs.lemmas.WalkLaws.{comes_on, walked_more}
+use Rattle.re_search.proofs.lemmas.WalkLaws.{comes_on, walked_more, walked_none}
 use Rattle.re_search.proofs.cached.table.Table.walk.Goals as goal
 
 pub places-preserved : goal.places-preserved
@@ -31,3 +31,41 @@ places-preserved c =
           (subst (λ k. ComesTo e c.args.mode line first (cache_of known) (walked k steps) (c.places.place + 1) (cell_at known.classes.items known.pairs.cells at byte)) count
           (rw (add-one c.places.place) (subst (λ s. ComesTo e c.args.mode line first (cache_of known) s (suc c.places.place) (cell_at known.classes.items known.pairs.cells at byte)) (walked_more n steps) there)));
     }
+
+pub places-init : goal.places-init
+places-init c =
+    let known = c.args.self.now in
+    let e = expression_of c.args.automaton.now in
+    record {
+      classes = c.as_slice-classes.ensures.value;
+      cells = c.cells-cells.ensures.cells;
+      low = omega arith;
+      high = c.requires.within;
+      row = c.requires.row;
+      comes = λ first steps came.
+          subst (λ s. ComesTo e c.args.mode c.args.line.now first (cache_of known) s c.args.from.place c.args.from.row) (sym (walked_none c.args.from.place steps)) came;
+    }
+
+pub returns-then-cell-floor-clause-on : goal.returns-then-cell-floor-clause-on
+returns-then-cell-floor-clause-on c = (c.places.invariant.low, c.places.invariant.high)
+
+pub returns-then-cell-floor-clause-row : goal.returns-then-cell-floor-clause-row
+returns-then-cell-floor-clause-row c = c.places.invariant.row
+
+pub returns-then-cell-floor-clause-comes : goal.returns-then-cell-floor-clause-comes
+returns-then-cell-floor-clause-comes c = c.places.invariant.comes
+
+pub returns-clause-on : goal.returns-clause-on
+returns-clause-on c = (c.places.invariant.low, c.places.invariant.high)
+
+pub returns-clause-row : goal.returns-clause-row
+returns-clause-row c = c.places.invariant.row
+
+pub returns-clause-comes : goal.returns-clause-comes
+returns-clause-comes c = c.places.invariant.comes
+
+pub returns-then-cell-floor-clause-cell : goal.returns-then-cell-floor-clause-cell
+returns-then-cell-floor-clause-cell c = λ _. rw (c.places.invariant.classes, c.places.invariant.cells) refl
+
+pub returns-clause-cell : goal.returns-clause-cell
+returns-clause-cell c = λ inside. let none : ⊥ = omega (arith, inside, c.places-test.false) in absurd none
