@@ -1,10 +1,12 @@
-use Rattle.std.proofs.Common.{◌≡◌, length, map, sym, ap, ◌++◌, ◌∷◌, [], All, ◌∙◌, subst}
+use Rattle.std.proofs.Common.{◌≡◌, ◌≤◌, length, map, sym, ap, ◌++◌, ◌∷◌, [], All, ◌∙◌, subst}
 use Rattle.std.proofs.lemmas.List.Elements.{All-push}
 use Rattle.std.proofs.lemmas.List.{map-append}
 use Rattle.std.specs.Vec.Iter.{into_iter_items}
 use Rattle.re_search.proofs.lemmas.KeptMatchers.{same_over}
+use Rattle.re_search.specs.Searching.{AllAnswer}
+use Rattle.re_syntax.specs.Profile.{most_patterns}
 use Rattle.grep_session.specs.Working.Kept.{IsKept, line_text}
-use Rattle.grep_core.proofs.lemmas.CostLaws.{adds_none}
+use Rattle.grep_core.proofs.lemmas.CostLaws.{adds_none, same_length}
 use Rattle.grep_session.proofs.lemmas.FindingLemmas.{PartsCost-exists, searched_one, searched_next, steps_as, one_taken, taken_first, none_taken}
 use Rattle.grep_session.proofs.finding.search_lines.Goals as goal
 
@@ -60,3 +62,15 @@ pub returns-in_err-lines-clause-steps : goal.returns-in_err-lines-clause-steps
 returns-in_err-lines-clause-steps g c =
     let parts = PartsCost-exists (map g.M.LineMatch.expression c.args.matchers.now) c.args.options.now (map (λ t. t.items) c.args.texts.items) in
     record { parts = parts.0; are_parts = parts.1; few = adds_none _ _ }
+
+pub search_line-requires-clause-whole : goal.search_line-requires-clause-whole
+search_line-requires-clause-whole g c = subst (AllAnswer c.args.options.now.line_regexp) (sym c.loop-text.invariant.2.same_matchers.same_wholes) c.requires.whole
+
+pub search_line-requires-clause-few : goal.search_line-requires-clause-few
+search_line-requires-clause-few g c = subst (λ n. n ≤ most_patterns) (sym (same_length g.M.LineMatch.expression _ _ c.loop-text.invariant.2.same_matchers.same_expressions)) c.requires.few
+
+pub returns-in_err-line-clause-same_matchers : goal.returns-in_err-line-clause-same_matchers
+returns-in_err-line-clause-same_matchers g c = same_over c.search_line.ensures.same_matchers c.loop-text.invariant.2.same_matchers
+
+pub returns-in_err-push_line-clause-same_matchers : goal.returns-in_err-push_line-clause-same_matchers
+returns-in_err-push_line-clause-same_matchers g c = same_over c.search_line.ensures.same_matchers c.loop-text.invariant.2.same_matchers
