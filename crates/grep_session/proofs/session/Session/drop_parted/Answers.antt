@@ -125,3 +125,11 @@ put_back-requires-clause-within c =
     let left = c.remove-gone.new.self in
     let as_many : length c.change_columns.new.matchers.items ≡ length left.items = same_length matched_expression _ _ c.change_columns.ensures.same_matchers.same_expressions in
     omega (arith, inside, counted, as_many, c.remove-gone.ensures.len, left.ok.0, s.matchers.ok.0, length-map s.texts.items (λ text. text.items))
+
+pub put_back-requires-clause-room : goal.put_back-requires-clause-room
+put_back-requires-clause-room c =
+    let left = c.remove-gone.new.self in
+    let now = c.change_columns.new.matchers in
+    let before = c.self.inside.matchers in
+    let as_many : length now.items ≡ length left.items = same_length matched_expression _ _ c.change_columns.ensures.same_matchers.same_expressions in
+    omega (arith, as_many, c.change_columns.ensures.room, c.remove-gone.ensures.capacity, c.remove-gone.ensures.len, left.ok.0, now.ok.0, before.ok.1)
