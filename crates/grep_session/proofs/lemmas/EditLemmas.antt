@@ -4,6 +4,7 @@ use Rattle.std.proofs.Math.ListN.{set}
 use Rattle.std.proofs.Math.Seq.{map-set_same}
 use Rattle.std.proofs.lemmas.List.{map-set, get_or-map, length-map}
 use Rattle.std.proofs.lemmas.List.Elements.{All-append, All-take, All-drop, All-set}
+use Rattle.std.specs.Bool.{⊤}
 use Rattle.std.specs.List.{splice}
 use Rattle.std.specs.Option.{option_map}
 use Rattle.re_syntax.specs.declared.syntax.Syntax.{Syntax}
@@ -24,7 +25,8 @@ use Rattle.grep_session.specs.Edits.{Edit, Splice, Applies, with_files, spliced}
 use Rattle.grep_session.specs.Working.Kept.{IsKept, IsFileKept, SearchesAllKept, kept_file, kept_lines, file_with, line_text}
 use Rattle.grep_core.specs.Working.MatcherLists.{AreMatchers}
 use Rattle.grep_session.specs.Edits.{HasPlace}
-use Rattle.grep_session.specs.declared.fault.EditFault.TheVariants.{LineHasNewline}
+use Rattle.grep_session.specs.declared.fault.EditFault.{EditFault}
+use Rattle.grep_session.specs.declared.fault.EditFault.TheVariants.{LineHasNewline, Memory}
 use Rattle.grep_session.specs.Touched.{TakesSteps, Touches, searched_by, pairs_cost, NeedsNoMemory}
 use Rattle.grep_session.proofs.lemmas.SessionLemmas.{map-splice}
 
@@ -74,6 +76,14 @@ applies_splice old k start count lines p none =
 pub refuses_splice : (old : Inputs) (k start count : ℕ) (lines : List Text) → HasPlace old.files k start count → (All HasNoNewline lines → ⊥) → Applies (Splice k start count lines) old (Err LineHasNewline)
 refuses_splice old k start count lines p newline =
     inr ((λ h. absurd (let false : ⊥ = omega (arith, h, p.in_files) in false)), inr (p.opens, inr ((λ h. absurd (let false : ⊥ = omega (arith, h, p.in_file) in false)), inr (newline, refl))))
+
+-- a newline is told as a newline
+abbrev tells_newline : EditFault → Type 0
+tells_newline LineHasNewline = ⊤
+tells_newline _ = ⊥
+
+pub newline_not_memory : LineHasNewline ≡ Memory → ⊥
+newline_not_memory same = subst tells_newline same tt
 
 -- memory is needed
 pub needs_for_lines : (old : Inputs) (k start count : ℕ) (lines : List Text) → HasPlace old.files k start count → All HasNoNewline lines → (lines ≡ [] → ⊥) → NeedsNoMemory (Splice k start count lines) old → ⊥

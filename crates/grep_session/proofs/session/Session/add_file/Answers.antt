@@ -7,7 +7,7 @@ use Rattle.grep_core.proofs.lemmas.CostLaws.{same_length}
 use Rattle.grep_session.specs.Edits.{AddFile, whole_file, with_files}
 use Rattle.grep_session.specs.Working.Kept.{IsFileKept, kept_file}
 use Rattle.grep_session.specs.Working.Sessions.{inputs_of}
-use Rattle.grep_session.proofs.lemmas.EditLemmas.{AreMatchers-same, takes_lines}
+use Rattle.grep_session.proofs.lemmas.EditLemmas.{AreMatchers-same, takes_lines, newline_not_memory}
 use Rattle.grep_session.proofs.lemmas.AllPatternsRead.{takes_none}
 use Rattle.grep_session.proofs.session.Session.add_file.Goals as goal
 
@@ -92,3 +92,6 @@ returns-clause-gives c =
     let files : map kept_file c.push_file.new.files.items ≡ old.files ++ whole_file name (map (λ line. line.items) c.args.lines.items) ∷ [] =
     ap (map kept_file) c.in-Ok-push_file.ensures.ok ∙ map-append kept_file s.files.items _ ∙ ap (λ lines. old.files ++ whole_file name lines ∷ []) c.in-Ok.ensures.texts in
     rw (← c.self.view_is) (inl (none, ap (λ fs. Ok (with_files fs old)) files))
+
+pub returns-then-any_newline-clause-memory : goal.returns-then-any_newline-clause-memory
+returns-then-any_newline-clause-memory c = λ need. newline_not_memory

@@ -6,7 +6,7 @@ use Rattle.grep_session.specs.Edits.{Splice, Applies, spliced, with_files}
 use Rattle.re_syntax.specs.Profile.{most_patterns}
 use Rattle.grep_session.specs.Working.Kept.{IsKept, IsFileKept, kept_lines, line_text}
 use Rattle.grep_session.specs.Working.Sessions.{inputs_of}
-use Rattle.grep_session.proofs.lemmas.EditLemmas.{AreMatchers-same, takes_lines, applies_splice, in_kept, put, kept_put, files_put, files_same, files_kept, refuses_splice, needs_for_lines, empty_map}
+use Rattle.grep_session.proofs.lemmas.EditLemmas.{AreMatchers-same, takes_lines, applies_splice, in_kept, put, kept_put, files_put, files_same, files_kept, refuses_splice, needs_for_lines, newline_not_memory, empty_map}
 use Rattle.grep_session.proofs.session.Session.splice.Goals as goal
 
 pub returns-in-Err-search_new-clause-steps : goal.returns-in-Err-search_new-clause-steps
@@ -141,3 +141,6 @@ invariant_of-self-in-Err-put_in c =
       some_states = c.self.invariant.some_states;
       few_states = c.self.invariant.few_states;
     }
+
+pub returns-then-any_newline-clause-memory : goal.returns-then-any_newline-clause-memory
+returns-then-any_newline-clause-memory c = λ need. newline_not_memory
