@@ -1,7 +1,7 @@
 //! What is found in all lines where patterns come or go: the patterns that came are searched for,
 //! and the parts of a line are searched where one of those that came or went matches it.
 ghost use Rattle.std.specs.Prelude.{◌≡◌, ℕ, ◌≤◌, ◌++◌, List, [], length, map, MatchBool, ◌∷◌, IfOk};
-ghost use Rattle.std.specs.Prelude.{All, IfSome, nat_eq, nat_lt, vec_capacity};
+ghost use Rattle.std.specs.Prelude.{All, IfSome, OnErr, nat_eq, nat_lt, vec_capacity};
 ghost use Rattle.std.specs.List.{AllZip, list_any};
 ghost use Rattle.re_syntax.specs.Expression.{Expression};
 ghost use Rattle.re_search.specs.Working.Matchers.{matched_expression, wants_whole};
@@ -21,6 +21,7 @@ use crate::change::Change;
 use crate::columns::push_found;
 use crate::finding::find_with_parts;
 use crate::findings::Findings;
+use crate::found::put_columns;
 use crate::kept::{KeptFile, KeptLine};
 use crate::numbers::drop_number;
 use grep_core::Options;
@@ -31,7 +32,7 @@ use std::alloc::{AllocError, Global};
 fn has_number(numbers: &[usize], p: usize) -> bool
     ensures { result ≡ list_any (λ n. nat_eq n p) numbers.now }
 {
-    numbers.iter().any(|number| *number == p)
+    numbers.contains(&p)
 }
 
 /// Whether there are more numbers than before.
@@ -253,33 +254,38 @@ fn change_files<M: LineMatch>(
     Ok(found)
 }
 
-/// The same by the matchers of a session.
+/// Puts what is found in the lines of a session's files behind a change of the patterns in the place
+/// of what is kept of them. Where memory runs out, the files stay as they are.
 pub fn change_columns(
     alloc: Global,
     matchers: &mut Vec<Matcher>,
     options: &Options,
     change: Change,
-    files: &[KeptFile],
+    files: &mut Vec<KeptFile>,
     meter: &mut Meter,
-) -> Result<Vec<Findings>, AllocError>
+) -> Result<(), AllocError>
     requires whole { AllAnswer options.now.line_regexp (map wants_whole matchers.old.items) }
     requires few { length matchers.old.items ≤ most_patterns }
     requires within { IsWithin change (length matchers.old.items) }
     ensures same_matchers { SameMatchers matched_expression wants_whole matchers.old.items
         matchers.new.items }
     ensures room { vec_capacity matchers.new ≡ vec_capacity matchers.old }
+    ensures same { map kept_file files.new.items ≡ map kept_file files.old.items }
     ensures ok { IfOk result
-        (λ found. (before changed : List Expression) →
+        (λ _. (before changed : List Expression) →
         HasChanged change (map matched_expression matchers.old.items) before changed →
-        All (IsFileKept before options.now) files.now
-        → AllZip (IsRight (map matched_expression matchers.old.items) options.now)
-        (lines_of_files (map kept_file files.now)) found.items) }
+        All (IsFileKept before options.now) files.old.items
+        → All (IsFileKept (map matched_expression matchers.new.items) options.now)
+        files.new.items) }
+    ensures err { OnErr result (files.new.items ≡ files.old.items) }
     ensures steps { (before changed : List Expression) →
         HasChanged change (map matched_expression matchers.old.items) before changed →
-        All (IsFileKept before options.now) files.now
+        All (IsFileKept before options.now) files.old.items
         → SearchesEach
         (ChangeCost change changed (map matched_expression matchers.old.items) options.now)
-        (lines_of_files (map kept_file files.now)) meter.old meter.new }
+        (lines_of_files (map kept_file files.old.items)) meter.old meter.new }
 {
-    change_files(alloc, matchers, options, change, files, meter)
+    let found = change_files(alloc, matchers, options, change, files, meter)?;
+    put_columns(files, found);
+    Ok(())
 }

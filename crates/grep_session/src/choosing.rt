@@ -81,7 +81,7 @@ pub fn is_same(a: Syntax, b: Syntax) -> bool
 }
 
 /// What an option has to do with what is kept.
-#[derive(Clone, Copy, PartialEq, Eq, Debug, Drop)]
+#[derive(Clone, Copy, Drop)]
 pub enum Effect {
     /// Other lines may be matched.
     Verdicts,

@@ -1,16 +1,17 @@
 //! What is found in all lines of all files anew.
 ghost use Rattle.std.specs.Prelude.{◌≡◌, ◌≤◌, ◌++◌, List, [], length, map, false, ◌∷◌, IfOk, All};
-ghost use Rattle.std.specs.Prelude.{IfSome, if◌then◌else◌};
+ghost use Rattle.std.specs.Prelude.{IfSome, if◌then◌else◌, OnErr};
 ghost use Rattle.std.specs.List.{AllZip};
 ghost use Rattle.re_search.specs.Working.Matchers.{matched_expression, wants_whole};
 ghost use Rattle.re_search.specs.Searching.{AllAnswer, SameMatchers};
 ghost use Rattle.re_syntax.specs.Profile.{most_patterns};
 ghost use Rattle.grep_session.specs.Working.Found.{IsRight, IsReady, AddsRight, lines_of_files};
 ghost use Rattle.grep_session.specs.Working.Kept.{SearchesKept, SearchesAllKept, kept_file};
-ghost use Rattle.grep_session.specs.Working.Kept.{kept_lines, line_text};
+ghost use Rattle.grep_session.specs.Working.Kept.{kept_lines, line_text, IsFileKept};
 
 use crate::finding::{find_anew, find_with_parts};
 use crate::findings::Findings;
+use crate::found::put_columns;
 use crate::kept::{KeptFile, KeptLine};
 use grep_core::Options;
 use re_search::{LineMatch, Matcher, Meter};
@@ -155,30 +156,35 @@ pub fn find_all<M: LineMatch>(
     Ok(found)
 }
 
-/// The same by the matchers of a session.
+/// Puts what the matchers of a session find in the lines of its files in the place of what is kept
+/// of them: anew, or the parts alone. Where memory runs out, the files stay as they are.
 pub fn find_columns(
     alloc: Global,
     matchers: &mut Vec<Matcher>,
     options: &Options,
     anew: bool,
-    files: &[KeptFile],
+    files: &mut Vec<KeptFile>,
     meter: &mut Meter,
-) -> Result<Vec<Findings>, AllocError>
+) -> Result<(), AllocError>
     requires whole { AllAnswer options.now.line_regexp (map wants_whole matchers.old.items) }
     requires few { length matchers.old.items ≤ most_patterns }
     requires ready { All
         (λ file.
         IfSome (kept_lines file)
-        (All (IsReady anew (map matched_expression matchers.old.items) options.now))) files.now }
+        (All (IsReady anew (map matched_expression matchers.old.items) options.now)))
+        files.old.items }
+    ensures same { map kept_file files.new.items ≡ map kept_file files.old.items }
     ensures ok { IfOk result
-        (λ found.
-        AllZip (IsRight (map matched_expression matchers.old.items) options.now)
-        (lines_of_files (map kept_file files.now)) found.items) }
+        (λ _.
+        All (IsFileKept (map matched_expression matchers.new.items) options.now) files.new.items) }
+    ensures err { OnErr result (files.new.items ≡ files.old.items) }
     ensures same_matchers { SameMatchers matched_expression wants_whole matchers.old.items
         matchers.new.items }
     ensures steps { SearchesAllKept (map matched_expression matchers.old.items) options.now
-        (if anew then length matchers.old.items else 0) (lines_of_files (map kept_file files.now))
-        meter.old meter.new }
+        (if anew then length matchers.old.items else 0)
+        (lines_of_files (map kept_file files.old.items)) meter.old meter.new }
 {
-    find_all(alloc, matchers, options, anew, files, meter)
+    let found = find_all(alloc, matchers, options, anew, files, meter)?;
+    put_columns(files, found);
+    Ok(())
 }

@@ -21,7 +21,6 @@ use crate::columns::find_columns;
 use crate::dropping::{drop_column, put_back};
 use crate::fault::EditFault;
 use crate::finding::search_new;
-use crate::found::put_columns;
 use crate::kept::KeptFile;
 use crate::patterns::{add_matchers, add_texts, reserve_texts, texts_of, too_many};
 use crate::reading::read_matchers;
@@ -210,18 +209,17 @@ impl Session {
             Ok(matchers) => matchers,
             Err(fault) => return Err(fault),
         };
-        let found = match find_columns(
+        match find_columns(
             self.alloc,
             &mut matchers,
             &options,
             true,
-            &self.files,
+            &mut self.files,
             meter,
         ) {
-            Ok(found) => found,
+            Ok(()) => {}
             Err(_) => return Err(EditFault::Memory),
-        };
-        put_columns(&mut self.files, found);
+        }
         self.matchers = matchers;
         self.syntax = syntax;
         self.options = options;
@@ -256,18 +254,17 @@ impl Session {
             → Touches edit self.old (parts_alone (all_lines self.old)) →
             TakesSteps edit self.old meter.old meter.new }
     {
-        let found = match find_columns(
+        match find_columns(
             self.alloc,
             &mut self.matchers,
             &options,
             false,
-            &self.files,
+            &mut self.files,
             meter,
         ) {
-            Ok(found) => found,
+            Ok(()) => {}
             Err(_) => return Err(EditFault::Memory),
-        };
-        put_columns(&mut self.files, found);
+        }
         self.options = options;
         Ok(())
     }
@@ -363,21 +360,20 @@ impl Session {
             Err(_) => return Err(EditFault::Memory),
         }
         let change = Change::Added(first);
-        let found = match change_columns(
+        match change_columns(
             self.alloc,
             &mut self.matchers,
             &self.options,
             change,
-            &self.files,
+            &mut self.files,
             meter,
         ) {
-            Ok(found) => found,
+            Ok(()) => {}
             Err(_) => {
                 self.matchers.truncate(first);
                 return Err(EditFault::Memory);
             }
-        };
-        put_columns(&mut self.files, found);
+        }
         add_texts(&mut self.texts, texts);
         Ok(())
     }
@@ -412,21 +408,20 @@ impl Session {
     {
         let gone = self.matchers.remove(p);
         let change = Change::Dropped(p);
-        let found = match change_columns(
+        match change_columns(
             self.alloc,
             &mut self.matchers,
             &self.options,
             change,
-            &self.files,
+            &mut self.files,
             meter,
         ) {
-            Ok(found) => found,
+            Ok(()) => {}
             Err(_) => {
                 put_back(&mut self.matchers, p, gone);
                 return Err(EditFault::Memory);
             }
-        };
-        put_columns(&mut self.files, found);
+        }
         self.texts.remove(p);
         Ok(())
     }

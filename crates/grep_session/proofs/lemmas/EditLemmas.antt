@@ -1,9 +1,10 @@
 -- What an edit makes of a session's inputs, and of what is kept.
-use Rattle.std.proofs.Common.{◌≡◌, ◌≢◌, ℕ, ◌+◌, ◌<◌, List, [], ◌++◌, length, map, take, drop, Option, Some, None, Ok, IfSome, inl, inr, refl, sym, ap, subst, ◌∙◌, All, get_or, slice_set, arith}
+use Rattle.std.proofs.Common.{◌≡◌, ◌≢◌, ℕ, suc, ◌+◌, ◌<◌, List, [], ◌∷◌, ◌++◌, length, map, take, drop, Option, Some, None, Ok, Err, IfSome, inl, inr, refl, sym, ap, subst, ◌∙◌, All, get_or, slice_set, arith}
 use Rattle.std.proofs.Math.ListN.{set}
 use Rattle.std.proofs.Math.Seq.{map-set_same}
 use Rattle.std.proofs.lemmas.List.{map-set, get_or-map, length-map}
 use Rattle.std.proofs.lemmas.List.Elements.{All-append, All-take, All-drop, All-set}
+use Rattle.std.specs.Bool.{⊤}
 use Rattle.std.specs.List.{splice}
 use Rattle.std.specs.Option.{option_map}
 use Rattle.re_syntax.specs.declared.syntax.Syntax.{Syntax}
@@ -24,7 +25,9 @@ use Rattle.grep_session.specs.Edits.{Edit, Splice, Applies, with_files, spliced}
 use Rattle.grep_session.specs.Working.Kept.{IsKept, IsFileKept, SearchesAllKept, kept_file, kept_lines, file_with, line_text}
 use Rattle.grep_core.specs.Working.MatcherLists.{AreMatchers}
 use Rattle.grep_session.specs.Edits.{HasPlace}
-use Rattle.grep_session.specs.Touched.{TakesSteps, Touches, searched_by, pairs_cost}
+use Rattle.grep_session.specs.declared.fault.EditFault.{EditFault}
+use Rattle.grep_session.specs.declared.fault.EditFault.TheVariants.{LineHasNewline, Memory}
+use Rattle.grep_session.specs.Touched.{TakesSteps, Touches, searched_by, pairs_cost, NeedsNoMemory}
 use Rattle.grep_session.proofs.lemmas.SessionLemmas.{map-splice}
 
 -- ---- matchers
@@ -68,6 +71,32 @@ takes_lines edit old files es matchers lines begun ended applies touches meant m
 pub applies_splice : (old : Inputs) (k start count : ℕ) (lines : List Text) → HasPlace old.files k start count → All HasNoNewline lines → Applies (Splice k start count lines) old (Ok (with_files (spliced old.files k start count lines) old))
 applies_splice old k start count lines p none =
     inr ((λ h. absurd (let false : ⊥ = omega (arith, h, p.in_files) in false)), inr (p.opens, inr ((λ h. absurd (let false : ⊥ = omega (arith, h, p.in_file) in false)), inl (none, refl))))
+
+-- some line that is put in has a newline in it
+pub refuses_splice : (old : Inputs) (k start count : ℕ) (lines : List Text) → HasPlace old.files k start count → (All HasNoNewline lines → ⊥) → Applies (Splice k start count lines) old (Err LineHasNewline)
+refuses_splice old k start count lines p newline =
+    inr ((λ h. absurd (let false : ⊥ = omega (arith, h, p.in_files) in false)), inr (p.opens, inr ((λ h. absurd (let false : ⊥ = omega (arith, h, p.in_file) in false)), inr (newline, refl))))
+
+-- a newline is told as a newline
+abbrev tells_newline : EditFault → Type 0
+tells_newline LineHasNewline = ⊤
+tells_newline _ = ⊥
+
+pub newline_not_memory : LineHasNewline ≡ Memory → ⊥
+newline_not_memory same = subst tells_newline same tt
+
+-- memory is needed
+pub needs_for_lines : (old : Inputs) (k start count : ℕ) (lines : List Text) → HasPlace old.files k start count → All HasNoNewline lines → (lines ≡ [] → ⊥) → NeedsNoMemory (Splice k start count lines) old → ⊥
+needs_for_lines old k start count lines place none some (inl empty) = some empty
+needs_for_lines old k start count lines place none some (inr (inl nowhere)) = nowhere place
+needs_for_lines old k start count lines place none some (inr (inr newline)) = newline none
+
+-- where f of a list is empty, the list is
+pub empty_map : {X Y : Type 0} (f : X → Y) (xs : List X) → map f xs ≡ [] → xs ≡ []
+empty_map f [] e = refl
+empty_map f (x ∷ xs) e =
+    let bad : suc (length (map f xs)) ≡ 0 = ap length e in
+    absurd (let false : ⊥ = omega (arith, bad) in false)
 
 module _ (start count : ℕ) (new : List KeptLine) where
   -- what the lines of a file become

@@ -206,3 +206,8 @@ pub none_taken : {X Z : Type 0} (g : X → Z) (done rest : List Z) (z : Z) (all 
 none_taken g done rest z all e none =
     let same : length (done ++ (z ∷ rest)) ≡ 0 = ap length (e ∙ ap (map g) none) in
     omega (arith, same, length-append done (z ∷ rest))
+
+-- a list without a length
+pub empty_list : {X : Type 0} (xs : List X) → length xs ≡ 0 → xs ≡ []
+empty_list [] none = refl
+empty_list (x ∷ xs) none = absurd (let false : ⊥ = omega (arith, none) in false)

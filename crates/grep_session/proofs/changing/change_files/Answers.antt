@@ -1,9 +1,11 @@
-use Rattle.std.proofs.Common.{map, sym, refl, subst, []}
+use Rattle.std.proofs.Common.{◌≡◌, ◌≤◌, map, take, take_all, sym, refl, subst, arith, []}
 use Rattle.std.specs.List.{AllZip}
 use Rattle.re_search.proofs.lemmas.KeptMatchers.{none_asked, same_over}
 use Rattle.grep_core.proofs.lemmas.CostLaws.{same_length}
-use Rattle.grep_session.specs.Working.Changed.{ChangeCost, IsWithin}
-use Rattle.grep_session.specs.Working.Found.{IsRight}
+use Rattle.re_search.specs.Searching.{AllAnswer}
+use Rattle.re_syntax.specs.Profile.{most_patterns}
+use Rattle.grep_session.specs.Working.Changed.{ChangeCost, IsWithin, SearchesEach}
+use Rattle.grep_session.specs.Working.Found.{IsRight, lines_of_files}
 use Rattle.grep_session.specs.Working.Kept.{IsFileKept, kept_file}
 use Rattle.grep_session.proofs.lemmas.ColumnLemmas.{files_next, files_parted, right_more}
 use Rattle.grep_session.proofs.lemmas.ChangeLemmas.{ChangeCost-exists, each_none, each_both, each_front, kept_at}
@@ -43,3 +45,22 @@ loop-file-preserved g c =
       steps = λ before changed h k. each_both (ChangeCost c.args.change changed (map g.M.LineMatch.expression c.args.matchers.now) c.args.options.now) _ _ _ _ _ _ next (s.steps before changed h k)
           (spent before changed h (kept_at (IsFileKept before c.args.options.now) c.args.files.now c.loop-file.file-index x c.loop-file-test.true c.file-item.is k));
     }
+
+pub returns-clause-ok : goal.returns-clause-ok
+returns-clause-ok g c = λ before changed h k.
+    let all : take c.loop-file.file-index c.args.files.now ≡ c.args.files.now = take_all _ _ (omega arith) in
+    subst (λ files. AllZip (IsRight (map g.M.LineMatch.expression c.args.matchers.now) c.args.options.now) (lines_of_files (map kept_file files)) c.loop-file.found.items) all (c.loop-file.invariant.found before changed h k)
+
+pub returns-clause-steps : goal.returns-clause-steps
+returns-clause-steps g c = λ before changed h k.
+    let all : take c.loop-file.file-index c.args.files.now ≡ c.args.files.now = take_all _ _ (omega arith) in
+    subst (λ files. SearchesEach (ChangeCost c.args.change changed (map g.M.LineMatch.expression c.args.matchers.now) c.args.options.now) (lines_of_files (map kept_file files)) c.args.meter.now c.loop-file.meter) all (c.loop-file.invariant.steps before changed h k)
+
+pub change_file-requires-clause-whole : goal.change_file-requires-clause-whole
+change_file-requires-clause-whole g c = subst (AllAnswer c.args.options.now.line_regexp) (sym c.loop-file.invariant.same_matchers.same_wholes) c.requires.whole
+
+pub change_file-requires-clause-few : goal.change_file-requires-clause-few
+change_file-requires-clause-few g c = subst (λ n. n ≤ most_patterns) (sym (same_length g.M.LineMatch.expression _ _ c.loop-file.invariant.same_matchers.same_expressions)) c.requires.few
+
+pub returns-in_err-change_file-clause-same_matchers : goal.returns-in_err-change_file-clause-same_matchers
+returns-in_err-change_file-clause-same_matchers g c = same_over c.change_file.ensures.same_matchers c.loop-file.invariant.same_matchers

@@ -1,7 +1,10 @@
-use Rattle.std.proofs.Common.{map, sym, subst}
+use Rattle.std.proofs.Common.{◌≡◌, ◌≤◌, map, take, take_all, sym, subst, arith}
 use Rattle.re_search.proofs.lemmas.KeptMatchers.{none_asked, same_over}
 use Rattle.grep_core.proofs.lemmas.CostLaws.{same_length}
-use Rattle.grep_session.specs.Working.Changed.{ChangeCost, IsWithin}
+use Rattle.re_search.specs.Searching.{AllAnswer}
+use Rattle.re_syntax.specs.Profile.{most_patterns}
+use Rattle.grep_session.specs.Working.Changed.{ChangeCost, IsWithin, SearchesEach}
+use Rattle.grep_session.specs.Working.Found.{AddsRight}
 use Rattle.grep_session.specs.Working.Kept.{IsKept, line_text}
 use Rattle.grep_session.proofs.lemmas.ColumnLemmas.{map_next, map_parted, adds_right_next}
 use Rattle.grep_session.proofs.lemmas.ChangeLemmas.{ChangeCost-exists, each_none, each_one, each_next, kept_at, adds_right_none}
@@ -49,3 +52,25 @@ loop-line-preserved g c =
       steps = λ before changed h k. each_one (ChangeCost c.args.change changed (map g.M.LineMatch.expression c.args.matchers.now) c.args.options.now) _ _ _ _ _ _ next (s.steps before changed h k)
           (spent before changed h (kept_at (IsKept before c.args.options.now) c.args.lines.now c.loop-line.line-index x c.loop-line-test.true c.line-item.is k));
     }
+
+pub returns-clause-ok : goal.returns-clause-ok
+returns-clause-ok g c = λ before changed h k.
+    let all : take c.loop-line.line-index c.args.lines.now ≡ c.args.lines.now = take_all _ _ (omega arith) in
+    subst (λ lines. AddsRight (map g.M.LineMatch.expression c.args.matchers.now) c.args.options.now (map line_text lines) c.args.found.now.items c.loop-line.found.items) all (c.loop-line.invariant.found before changed h k)
+
+pub returns-clause-steps : goal.returns-clause-steps
+returns-clause-steps g c = λ before changed h k.
+    let all : take c.loop-line.line-index c.args.lines.now ≡ c.args.lines.now = take_all _ _ (omega arith) in
+    subst (λ lines. SearchesEach (ChangeCost c.args.change changed (map g.M.LineMatch.expression c.args.matchers.now) c.args.options.now) (map line_text lines) c.args.meter.now c.loop-line.meter) all (c.loop-line.invariant.steps before changed h k)
+
+pub find_changed-requires-clause-whole : goal.find_changed-requires-clause-whole
+find_changed-requires-clause-whole g c = subst (AllAnswer c.args.options.now.line_regexp) (sym c.loop-line.invariant.same_matchers.same_wholes) c.requires.whole
+
+pub find_changed-requires-clause-few : goal.find_changed-requires-clause-few
+find_changed-requires-clause-few g c = subst (λ n. n ≤ most_patterns) (sym (same_length g.M.LineMatch.expression _ _ c.loop-line.invariant.same_matchers.same_expressions)) c.requires.few
+
+pub returns-in_err-one-clause-same_matchers : goal.returns-in_err-one-clause-same_matchers
+returns-in_err-one-clause-same_matchers g c = same_over c.find_changed.ensures.same_matchers c.loop-line.invariant.same_matchers
+
+pub returns-in_err-push_found-clause-same_matchers : goal.returns-in_err-push_found-clause-same_matchers
+returns-in_err-push_found-clause-same_matchers g c = same_over c.find_changed.ensures.same_matchers c.loop-line.invariant.same_matchers

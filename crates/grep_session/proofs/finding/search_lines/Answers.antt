@@ -1,11 +1,13 @@
-use Rattle.std.proofs.Common.{◌≡◌, length, map, sym, ap, ◌++◌, ◌∷◌, [], All, ◌∙◌, subst}
+use Rattle.std.proofs.Common.{◌≡◌, ◌≤◌, append-nil, arith, length, map, sym, ap, ◌++◌, ◌∷◌, [], All, ◌∙◌, subst}
 use Rattle.std.proofs.lemmas.List.Elements.{All-push}
 use Rattle.std.proofs.lemmas.List.{map-append}
 use Rattle.std.specs.Vec.Iter.{into_iter_items}
-use Rattle.re_search.proofs.lemmas.KeptMatchers.{same_over}
-use Rattle.grep_session.specs.Working.Kept.{IsKept, line_text}
-use Rattle.grep_core.proofs.lemmas.CostLaws.{adds_none}
-use Rattle.grep_session.proofs.lemmas.FindingLemmas.{PartsCost-exists, searched_one, searched_next, steps_as, one_taken, taken_first, none_taken}
+use Rattle.re_search.proofs.lemmas.KeptMatchers.{none_asked, same_over}
+use Rattle.re_search.specs.Searching.{AllAnswer}
+use Rattle.re_syntax.specs.Profile.{most_patterns}
+use Rattle.grep_session.specs.Working.Kept.{IsKept, SearchesAllKept, line_text}
+use Rattle.grep_core.proofs.lemmas.CostLaws.{adds_none, same_length}
+use Rattle.grep_session.proofs.lemmas.FindingLemmas.{PartsCost-exists, searched_one, searched_next, searched_none, steps_as, one_taken, taken_first, none_taken, empty_list}
 use Rattle.grep_session.proofs.finding.search_lines.Goals as goal
 
 pub returns-in_err-line-clause-steps : goal.returns-in_err-line-clause-steps
@@ -60,3 +62,46 @@ pub returns-in_err-lines-clause-steps : goal.returns-in_err-lines-clause-steps
 returns-in_err-lines-clause-steps g c =
     let parts = PartsCost-exists (map g.M.LineMatch.expression c.args.matchers.now) c.args.options.now (map (λ t. t.items) c.args.texts.items) in
     record { parts = parts.0; are_parts = parts.1; few = adds_none _ _ }
+
+pub search_line-requires-clause-whole : goal.search_line-requires-clause-whole
+search_line-requires-clause-whole g c = subst (AllAnswer c.args.options.now.line_regexp) (sym c.loop-text.invariant.2.same_matchers.same_wholes) c.requires.whole
+
+pub search_line-requires-clause-few : goal.search_line-requires-clause-few
+search_line-requires-clause-few g c = subst (λ n. n ≤ most_patterns) (sym (same_length g.M.LineMatch.expression _ _ c.loop-text.invariant.2.same_matchers.same_expressions)) c.requires.few
+
+pub returns-in_err-line-clause-same_matchers : goal.returns-in_err-line-clause-same_matchers
+returns-in_err-line-clause-same_matchers g c = same_over c.search_line.ensures.same_matchers c.loop-text.invariant.2.same_matchers
+
+pub returns-in_err-push_line-clause-same_matchers : goal.returns-in_err-push_line-clause-same_matchers
+returns-in_err-push_line-clause-same_matchers g c = same_over c.search_line.ensures.same_matchers c.loop-text.invariant.2.same_matchers
+
+pub loop-text-init : goal.loop-text-init
+loop-text-init g c =
+    let es = map g.M.LineMatch.expression c.args.matchers.now in
+    let none = c.in_ok-lines.ensures.items in
+    let all = c.into_iter-text-iterator.ensures.into_iter_gives.0 in (
+      tt,
+      tt,
+      record {
+        left = λ i. map line_text (none i) ++ map (λ text. text.items) (all i);
+        kept = subst (All (IsKept es c.args.options.now)) (sym none) (λ k d h. absurd (let false : ⊥ = omega (arith, h) in false));
+        same_matchers = none_asked;
+        steps = searched_none es c.args.options.now (length c.args.matchers.now) _ _ (ap (map line_text) none);
+      },
+    )
+
+pub returns-clause-texts : goal.returns-clause-texts
+returns-clause-texts g c =
+    let s = c.loop-text.invariant.2 in
+    let left = c.loop-text.text-iterator in
+    let none : length (into_iter_items left) ≡ 0 = omega (arith, c.in-None.ensures.steps.0, left.rest.ok.0) in
+    let texts : map line_text c.loop-text.lines.items ≡ map (λ text. text.items) c.args.texts.items = sym (ap (λ rest. map line_text c.loop-text.lines.items ++ map (λ text. text.items) rest) (empty_list (into_iter_items left) none) ∙ append-nil (map line_text c.loop-text.lines.items)) ∙ s.left in
+    texts
+
+pub returns-clause-steps : goal.returns-clause-steps
+returns-clause-steps g c =
+    let s = c.loop-text.invariant.2 in
+    let left = c.loop-text.text-iterator in
+    let none : length (into_iter_items left) ≡ 0 = omega (arith, c.in-None.ensures.steps.0, left.rest.ok.0) in
+    let texts : map line_text c.loop-text.lines.items ≡ map (λ text. text.items) c.args.texts.items = sym (ap (λ rest. map line_text c.loop-text.lines.items ++ map (λ text. text.items) rest) (empty_list (into_iter_items left) none) ∙ append-nil (map line_text c.loop-text.lines.items)) ∙ s.left in
+    subst (λ lines. SearchesAllKept (map g.M.LineMatch.expression c.args.matchers.now) c.args.options.now (length c.args.matchers.now) lines c.args.meter.now c.loop-text.meter) texts s.steps

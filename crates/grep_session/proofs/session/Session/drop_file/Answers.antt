@@ -1,7 +1,9 @@
-use Rattle.std.proofs.Common.{◌<◌, Ok, inl, length, map, arith, ap}
+use Rattle.std.proofs.Common.{◌<◌, Ok, All, inl, length, map, arith, ap, sym, subst}
 use Rattle.std.proofs.lemmas.List.{length-map}
 use Rattle.grep_session.specs.Edits.{with_files}
-use Rattle.grep_session.specs.Working.Kept.{kept_file}
+use Rattle.re_search.specs.Working.Matchers.{matched_expression}
+use Rattle.grep_session.specs.Working.Kept.{IsFileKept, kept_file}
+use Rattle.grep_session.proofs.lemmas.DroppingLemmas.{All-remove}
 use Rattle.grep_session.specs.Working.Sessions.{inputs_of}
 use Rattle.grep_session.proofs.lemmas.SessionLemmas.{map-remove}
 use Rattle.grep_session.proofs.session.Session.drop_file.Goals as goal
@@ -11,3 +13,15 @@ returns-clause-gives c =
     let files = c.self.inside.files.items in
     let inside : c.args.k < length (map kept_file files) = omega (arith, length-map files kept_file) in
     rw (← c.self.view_is) (inl (inside, ap (λ fs. Ok (with_files fs (inputs_of c.self.inside))) (map-remove kept_file files c.remove.new.self.items c.args.k c.remove.ensures.items)))
+
+pub invariant_of-self : goal.invariant_of-self
+invariant_of-self c =
+    let s = c.self.inside in
+    let Kept = IsFileKept (map matched_expression s.matchers.items) s.options in
+    record {
+      matchers = c.self.invariant.matchers;
+      few = c.self.invariant.few;
+      kept = subst (All Kept) (sym c.remove.ensures.items) (All-remove Kept s.files.items c.args.k c.self.invariant.kept);
+      some_states = c.self.invariant.some_states;
+      few_states = c.self.invariant.few_states;
+    }

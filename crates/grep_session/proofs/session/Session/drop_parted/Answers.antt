@@ -1,6 +1,5 @@
 use Rattle.std.proofs.Common.{◌≡◌, ◌+◌, ◌≤◌, ◌<◌, [], ◌∷◌, Ok, length, map, inl, refl, sym, ap, subst, ◌∙◌, arith, All, get_or}
 use Rattle.std.proofs.lemmas.List.{length-map, get_or-map}
-use Rattle.std.specs.List.{AllZip}
 use Rattle.re_search.specs.Working.Matchers.{matched_expression, wants_whole}
 use Rattle.re_search.specs.Searching.{AllAnswer}
 use Rattle.grep_core.specs.Files.{Inputs}
@@ -8,8 +7,7 @@ use Rattle.grep_core.proofs.lemmas.CostLaws.{same_length}
 use Rattle.grep_session.specs.declared.change.Change.TheVariants.{Dropped}
 use Rattle.grep_session.specs.Working.Changed.{HasChanged}
 use Rattle.re_syntax.specs.Profile.{most_patterns}
-use Rattle.grep_session.specs.Working.Found.{IsRight, lines_of_files}
-use Rattle.grep_session.specs.Working.Kept.{IsFileKept, kept_file}
+use Rattle.grep_session.specs.Working.Kept.{IsFileKept}
 use Rattle.grep_session.specs.Working.Sessions.{inputs_of}
 use Rattle.grep_session.proofs.lemmas.EditLemmas.{AreMatchers-same}
 use Rattle.grep_session.proofs.lemmas.SessionLemmas.{map-remove}
@@ -38,7 +36,7 @@ invariant_of-self c =
     record {
       matchers = AreMatchers-same s.syntax s.options _ s.matchers.items _ c.self.invariant.matchers expressions wholes;
       few = subst (λ n. n ≤ most_patterns) (sym (same_length matched_expression _ _ expressions)) c.self.invariant.few;
-      kept = subst (λ es. All (IsFileKept es s.options) s.files.items) (sym expressions) c.self.invariant.kept;
+      kept = subst (All (IsFileKept (map matched_expression c.put_back.new.matchers.items) s.options)) (sym c.in-Err.ensures.err) (subst (λ es. All (IsFileKept es s.options) s.files.items) (sym expressions) c.self.invariant.kept);
       some_states = c.self.invariant.some_states;
       few_states = c.self.invariant.few_states;
     }
@@ -56,8 +54,7 @@ returns-in-Err-clause-steps c =
     let among : p < length before = omega (arith, within, length-map s.matchers.items matched_expression) in
     let at : matched_expression gone ≡ get_or before p (matched_expression gone) = ap matched_expression c.remove-gone.ensures.value ∙ sym (get_or-map matched_expression s.matchers.items p gone (matched_expression gone) within) in
     let changed : HasChanged (Dropped p) (map matched_expression left) before (matched_expression gone ∷ []) = (matched_expression gone, among, at, map-remove matched_expression s.matchers.items left p c.remove-gone.ensures.items, refl) in
-    let spent = rw c.deref.ensures.value at c.change_columns.ensures.steps in
-    rw (← c.self.view_is) (takes_drop p (inputs_of s) (map matched_expression left) before (matched_expression gone) _ _ inside c.self.invariant.matchers.meant changed at (spent before (matched_expression gone ∷ []) changed c.self.invariant.kept))
+    rw (← c.self.view_is) (takes_drop p (inputs_of s) (map matched_expression left) before (matched_expression gone) _ _ inside c.self.invariant.matchers.meant changed at (c.change_columns.ensures.steps before (matched_expression gone ∷ []) changed c.self.invariant.kept))
 
 pub returns-clause-steps : goal.returns-clause-steps
 returns-clause-steps c =
@@ -72,8 +69,7 @@ returns-clause-steps c =
     let among : p < length before = omega (arith, within, length-map s.matchers.items matched_expression) in
     let at : matched_expression gone ≡ get_or before p (matched_expression gone) = ap matched_expression c.remove-gone.ensures.value ∙ sym (get_or-map matched_expression s.matchers.items p gone (matched_expression gone) within) in
     let changed : HasChanged (Dropped p) (map matched_expression left) before (matched_expression gone ∷ []) = (matched_expression gone, among, at, map-remove matched_expression s.matchers.items left p c.remove-gone.ensures.items, refl) in
-    let spent = rw c.deref.ensures.value at c.change_columns.ensures.steps in
-    rw (← c.self.view_is) (takes_drop p (inputs_of s) (map matched_expression left) before (matched_expression gone) _ _ inside c.self.invariant.matchers.meant changed at (spent before (matched_expression gone ∷ []) changed c.self.invariant.kept))
+    rw (← c.self.view_is) (takes_drop p (inputs_of s) (map matched_expression left) before (matched_expression gone) _ _ inside c.self.invariant.matchers.meant changed at (c.change_columns.ensures.steps before (matched_expression gone ∷ []) changed c.self.invariant.kept))
 
 pub invariant_of-self-2 : goal.invariant_of-self-2
 invariant_of-self-2 c =
@@ -94,13 +90,12 @@ invariant_of-self-2 c =
     let fewer_texts : length texts.items + 1 ≡ length s.texts.items = omega (arith, c.remove.ensures.len, texts.ok.0, s.texts.ok.0) in
     let many : length left.items ≡ length (map (λ text. text.items) texts.items) = omega (arith, fewer, fewer_texts, counted, length-map texts.items (λ text. text.items)) in
     let same = c.change_columns.ensures.same_matchers.same_expressions in
-    let right = rw c.deref.ensures.value at c.in-Ok.ensures.ok in
     let rest = AreMatchers-remove s.syntax s.options _ _ s.matchers.items left.items p (map-remove (λ text. text.items) s.texts.items texts.items p c.remove.ensures.items) c.remove-gone.ensures.items many c.self.invariant.matchers in
     let fewer_now : length now.items ≡ length left.items = same_length matched_expression _ _ same in
     record {
       matchers = AreMatchers-same s.syntax s.options _ left.items now.items rest same c.change_columns.ensures.same_matchers.same_wholes;
       few = (let less : length now.items ≤ most_patterns = omega (arith, fewer_now, fewer, c.self.invariant.few) in less);
-      kept = c.put_columns.ensures.right (map matched_expression now.items) s.options (subst (λ es. AllZip (IsRight es s.options) (lines_of_files (map kept_file s.files.items)) c.in-Ok.found.items) (sym same) (right before (matched_expression gone ∷ []) changed c.self.invariant.kept));
+      kept = c.in-Ok.ensures.ok before (matched_expression gone ∷ []) changed c.self.invariant.kept;
       some_states = c.self.invariant.some_states;
       few_states = c.self.invariant.few_states;
     }
@@ -111,4 +106,30 @@ returns-clause-gives c =
     let p = c.args.p in
     let inside : p < length (map (λ text. text.items) s.texts.items) = subst (λ (i : Inputs). p < length i.patterns) (sym c.self.view_is) c.requires.within in
     let texts = map-remove (λ text. text.items) s.texts.items c.remove.new.self.items p c.remove.ensures.items in
-    rw (← c.self.view_is) (inl (inside, (λ i. Ok (record { syntax = s.syntax; options = s.options; patterns = texts i; files = c.put_columns.ensures.same i }))))
+    rw (← c.self.view_is) (inl (inside, (λ i. Ok (record { syntax = s.syntax; options = s.options; patterns = texts i; files = c.change_columns.ensures.same i }))))
+
+pub remove-requires : goal.remove-requires
+remove-requires c =
+    let s = c.self.inside in
+    let p = c.args.p in
+    let counted : length s.matchers.items ≡ length s.texts.items = c.self.invariant.matchers.counted ∙ length-map s.texts.items (λ text. text.items) in
+    let inside : p < length (map (λ text. text.items) s.texts.items) = subst (λ (i : Inputs). p < length i.patterns) (sym c.self.view_is) c.requires.within in
+    omega (arith, inside, counted, length-map s.texts.items (λ text. text.items), s.matchers.ok.0)
+
+pub put_back-requires-clause-within : goal.put_back-requires-clause-within
+put_back-requires-clause-within c =
+    let s = c.self.inside in
+    let p = c.args.p in
+    let counted : length s.matchers.items ≡ length s.texts.items = c.self.invariant.matchers.counted ∙ length-map s.texts.items (λ text. text.items) in
+    let inside : p < length (map (λ text. text.items) s.texts.items) = subst (λ (i : Inputs). p < length i.patterns) (sym c.self.view_is) c.requires.within in
+    let left = c.remove-gone.new.self in
+    let as_many : length c.change_columns.new.matchers.items ≡ length left.items = same_length matched_expression _ _ c.change_columns.ensures.same_matchers.same_expressions in
+    omega (arith, inside, counted, as_many, c.remove-gone.ensures.len, left.ok.0, s.matchers.ok.0, length-map s.texts.items (λ text. text.items))
+
+pub put_back-requires-clause-room : goal.put_back-requires-clause-room
+put_back-requires-clause-room c =
+    let left = c.remove-gone.new.self in
+    let now = c.change_columns.new.matchers in
+    let before = c.self.inside.matchers in
+    let as_many : length now.items ≡ length left.items = same_length matched_expression _ _ c.change_columns.ensures.same_matchers.same_expressions in
+    omega (arith, as_many, c.change_columns.ensures.room, c.remove-gone.ensures.capacity, c.remove-gone.ensures.len, left.ok.0, now.ok.0, before.ok.1)

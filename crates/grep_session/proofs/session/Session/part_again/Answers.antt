@@ -1,13 +1,11 @@
-use Rattle.std.proofs.Common.{◌≡◌, ◌≤◌, Ok, map, inl, sym, ap, subst, ◌∙◌}
-use Rattle.std.specs.List.{AllZip}
+use Rattle.std.proofs.Common.{◌≡◌, ◌≤◌, All, Ok, map, inl, sym, ap, subst, ◌∙◌}
 use Rattle.re_search.specs.Working.Matchers.{matched_expression, wants_whole}
 use Rattle.re_search.specs.Searching.{AllAnswer}
 use Rattle.grep_core.specs.Files.{Inputs}
 use Rattle.grep_core.proofs.lemmas.CostLaws.{same_length}
 use Rattle.grep_session.specs.Working.Again.{read_as}
 use Rattle.re_syntax.specs.Profile.{most_patterns}
-use Rattle.grep_session.specs.Working.Found.{IsRight, lines_of_files}
-use Rattle.grep_session.specs.Working.Kept.{kept_file}
+use Rattle.grep_session.specs.Working.Kept.{IsFileKept}
 use Rattle.grep_session.specs.Working.Sessions.{inputs_of}
 use Rattle.grep_session.proofs.lemmas.EditLemmas.{AreMatchers-same}
 use Rattle.grep_session.proofs.lemmas.AllPatternsRead.{takes_parts, ready_files, AreMatchers-options}
@@ -23,7 +21,7 @@ pub find_columns-requires-clause-ready : goal.find_columns-requires-clause-ready
 find_columns-requires-clause-ready c =
     let s = c.self.inside in
     let whole : c.args.options.line_regexp ≡ s.options.line_regexp = c.requires.same_whole ∙ sym (ap (λ (i : Inputs). i.options.line_regexp) c.self.view_is) in
-    rw c.deref.ensures.value (ready_files (map matched_expression s.matchers.items) s.options c.args.options whole s.files.items c.self.invariant.kept)
+    ready_files (map matched_expression s.matchers.items) s.options c.args.options whole s.files.items c.self.invariant.kept
 
 pub returns-in-Err-clause-steps : goal.returns-in-Err-clause-steps
 returns-in-Err-clause-steps c =
@@ -32,8 +30,7 @@ returns-in-Err-clause-steps c =
     let whole : c.args.options.line_regexp ≡ s.options.line_regexp = c.requires.same_whole ∙ sym (ap (λ (i : Inputs). i.options.line_regexp) c.self.view_is) in
     let case : c.args.options.ignore_case ≡ s.options.ignore_case = c.requires.same_case ∙ sym (ap (λ (i : Inputs). i.options.ignore_case) c.self.view_is) in
     let made = AreMatchers-options s.syntax s.options c.args.options _ s.matchers.items whole case c.self.invariant.matchers in
-    let spent = rw c.deref.ensures.value at c.find_columns.ensures.steps in
-    rw (← c.self.view_is) (λ edit applies touches. takes_parts edit old (read_as old.syntax c.args.options old) (map matched_expression s.matchers.items) _ _ applies touches made.meant spent)
+    rw (← c.self.view_is) (λ edit applies touches. takes_parts edit old (read_as old.syntax c.args.options old) (map matched_expression s.matchers.items) _ _ applies touches made.meant c.find_columns.ensures.steps)
 
 pub returns-clause-steps : goal.returns-clause-steps
 returns-clause-steps c =
@@ -42,8 +39,7 @@ returns-clause-steps c =
     let whole : c.args.options.line_regexp ≡ s.options.line_regexp = c.requires.same_whole ∙ sym (ap (λ (i : Inputs). i.options.line_regexp) c.self.view_is) in
     let case : c.args.options.ignore_case ≡ s.options.ignore_case = c.requires.same_case ∙ sym (ap (λ (i : Inputs). i.options.ignore_case) c.self.view_is) in
     let made = AreMatchers-options s.syntax s.options c.args.options _ s.matchers.items whole case c.self.invariant.matchers in
-    let spent = rw c.deref.ensures.value at c.find_columns.ensures.steps in
-    rw (← c.self.view_is) (λ edit applies touches. takes_parts edit old (read_as old.syntax c.args.options old) (map matched_expression s.matchers.items) _ _ applies touches made.meant spent)
+    rw (← c.self.view_is) (λ edit applies touches. takes_parts edit old (read_as old.syntax c.args.options old) (map matched_expression s.matchers.items) _ _ applies touches made.meant c.find_columns.ensures.steps)
 
 pub invariant_of-self-2 : goal.invariant_of-self-2
 invariant_of-self-2 c =
@@ -51,12 +47,11 @@ invariant_of-self-2 c =
     let whole : c.args.options.line_regexp ≡ s.options.line_regexp = c.requires.same_whole ∙ sym (ap (λ (i : Inputs). i.options.line_regexp) c.self.view_is) in
     let case : c.args.options.ignore_case ≡ s.options.ignore_case = c.requires.same_case ∙ sym (ap (λ (i : Inputs). i.options.ignore_case) c.self.view_is) in
     let made = AreMatchers-options s.syntax s.options c.args.options _ s.matchers.items whole case c.self.invariant.matchers in
-    let right = rw c.deref.ensures.value at c.in-Ok.ensures.ok in
     let same = c.find_columns.ensures.same_matchers.same_expressions in
     record {
       matchers = AreMatchers-same s.syntax c.args.options _ s.matchers.items _ made same c.find_columns.ensures.same_matchers.same_wholes;
       few = subst (λ n. n ≤ most_patterns) (sym (same_length matched_expression _ _ same)) c.self.invariant.few;
-      kept = c.put_columns.ensures.right (map matched_expression c.find_columns.new.matchers.items) c.args.options (subst (λ es. AllZip (IsRight es c.args.options) (lines_of_files (map kept_file s.files.items)) c.in-Ok.found.items) (sym same) right);
+      kept = c.in-Ok.ensures.ok;
       some_states = c.self.invariant.some_states;
       few_states = c.self.invariant.few_states;
     }
@@ -67,4 +62,16 @@ returns-clause-gives c =
     let whole : c.args.options.line_regexp ≡ s.options.line_regexp = c.requires.same_whole ∙ sym (ap (λ (i : Inputs). i.options.line_regexp) c.self.view_is) in
     let case : c.args.options.ignore_case ≡ s.options.ignore_case = c.requires.same_case ∙ sym (ap (λ (i : Inputs). i.options.ignore_case) c.self.view_is) in
     let made = AreMatchers-options s.syntax s.options c.args.options _ s.matchers.items whole case c.self.invariant.matchers in
-    rw (← c.self.view_is) (inl (made.readable, ap (λ fs. Ok (record { syntax = s.syntax; options = c.args.options; patterns = map (λ text. text.items) s.texts.items; files = fs })) c.put_columns.ensures.same))
+    rw (← c.self.view_is) (inl (made.readable, ap (λ fs. Ok (record { syntax = s.syntax; options = c.args.options; patterns = map (λ text. text.items) s.texts.items; files = fs })) c.find_columns.ensures.same))
+
+pub invariant_of-self : goal.invariant_of-self
+invariant_of-self c =
+    let s = c.self.inside in
+    let same = c.find_columns.ensures.same_matchers.same_expressions in
+    record {
+      matchers = AreMatchers-same s.syntax s.options _ s.matchers.items _ c.self.invariant.matchers same c.find_columns.ensures.same_matchers.same_wholes;
+      few = subst (λ n. n ≤ most_patterns) (sym (same_length matched_expression _ _ same)) c.self.invariant.few;
+      kept = subst (All (IsFileKept (map matched_expression c.find_columns.new.matchers.items) s.options)) (sym c.in-Err.ensures.err) (subst (λ es. All (IsFileKept es s.options) s.files.items) (sym same) c.self.invariant.kept);
+      some_states = c.self.invariant.some_states;
+      few_states = c.self.invariant.few_states;
+    }

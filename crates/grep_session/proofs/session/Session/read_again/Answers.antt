@@ -1,11 +1,9 @@
-use Rattle.std.proofs.Common.{◌≡◌, ◌≤◌, Ok, Err, length, map, inl, sym, ap, subst, ◌∙◌}
-use Rattle.std.specs.List.{AllZip}
+use Rattle.std.proofs.Common.{◌≡◌, ◌≤◌, All, Ok, Err, length, map, inl, sym, ap, subst, ◌∙◌}
 use Rattle.re_search.specs.Working.Matchers.{matched_expression}
 use Rattle.grep_core.proofs.lemmas.CostLaws.{same_length}
 use Rattle.grep_session.specs.Working.Again.{ReadsAgain, read_as}
 use Rattle.re_syntax.specs.Profile.{most_patterns}
-use Rattle.grep_session.specs.Working.Found.{IsRight, lines_of_files}
-use Rattle.grep_session.specs.Working.Kept.{kept_file}
+use Rattle.grep_session.specs.Working.Kept.{IsFileKept}
 use Rattle.grep_session.specs.Working.Sessions.{inputs_of}
 use Rattle.grep_session.proofs.lemmas.EditLemmas.{AreMatchers-same}
 use Rattle.grep_session.proofs.lemmas.AllPatternsRead.{takes_all, refuses_again}
@@ -20,27 +18,24 @@ pub returns-in-Err-find_columns-clause-steps : goal.returns-in-Err-find_columns-
 returns-in-Err-find_columns-clause-steps c =
     let old = inputs_of c.self.inside in
     let made = rw c.deref.ensures.value at c.in-Ok.ensures.ok in
-    let spent = rw c.deref-2.ensures.value at c.find_columns.ensures.steps in
-    rw (← c.self.view_is) (λ edit applies touches. takes_all edit old (read_as c.args.syntax c.args.options old) (map matched_expression c.in-Ok.matchers.items) _ _ _ (applies made.readable) touches made.meant made.counted spent)
+    rw (← c.self.view_is) (λ edit applies touches. takes_all edit old (read_as c.args.syntax c.args.options old) (map matched_expression c.in-Ok.matchers.items) _ _ _ (applies made.readable) touches made.meant made.counted c.find_columns.ensures.steps)
 
 pub returns-clause-steps : goal.returns-clause-steps
 returns-clause-steps c =
     let old = inputs_of c.self.inside in
     let made = rw c.deref.ensures.value at c.in-Ok.ensures.ok in
-    let spent = rw c.deref-2.ensures.value at c.find_columns.ensures.steps in
-    rw (← c.self.view_is) (λ edit applies touches. takes_all edit old (read_as c.args.syntax c.args.options old) (map matched_expression c.in-Ok.matchers.items) _ _ _ (applies made.readable) touches made.meant made.counted spent)
+    rw (← c.self.view_is) (λ edit applies touches. takes_all edit old (read_as c.args.syntax c.args.options old) (map matched_expression c.in-Ok.matchers.items) _ _ _ (applies made.readable) touches made.meant made.counted c.find_columns.ensures.steps)
 
-pub invariant_of-self : goal.invariant_of-self
-invariant_of-self c =
+pub invariant_of-self-2 : goal.invariant_of-self-2
+invariant_of-self-2 c =
     let s = c.self.inside in
     let made = rw c.deref.ensures.value at c.in-Ok.ensures.ok in
-    let right = rw c.deref-2.ensures.value at c.in-Ok-find_columns.ensures.ok in
     let same = c.find_columns.ensures.same_matchers.same_expressions in
     let many : length c.find_columns.new.matchers.items ≡ length s.matchers.items = same_length matched_expression _ _ same ∙ made.counted ∙ sym c.self.invariant.matchers.counted in
     record {
       matchers = AreMatchers-same c.args.syntax c.args.options _ c.in-Ok.matchers.items _ made same c.find_columns.ensures.same_matchers.same_wholes;
       few = subst (λ n. n ≤ most_patterns) (sym many) c.self.invariant.few;
-      kept = c.put_columns.ensures.right (map matched_expression c.find_columns.new.matchers.items) c.args.options (subst (λ es. AllZip (IsRight es c.args.options) (lines_of_files (map kept_file s.files.items)) c.in-Ok-find_columns.found.items) (sym same) right);
+      kept = c.in-Ok-find_columns.ensures.ok;
       some_states = c.self.invariant.some_states;
       few_states = c.self.invariant.few_states;
     }
@@ -49,4 +44,15 @@ pub returns-clause-gives : goal.returns-clause-gives
 returns-clause-gives c =
     let s = c.self.inside in
     let made = rw c.deref.ensures.value at c.in-Ok.ensures.ok in
-    rw (← c.self.view_is) (inl (made.readable, ap (λ fs. Ok (record { syntax = c.args.syntax; options = c.args.options; patterns = map (λ text. text.items) s.texts.items; files = fs })) c.put_columns.ensures.same))
+    rw (← c.self.view_is) (inl (made.readable, ap (λ fs. Ok (record { syntax = c.args.syntax; options = c.args.options; patterns = map (λ text. text.items) s.texts.items; files = fs })) c.find_columns.ensures.same))
+
+pub invariant_of-self : goal.invariant_of-self
+invariant_of-self c =
+    let s = c.self.inside in
+    record {
+      matchers = c.self.invariant.matchers;
+      few = c.self.invariant.few;
+      kept = subst (All (IsFileKept (map matched_expression s.matchers.items) s.options)) (sym c.in-Err-find_columns.ensures.err) c.self.invariant.kept;
+      some_states = c.self.invariant.some_states;
+      few_states = c.self.invariant.few_states;
+    }

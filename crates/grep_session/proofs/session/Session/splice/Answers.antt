@@ -1,12 +1,12 @@
-use Rattle.std.proofs.Common.{◌≡◌, ◌≤◌, Ok, IfSome, map, refl, sym, subst, ◌∙◌, ap, get_or, slice_set, All}
+use Rattle.std.proofs.Common.{◌≡◌, ◌≤◌, Ok, IfSome, map, refl, sym, subst, ◌∙◌, ap, get_or, slice_set, All, arith}
 use Rattle.re_search.specs.Working.Matchers.{matched_expression}
 use Rattle.grep_core.proofs.lemmas.CostLaws.{same_length}
 use Rattle.grep_session.specs.declared.kept.KeptFile.{KeptFile}
 use Rattle.grep_session.specs.Edits.{Splice, Applies, spliced, with_files}
 use Rattle.re_syntax.specs.Profile.{most_patterns}
-use Rattle.grep_session.specs.Working.Kept.{IsKept, IsFileKept, kept_lines}
+use Rattle.grep_session.specs.Working.Kept.{IsKept, IsFileKept, kept_lines, line_text}
 use Rattle.grep_session.specs.Working.Sessions.{inputs_of}
-use Rattle.grep_session.proofs.lemmas.EditLemmas.{AreMatchers-same, takes_lines, applies_splice, in_kept, put, kept_put, files_put, files_same, files_kept}
+use Rattle.grep_session.proofs.lemmas.EditLemmas.{AreMatchers-same, takes_lines, applies_splice, in_kept, put, kept_put, files_put, files_same, files_kept, refuses_splice, needs_for_lines, newline_not_memory, empty_map}
 use Rattle.grep_session.proofs.session.Session.splice.Goals as goal
 
 pub returns-in-Err-search_new-clause-steps : goal.returns-in-Err-search_new-clause-steps
@@ -77,3 +77,70 @@ returns-clause-gives c =
     (c.in-Ok-put_in.ensures.ok ∙ ap (λ (f : KeptFile). put c.args.start c.args.count c.in-Ok-search_new.kept.items (kept_lines f)) at) place.opens in
     let all = files ∙ ap (λ ls. spliced old.files c.args.k c.args.start c.args.count ls) c.in-Ok-search_new.ensures.texts in
     rw (← c.self.view_is) (subst (λ fs. Applies (Splice c.args.k c.args.start c.args.count lines) old (Ok (with_files fs old))) (sym all) (applies_splice old _ _ _ lines place none))
+
+pub returns-then-any_newline-clause-gives : goal.returns-then-any_newline-clause-gives
+returns-then-any_newline-clause-gives c =
+    let s = c.self.inside in
+    let old = inputs_of s in
+    let lines = map (λ line. line.items) c.args.lines.items in
+    let newline = rw c.deref-2.ensures.value at c.if-any_newline.ensures in
+    let place = rw c.deref.ensures.value at c.in-Ok.ensures.place in
+    rw (← c.self.view_is) (refuses_splice old _ _ _ lines place newline, refl)
+
+pub returns-in-Err-search_new-clause-memory : goal.returns-in-Err-search_new-clause-memory
+returns-in-Err-search_new-clause-memory c =
+    let s = c.self.inside in
+    let old = inputs_of s in
+    let lines = map (λ line. line.items) c.args.lines.items in
+    let none = rw c.deref-2.ensures.value at c.if-any_newline.ensures in
+    let place = rw c.deref.ensures.value at c.in-Ok.ensures.place in
+    rw (← c.self.view_is) (λ need. absurd (needs_for_lines old c.args.k c.args.start c.args.count lines place none (λ empty. c.in-Err-search_new.ensures.memory (empty_map (λ line. line.items) c.args.lines.items empty)) need))
+
+pub returns-in-Err-put_in-clause-memory : goal.returns-in-Err-put_in-clause-memory
+returns-in-Err-put_in-clause-memory c =
+    let s = c.self.inside in
+    let old = inputs_of s in
+    let lines = map (λ line. line.items) c.args.lines.items in
+    let none = rw c.deref-2.ensures.value at c.if-any_newline.ensures in
+    let place = rw c.deref.ensures.value at c.in-Ok.ensures.place in
+    rw (← c.self.view_is) (λ need. absurd (needs_for_lines old c.args.k c.args.start c.args.count lines place none (λ empty. c.in-Err-put_in.ensures.memory (empty_map line_text c.in-Ok-search_new.kept.items (c.in-Ok-search_new.ensures.texts ∙ empty))) need))
+
+pub index_mut-requires : goal.index_mut-requires
+index_mut-requires c =
+    let files = c.self.inside.files in
+    let place = rw c.deref.ensures.value at c.in-Ok.ensures.place in
+    omega (arith, in_kept files.items c.args.k place.in_files, files.ok.0)
+
+pub invariant_of-self : goal.invariant_of-self
+invariant_of-self c =
+    let s = c.self.inside in
+    let same = c.search_new.ensures.same_matchers.same_expressions in
+    record {
+      matchers = AreMatchers-same s.syntax s.options _ s.matchers.items _ c.self.invariant.matchers same c.search_new.ensures.same_matchers.same_wholes;
+      few = subst (λ n. n ≤ most_patterns) (sym (same_length matched_expression _ _ same)) c.self.invariant.few;
+      kept = subst (λ es. All (IsFileKept es s.options) s.files.items) (sym same) c.self.invariant.kept;
+      some_states = c.self.invariant.some_states;
+      few_states = c.self.invariant.few_states;
+    }
+
+pub invariant_of-self-in-Err-put_in : goal.invariant_of-self-in-Err-put_in
+invariant_of-self-in-Err-put_in c =
+    let s = c.self.inside in
+    let es = map matched_expression s.matchers.items in
+    let d = c.index_mut.result.now in
+    let at : d ≡ get_or s.files.items c.args.k d = c.index_mut.ensures.value in
+    let place = rw c.deref.ensures.value at c.in-Ok.ensures.place in
+    let within = in_kept s.files.items c.args.k place.in_files in
+    let before : IfSome (kept_lines d) (All (IsKept es s.options)) = subst (λ (f : KeptFile). IsFileKept es s.options f) (sym at) (c.self.invariant.kept c.args.k d within) in
+    let kept = files_kept es s.options s.files.items c.args.k c.put_in.new.file _ c.self.invariant.kept c.in-Err-put_in.ensures.err before in
+    let same = c.search_new.ensures.same_matchers.same_expressions in
+    record {
+      matchers = AreMatchers-same s.syntax s.options _ s.matchers.items _ c.self.invariant.matchers same c.search_new.ensures.same_matchers.same_wholes;
+      few = subst (λ n. n ≤ most_patterns) (sym (same_length matched_expression _ _ same)) c.self.invariant.few;
+      kept = subst (λ es. All (IsFileKept es s.options) (slice_set s.files.items c.args.k c.put_in.new.file)) (sym same) kept;
+      some_states = c.self.invariant.some_states;
+      few_states = c.self.invariant.few_states;
+    }
+
+pub returns-then-any_newline-clause-memory : goal.returns-then-any_newline-clause-memory
+returns-then-any_newline-clause-memory c = λ need. newline_not_memory
