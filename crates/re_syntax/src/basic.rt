@@ -82,7 +82,7 @@ fn read_tail(alloc: Option<Global>, text: &[u8], items: Pieces) -> Result<Pieces
     }
 }
 
-/// Whether another item follows at a place: neither an end nor the anchor before one.
+/// Whether another item begins at a place: there is neither an end nor the anchor before one.
 fn has_item(text: &[u8], at: usize) -> bool
     requires { at ≤ length text.now }
     ensures { MatchBool result (HasItem (drop at text.now)) (HasNoItem (drop at text.now)) }
@@ -93,7 +93,7 @@ fn has_item(text: &[u8], at: usize) -> bool
     after_tail(text, at).is_none()
 }
 
-/// The group whose `(` has its backslash at the place `at`, at most `levels` high.
+/// The group whose `\(` is at the place `at`, at most `levels` high.
 #[cycle(read_branches)]
 fn read_group(
     alloc: Option<Global>,

@@ -1,5 +1,5 @@
-//! Parts of an expression that were read, in basic and in extended expressions. A part has the tree
-//! of what it means, or only its number of positions.
+//! Parts of an expression that were read, in basic and in extended expressions. A part has its
+//! number of positions, and where trees are kept the tree of what it means.
 ghost use Rattle.std.specs.Prelude.{◌≡◌, ◌<◌, ◌++◌, ◌∷◌, [], List, Option, Some, IfOk, IfErr, map};
 ghost use Rattle.std.specs.Prelude.{slice_get};
 ghost use Rattle.std.specs.Global.{Global};

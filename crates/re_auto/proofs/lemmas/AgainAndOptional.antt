@@ -32,7 +32,7 @@ module _ (f : Part) (line : Text) where
         (t, inl (refl, rw (not_at_begin j (omega (arith, bounds.0))) w.1)),
       )
 
-  -- where a part holds again and again, there are turns of it, one at least
+  -- where a part holds again and again, there is at least one turn of it
   pub turns_of : (i j : ℕ) → PartHolds (again f) line i j → (turns : ℕ) × Turns (PartHolds f line) (suc turns) i j
   unfolding LastTurn
   turns_of i j (inl (e, a)) = (0, (j, inl (e, a), refl))
@@ -61,7 +61,7 @@ module _ (f : Part) (line : Text) where
         l,
       )
 
-  -- where there are turns of a part, one at least, it holds again and again
+  -- where there is at least one turn of a part, it holds again and again
   pub of_turns : (turns i j : ℕ) → Turns (PartHolds f line) (suc turns) i j → PartHolds (again f) line i j
   of_turns zero i j (k, h, e) = subst (λ j. PartHolds (again f) line i j) e (once i k h)
   of_turns (suc turns) i j (k, h, rest) = one_more i k j h (of_turns turns k j rest)

@@ -54,13 +54,13 @@ module _ (f g : Part) (from mid to : ℕ) (nf : IsNumbered f from mid) (ng : IsN
     takes = λ q c w. elim w [ inl a ↦ omega (arith, nf.takes q c a) | inr a ↦ omega (arith, ng.takes q c a) ];
   }
 
-  -- so have two parts in turn
+  -- two parts in turn have both ranges
   pub in_turn_numbered : IsNumbered (in_turn f g) from to
   in_turn_numbered =
       joined_numbered _ _ _ _
       (λ z q l. elim l [ inl a ↦ omega (arith, ng.last z q a) | inr a ↦ omega (arith, nf.last z q a.1) ])
 
-  -- and one of two parts
+  -- a choice of two parts has both ranges
   pub either_numbered : IsNumbered (either f g) from to
   either_numbered =
       joined_numbered _ _ _ _

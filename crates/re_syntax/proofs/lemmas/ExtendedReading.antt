@@ -69,7 +69,7 @@ items-after-anchor {g} {v = v} (anchor {h = h} {es = fs} is) e p =
     record { height = h; below = omega arith; others = fs; items = subst (λ w. Items g h w v fs) (tails e) is; whole = refl }
 items-after-anchor (item i is) e p = let (b, w, f, clear) = item_front i in absurd (clear.not_caret (heads (sym f ∙ e)))
 
--- where a duplication follows the item, they are higher than it
+-- where a duplication follows the item, the items are higher than it
 pub items-higher : {g : Bool} {h m : ℕ} {t s u v : Text} {e : Expression} {es : List Expression} → Items g m t v es → Item g h s u e → s ≡ t →
     stops g v ≡ true → ¬ NoDuplication u → h < m
 items-higher is i e p q =

@@ -75,7 +75,7 @@ none_without_number close t stop comma = record { none = λ u least most c. go c
     go inside least most (between n o h k) u w = starts n (codes "," ++ (o ++ (close ++ u))) h (w ∙ simp append_assoc)
     go inside least most (up_to n h) u w = comma (n ++ (close ++ u), w)
 
--- nor is there one where a comma comes first, and then not a number and what closes it
+-- where a comma comes first, and then not a number and what closes it, there is no interval
 pub none_after_first : (close t w : Text) → t ≡ codes "," ++ w → HasNoGreatest close w → HasNoInterval close t
 none_after_first close t w e n = record { none = λ u least most c. go c.inside least most c.form u c.whole }
   where

@@ -31,7 +31,7 @@ all_cons t ts h k (suc i) d below = k i d (omega arith)
 pub all_head : (t : Text) (ts : List Text) → All HasNoNewline (t ∷ ts) → HasNoNewline t
 all_head t ts h = h zero t (omega arith)
 
--- and of the rest
+-- what holds of all texts holds of the rest
 pub all_tail : (t : Text) (ts : List Text) → All HasNoNewline (t ∷ ts) → All HasNoNewline ts
 all_tail t ts h i d below = h (suc i) d (omega arith)
 

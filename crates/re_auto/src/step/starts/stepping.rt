@@ -20,8 +20,8 @@ use crate::step::starts::Starts;
 use std::alloc::Global;
 
 impl Starts {
-    /// No starts, for this automaton. Only this call allocates memory, and its only error is
-    /// `Memory`.
+    /// Starts without any, for this automaton. Only this call allocates memory, and its only error
+    /// is `Memory`.
     pub fn blank(alloc: Global, automaton: &Automaton) -> Result<Starts, BuildFault>
         ensures made { IfOk result (IsMadeForStarts (expression_of automaton.now)) }
         ensures refused { IfErr result (λ fault. fault ≡ Memory) }
