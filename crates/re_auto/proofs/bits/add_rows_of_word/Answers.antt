@@ -1,7 +1,8 @@
 use Rattle.std.proofs.Common.{arith, ◌+◌, ◌*◌, length, inl, refl}
+use Rattle.std.proofs.lemmas.Option.{slice_get-get_or}
 use Rattle.re_auto.specs.Working.Bits.{Has}
 use Rattle.re_auto.specs.Working.Bits.{row_of}
-use Rattle.re_auto.proofs.lemmas.BitLemmas.{one_added, chained}
+use Rattle.re_auto.proofs.lemmas.BitLemmas.{one_added, none_left, chained}
 use Rattle.re_auto.proofs.bits.add_rows_of_word.Goals as goal
 
 pub row-requires : goal.row-requires
@@ -21,3 +22,20 @@ bits-preserved c =
           (rw c.row.ensures.is at (c.add_within.ensures.added q)) low.rest)
           (c.bits.invariant.3 q),
     )
+
+pub bounds-ranges-p : goal.bounds-ranges-p
+bounds-ranges-p c =
+    let low = c.take_lowest-bit.ensures in
+    c.requires.named _ low.small (c.bits.invariant.2 _ low.small low.held)
+
+pub add_within-requires-clause-same : goal.add_within-requires-clause-same
+add_within-requires-clause-same c = omega (arith, c.bits.invariant.0, c.bits.invariant.1, c.row.ensures.len)
+
+pub add_within-requires-clause-covers : goal.add_within-requires-clause-covers
+add_within-requires-clause-covers c =
+    let low = c.take_lowest-bit.ensures in
+    rw c.row.ensures.is (c.requires.covered.1 _ _ (slice_get-get_or c.args.ranges.now _ _ (c.requires.named _ low.small (c.bits.invariant.2 _ low.small low.held))))
+
+pub returns-clause-added : goal.returns-clause-added
+returns-clause-added c = λ q.
+    none_left (Has c.bits.into q) _ (λ b. Has (row_of c.args.table.now (length c.args.into.now) (c.args.k * 64 + b)) q) c.bits.left (omega arith) (c.bits.invariant.3 q)

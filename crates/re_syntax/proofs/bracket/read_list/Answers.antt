@@ -28,3 +28,15 @@ loop-place-preserved c = record {
 
 pub returns-clause-read : goal.returns-clause-read
 returns-clause-read c = goes_on-last c.loop-place.invariant.goes_on c.loop-place-test.ensures.skipped.passed
+
+pub read_element-requires-in-loop-place-clause-opened : goal.read_element-requires-in-loop-place-clause-opened
+read_element-requires-in-loop-place-clause-opened c =
+    rw (c.loop-place-test.ensures.else_same, c.loop-place.invariant.same_text) c.requires.opened
+
+pub read_element-requires-in-loop-place-clause-goes_on : goal.read_element-requires-in-loop-place-clause-goes_on
+read_element-requires-in-loop-place-clause-goes_on c =
+    rw c.loop-place-test.ensures.else_same
+    (record { bracket = λ b. absurd (c.loop-place-test.ensures.skipped b); hyphen = c.loop-place.invariant.goes_on.hyphen })
+
+pub returns-clause-same_text : goal.returns-clause-same_text
+returns-clause-same_text c = c.loop-place-test.ensures.skipped.same_text ∙ c.loop-place.invariant.same_text

@@ -1,4 +1,4 @@
-use Rattle.std.proofs.Common.{◌≡◌, ◌≢◌, ◌+◌, ◌-◌, inl, true, get_or, drop, refl, ap, ◌∙◌, arith, rules}
+use Rattle.std.proofs.Common.{◌≡◌, ◌≢◌, ◌+◌, ◌-◌, inl, true, false, get_or, drop, refl, ap, ◌∙◌, arith, rules}
 use Rattle.std.proofs.lemmas.Result.{err_from_is_err_and}
 use Rattle.re_syntax.specs.Expression.{one_of}
 use Rattle.re_syntax.specs.Working.PieceSteps.{memory, told}
@@ -49,6 +49,14 @@ read_atom-returns-in_default-clause-read t c =
     (front_here c.args.text.now c.args.at (get_or c.args.text.now c.args.at 0) c.requires.within refl) c.requires.begins not_bracket not_backslash not_group not_dollar
     (c.leaf-in_default.ensures.told _ (expression-Set c.meant_by.result ∙ ap one_of c.meant_by.ensures)) c.leaf-in_default.ensures.height c.leaf-in_default.ensures.place
 
+pub read_atom-read_bracket_atom-requires : goal.read_atom-read_bracket_atom-requires
+read_atom-read_bracket_atom-requires t c = byte_here c.args.text.now c.args.at 91 c.requires.within c.in-91.is
+
+pub read_atom-read_group-requires : goal.read_atom-read_group-requires
+read_atom-read_group-requires t c =
+    let front = front_here c.args.text.now c.args.at 40 c.requires.within c.in-40.is in
+    (search rules, ((drop (c.args.at + 1) c.args.text.now, front), c.requires.few))
+
 pub read_atom-returns-in-40-clause-read : goal.read_atom-returns-in-40-clause-read
 read_atom-returns-in-40-clause-read t c = c.read_group.ensures.read
 
@@ -63,6 +71,11 @@ pub read_branch-returns-in_err-piece-clause-refused : goal.read_branch-returns-i
 read_branch-returns-in_err-piece-clause-refused t c =
     let q = err_from_is_err_and c.from_residual.result c.from_residual.ensures.1 in
     rw (q.1, q.2) (refused_as c.in_err-piece.ensures.refused c.items.invariant.back)
+
+pub read_branch-read_next-requires : goal.read_branch-read_next-requires
+read_branch-read_next-requires t c =
+    let goes_on : stops c.args.in_group (drop c.items.items.behind c.args.text.now) ≡ false = search rules in
+    (search rules, (c.items.invariant.within, (goes_on, (c.items.invariant.opens, c.requires.few))))
 
 pub read_branch-returns-in_err-items-clause-refused : goal.read_branch-returns-in_err-items-clause-refused
 read_branch-returns-in_err-items-clause-refused t c =
@@ -88,6 +101,9 @@ pub read_branches-returns-in_err-first-clause-refused : goal.read_branches-retur
 read_branches-returns-in_err-first-clause-refused t c =
     let q = err_from_is_err_and c.from_residual.result c.from_residual.ensures.1 in
     rw (q.1, q.2) (refused_as c.in_err-first.ensures.refused no_branches)
+
+pub read_branches-read_branch-requires : goal.read_branches-read_branch-requires
+read_branches-read_branch-requires t c = (search rules, (c.requires.within, (c.requires.starts, c.requires.few)))
 
 pub read_branches-returns-in_err-branches-clause-refused : goal.read_branches-returns-in_err-branches-clause-refused
 read_branches-returns-in_err-branches-clause-refused t c =
@@ -153,6 +169,9 @@ read_item-returns-in_err-piece-clause-refused t c =
 
 pub read_item-duplications-init : goal.read_item-duplications-init
 read_item-duplications-init t c = item_of_atom c.in_ok-piece.ensures.read
+
+pub read_item-read_atom-requires : goal.read_item-read_atom-requires
+read_item-read_atom-requires t c = (search rules, (c.requires.within, (c.requires.begins, c.requires.few)))
 
 pub read_item-returns-in_err-counts-clause-refused : goal.read_item-returns-in_err-counts-clause-refused
 read_item-returns-in_err-counts-clause-refused t c =

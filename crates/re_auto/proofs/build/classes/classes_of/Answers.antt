@@ -4,6 +4,15 @@ use Rattle.re_auto.proofs.lemmas.RowLemmas.{row_within}
 use Rattle.re_auto.proofs.lemmas.ClassLemmas.{pushed}
 use Rattle.re_auto.proofs.build.classes.classes_of.Goals as goal
 
+pub row-requires : goal.row-requires
+row-requires c = rw c.requires (row_within c.bytes.c 256 c.args.width (omega arith))
+
+pub add_class-requires-clause-table : goal.add_class-requires-clause-table
+add_class-requires-clause-table c = c.bytes.invariant.table
+
+pub add_class-requires-clause-same : goal.add_class-requires-clause-same
+add_class-requires-clause-same c = c.row.ensures.len
+
 pub bytes-preserved : goal.bytes-preserved
 bytes-preserved c =
     let was = c.bytes.invariant in

@@ -4,11 +4,11 @@ use Rattle.std.proofs.lemmas.Result.{IfOk-weaker}
 use Rattle.re_syntax.specs.Expression.{alt, cat, expression_of, empty, begin, end, repeat}
 use Rattle.re_syntax.specs.Holds.{positions}
 use Rattle.re_syntax.specs.declared.tree.Tree.{the_lemmas}
-use Rattle.re_syntax.proofs.lemmas.ExpressionLaws.{expression-Empty, expression-Begin, expression-End}
-use Rattle.re_auto.specs.Working.Building.{IsTail, IsAddedOf}
+use Rattle.re_syntax.proofs.lemmas.ExpressionLaws.{expression-Empty, expression-Set, expression-Not, expression-Begin, expression-End, expression-Cat, expression-Alt}
+use Rattle.re_auto.specs.Working.Building.{HasWidth, IsTail, IsAddedOf}
 use Rattle.re_auto.specs.Working.Positions.{part_of}
 use Rattle.re_auto.proofs.lemmas.Numbered.{part_numbered}
-use Rattle.re_auto.proofs.lemmas.PartLemmas.{always, never_holds}
+use Rattle.re_auto.proofs.lemmas.PartLemmas.{always, never_holds, width_of}
 use Rattle.re_auto.proofs.lemmas.AddedLemmas.{blank_added, turn_added, branch_added, may_join, may_repeat, room_left, front, member_fits, branch_fits}
 use Rattle.re_auto.proofs.lemmas.RepeatedLemmas.{turn_fits, turns_step, up_to_step, no_turns, no_more, bounded_added, unbounded_added, again_tail, any_added, never_added, once_added, maybe_added}
 use Rattle.re_auto.proofs.build.rows.Rows.+add.Goals as goal
@@ -28,6 +28,31 @@ add-returns-in-End t c =
     subst (λ e. IfOk c.blank-in-End.result (IsAddedOf e c.args.behind c.args.self.now c.args.self.now)) (sym (ap expression_of c.in-End.is ∙ expression-End))
     (IfOk-weaker c.blank-in-End.result _ _ (λ a. blank_added end c.at_end.result c.args.behind c.args.self.now a refl (λ n b z. c.at_end.ensures b z)) c.blank-in-End.ensures)
 
+pub add-add_position-requires-clause-fits : goal.add-add_position-requires-clause-fits
+add-add_position-requires-clause-fits t c =
+    let one = ap (λ t. positions (expression_of t)) c.in-Set.is ∙ ap positions (expression-Set c.in-Set.set) in
+    omega (arith, c.requires.fits, one)
+
+pub add-returns-in-Set : goal.add-returns-in-Set
+add-returns-in-Set t c =
+    subst (λ e. IfOk c.add_position.result (IsAddedOf e c.args.behind c.args.self.now c.add_position.new.self)) (sym (ap expression_of c.in-Set.is ∙ expression-Set c.in-Set.set))
+    c.add_position.ensures
+
+pub add-add_position-requires-in-Not-clause-fits : goal.add-add_position-requires-in-Not-clause-fits
+add-add_position-requires-in-Not-clause-fits t c =
+    let one = ap (λ t. positions (expression_of t)) c.in-Not.is ∙ ap positions (expression-Not c.in-Not.set) in
+    omega (arith, c.requires.fits, one)
+
+pub add-returns-in-Cat : goal.add-returns-in-Cat
+add-returns-in-Cat t c =
+    subst (λ e. IfOk c.add_sequence.result (IsAddedOf e c.args.behind c.args.self.now c.add_sequence.new.self)) (sym (ap expression_of c.in-Cat.is ∙ expression-Cat c.in-Cat.members))
+    (subst (λ members. IfOk c.add_sequence.result (IsAddedOf (cat (map expression_of members)) c.args.behind c.args.self.now c.add_sequence.new.self)) c.deref.ensures.value c.add_sequence.ensures)
+
+pub add-returns-in-Alt : goal.add-returns-in-Alt
+add-returns-in-Alt t c =
+    subst (λ e. IfOk c.add_choice.result (IsAddedOf e c.args.behind c.args.self.now c.add_choice.new.self)) (sym (ap expression_of c.in-Alt.is ∙ expression-Alt c.in-Alt.members))
+    (subst (λ members. IfOk c.add_choice.result (IsAddedOf (alt (map expression_of members)) c.args.behind c.args.self.now c.add_choice.new.self)) c.deref-in-Alt.ensures.value c.add_choice.ensures)
+
 pub add_choice-branches-init : goal.add_choice-branches-init
 add_choice-branches-init t c = record {
   within = omega arith;
@@ -45,6 +70,16 @@ add_choice-add-requires t c =
         room_left _ _ _ _ _ c.branches.rest c.branches.invariant.added c.requires.room,
       ),
     )
+
+pub add_choice-either-rest-requires-clause-left : goal.add_choice-either-rest-requires-clause-left
+add_choice-either-rest-requires-clause-left t c =
+    let shows = c.in_ok-part.ensures.shows in
+    subst (λ width. HasWidth width c.in_ok-part.part) (sym shows.first_inside.0) (width_of _ _ _ shows)
+
+pub add_choice-either-rest-requires-clause-right : goal.add_choice-either-rest-requires-clause-right
+add_choice-either-rest-requires-clause-right t c =
+    let added = c.branches.invariant.added in
+    subst (λ width. HasWidth width c.branches.rest) (sym (c.in_ok-part.ensures.shows.first_inside.0 ∙ added.adds.width)) (width_of _ _ _ added.shows)
 
 pub add_choice-branches-preserved : goal.add_choice-branches-preserved
 add_choice-branches-preserved t c =
@@ -149,6 +184,11 @@ add_up_to-in_turn-requires t c =
     let ready = may_join _ _ _ _ _ _ _ _ c.in_ok-copy.copy c.turns.rest c.turns.invariant c.in_ok-copy.ensures c.requires.room (part_numbered (expression_of c.args.part.now)) in
     record { left = ready.0; right = ready.1; few = ready.2; rows = ready.3 }
 
+pub add_up_to-optional-rest-requires : goal.add_up_to-optional-rest-requires
+add_up_to-optional-rest-requires t c =
+    let shows = c.in_turn.ensures.shows in
+    subst (λ width. HasWidth width c.in_turn.result) (sym shows.first_inside.0) (width_of _ _ _ shows)
+
 pub add_up_to-turns-preserved : goal.add_up_to-turns-preserved
 add_up_to-turns-preserved t c =
     up_to_step (expression_of c.args.part.now) c.turns._turn c.args.behind c.args.self.now c.turns.self c.add.new.self c.in_turn.new.self c.in_ok-copy.copy c.turns.rest c.in_turn.result
@@ -175,6 +215,11 @@ add_bounded-returns t c =
     (λ a. bounded_added (expression_of c.args.part.now) c.args.least c.args.most c.args.behind c.args.self.now c.add_turns.new.self a c.if-most-least.false)
     c.add_turns.ensures
 
+pub add_once-optional-requires : goal.add_once-optional-requires
+add_once-optional-requires t c =
+    let shows = c.in_ok-once.ensures.shows in
+    subst (λ width. HasWidth width c.in_ok-once.once) (sym shows.first_inside.0) (width_of _ _ _ shows)
+
 pub add_once-returns-then-least-eq0 : goal.add_once-returns-then-least-eq0
 add_once-returns-then-least-eq0 t c = λ most within.
     maybe_added (expression_of c.args.part.now) c.args.least most within c.requires.none c.args.behind c.args.self.now c.add.new.self c.in_ok-once.once c.optional.result
@@ -198,6 +243,11 @@ add_unbounded-returns t c =
     IfOk-weaker c.add_turns-2.result _ _
     (λ a. unbounded_added (expression_of c.args.part.now) c.args.least c.args.behind c.args.self.now c.add_turns-2.new.self a (omega arith))
     c.add_turns-2.ensures
+
+pub add_unbounded-optional-requires : goal.add_unbounded-optional-requires
+add_unbounded-optional-requires t c =
+    let shows = c.in_ok-turns.ensures.shows in
+    subst (λ width. HasWidth width c.in_ok-turns.turns) (sym shows.first_inside.0) (width_of _ _ _ shows)
 
 pub add_tail-returns-in_ok-copy-in-None : goal.add_tail-returns-in_ok-copy-in-None
 add_tail-returns-in_ok-copy-in-None t c =

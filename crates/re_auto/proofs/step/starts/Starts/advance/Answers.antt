@@ -17,6 +17,20 @@ next c =
     next_starts (expression_of c.args.automaton.now) c.args.mode c.args.byte c.args.self.now c.carry.new.self c.begin.new.self (with_items c.args.into.now.held c.clear.new.into).items c.args.into.now.starts.items c.taking-taking.result.now
     (rw (written c) c.clear.ensures.none) c.taking-taking.ensures.1 c.carry.ensures.carried c.begin.ensures.begun
 
+pub carry-requires-clause-size : goal.carry-requires-clause-size
+carry-requires-clause-size c =
+    ap length (with_items_is c.args.into.now.held c.clear.new.into (c.clear.ensures.len ∙ c.deref_mut.ensures.len)) ∙ c.clear.ensures.len ∙ ap length c.deref_mut.ensures.value ∙ c.requires.into.0
+
+pub carry-requires-clause-taking : goal.carry-requires-clause-taking
+carry-requires-clause-taking c = c.taking-taking.ensures.0
+
+pub begin-requires-clause-size : goal.begin-requires-clause-size
+begin-requires-clause-size c =
+    c.carry.ensures.alike.0 ∙ ap length (with_items_is c.args.into.now.held c.clear.new.into (c.clear.ensures.len ∙ c.deref_mut.ensures.len)) ∙ c.clear.ensures.len ∙ ap length c.deref_mut.ensures.value ∙ c.requires.into.0
+
+pub begin-requires-clause-taking : goal.begin-requires-clause-taking
+begin-requires-clause-taking c = c.taking-taking.ensures.0
+
 pub carry-requires-clause-small : goal.carry-requires-clause-small
 carry-requires-clause-small c = λ q h.
     omega (arith, c.requires.into.1, (part_numbered (expression_of c.args.automaton.now) 0).takes q c.args.byte ((c.taking-taking.ensures.1 q).0 h))

@@ -1,0 +1,15 @@
+use Rattle.std.proofs.Common.{length, inl, inr, refl, ap, ◌∙◌}
+use Rattle.std.proofs.lemmas.List.{with_items_is}
+use Rattle.re_auto.proofs.build.rows.Rows.cross.Goals as goal
+
+pub returns : goal.returns
+returns c =
+    let is = with_items_is c.args.self.now.follow c.cross_rows.new.follow (c.cross_rows.ensures.len ∙ c.deref_mut.ensures.len) in
+    record {
+      width = refl;
+      follow_length = ap length is ∙ c.cross_rows.ensures.len ∙ ap length c.deref_mut.ensures.value;
+      takes_length = refl;
+      follow = λ p q within.
+          rw is (rw (c.deref_mut.ensures.value, c.deref.ensures.value, c.deref-2.ensures.value) at (c.cross_rows.ensures.added p q (rw c.deref_mut.ensures.value within)));
+      takes = λ b q lt. (inl, λ h. elim h [ inl a ↦ a | inr none ↦ absurd none ]);
+    }

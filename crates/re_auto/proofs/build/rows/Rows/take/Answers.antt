@@ -1,0 +1,16 @@
+use Rattle.std.proofs.Common.{length, inl, inr, refl, ap, ◌∙◌}
+use Rattle.std.proofs.lemmas.List.{with_items_is}
+use Rattle.re_auto.proofs.build.rows.Rows.take.Goals as goal
+
+pub returns : goal.returns
+returns c =
+    let is = with_items_is c.args.self.now.takes c.mark_takers.new.takes (c.mark_takers.ensures.len ∙ c.deref_mut.ensures.len) in
+    record {
+      width = refl;
+      follow_length = refl;
+      takes_length = ap length is ∙ c.mark_takers.ensures.len ∙ ap length c.deref_mut.ensures.value;
+      follow = λ p q within. (inl, λ h. elim h [ inl a ↦ a | inr none ↦ absurd none ]);
+      takes = λ b q lt.
+          let told = rw c.deref_mut.ensures.value at (c.mark_takers.ensures.added b q lt) in
+          rw is ((λ h. elim (told.0 h) [ inl a ↦ inl a | inr m ↦ inr (m.1, m.0) ]), (λ h. told.1 (elim h [ inl a ↦ inl a | inr m ↦ inr (m.1, m.0) ])));
+    }

@@ -1,0 +1,16 @@
+use Rattle.std.proofs.Common.{◌∙◌}
+use Rattle.re_syntax.specs.Expression.{expression_of}
+use Rattle.re_syntax.specs.Holds.{positions}
+use Rattle.re_auto.specs.Working.Tables.{AreTablesOf}
+use Rattle.re_auto.proofs.lemmas.RowLemmas.{row_within}
+use Rattle.re_auto.proofs.step.automaton.Automaton.following.Goals as goal
+
+pub row-requires : goal.row-requires
+row-requires c =
+    let known : AreTablesOf (expression_of c.args.self.now) c.self.inside.tables = rw c.self.view_is at c.self.invariant in
+    rw (c.deref.ensures.value, known.follow.0) (row_within c.args.p (positions (expression_of c.args.self.now)) c.self.inside.tables.width c.requires)
+
+pub returns : goal.returns
+returns c =
+    let known : AreTablesOf (expression_of c.args.self.now) c.self.inside.tables = rw c.self.view_is at c.self.invariant in
+    (c.row.ensures.len ∙ known.width, λ q. rw (c.row.ensures.is, c.deref.ensures.value) (known.follow.1 c.args.p q c.requires))
