@@ -1,4 +1,4 @@
-//! The tests of `grep_cmd`, and of searches by their words: nothing but tests, by what it shows.
+//! The tests of `grep_utility` and `grep_cmd`, and of searches by their words: nothing but tests.
 #![tactic(auto)]
 
 #[cfg(test)]
