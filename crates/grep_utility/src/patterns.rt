@@ -16,7 +16,7 @@ use grep_core::{CountedRead, NumberedLines, ReadFault};
 use std::alloc::{AllocError, Global};
 
 /// How a pattern file was read.
-#[derive(Clone, Copy, PartialEq, Eq, Debug, Drop)]
+#[derive(Clone, Copy, Drop)]
 pub enum FileRead {
     /// It could not be opened.
     Missing,
@@ -27,7 +27,7 @@ pub enum FileRead {
 }
 
 /// Why the patterns of a request were not read.
-#[derive(Clone, Copy, PartialEq, Eq, Debug, Drop)]
+#[derive(Clone, Copy, Drop)]
 pub enum PatternsFault<'a> {
     /// The pattern file that this word names could not be opened.
     Missing(&'a str),
@@ -73,6 +73,25 @@ fn add_lines<R: CountedRead>(
     }
 }
 
+/// Adds the lines of a reader that was not read before, as [`add_lines`] does, and gives the reader
+/// back.
+fn add_all_lines<R: CountedRead>(
+    alloc: Global,
+    reader: R,
+    texts: &mut Vec<u8>,
+) -> (R, Result<bool, AllocError>)
+    ensures ok { IfOk result.1 (λ all. AddsLines (R.remaining reader) (R.remaining result.0)
+        (R.failures reader) (R.failures result.0) texts.old.items texts.new.items all) }
+    ensures err { OnErr result.1 (R.failures result.0 ≡ R.failures reader) }
+{
+    let mut lines = match NumberedLines::new(alloc, reader) {
+        Ok(lines) => lines,
+        Err(reader) => return (reader, Err(AllocError)),
+    };
+    let read = add_lines(&mut lines, texts);
+    (lines.into_reader(), read)
+}
+
 /// Adds the lines of the pattern file that the word names.
 fn add_file<F: Files>(
     alloc: Global,
@@ -90,15 +109,8 @@ fn add_file<F: Files>(
     let Some(reader) = open_named(files, word) else {
         return Ok(FileRead::Missing);
     };
-    let mut lines = match NumberedLines::new(alloc, reader) {
-        Ok(lines) => lines,
-        Err(reader) => {
-            files.close(reader);
-            return Err(AllocError);
-        }
-    };
-    let read = add_lines(&mut lines, texts);
-    files.close(lines.into_reader());
+    let (reader, read) = add_all_lines(alloc, reader, texts);
+    files.close(reader);
     match read {
         Ok(true) => Ok(FileRead::Whole),
         Ok(false) => Ok(FileRead::Broken),

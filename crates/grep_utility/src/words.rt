@@ -1,7 +1,8 @@
 //! The words of grep, and what they ask for (XBD 12.2; XCU grep, SYNOPSIS, OPTIONS, OPERANDS).
 ghost use Rattle.std.specs.Prelude.{◌≡◌, ◌∷◌, [], IfOk, MatchResult};
 ghost use Rattle.grep_utility.specs.Words.{AreRead, OrMemory, around_behind, asked, completed};
-ghost use Rattle.grep_utility.specs.Words.{context_of, first_fault, given_source, may_follow, operand};
+ghost use Rattle.grep_utility.specs.Words.{context_of, file, first_fault, list, may_follow};
+ghost use Rattle.grep_utility.specs.Words.{no_numbers, nothing_asked, operand, pieces, reads_on};
 ghost use Rattle.grep_utility.specs.Words.{source, texts_of, with_context, with_flag, with_pieces};
 ghost use Rattle.grep_utility.specs.Working.Pieces.{piece_of};
 
@@ -94,12 +95,23 @@ fn goes_with(before: Syntax, syntax: Syntax) -> bool
 }
 
 impl Request {
-    /// Adds an argument of `-e` or `-f`.
-    fn add_source(&mut self, given: PatternSource) -> Result<(), AllocError>
+    /// Adds an argument of `-e`.
+    fn add_list(&mut self, alloc: Global, text: &str) -> Result<(), AllocError>
         ensures { IfOk result (λ _. asked self.new
-            ≡ with_pieces (asked self.old) (source (given_source given) ∷ [])) }
+            ≡ with_pieces (asked self.old) (source (list text.now) ∷ [])) }
     {
-        self.sources.push(given)?;
+        self.sources
+            .push(PatternSource::List(String::from_str(alloc, text)?))?;
+        Ok(())
+    }
+
+    /// Adds an argument of `-f`.
+    fn add_file(&mut self, alloc: Global, name: &str) -> Result<(), AllocError>
+        ensures { IfOk result (λ _. asked self.new
+            ≡ with_pieces (asked self.old) (source (file name.now) ∷ [])) }
+    {
+        self.sources
+            .push(PatternSource::File(String::from_str(alloc, name)?))?;
         Ok(())
     }
 
@@ -141,6 +153,39 @@ struct Draft {
 }
 
 impl Draft {
+    /// A request of which no word was read.
+    fn new(alloc: Global) -> Draft
+        ensures numbers { result.around ≡ no_numbers }
+        ensures nothing { asked result.request ≡ nothing_asked }
+    {
+        let request = Request {
+            syntax: Syntax::Basic,
+            options: Options::default(),
+            sources: Vec::new(alloc),
+            files: Vec::new(alloc),
+        };
+        Draft {
+            request,
+            around: Around::default(),
+        }
+    }
+
+    /// Adds what the words ask for, up to their first fault, of which it tells as
+    /// [`Draft::add`] does.
+    fn add_words(&mut self, alloc: Global, words: &[String]) -> Result<(), UsageFault>
+        ensures { MatchResult result
+            (λ _. completed (with_context (context_of self.new.around) (asked self.new.request))
+            ≡ reads_on self.old.around (asked self.old.request) (pieces (texts_of words.now) None))
+            (λ fault. OrMemory fault
+            (reads_on self.old.around (asked self.old.request) (pieces (texts_of words.now) None)
+            ≡ Err fault)) }
+    {
+        for piece in pieces_of(words) {
+            self.add(alloc, piece?)?;
+        }
+        Ok(())
+    }
+
     /// Adds what an option or an operand asks for.
     ///
     /// `TwoSyntaxes` comes where one of `-E` and `-F` follows the other, `Memory` where a growth is
@@ -159,12 +204,8 @@ impl Draft {
             Piece::Flag(flag) => set(&mut request.options, flag),
             Piece::Syntax(syntax) if goes_with(request.syntax, syntax) => request.syntax = syntax,
             Piece::Syntax(_) => return Err(UsageFault::TwoSyntaxes),
-            Piece::List(text) => {
-                request.add_source(PatternSource::List(String::from_str(alloc, text)?))?;
-            }
-            Piece::File(name) => {
-                request.add_source(PatternSource::File(String::from_str(alloc, name)?))?;
-            }
+            Piece::List(text) => request.add_list(alloc, text)?,
+            Piece::File(name) => request.add_file(alloc, name)?,
             Piece::Around(side, count) => self.around.set(side, count),
             Piece::Operand(text) => request.add_operand(alloc, text)?,
         }
@@ -196,18 +237,7 @@ impl Draft {
 pub fn read_words(alloc: Global, words: &[String]) -> Result<Request, UsageFault>
     ensures { AreRead (texts_of words.now) result }
 {
-    let request = Request {
-        syntax: Syntax::Basic,
-        options: Options::default(),
-        sources: Vec::new(alloc),
-        files: Vec::new(alloc),
-    };
-    let mut draft = Draft {
-        request,
-        around: Around::default(),
-    };
-    for piece in pieces_of(words) {
-        draft.add(alloc, piece?)?;
-    }
+    let mut draft = Draft::new(alloc);
+    draft.add_words(alloc, words)?;
     draft.complete()
 }

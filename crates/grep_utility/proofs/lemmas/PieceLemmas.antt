@@ -8,7 +8,7 @@ use Rattle.grep_utility.specs.declared.words.UsageFault.TheVariants.{MissingArgu
 use Rattle.grep_utility.specs.declared.words.pieces.Argument.{Argument}
 use Rattle.grep_utility.specs.declared.words.pieces.Meaning.TheVariants.{Takes}
 use Rattle.grep_utility.specs.Words.{Piece, fault, with_argument, Wanting, meaning_of, group, pieces, an_operand, ends_options, by_characters, a_group, word_of}
-use Rattle.grep_utility.specs.Working.Pieces.{pieces_from}
+use Rattle.grep_utility.specs.Working.Pieces.{AreUsedUp, pieces_from}
 
 -- an empty text has no characters
 no_chars : (t : Text) → length t ≡ 0 → chars t ≡ []
@@ -18,6 +18,10 @@ no_chars (b ∷ t) e = absurd (omega arith)
 -- nothing is left of a group
 pub group-end : (behind : Option Wanting → List Piece) (t : Text) → length t ≡ 0 → group behind (chars t) ≡ behind None
 group-end behind t e = ap (group behind) (no_chars t e)
+
+pub used_up : (letters : Option (Bor Text)) (words : List Text) → AreUsedUp letters → pieces_from letters words ≡ pieces words None
+used_up (Some rest) words none = ap (group (pieces words)) none
+used_up None words never = absurd never
 
 module _ (behind : Option Wanting → List Piece) (c : ℕ) (a : Argument) (takes : meaning_of c ≡ Some (Takes a)) where
   -- the rest of the group is the argument

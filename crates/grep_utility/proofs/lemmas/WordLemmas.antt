@@ -1,15 +1,20 @@
--- What a request without pieces comes to.
-use Rattle.std.proofs.Common.{◌≡◌, List, [], None, map, String}
+-- What a request without pieces comes to, and one with all of them.
+use Rattle.std.proofs.Common.{◌≡◌, List, Result, Ok, Err, None, MatchResult, sym, ◌∙◌, subst}
 use Rattle.re_syntax.specs.Bytes.{Text}
-use Rattle.re_syntax.specs.declared.syntax.Syntax.TheVariants.{Basic}
-use Rattle.grep_core.specs.declared.options.Options.{Options}
-use Rattle.grep_utility.specs.declared.words.PatternSource.{PatternSource}
+use Rattle.grep_utility.specs.declared.words.Request.{Request}
+use Rattle.grep_utility.specs.declared.words.UsageFault.{UsageFault}
 use Rattle.grep_utility.specs.declared.words.around.Around.{Around}
-use Rattle.grep_utility.specs.Words.{Piece, reads_on, no_numbers, nothing_asked, pieces, read, given_source, texts_of}
+use Rattle.grep_utility.specs.Words.{Asked, AreRead, OrMemory, asked, reads_on, no_numbers, nothing_asked, pieces, read}
 
 -- nothing was added yet
-pub reads_on-begins : {Z : Type 0} (numbers : Around) (options : Options) (sources : List PatternSource) (files : List (String Z)) (ps : List Piece) (words : List Text)
-    → numbers ≡ no_numbers → options ≡ nothing_asked.options → sources ≡ [] → files ≡ [] → ps ≡ pieces words None
-    → reads_on numbers (record { syntax = Basic; options = options; sources = map given_source sources; files = texts_of files }) ps ≡ read words
-reads_on-begins numbers options sources files ps words n o s f e =
-    (λ i. reads_on (n i) (record { syntax = Basic; options = o i; sources = map given_source (s i); files = texts_of (f i) }) (e i))
+pub reads_on-begins : (numbers : Around) (before : Asked) (words : List Text) → numbers ≡ no_numbers → before ≡ nothing_asked → reads_on numbers before (pieces words None) ≡ read words
+reads_on-begins numbers before words n b = λ i. reads_on (n i) (b i) (pieces words None)
+
+-- all words were added, and the request is complete
+pub completes : (words : List Text) (now : Result Asked UsageFault) (r : Result Request UsageFault) → now ≡ read words → MatchResult r (λ request. now ≡ Ok (asked request)) (λ fault. OrMemory fault (now ≡ Err fault)) → AreRead words r
+completes words now (Ok request) same h = sym same ∙ h
+completes words now (Err fault) same h = subst (λ n. OrMemory fault (n ≡ Err fault)) same h
+
+-- a fault was met
+pub refuses : (words : List Text) (now : Result Asked UsageFault) (fault : UsageFault) → now ≡ read words → OrMemory fault (now ≡ Err fault) → OrMemory fault (read words ≡ Err fault)
+refuses words now fault same h = subst (λ n. OrMemory fault (n ≡ Err fault)) same h

@@ -1,5 +1,5 @@
 -- How words are cut into pieces from the first one on.
-use Rattle.std.specs.Prelude.{◌≡◌, List, ◌∷◌, map, Option, Some, None, Result, Ok, Err}
+use Rattle.std.specs.Prelude.{◌≡◌, List, [], ◌∷◌, map, Option, Some, None, Result, Ok, Err}
 use Rattle.std.specs.Borrow.{Bor}
 use Rattle.std.specs.Str.{chars}
 use Rattle.re_syntax.specs.Bytes.{Text}
@@ -32,6 +32,11 @@ IsWord word (Group letter rest) = word_of word ≡ a_group (letter ∷ chars res
 abbrev pub pieces_from : Option (Bor Text) → List Text → List Piece
 pieces_from None words = map operand words
 pieces_from (Some letters) words = group (pieces words) (chars letters.now)
+
+-- no letter of a group is left, and no `--` came
+abbrev pub AreUsedUp : Option (Bor Text) → Type 0
+AreUsedUp None = ⊥
+AreUsedUp (Some letters) = chars letters.now ≡ []
 
 abbrev pub words_left : WordPieces → List Text
 words_left p = texts_of p.words.now

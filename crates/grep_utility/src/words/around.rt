@@ -16,7 +16,7 @@ pub enum Side {
 }
 
 /// The number that each of the options was given last.
-#[derive(Clone, Copy, PartialEq, Eq, Debug, Default, Drop)]
+#[derive(Clone, Copy, Default, Drop)]
 pub struct Around {
     /// `-A`
     pub after: Option<u64>,

@@ -3,7 +3,7 @@ ghost use Rattle.std.specs.Prelude.{◌≡◌, ◌∷◌, [], MatchOption, None}
 ghost use Rattle.std.specs.Str.{chars};
 ghost use Rattle.std.specs.Iterator.{YieldsFirstBy, YieldsFirstRef, item_count};
 ghost use Rattle.grep_utility.specs.Words.{group, meaning_of, pieces, texts_of, with_argument};
-ghost use Rattle.grep_utility.specs.Working.Pieces.{IsWord, piece_of, pieces_left, words_left};
+ghost use Rattle.grep_utility.specs.Working.Pieces.{AreUsedUp, IsWord, piece_of, pieces_left, words_left};
 
 use crate::number::read_lines;
 use crate::words::UsageFault;
@@ -156,6 +156,31 @@ impl<'a> WordPieces<'a> {
         Some(word.as_str())
     }
 
+    /// The next word as an operand, where `--` came before it.
+    fn operand(&mut self) -> Option<Result<Piece<'a>, UsageFault>>
+        requires { self.old.letters ≡ None }
+        ensures { YieldsFirstBy piece_of pieces_left self.old result self.new }
+    {
+        Some(Ok(Piece::Operand(self.next_word()?)))
+    }
+
+    /// The first piece of the next word, where the one before it is used up.
+    #[tactic(auto, using(crate::proofs::lemmas::PieceLemmas::used_up))]
+    fn piece(&mut self) -> Option<Result<Piece<'a>, UsageFault>>
+        requires { AreUsedUp self.old.letters }
+        ensures { YieldsFirstBy piece_of pieces_left self.old result self.new }
+    {
+        let word = self.next_word()?;
+        match kind_of_word(word) {
+            Word::Operand => Some(Ok(Piece::Operand(word))),
+            Word::Group(letter, rest) => Some(self.option(letter, rest)),
+            Word::EndOfOptions => {
+                self.letters = None;
+                self.operand()
+            }
+        }
+    }
+
     /// The option of a group, whose argument may be the rest of the group or the next word.
     fn option(&mut self, letter: char, rest: &'a str) -> Result<Piece<'a>, UsageFault>
         ensures { group (pieces (words_left self.old)) (letter ∷ chars rest.now)
@@ -188,19 +213,11 @@ impl<'a> Iterator for WordPieces<'a> {
 
     fn next(&mut self) -> Option<Result<Piece<'a>, UsageFault>> {
         let Some(letters) = self.letters else {
-            return Some(Ok(Piece::Operand(self.next_word()?)));
+            return self.operand();
         };
-        if let Some((letter, rest)) = split_first_char(letters) {
-            return Some(self.option(letter, rest));
-        }
-        let word = self.next_word()?;
-        match kind_of_word(word) {
-            Word::Operand => Some(Ok(Piece::Operand(word))),
-            Word::Group(letter, rest) => Some(self.option(letter, rest)),
-            Word::EndOfOptions => {
-                self.letters = None;
-                Some(Ok(Piece::Operand(self.next_word()?)))
-            }
+        match split_first_char(letters) {
+            Some((letter, rest)) => Some(self.option(letter, rest)),
+            None => self.piece(),
         }
     }
 }
