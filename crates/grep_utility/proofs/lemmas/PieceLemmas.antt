@@ -19,6 +19,7 @@ no_chars (b ∷ t) e = absurd (omega arith)
 pub group-end : (behind : Option Wanting → List Piece) (t : Text) → length t ≡ 0 → group behind (chars t) ≡ behind None
 group-end behind t e = ap (group behind) (no_chars t e)
 
+-- where no letter of a group is left, the pieces are those of the words
 pub used_up : (letters : Option (Bor Text)) (words : List Text) → AreUsedUp letters → pieces_from letters words ≡ pieces words None
 used_up (Some rest) words none = ap (group (pieces words)) none
 used_up None words never = absurd never

@@ -14,7 +14,3 @@ reads_on-begins numbers before words n b = λ i. reads_on (n i) (b i) (pieces wo
 pub completes : (words : List Text) (now : Result Asked UsageFault) (r : Result Request UsageFault) → now ≡ read words → MatchResult r (λ request. now ≡ Ok (asked request)) (λ fault. OrMemory fault (now ≡ Err fault)) → AreRead words r
 completes words now (Ok request) same h = sym same ∙ h
 completes words now (Err fault) same h = subst (λ n. OrMemory fault (n ≡ Err fault)) same h
-
--- a fault was met
-pub refuses : (words : List Text) (now : Result Asked UsageFault) (fault : UsageFault) → now ≡ read words → OrMemory fault (now ≡ Err fault) → OrMemory fault (read words ≡ Err fault)
-refuses words now fault same h = subst (λ n. OrMemory fault (n ≡ Err fault)) same h
