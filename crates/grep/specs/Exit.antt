@@ -3,10 +3,10 @@ use Rattle.std.specs.Prelude.{◌≡◌, ℕ, nat_lt, List, [], ◌∷◌, ◌�
 use Rattle.grep_core.specs.Buffer.{BufferedWriter, SendsAll, SendsSome, all_contents}
 use Rattle.grep_core.specs.Meters.{Steps}
 use Rattle.grep_core.specs.Run.{Writer, writer, devices}
-use Rattle.grep_cmd.specs.Bytes.{Text}
-use Rattle.grep_cmd.specs.Command.{TellsLines, CommandGives}
-use Rattle.grep_cmd.specs.Folder.{Folder}
-use Rattle.grep_cmd.specs.Texts.{write_error}
+use Rattle.grep_utility.specs.Bytes.{Text}
+use Rattle.grep_utility.specs.Command.{TellsLines, CommandGives}
+use Rattle.grep_utility.specs.Folder.{Folder}
+use Rattle.grep_utility.specs.Texts.{write_error}
 
 abbrev pub words_refused : Text
 words_refused = codes "grep: words must be UTF-8"

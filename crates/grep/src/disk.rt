@@ -4,8 +4,8 @@ ghost use Rattle.grep_core.specs.Run.{count_more};
 ghost use Rattle.grep.specs.Working.Disk.{known_bytes, folder_of};
 
 use crate::guard::OutputGuard;
-use grep_cmd::Files;
 use grep_core::{CountedRead, Tally};
+use grep_utility::Files;
 use std::fs::File;
 use std::io::{ErrorKind, Read, Stdin};
 use std::{fs, io};

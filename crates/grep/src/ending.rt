@@ -3,12 +3,12 @@ ghost use Rattle.std.specs.Prelude.{◌≡◌, [], ◌∷◌};
 ghost use Rattle.grep_core.specs.Output.{written};
 ghost use Rattle.grep_core.specs.Run.{writer};
 ghost use Rattle.grep_core.specs.Written.{Writes};
-ghost use Rattle.grep_cmd.specs.Command.{TellsLines};
-ghost use Rattle.grep_cmd.specs.Texts.{out_of_memory, usage};
+ghost use Rattle.grep_utility.specs.Command.{TellsLines};
+ghost use Rattle.grep_utility.specs.Texts.{out_of_memory, usage};
 ghost use Rattle.grep.specs.Exit.{words_refused, TellsWriteError, EndsAs};
 
-use grep_cmd::{FAILED, OUT_OF_MEMORY, USAGE, WRITE_ERROR};
 use grep_core::{Buffered, CountedWrite, WriteFault, write_line};
+use grep_utility::{FAILED, OUT_OF_MEMORY, USAGE, WRITE_ERROR};
 
 /// Writes how the program is used.
 fn write_usage<M: CountedWrite>(messages: &mut M) -> Result<(), WriteFault>

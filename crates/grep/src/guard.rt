@@ -1,6 +1,6 @@
 //! A search doesn't read the file to which it writes rows: it would find them again, without end.
 
-use grep_cmd::{PatternSource, read_words};
+use grep_utility::{PatternSource, read_words};
 use std::fs::{File, Metadata};
 use std::os::unix::fs::MetadataExt;
 use std::{fs, io};

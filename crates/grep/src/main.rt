@@ -7,14 +7,14 @@ mod guard;
 
 ghost use Rattle.grep_core.specs.Run.{writer};
 ghost use Rattle.grep_core.specs.Sources.{GivesBack};
-ghost use Rattle.grep_cmd.specs.Words.{texts_of};
+ghost use Rattle.grep_utility.specs.Words.{texts_of};
 ghost use Rattle.grep.specs.Exit.{ProgramGives, streams};
 
 use crate::disk::DiskFiles;
 use crate::ending::{finish, refuse_memory, refuse_words};
 use crate::guard::OutputGuard;
-use grep_cmd::{Files, run_grep};
 use grep_core::{Buffered, CountedWrite, Tally, WholeLines};
+use grep_utility::{Files, run_grep};
 use re_auto::{Meter, fresh_meter};
 use std::alloc::Global;
 use std::io::ErrorKind;

@@ -1,17 +1,6 @@
-pub mod PieceLemmas
-pub mod WordLemmas
 pub mod ScriptWords
-pub mod ScriptNumbers
 pub mod ScriptCommands
 pub mod ScriptAnswers
 pub mod ScriptSteps
 pub mod ScriptRuns
-pub mod UsageLemmas
-pub mod GatherLemmas
-pub mod SourceLemmas
-pub mod OperandLemmas
-pub mod TellingLemmas
-pub mod CommandLemmas
-pub mod CountLemmas
 pub mod ShowLaws
-pub mod ServingLemmas

@@ -7,12 +7,13 @@ pub use Rattle.re_syntax.specs.Spelled
 pub use Rattle.grep_core.specs.Files
 pub use Rattle.grep_core.specs.Meters
 pub use Rattle.grep_core.specs.Run
--- what the contract of the whole command, or of the session, rests on
-pub mod Words
-pub mod Texts
-pub mod Folder
-pub mod Patterns
-pub mod Command
+-- the utility, which this crate passes on
+pub use Rattle.grep_utility.specs.Words
+pub use Rattle.grep_utility.specs.Texts
+pub use Rattle.grep_utility.specs.Folder
+pub use Rattle.grep_utility.specs.Patterns
+pub use Rattle.grep_utility.specs.Command
+-- what the contract of the script, or of the session, rests on
 pub mod Show
 pub mod Script
 pub mod Replies

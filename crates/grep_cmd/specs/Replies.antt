@@ -20,7 +20,7 @@ use Rattle.grep_cmd.specs.declared.script.ScriptFault.{ScriptFault}
 use Rattle.grep_cmd.specs.declared.script.ScriptFault.TheVariants.{Read, Write, Memory}
 use Rattle.grep_cmd.specs.Script.{Step, does, reports, is_bad, is_truncated, Steps, IsUnfinished}
 use Rattle.grep_cmd.specs.Show.{AreShown}
-use Rattle.grep_cmd.specs.Texts.{kind_name}
+use Rattle.grep_utility.specs.Texts.{kind_name}
 
 -- ---- replies
 

@@ -1,22 +1,19 @@
 -- Scripts of a session: a script's lines are commands, each with the lines that it counts
 -- (occur(1), COMMANDS).
-use Rattle.std.specs.Prelude.{◌≡◌, ℕ, ◌<◌, ◌^◌, nat_eq, nat_lt, Bool, true, false, ◌&&◌}
-use Rattle.std.specs.Prelude.{if◌then◌else◌, List, [], ◌∷◌, ◌++◌, length, codes, bytes_eq, Option}
-use Rattle.std.specs.Prelude.{Some, None, option_map, ◌⊎◌}
-use Rattle.std.specs.List.{list_all}
-use Rattle.re_syntax.specs.declared.class.Class.TheVariants.{Digit}
+use Rattle.std.specs.Prelude.{◌≡◌, ℕ, ◌<◌, nat_eq, Bool, true, false, if◌then◌else◌, List, []}
+use Rattle.std.specs.Prelude.{◌∷◌, ◌++◌, length, codes, bytes_eq, Option, Some, None, option_map}
+use Rattle.std.specs.Prelude.{◌⊎◌}
 use Rattle.re_syntax.specs.declared.syntax.Syntax.{Syntax}
 use Rattle.re_syntax.specs.declared.syntax.Syntax.TheVariants.{Basic, Extended, Fixed}
-use Rattle.re_syntax.specs.Bytes.{Text, in_class}
-use Rattle.re_syntax.specs.Intervals.{value}
+use Rattle.re_syntax.specs.Bytes.{Text}
 use Rattle.re_syntax.specs.Lines.{put_before, joined}
 use Rattle.grep_core.specs.declared.options.Flag.{Flag}
 use Rattle.grep_core.specs.Files.{Ending, whole}
 use Rattle.grep_session.specs.Edits.{Edit, AddFile, AddMissing, DropFile, Splice, AddPatterns}
 use Rattle.grep_session.specs.Edits.{DropPattern, SetFlag, SetSyntax, SetContext}
-use Rattle.grep_cmd.specs.declared.words.pieces.Meaning.{Meaning}
-use Rattle.grep_cmd.specs.declared.words.pieces.Meaning.TheVariants as meaning
-use Rattle.grep_cmd.specs.Words.{meaning_of}
+use Rattle.grep_utility.specs.declared.words.pieces.Meaning.{Meaning}
+use Rattle.grep_utility.specs.declared.words.pieces.Meaning.TheVariants as meaning
+use Rattle.grep_utility.specs.Words.{meaning_of, number_of}
 
 -- ---- words
 
@@ -27,13 +24,6 @@ space = 32
 unfoldable pub words_of : Text → List Text
 words_of [] = [] ∷ []
 words_of (b ∷ rest) = if nat_eq b space then [] ∷ words_of rest else put_before b (words_of rest)
-
--- a number is one decimal digit or more, of a value below 2 ^ 64
-abbrev pub number_of : Text → Option ℕ
-number_of [] = None
-number_of (b ∷ rest) =
-    if list_all (in_class Digit) (b ∷ rest) &&
-    nat_lt (value (b ∷ rest)) (2 ^ 64) then Some (value (b ∷ rest)) else None
 
 -- a name is one byte or more
 abbrev pub name_of : Text → Option Text

@@ -15,8 +15,8 @@ abbrev pub group_separator : Text
 group_separator = codes "--"
 
 module _ (es : List Expression) (options : Options) (context : Context) where
-  -- the line at place k is shown: a selected line of the file stands there, or no more lines before
-  -- or behind it than are asked for
+  -- the line at place k is shown: a selected line of the file is there, or no more lines before or
+  -- after it than are asked for
   pub record IsShown (lines : List Text) (k : ℕ) : Type 0 where
     pub place : ℕ
     pub on : place < length lines
@@ -29,14 +29,14 @@ module _ (es : List Expression) (options : Options) (context : Context) where
   BeginsGroup lines zero = ⊤
   BeginsGroup lines (suc k) = ¬ IsShown lines k
 
-  -- by the name and the number that are shown: the line behind its head, in which a hyphen tells
-  -- that it is not selected
+  -- by the name and the number that are shown: the line after its head, in which a hyphen says that
+  -- it is not selected
   abbrev pub IsRow : Option Text → Option ℕ → Text → Text → Type 0
   IsRow name number line row =
       IfHolds (Selected es options line) (row ≡ head colon name number ++ line)
       (row ≡ head hyphen name number ++ line)
 
-  -- what is shown of the line at place k: its row, behind a separator where a group begins with it
+  -- what is shown of the line at place k: its row, after a separator where a group begins with it
   abbrev pub Shows : Option Text → Option ℕ → List Text → ℕ → Text → List Text → Type 0
   Shows name number lines k line out =
       IfHolds (IsShown lines k)
@@ -44,7 +44,7 @@ module _ (es : List Expression) (options : Options) (context : Context) where
       × IfHolds (BeginsGroup lines k) (out ≡ group_separator ∷ row ∷ []) (out ≡ row ∷ []))
       (out ≡ [])
 
-  -- the groups of a file's lines, each behind a separator; `shown_number` is what is shown of a
+  -- the groups of a file's lines, each after a separator; `shown_number` is what is shown of a
   -- line's number
   abbrev pub Groups : Option Text → (ℕ → Option ℕ) → List Text → List Text → Type 0
   Groups name shown_number lines out =

@@ -6,7 +6,7 @@ use Rattle.grep_core.specs.Counted.{one_more}
 
 pub record BufferedWriter (W : Type 0) : Type 0 where
   pub inner : W
-  -- the bytes taken that have not gone to the inner writer, in order
+  -- the bytes taken and not yet sent to the inner writer, in order
   pub waiting : Text
 
 -- all the bytes written, where those of the inner writer are known
@@ -14,13 +14,13 @@ abbrev pub all_contents : {W : Type 0} → (W → Option Text) → BufferedWrite
 all_contents contents out = append_known (contents out.inner) out.waiting
 
 module _ {W : Type 0} (contents : W → Option Text) (failures : W → ℕ) where
-  -- all bytes that waited went to the inner writer, and no write failed
+  -- all bytes that waited were sent to the inner writer, and no write failed
   pub record SendsAll (old new : BufferedWriter W) : Type 0 where
     pub written : Appends (contents old.inner) (contents new.inner) old.waiting
     pub none_waits : new.waiting ≡ []
     pub none_failed : failures new.inner ≡ failures old.inner
 
-  -- a beginning of the bytes that waited went to the inner writer, and a write failed; the rest
+  -- a beginning of the bytes that waited was sent to the inner writer, and a write failed; the rest
   -- waits
   pub record SendsSome (old new : BufferedWriter W) : Type 0 where
     pub front : Text
@@ -28,6 +28,6 @@ module _ {W : Type 0} (contents : W → Option Text) (failures : W → ℕ) wher
     pub written : Appends (contents old.inner) (contents new.inner) front
     pub counted : failures new.inner ≡ one_more (failures old.inner)
 
-  -- at an Ok all went, at an Err a beginning
+  -- at an Ok all were sent, at an Err a beginning
   abbrev pub Sends : {T E : Type 0} → BufferedWriter W → BufferedWriter W → Result T E → Type 0
   Sends old new r = MatchResult r (λ _. SendsAll old new) (λ _. SendsSome old new)

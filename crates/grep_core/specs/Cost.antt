@@ -1,7 +1,7 @@
--- How many steps a search of lines takes at most. A step is a byte that a matcher looks at, and one
--- more comes for each search of a line.
--- A look for strings that the matches need, at most one pass over the line however many they are,
--- counts none.
+-- How many steps a search of lines takes at most. A step is a byte that a matcher looks at, and
+-- each search of a line is one step more.
+-- A look for strings that the matches need counts none: it is at most one pass over the line for
+-- any number of strings.
 use Rattle.std.specs.Prelude.{◌≡◌, ℕ, ◌+◌, ◌*◌, List, [], ◌∷◌, length}
 use Rattle.re_syntax.specs.Bytes.{Text}
 use Rattle.re_syntax.specs.Expression.{Expression}
@@ -12,7 +12,7 @@ use Rattle.grep_core.specs.declared.options.Options.{Options}
 use Rattle.grep_core.specs.Files.{File}
 use Rattle.grep_core.specs.Output.{Form, parts, form}
 
--- one search of a line by each of so many matchers
+-- one search of a line by each of the matchers
 abbrev pub search_cost : ℕ → Text → ℕ
 search_cost matchers line = matchers * (length line + 1)
 

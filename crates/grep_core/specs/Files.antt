@@ -9,7 +9,7 @@ use Rattle.re_syntax.specs.Holds.{Matches}
 use Rattle.re_syntax.specs.Spelled.{IsMeant}
 use Rattle.grep_core.specs.declared.options.Options.{Options}
 
--- how a file came to its end: read to it, not opened, or left where a read failed
+-- how a file ended: read to its end, not opened, or left where a read failed
 pub data Ending : Type 0 where
   whole : Ending
   missing : Ending

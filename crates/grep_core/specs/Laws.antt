@@ -30,8 +30,8 @@ MeansOne syntax options =
     (patterns : List Text) (ds es : List Expression) → AreMeant syntax options patterns ds →
     AreMeant syntax options patterns es → ds ≡ es
 
--- under `-q`, `-l`, `-c` and `-o` the output is the same whatever context is given, and where none
--- is given no lines are shown around selected ones
+-- under `-q`, `-l`, `-c` and `-o` the output is the same with any context, and where none is given
+-- no lines are shown around selected ones
 pub record ContextIsForLines (options : Options) : Type 0 where
   pub ignored : IsTrue
       (options.quiet || (options.files_with_matches || (options.count || options.only_matching))) →

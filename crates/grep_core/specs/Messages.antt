@@ -16,7 +16,7 @@ cannot_open name = codes "grep: " ++ name ++ codes ": cannot open"
 abbrev pub read_error : Text → Text
 read_error name = codes "grep: " ++ name ++ codes ": read error"
 
--- what is told of a file that ended so
+-- the messages about a file that ended so
 abbrev pub message : Ending → Text → List Text
 message whole name = []
 message missing name = cannot_open name ∷ []
@@ -47,7 +47,7 @@ module _ (es : List Expression) (options : Options) where
   abbrev pub Message : File → List Text → Type 0
   Message file told = IfHolds (FaultMet file) (told ≡ message file.ending file.name) (told ≡ [])
 
-  -- what is told of files that are all reached, and nothing under `-s`
+  -- the messages about files that are all reached, and none under `-s`
   abbrev pub Told : List File → List Text → Type 0
   Told files told = MatchBool options.no_messages (told ≡ []) (EachGives Message files told)
 
@@ -60,7 +60,8 @@ module _ (es : List Expression) (options : Options) where
   abbrev pub AnySelected : List File → Type 0
   AnySelected files = Any (HasSelected es options) files
 
-  -- under `-q` a selected line goes before an error; otherwise an error goes before all
+  -- under `-q` a selected line takes precedence over an error; otherwise an error takes precedence
+  -- over all
   abbrev pub StatusOf : List File → Status → Type 0
   StatusOf files status =
       IfHolds (IsTrue options.quiet × AnySelected files) (status ≡ selected)

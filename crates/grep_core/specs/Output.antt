@@ -30,8 +30,8 @@ shown_number options number = if options.line_number then Some number else None
 abbrev pub numbered : List Text → List (ℕ × Text)
 numbered lines = enumerate_from 1 lines
 
--- what the options ask for: `-q` goes before `-l`, `-l` before `-c`, and these before `-o`, which
--- goes before lines around selected ones
+-- what the options ask for: `-q` takes precedence over `-l`, `-l` over `-c`, these over `-o`, and
+-- `-o` over lines around selected ones
 pub data Form : Type 0 where
   nothing : Form
   names : Form
@@ -58,7 +58,7 @@ module _ (es : List Expression) (options : Options) (many : Bool) where
   SelectedLines file selected =
       Chosen (λ line. Selected es options line.1) (numbered file.lines) selected
 
-  -- what stands before a line or a part of a line
+  -- what is before a line or a part of a line
   abbrev pub head_of : File → ℕ → Text
   head_of file number = head colon (shown_name many file) (shown_number options number)
 
@@ -69,13 +69,13 @@ module _ (es : List Expression) (options : Options) (many : Bool) where
       (selected : List (ℕ × Text)) × SelectedLines file selected
       × (out ≡ (prefix colon (shown_name many file) ++ decimal (length selected)) ∷ [])
 
-  -- each selected line behind its head
+  -- each selected line after its head
   abbrev pub RowsOf : File → List Text → Type 0
   RowsOf file out =
       (selected : List (ℕ × Text)) × SelectedLines file selected ×
       (out ≡ map (λ line. head_of file line.0 ++ line.1) selected)
 
-  -- the parts of a line, each behind the line's head
+  -- the parts of a line, each after the line's head
   abbrev pub PartsOfLine : File → ℕ × Text → List Text → Type 0
   PartsOfLine file line out =
       (ps : List (ℕ × ℕ)) × AreParts es line.1 options.line_regexp ps ×
@@ -87,7 +87,7 @@ module _ (es : List Expression) (options : Options) (many : Bool) where
       (selected : List (ℕ × Text)) × SelectedLines file selected ×
       EachGives (PartsOfLine file) selected out
 
-  -- the lines around the selected ones of a file with these, each group behind a separator
+  -- the lines around the selected ones of a file with these, each group after a separator
   abbrev pub GroupsOf : Context → File → List Text → Type 0
   GroupsOf context file out =
       Groups es options context (shown_name many file) (shown_number options) file.lines out

@@ -53,15 +53,15 @@ failures_of not_opened = 1
 failures_of (fails_after bytes) = 1
 failures_of (ends_after bytes) = 0
 
--- what the readers of the source had left when they were given back, after it did so: one reader,
--- where it was opened;
--- and where a read failed, the bytes that it gave and those that it has left are the source's
+-- what the readers of the source had left when they were returned, after it did so: one reader, if
+-- it was opened; and if a read failed, the bytes that it gave and those that it has left are the
+-- source's
 abbrev pub AreLeft : Source → Reading → List (Option Text) → Type 0
 AreLeft source not_opened left = left ≡ []
 AreLeft source (fails_after bytes) left =
     (rest : Option Text) × (left ≡ rest ∷ []) × Consumes source.bytes rest bytes
 AreLeft source (ends_after bytes) left = (rest : Option Text) × (left ≡ rest ∷ [])
 
--- one reader was given back, which had this left
+-- one reader was returned, which had this left
 abbrev pub OneLeft : Option Text → List (Option Text) → Type 0
 OneLeft rest left = left ≡ rest ∷ []

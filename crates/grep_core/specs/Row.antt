@@ -22,7 +22,7 @@ abbrev pub number_part : ℕ → Option ℕ → Text
 number_part separator None = []
 number_part separator (Some number) = decimal number ++ separator ∷ []
 
--- what stands before the text of an output line
+-- what is before the text of an output line
 abbrev pub head : ℕ → Option Text → Option ℕ → Text
 head separator name number = prefix separator name ++ number_part separator number
 

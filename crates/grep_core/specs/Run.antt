@@ -41,7 +41,7 @@ abbrev pub devices : Writer → Writer → ℕ → Steps → Devices
 devices out messages failures steps =
     record { out = out; messages = messages; source_failures = failures; steps = steps }
 
--- so many more failures, by a count that stays at the greatest u64
+-- a count of n with more failures, which stays at the greatest u64
 abbrev pub count_more : ℕ → ℕ → ℕ
 count_more n zero = n
 count_more n (suc more) = one_more (count_more n more)
@@ -82,7 +82,7 @@ module _ (es : List Expression) (options : Options) where
       (FailuresMet sources readings rest)
       × (n ≡ own + rest)
 
-  -- what the readers of the sources had left when they were given back, up to where a run stops,
+  -- what the readers of the sources had left when they were returned, up to where a run stops,
   -- under `-q`
   abbrev pub LeftMet : List Source → List Reading → List (Option Text) → Type 0
   LeftMet [] readings left = left ≡ []
@@ -97,7 +97,7 @@ module _ (es : List Expression) (options : Options) where
 abbrev pub first_lines : ℕ → File → File
 first_lines n file = record { name = file.name; lines = take n file.lines; ending = whole }
 
--- the file of which the first n lines were searched, as far as rows tell of it; there are none yet
+-- the file of which the first n lines were searched, as far as rows show it; there are none yet
 -- under `-c`, `-l` and `-q`
 abbrev pub begun : Form → ℕ → File → List File
 begun lines n file = first_lines n file ∷ []
@@ -109,8 +109,8 @@ begun _ n file = []
 abbrev pub file_at : List File → ℕ → File
 file_at files k = get_or files k (record { name = []; lines = []; ending = missing })
 
--- ---- runs; the steps of each are no more than the search of the files costs, and `given` says of
--- what readers may have left that readers that had this left were given back in the run
+-- ---- runs; the steps of each are no more than the search of the files costs, and `given l`
+-- says that readers that had l left were returned in the run
 
 module _ (es : List Expression) (options : Options) (sources : List Source)
     (given : List (Option Text) → Type 0) (old new : Devices) where
@@ -133,7 +133,7 @@ module _ (es : List Expression) (options : Options) (sources : List Source)
     pub gave_back : given left
     pub steps : SearchesFiles es options (length es) (files_of sources readings) old.steps new.steps
 
-  -- a run that a failed write ended: what went out are beginnings of the output and of the messages
+  -- a run that a failed write ended: beginnings of the output and of the messages were written
   pub record BreaksOff : Type 0 where
     pub readings : List Reading
     pub are_readings : AreReadings sources readings
@@ -143,7 +143,7 @@ module _ (es : List Expression) (options : Options) (sources : List Source)
     pub are_messages : Messages es options (files_of sources readings) messages
     pub wrote : TakesFront old.out new.out output
     pub told : TakesFront old.messages new.messages messages
-    -- the devices of the sources that were met failed so often
+    -- how often the devices of the sources that were met failed
     pub met : ℕ
     pub failures : ℕ
     pub are_failures : FailuresMet es options (take met sources) readings failures
@@ -153,7 +153,7 @@ module _ (es : List Expression) (options : Options) (sources : List Source)
     pub gave_back : given left
     pub steps : SearchesFiles es options (length es) (files_of sources readings) old.steps new.steps
 
-  -- a run that want of memory ended behind the first n lines of source k: the output is that of the
+  -- a run that ran out of memory after the first n lines of source k: the output is that of the
   -- sources before it and of a source of these lines, the messages those of the sources before it
   pub record StopsBehind (k n : ℕ) : Type 0 where
     pub readings : List Reading
@@ -177,7 +177,7 @@ module _ (es : List Expression) (options : Options) (sources : List Source)
     pub gave_back : given (left ++ rest ∷ [])
     pub steps : SearchesFiles es options (length es) (files_of sources readings) old.steps new.steps
 
-  -- what a run answers: a fault of a write exactly where a write failed
+  -- what a run returns: a fault of a write exactly where a write failed
   abbrev pub RunGives : Result Status RunFault → Type 0
   RunGives (Ok status) = Finishes status
   RunGives (Err Write) =

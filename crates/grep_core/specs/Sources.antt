@@ -9,7 +9,7 @@ use Rattle.grep_core.specs.Reading.{Source}
 abbrev pub source_at : List Source → ℕ → Source
 source_at sources k = get_or sources k (record { name = []; opens = None; bytes = None })
 
--- what an attempt to open a source answers, where so many failures of sources were counted before
+-- what an attempt to open a source returns, with how many failures of sources were counted before
 -- and after it: no reader is one more failure; a reader gives the source's bytes from the first on,
 -- and nothing of it has failed
 abbrev pub Opens : {R : Type 0} → (R → Option Text) → (R → ℕ) → Source → ℕ → ℕ → Option R → Type 0
@@ -18,7 +18,7 @@ Opens remaining failures source before after answer =
     (λ reader. IfSome source.opens (λ b. b ≡ true) × (remaining reader ≡ source.bytes) ×
     (failures reader ≡ 0) × (after ≡ before))
 
--- between the two states, readers that had these bytes left were given back, in this order
+-- between the two states, readers that had these bytes left were returned, in this order
 abbrev pub GivesBack : {S : Type 0} → (S → List (Option Text) → Type 0) → S → S →
     List (Option Text) → Type 0
 GivesBack given_back old new left =

@@ -5,7 +5,7 @@ use Rattle.re_syntax.specs.Bytes.{Text}
 use Rattle.grep_core.specs.Counted.{one_more}
 
 module _ {W : Type 0} (contents : W → Option Text) (failures : W → ℕ) where
-  -- a beginning of the bytes went out, and then a write failed
+  -- a beginning of the bytes was written, and then a write failed
   pub record StopsWithin (old new : W) (bytes : Text) : Type 0 where
     pub front : Text
     pub rest : Text
@@ -13,12 +13,12 @@ module _ {W : Type 0} (contents : W → Option Text) (failures : W → ℕ) wher
     pub written : Appends (contents old) (contents new) front
     pub counted : failures new ≡ one_more (failures old)
 
-  -- all bytes went out and no write failed
+  -- all bytes were written and no write failed
   pub record GoesOut (old new : W) (bytes : Text) : Type 0 where
     pub written : Appends (contents old) (contents new) bytes
     pub none_failed : failures new ≡ failures old
 
-  -- at an Ok all bytes went out, at an Err a beginning of them, and then a write failed
+  -- at an Ok all bytes were written, at an Err a beginning of them, and then a write failed
   abbrev pub Writes : {T E : Type 0} → W → W → Text → Result T E → Type 0
   Writes old new bytes r =
       MatchResult r (λ _. GoesOut old new bytes) (λ _. StopsWithin old new bytes)

@@ -7,9 +7,9 @@ ghost use Rattle.grep_core.specs.Working.Wanted.{form_of, selects};
 /// How many lines are shown around each selected one (GNU grep, `-A`, `-B` and `-C`).
 #[derive(Clone, Copy, PartialEq, Eq, Debug, Drop)]
 pub struct Context {
-    /// `-B`: so many before it.
+    /// `-B`: the number of lines before it.
     pub before: u64,
-    /// `-A`: so many behind it.
+    /// `-A`: the number of lines after it.
     pub after: u64,
 }
 
@@ -22,13 +22,13 @@ pub struct Options {
     pub ignore_case: bool,
     /// `-l`: only the names of files with a selected line are written.
     pub files_with_matches: bool,
-    /// `-n`: each line is written behind its number.
+    /// `-n`: each line is written after its number.
     pub line_number: bool,
     /// `-o`: only the matched parts of a line are written.
     pub only_matching: bool,
     /// `-q`: nothing is written to standard output.
     pub quiet: bool,
-    /// `-s`: no message tells of a file that cannot be opened or read.
+    /// `-s`: no message reports a file that cannot be opened or read.
     pub no_messages: bool,
     /// `-v`: the lines that are not matched are selected.
     pub invert_match: bool,
@@ -61,8 +61,8 @@ pub enum Flag {
     LineRegexp,
 }
 
-/// What the options ask for (XCU grep, STDOUT): `-q` goes before `-l`, `-l` before `-c`, and these
-/// before `-o`, which goes before lines around.
+/// What the options ask for (XCU grep, STDOUT): `-q` takes precedence over `-l`, `-l` over `-c`,
+/// these over `-o`, and `-o` over lines around.
 #[derive(Clone, Copy, PartialEq, Eq, Debug, Drop)]
 pub enum Form {
     /// Nothing is written.

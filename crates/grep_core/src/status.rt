@@ -12,11 +12,11 @@ pub enum Status {
 /// Why a run was given up.
 #[derive(Clone, Copy, PartialEq, Eq, Debug, Drop)]
 pub enum RunFault {
-    /// The output could not be written. What went out is a beginning of it.
+    /// The output could not be written. What was written is a beginning of it.
     Write,
-    /// A message could not be written. What went out is a beginning of the messages.
+    /// A message could not be written. What was written is a beginning of the messages.
     MessageWrite,
-    /// A growth was refused in this source, counted from 0, when so many of its lines were wholly
-    /// done.
+    /// A growth was refused in this source, counted from 0, when this number of its lines were
+    /// wholly done.
     Memory { source: usize, lines: u64 },
 }

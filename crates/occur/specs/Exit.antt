@@ -4,7 +4,7 @@ use Rattle.clap.specs.declared.error.kind.ErrorKind.{ErrorKind}
 use Rattle.clap.specs.declared.error.kind.ErrorKind.TheVariants.{DisplayHelp}
 use Rattle.grep_core.specs.Run.{Writer}
 use Rattle.grep_cmd.specs.Bytes.{Text}
-use Rattle.grep_cmd.specs.Command.{TellsLines}
+use Rattle.grep_utility.specs.Command.{TellsLines}
 use Rattle.grep_cmd.specs.declared.script.ScriptEnd.{ScriptEnd}
 use Rattle.grep_cmd.specs.declared.script.ScriptEnd.TheVariants.{Clean, Refused}
 use Rattle.grep_cmd.specs.declared.script.ScriptFault.{ScriptFault}

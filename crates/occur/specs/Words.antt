@@ -12,7 +12,7 @@ use Rattle.clap.specs.declared.builder.value_parser.ValueParser.TheVariants.{Uns
 use Rattle.clap.specs.declared.error.Error.{Error}
 use Rattle.clap.specs.declared.error.kind.ErrorKind.TheVariants.{DisplayHelp, OutOfMemory}
 use Rattle.clap.specs.declared.parser.matches.Found.{Found}
-use Rattle.grep_cmd.specs.Folder.{is_standard}
+use Rattle.grep_utility.specs.Folder.{is_standard}
 use Rattle.occur.specs.declared.words.Choices.{Choices}
 use Rattle.occur.specs.declared.words.OccurFault.{OccurFault}
 use Rattle.occur.specs.declared.words.OccurFault.TheVariants as fault

@@ -5,7 +5,7 @@ ghost use Rattle.grep_core.specs.Output.{written};
 ghost use Rattle.grep_core.specs.Row.{output_line};
 ghost use Rattle.grep_core.specs.Run.{writer};
 ghost use Rattle.grep_core.specs.Written.{Writes};
-ghost use Rattle.grep_cmd.specs.Command.{TellsLines};
+ghost use Rattle.grep_utility.specs.Command.{TellsLines};
 ghost use Rattle.occur.specs.Exit.{EndsScript, cannot_open, fault_text, out_of_memory};
 ghost use Rattle.occur.specs.Exit.{usage, words_refused, words_status};
 

@@ -1,4 +1,4 @@
--- What the positions of an expression tell, and what stepping over a line keeps.
+-- What the positions of an expression say, and what stepping over a line keeps.
 use Rattle.std.specs.Prelude.{◌≡◌, ℕ, suc, ◌<◌, ◌≤◌, ◌↔◌, ◌++◌, Bool, IsTrue, length, slice_index}
 use Rattle.std.specs.Prelude.{Option, None}
 use Rattle.re_syntax.specs.Bytes.{Text}
@@ -11,13 +11,13 @@ use Rattle.re_auto.specs.Working.Starts.{Least, StartsAfter, IsNextStarts, Told,
 use Rattle.re_auto.specs.Working.Starts.{better, IsSpent}
 
 -- An expression holds on a stretch exactly where a chain of its positions reads the stretch's
--- bytes, or the stretch is empty and the expression may be.
+-- bytes, or where the stretch is empty and the expression may be.
 abbrev pub PositionsTell : Type 0
 PositionsTell =
     (e : Expression) (n : ℕ) (line : Text) (i j : ℕ) →
     Holds line e i j ↔ PartHolds (part_of e n) line i j
 
--- Where the first stretch may begin nothing is carried yet, and there is no best one.
+-- Where the first stretch may begin, nothing is carried yet, and there is no best stretch.
 abbrev pub PassBegins : Type 0
 PassBegins =
     (e : Expression) (n : ℕ) (mode : Mode) (from : ℕ) (line : Text) (least : ℕ → Option ℕ) →
@@ -35,8 +35,8 @@ StartsStay =
     → IsNextStarts (part_of e n) mode j least (slice_index line j) next →
     StartsAfter (part_of e n) mode from line (suc j) next
 
--- The least start that the last positions tell is that of the matched stretches which end here and
--- are not empty.
+-- The least start at the last positions is that of the matched stretches which end here and are not
+-- empty.
 abbrev pub StartsTell : Type 0
 StartsTell =
     (e : Expression) (n : ℕ) (mode : Mode) (from : ℕ) (line : Text) (j : ℕ) (least : ℕ → Option ℕ)
@@ -45,8 +45,8 @@ StartsTell =
     Least (Told (part_of e n) (is_end line j) least) told
     → Least (λ i. IsMatched e mode from line i j) told
 
--- One pass finds the stretch that begins earliest and then is longest: the least start at each end
--- is enough.
+-- One pass finds the stretch that begins earliest and is the longest of those that begin there: the
+-- least start at each end is enough.
 abbrev pub OnePassIsEnough : Type 0
 OnePassIsEnough =
     (e : Expression) (mode : Mode) (from : ℕ) (line : Text) (to : ℕ) (best : Option (ℕ × ℕ))
@@ -55,8 +55,8 @@ OnePassIsEnough =
     Least (λ i. IsMatched e mode from line i (suc to)) told
     → IsBest (IsMatched e mode from line) (suc to) (better best (suc to) told)
 
--- Once each carried start is behind s, no stretch that begins at s or before ends here or later,
--- and the pass may stop.
+-- Once each carried start is after s, no stretch that begins at s or before ends here or later, and
+-- the pass may stop.
 abbrev pub SpentIsOver : Type 0
 SpentIsOver =
     (e : Expression) (n : ℕ) (mode : Mode) (from : ℕ) (line : Text) (j : ℕ) (least : ℕ → Option ℕ)
@@ -64,15 +64,15 @@ SpentIsOver =
     → StartsAfter (part_of e n) mode from line j least → IsSpent least s → s < j
     → (i k : ℕ) → i ≤ s → j ≤ k → ¬ IsMatched e mode from line i k
 
--- A set of positions is right behind a front of a line exactly if it is right behind that front
--- alone: only the bytes read so far tell it.
+-- A set of positions is right after a front of a line exactly if it is right after that front
+-- alone: it depends only on the bytes read so far.
 abbrev pub FrontsTell : Type 0
 FrontsTell =
     (e : Expression) (n : ℕ) (mode : Mode) (front rest : Text) (S : ℕ → Bool)
     → IsAfter (part_of e n) mode front (length front) (λ q. IsTrue (S q)) ↔
     IsAfter (part_of e n) mode (front ++ rest) (length front) (λ q. IsTrue (S q))
 
--- So it is with least starts.
+-- The same holds for least starts.
 abbrev pub FrontsTellStarts : Type 0
 FrontsTellStarts =
     (e : Expression) (n : ℕ) (mode : Mode) (from : ℕ) (front rest : Text) (least : ℕ → Option ℕ)

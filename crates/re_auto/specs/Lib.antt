@@ -1,6 +1,6 @@
--- what the contract of the whole command, or of the session, rests on
+-- the definitions that the contract of the whole command, or of the session, rests on
 pub mod Meters
 -- what the public laws say of the definitions
 pub mod Laws
--- what else contracts are said in: of this crate as a library, and of its private functions
+-- the definitions of the other contracts: of this crate as a library, and of its private functions
 pub mod Working

@@ -1,7 +1,7 @@
 -- The steps that a search takes, counted up to the greatest u64.
 use Rattle.std.specs.Prelude.{ℕ, ◌+◌, ◌-◌, ◌^◌, min}
 
--- the steps that were worked out, and those that were found in a cache
+-- the steps that were computed, and those that were found in a cache
 pub record Steps : Type 0 where
   pub built : ℕ
   pub reused : ℕ
@@ -9,7 +9,7 @@ pub record Steps : Type 0 where
 abbrev pub fresh : Steps
 fresh = record { built = 0; reused = 0 }
 
--- so many more, by a count that stays at the greatest
+-- a count increased by a number; it stays at the greatest u64
 abbrev pub counted : ℕ → ℕ → ℕ
 counted more n = min (n + more) (2 ^ 64 - 1)
 

@@ -6,11 +6,12 @@ ghost use Rattle.re_auto.specs.Working.Beginnings.{IsMarked, IsFirstMarked, IsNe
 use memchr::{memchr, memchr2, memchr3};
 use std::marker::Model;
 
-// How many bytes are looked at before a search is begun, which pays for longer passes alone.
+// The number of bytes that are looked at before a search begins, since a search pays only for
+// longer passes.
 const NEAR: usize = 16;
 
-/// A set of bytes, in which a text's next byte is found quickly. Contracts see a mark for each
-/// byte.
+/// A set of bytes. The next byte of a text that is in it is found quickly. Contracts see a mark for
+/// each byte.
 #[derive(Drop)]
 pub struct Beginnings {
     marks: [bool; 256],
@@ -20,15 +21,15 @@ pub struct Beginnings {
 /// The members of a set of bytes where they are at most three.
 #[derive(Clone, Copy, Drop)]
 pub enum Few {
-    /// There is none.
+    /// No byte.
     Never,
-    /// This one.
+    /// This byte.
     One(u8),
-    /// These two.
+    /// These two bytes.
     Two(u8, u8),
-    /// These three.
+    /// These three bytes.
     Three(u8, u8, u8),
-    /// There may be any number.
+    /// Any number of bytes.
     Many,
 }
 
@@ -60,8 +61,8 @@ impl Beginnings {
         self.marks[byte as usize]
     }
 
-    /// The first place, `place` or later, whose byte is in the set; the line's end where there is
-    /// none.
+    /// The first place, `place` or later, whose byte is in the set, or the line's end where there
+    /// is none.
     #[inline]
     pub fn next_in(&self, line: &[u8], place: usize) -> usize
         requires { place ≤ length line.now }
@@ -94,8 +95,8 @@ impl Beginnings {
         }
     }
 
-    // The first place from `place` on and before `end` whose byte is in the set; `end` where there
-    // is none.
+    // The first place from `place` on and before `end` whose byte is in the set, or `end` where
+    // there is none.
     fn next_before(&self, line: &[u8], place: usize, end: usize) -> usize
         requires within { (place ≤ end) × (end ≤ length line.now) }
         ensures { IsFirstMarked self.now line.now place end result }
@@ -107,7 +108,8 @@ impl Beginnings {
         next
     }
 
-    // A place up to which no byte is in the set: four bytes at a time are passed, before `end`.
+    // A place before which no byte from `place` on is in the set. It is found four bytes at a time,
+    // and is at most `end`.
     #[inline(always)]
     fn pass_fours(&self, line: &[u8], place: usize, end: usize) -> usize
         requires within { (place ≤ end) × (end ≤ length line.now) }
@@ -135,7 +137,7 @@ impl Beginnings {
     }
 }
 
-// The place so many behind another; the end where there is none.
+// The place `passed` bytes after another, or the end where there is none.
 #[inline(always)]
 fn behind(place: usize, passed: Option<usize>, end: usize) -> usize
     requires { IfSome passed (λ n. place + n ≤ end) }
@@ -169,7 +171,7 @@ fn few_of(marks: &[bool; 256]) -> Few
     Few::Many
 }
 
-// The first marked byte from this one on; 256 where there is none.
+// The first marked byte from this one on, or 256 where there is none.
 fn next_mark(marks: &[bool; 256], from: usize) -> usize
     requires { from ≤ 256 }
     ensures { IsNextMark marks.now from result }

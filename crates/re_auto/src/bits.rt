@@ -19,7 +19,7 @@ pub fn add(into: &mut [u64], row: &[u64])
     }
 }
 
-// Adds the members of `row`, which lie in the words of the range.
+// Adds the members of `row`, which are all in the words of the range.
 #[inline(always)]
 fn add_within(into: &mut [u64], row: &[u64], range: WordRange)
     requires same { length into.old ≡ length row.now }
@@ -76,7 +76,7 @@ pub fn meets(a: &[u64], b: &[u64]) -> bool
     false
 }
 
-/// Whether the set has no member.
+/// Whether the set is empty.
 #[inline(always)]
 pub fn is_clear(words: &[u64]) -> bool
     ensures { IsTrue result ↔ ((e : ℕ) → Has words.now e → ⊥) }
@@ -84,7 +84,7 @@ pub fn is_clear(words: &[u64]) -> bool
     words.iter().all(|word| *word == 0)
 }
 
-/// Takes the lowest number out of a set that is one word and has a number.
+/// Takes the lowest number out of a set that is one word and is not empty.
 #[inline(always)]
 pub fn take_lowest(left: &mut u64) -> usize
     requires { 0 < left.old }
@@ -132,7 +132,7 @@ fn add_rows_of_word(into: &mut [u64], table: &[u64], ranges: &[WordRange], k: us
     }
 }
 
-/// Adds the rows of the members of `from`, each as far as its range goes.
+/// Adds the rows of the members of `from`, each only in the words of its range.
 #[inline(always)]
 pub fn add_rows(into: &mut [u64], table: &[u64], ranges: &[WordRange], from: &[u64])
     requires few { length from.now ≤ most_words }
@@ -151,7 +151,7 @@ pub fn add_rows(into: &mut [u64], table: &[u64], ranges: &[WordRange], from: &[u
     }
 }
 
-/// Makes the set that one.
+/// Makes `into` equal to `from`.
 #[inline(always)]
 pub fn copy(into: &mut [u64], from: &[u64])
     requires same { length into.old ≡ length from.now }
@@ -160,7 +160,7 @@ pub fn copy(into: &mut [u64], from: &[u64])
     into.copy_from_slice(from);
 }
 
-/// Takes all members out.
+/// Removes all members.
 #[inline(always)]
 pub fn clear(into: &mut [u64])
     ensures len { length into.new ≡ length into.old }
@@ -169,7 +169,7 @@ pub fn clear(into: &mut [u64])
     into.fill(0);
 }
 
-/// The one word of a set that has no more.
+/// The word of a set that is one word.
 #[inline(always)]
 pub fn only_word(words: &[u64]) -> u64
     requires { length words.now ≡ 1 }
@@ -178,7 +178,7 @@ pub fn only_word(words: &[u64]) -> u64
     words[0]
 }
 
-/// Makes the set that of the one word.
+/// Makes the set, which is one word, this word.
 #[inline(always)]
 pub fn put_word(into: &mut [u64], word: u64)
     requires { length into.old ≡ 1 }

@@ -7,11 +7,11 @@ pub mod filling;
 mod parts;
 mod rows;
 
-/// Why an automaton or a set for one could not be made.
+/// Why an automaton, or a set for one, could not be made.
 #[derive(Clone, Copy, PartialEq, Eq, Debug, Drop)]
 pub enum BuildFault {
     /// The expression has more than 4,096 positions once its intervals are written out.
     TooLarge,
-    /// Memory was refused.
+    /// Memory ran out.
     Memory,
 }

@@ -2,12 +2,12 @@
 ghost use Rattle.re_auto.specs.Laws.{PositionsTell, PassBegins, StartsStay, StartsTell};
 ghost use Rattle.re_auto.specs.Laws.{OnePassIsEnough, SpentIsOver, FrontsTell, FrontsTellStarts};
 
-/// The positions of an expression tell where it holds.
+/// The positions of an expression say where it holds.
 pub fn positions_tell()
     ensures { PositionsTell }
 {}
 
-/// Least starts begin with none, are kept step by step, and are enough for the earliest and then
+/// Least starts begin empty, are kept step by step, and are enough for the earliest and then
 /// longest stretch.
 pub fn least_starts_are_enough()
     ensures begin { PassBegins }
@@ -17,8 +17,8 @@ pub fn least_starts_are_enough()
     ensures spent { SpentIsOver }
 {}
 
-/// What is known at a place of a line, sets of positions and least starts, depends on the bytes
-/// before it alone.
+/// What is known at a place of a line, as a set of positions or as least starts, depends only on
+/// the bytes before it.
 pub fn fronts_tell()
     ensures sets { FrontsTell }
     ensures starts { FrontsTellStarts }

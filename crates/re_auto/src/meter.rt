@@ -3,8 +3,8 @@ ghost use Rattle.re_auto.specs.Meters.{many_built, many_reused, one_reused, fres
 
 use std::marker::Model;
 
-/// How many steps were taken: bytes over which a set of positions was advanced. Each count stays
-/// at the greatest `u64`. Only [`fresh_meter`] makes one.
+/// The number of steps taken: bytes over which a set of positions was advanced. Each count stops at
+/// the greatest `u64`. Only [`fresh_meter`] makes a meter.
 #[derive(Drop)]
 pub struct Meter {
     built: u64,
@@ -20,28 +20,28 @@ impl Model for Meter {
 }
 
 impl Meter {
-    /// The steps that were worked out.
+    /// The number of steps that were computed.
     pub fn built(&self) -> u64
         ensures { result ≡ self.now.built }
     {
         self.built
     }
 
-    /// The steps that were found in a cache.
+    /// The number of steps that were found in a cache.
     pub fn reused(&self) -> u64
         ensures { result ≡ self.now.reused }
     {
         self.reused
     }
 
-    /// Counts so many more steps as worked out. For this crate and the matchers above it.
+    /// Counts `steps` more computed steps. For this crate and the matchers above it.
     pub fn add_built(&mut self, steps: u64)
         ensures { self.new ≡ many_built steps self.old }
     {
         self.built = self.built.saturating_add(steps);
     }
 
-    /// Counts so many more steps as found in a cache. For the matchers above this crate.
+    /// Counts `steps` more steps found in a cache. For the matchers above this crate.
     pub fn add_reused_steps(&mut self, steps: u64)
         ensures counted { self.new ≡ many_reused steps self.old }
         ensures none { steps ≡ 0 → self.new ≡ self.old }
@@ -49,7 +49,7 @@ impl Meter {
         self.reused = self.reused.saturating_add(steps);
     }
 
-    /// Counts one more step as found in a cache. For the matchers above this crate.
+    /// Counts one more step found in a cache. For the matchers above this crate.
     pub fn add_reused(&mut self)
         ensures { self.new ≡ one_reused self.old }
     {
@@ -57,7 +57,7 @@ impl Meter {
     }
 }
 
-/// A meter that stands at 0.
+/// A meter at 0.
 pub fn fresh_meter() -> Meter
     ensures { result ≡ fresh }
 {

@@ -1,12 +1,12 @@
 ghost use Rattle.std.specs.Prelude.{IsTrue, ◌↔◌};
 ghost use Rattle.re_auto.specs.Working.Stepping.{MayBegin};
 
-/// Where the stretches begin that are looked for.
+/// Where the stretches of a search may begin.
 #[derive(Clone, Copy, PartialEq, Eq, Debug, Drop)]
 pub enum Mode {
     /// Anywhere on the line.
     Search,
-    /// At the line's first place alone, as the option `-x` wants (XCU grep).
+    /// Only at the line's first place, as the option `-x` wants (XCU grep).
     Whole,
 }
 

@@ -1,4 +1,4 @@
-//! The words of a row that its members lie in: few of them, as a rule, in a wide automaton.
+//! The words of a row that contain its members: usually few of them in a wide automaton.
 ghost use Rattle.std.specs.Prelude.{◌≡◌, ℕ, ◌*◌, ◌/◌, ◌<◌, ◌≤◌, IfOk, length};
 ghost use Rattle.re_auto.specs.Working.Bits.{Has};
 ghost use Rattle.re_auto.specs.Working.Ranges.{Covers, CoverRows};
@@ -7,16 +7,16 @@ ghost use Rattle.re_auto.specs.Working.Tables.{most_words};
 use crate::bits;
 use std::alloc::{AllocError, Global};
 
-/// The words of a row from one on and before another.
+/// Words of a row, from one up to and without another.
 #[derive(Clone, Copy, Drop)]
 pub struct WordRange {
     /// The first of them.
     pub first: u8,
-    /// The one behind the last.
+    /// The word after the last.
     pub past: u8,
 }
 
-/// For each of so many rows the range from the first to the last word that has members.
+/// For each of the first `rows` rows the range from the first to the last word that has members.
 pub fn ranges_of(
     alloc: Global,
     table: &[u64],
@@ -34,7 +34,7 @@ pub fn ranges_of(
     Ok(ranges)
 }
 
-// The range of one row; it has no word where the row has no member.
+// The range of one row. It is empty where the row has no member.
 fn range_of(row: &[u64]) -> WordRange
     requires { length row.now ≤ most_words }
     ensures { Covers result row.now }
@@ -47,7 +47,7 @@ fn range_of(row: &[u64]) -> WordRange
     }
 }
 
-// The first word that is not 0; one past the last word where there is none.
+// The index of the first word that is not 0, or the number of words where all are 0.
 fn first_word(row: &[u64]) -> usize
     ensures { (q : ℕ) → Has row.now q → result ≤ q / 64 }
 {
@@ -59,7 +59,7 @@ fn first_word(row: &[u64]) -> usize
     row.len()
 }
 
-// One past the last word that is not 0; 0 where there is none.
+// The index after the last word that is not 0, or 0 where all are 0.
 fn past_word(row: &[u64]) -> usize
     ensures within { result ≤ length row.now }
     ensures past { (q : ℕ) → Has row.now q → q / 64 < result }

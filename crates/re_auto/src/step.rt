@@ -1,5 +1,4 @@
-//! Stepping over a line: the automaton, and the sets of its positions and least starts that are
-//! stepped.
+//! Stepping over a line: the automaton, and the sets of its positions and least starts.
 
 pub mod automaton;
 pub mod starts;

@@ -3,21 +3,21 @@ ghost use Rattle.std.specs.Prelude.{Bool, IsTrue, ◌↔◌, ◌⊎◌};
 use crate::beginnings::Beginnings;
 use crate::ranges::WordRange;
 
-/// What is known of an expression's positions, as words of bits: a row is a set of positions and
+/// What is known of an expression's positions, as words of bits. A row is a set of positions and
 /// has `width` words. `AreTablesOf` in `specs/Working/Tables.antt` says what each table holds.
 #[derive(Drop)]
 pub struct Tables {
-    /// How many positions there are.
+    /// The number of positions.
     pub size: usize,
-    /// How many words a row has.
+    /// The number of words of a row.
     pub width: usize,
-    /// For each byte its class: bytes of one class are taken by the same positions.
+    /// The class of each byte: bytes of one class are taken by the same positions.
     pub class_of: Vec<u8>,
     /// For each class a row: the positions that take a byte of it.
     pub takes: Vec<u64>,
     /// For each position a row: those that can come directly after it.
     pub follow: Vec<u64>,
-    /// For each of these rows the words outside of which it has no member.
+    /// For each of the rows of `follow` the range of words that contain its members.
     pub ranges: Vec<WordRange>,
     /// The positions that a stretch can begin with at the line's first place.
     pub first_at_begin: Vec<u64>,
@@ -97,7 +97,7 @@ impl Empty {
         }
     }
 
-    /// Where both hold.
+    /// Where both are set.
     pub fn and(self, other: Empty) -> Empty
         ensures { (b z : Bool) →
             IsTrue (empty_at result b z) ↔
@@ -111,7 +111,7 @@ impl Empty {
         }
     }
 
-    /// Where one of them holds.
+    /// Where one of them is set.
     pub fn or(self, other: Empty) -> Empty
         ensures { (b z : Bool) →
             IsTrue (empty_at result b z) ↔

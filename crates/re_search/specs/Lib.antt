@@ -1,7 +1,7 @@
--- what these cite of the crates below
+-- the parts of the crates below that these specifications cite
 pub use Rattle.re_auto.specs.Meters
--- what the contract of the whole command, or of the session, rests on
+-- what the contract of the whole command, or of the session, depends on
 pub mod Searching
 pub mod Reading
--- what else contracts are said in: of this crate as a library, and of its private functions
+-- the other terms of contracts: of this crate as a library, and of its private functions
 pub mod Working

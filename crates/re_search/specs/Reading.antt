@@ -12,7 +12,7 @@ use Rattle.re_syntax.specs.Holds.{positions}
 use Rattle.re_syntax.specs.Profile.{most_positions}
 use Rattle.re_syntax.specs.Spelled.{IsMeant, has_limit}
 
--- the expression is small enough, where it has to be
+-- the expression is small enough, if it has to be
 abbrev pub IsSmallFor : Syntax → Bool → Expression → Type 0
 IsSmallFor syntax fold e = IsTrue (has_limit syntax fold) → positions e ≤ most_positions
 
@@ -21,11 +21,11 @@ abbrev pub IsReadable : Syntax → Bool → Text → Type 0
 IsReadable syntax fold text =
     (e : Expression) × IsMeant syntax fold text e × IsSmallFor syntax fold e
 
--- memory ran out, and nothing is said of the text
+-- out of memory; this says nothing of the text
 abbrev pub IsOutOfMemory : PatternFault → Type 0
 IsOutOfMemory fault = fault ≡ record { kind = Memory; at = 0 }
 
--- the text spells nothing in its syntax, and the fault shows where it says
+-- the text spells nothing in its syntax, for the reason and at the place of the fault
 abbrev pub IsNotSpelled : Syntax → Text → PatternFault → Type 0
 IsNotSpelled Basic text fault = IsNoBasic text fault
 IsNotSpelled Extended text fault = IsNoExtended text fault
@@ -40,7 +40,7 @@ pub record IsTooLarge (syntax : Syntax) (fold : Bool) (text : Text)
   pub meant : IsMeant syntax fold text meaning
   pub large : most_positions < positions meaning
 
--- why a text is refused where there was memory
+-- why a text is refused if there is memory
 abbrev pub IsRefusedFor : Syntax → Bool → Text → PatternFault → Type 0
 IsRefusedFor syntax fold text fault =
     IsNotSpelled syntax text fault ⊎ IsTooLarge syntax fold text fault

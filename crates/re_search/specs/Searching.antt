@@ -28,19 +28,19 @@ abbrev pub FindsPartOfAll : List Expression → List Bool → Text → ℕ → O
 FindsPartOfAll es wholes line from found =
     (whole : Bool) → AllAnswer whole wholes → FindsPart es line whole from found
 
--- the verdict tells whether some expression matches the line, by the answer that all matchers give
+-- the verdict says whether some expression matches the line, by the answer that all matchers give
 abbrev pub TellsMatchOfAll : List Expression → List Bool → Text → Bool → Type 0
 TellsMatchOfAll es wholes line verdict =
     (whole : Bool) → AllAnswer whole wholes → IsTrue verdict ↔ SomeMatches es line whole
 
--- the same matchers in the same order: each stands for its expression, and asks for whole lines or
--- not, as before
+-- the same matchers in the same order: each has its expression as before, and asks for whole lines
+-- or not as before
 pub record SameMatchers {M : Type 0} (expression : M → Expression) (whole : M → Bool)
     (old new : List M) : Type 0 where
   pub same_expressions : map expression new ≡ map expression old
   pub same_wholes : map whole new ≡ map whole old
 
--- at most so many steps were counted, and no count fell, each of which stays at the greatest u64
+-- at most `most` steps were counted, and no count fell; each count stops at the greatest u64
 pub record AddsAtMost (most : ℕ) (old new : Steps) : Type 0 where
   pub built : min old.built (2 ^ 64 - 1) ≤ new.built
   pub reused : min old.reused (2 ^ 64 - 1) ≤ new.reused

@@ -1,4 +1,4 @@
-//! Blocks of whole lines, of which the first are passed, or all counted, without being handed out.
+//! Blocks of whole lines: passing over their first lines, and counting their lines, at once.
 ghost use Rattle.std.specs.Prelude.{◌≡◌, ◌+◌, ◌<◌, ◌≤◌, ◌↔◌, ◌++◌, ◌∷◌, IsTrue, IfSome};
 ghost use Rattle.std.specs.Prelude.{MatchOption, length, take, drop, ⊤};
 ghost use Rattle.re_syntax.specs.Lines.{newline, lines_of, HasNoNewline};
@@ -11,8 +11,8 @@ use crate::needle::RunFinder;
 use memchr::memmem::Finder;
 use memchr::{memchr, memrchr};
 
-/// Where in a block of whole lines the first line begins in which the string stands; behind the
-/// last line where it stands in none.
+/// Where the first line with the string begins in a block of whole lines; the end of the block if
+/// no line has it.
 pub fn first_line_with(finder: &Finder<'_>, block: &[u8]) -> usize
     requires { IsBlock block.now }
     ensures { PassesAll (Lacks finder.now) block.now result }
@@ -23,8 +23,8 @@ pub fn first_line_with(finder: &Finder<'_>, block: &[u8]) -> usize
     }
 }
 
-/// Where in a block of whole lines the first line begins in which the run stands; behind the last
-/// line where it stands in none.
+/// Where the first line with the run begins in a block of whole lines; the end of the block if no
+/// line has it.
 pub fn first_line_with_run(finder: &RunFinder, block: &[u8]) -> usize
     requires { IsBlock block.now }
     ensures { PassesAll (LacksRun (run_of finder.now)) block.now result }
@@ -35,9 +35,9 @@ pub fn first_line_with_run(finder: &RunFinder, block: &[u8]) -> usize
     }
 }
 
-/// Where in a block of whole lines the first line begins that begins with the run; behind the last
-/// line where none does.
-// Where the run stands within a line, the search goes on behind that line.
+/// Where the first line that begins with the run begins in a block of whole lines; the end of the
+/// block if there is none.
+// After a run inside a line, the search goes on at the next line.
 #[inline(never)]
 pub fn first_line_beginning_with(finder: &RunFinder, block: &[u8]) -> usize
     requires { IsBlock block.now }
@@ -71,7 +71,7 @@ fn line_begins(bytes: &[u8], place: usize) -> bool
     bytes[place - 1] == b'\n'
 }
 
-/// Where the last line of the bytes begins, which no newline has to end.
+/// Where the last line of the bytes begins. It need not end with a newline.
 pub fn line_start(bytes: &[u8]) -> usize
     ensures { PassesAll (λ _. ⊤) bytes.now result }
 {
@@ -89,8 +89,8 @@ fn last_newline(bytes: &[u8]) -> Option<usize>
     memrchr(b'\n', bytes)
 }
 
-/// How many lines of a block of whole lines the string stands in. `None` where it is empty, or is
-/// on no line since it has a newline.
+/// How many lines of a block of whole lines have the string. `None` if the string is empty or has a
+/// newline.
 pub fn count_lines_with(finder: &Finder<'_>, block: &[u8]) -> Option<u64>
     requires { IsBlock block.now }
     ensures { IfSome result (λ n. HoldsOfMany (StandsIn finder.now) (lines_of block.now) n) }
@@ -101,7 +101,7 @@ pub fn count_lines_with(finder: &Finder<'_>, block: &[u8]) -> Option<u64>
     Some(count_by(finder, block))
 }
 
-// The same of a string that is not empty and has no newline.
+// The same for a string that is not empty and has no newline.
 fn count_by(finder: &Finder<'_>, block: &[u8]) -> u64
     requires block { IsBlock block.now }
     requires some { 1 ≤ length finder.now }

@@ -1,4 +1,5 @@
-//! Search by stepping an automaton over the line, where what sets of positions become is kept.
+//! Search by stepping an automaton over the line, with a cache of the steps between sets of
+//! positions.
 ghost use Rattle.std.specs.Prelude.{◌≡◌, ℕ, ◌+◌, ◌-◌, ◌≤◌, ◌↔◌, [], ◌∷◌, false, IsTrue, IfOk};
 ghost use Rattle.std.specs.Prelude.{IfErr, IfSome, length};
 ghost use Rattle.std.specs.NonZero.{non_zero_usize_get};
@@ -30,8 +31,9 @@ use std::num::NonZeroUsize;
 use table::Table;
 use walking::Outcome;
 
-/// A matcher for an expression that keeps what it worked out. Contracts see it as the tree, whether
-/// the whole line has to be matched, what its cache holds, and how many entries that may have.
+/// A matcher for an expression that keeps the steps that it worked out. Contracts see it as the
+/// tree, whether the whole line has to be matched, the entries of its cache, and how many entries
+/// that may have.
 #[derive(Drop)]
 pub struct Cached {
     simulated: Simulated,
@@ -68,8 +70,8 @@ impl Model for Cached {
 }
 
 impl Cached {
-    /// The matcher with a cache of at most `most` entries, which holds nothing yet. Where memory
-    /// for the cache is refused it comes back as it was.
+    /// The matcher with an empty cache of at most `most` entries. If memory for the cache is
+    /// refused, the matcher is returned as it was.
     pub fn over(
         alloc: Global,
         simulated: Simulated,
@@ -95,7 +97,7 @@ impl Cached {
         })
     }
 
-    // The same in a box. Where memory for that is refused the cache is given up.
+    // The same in a box. If memory is refused, the matcher is returned without a cache.
     pub(crate) fn boxed(
         alloc: Global,
         simulated: Simulated,
@@ -130,14 +132,14 @@ impl Cached {
         self.table.pairs.held()
     }
 
-    /// The string that stands on each stretch that is matched, where one is known.
+    /// A string that every matched stretch has, if one is known.
     pub(crate) fn needed(&self) -> Option<&[u8]>
         ensures { IfSome result (λ text. IsNeeded text.now (expression_of self.now.tree)) }
     {
         self.simulated.needed()
     }
 
-    // Whether the line is matched, which is not known without a step.
+    // Whether the line is matched, for a line of which that is not known without a step.
     #[inline(always)]
     fn searched(&mut self, line: &[u8], meter: &mut Meter) -> bool
         ensures searches { Searches (expression_of self.old.tree) (mode_for self.old.whole) line.now
@@ -177,8 +179,8 @@ impl Cached {
     }
 }
 
-// Whether the table has rows; where it has none they are made, if that is worth while and memory is
-// there for them.
+// Whether the table has rows. If it has none, they are made, provided that it is worth while and
+// there is memory for them.
 #[inline(always)]
 fn is_ready(
     table: &mut Table,

@@ -20,10 +20,10 @@ use std::alloc::{AllocError, Global};
 use std::cell::Cell;
 use std::marker::Model;
 
-/// Strings that stand before several matchers: some of them stands on each line that some matcher
-/// matches. Contracts see it as the strings.
-// Of lines one after another often the same pattern matches, so the matchers from the one on that
-// matched last are asked first.
+/// Strings that are looked for before several matchers are asked: each line that some matcher
+/// matches has one of them. Contracts see it as the strings.
+// Lines one after another often match the same pattern, so the matcher that matched last and those
+// after it are asked first.
 #[derive(Drop)]
 pub struct Filter {
     strings: FixedSet,
@@ -39,15 +39,15 @@ impl Model for Filter {
 }
 
 impl Filter {
-    /// Whether some string stands at some place of the line. No step is counted.
+    /// Whether some string occurs in the line. No step is counted.
     pub fn stands_in(&self, line: &[u8]) -> bool
         ensures { IsTrue result ↔ Matches (any_literal self.now) line.now false }
     {
         self.strings.stands_in(line)
     }
 
-    /// Where in a block of whole lines the first line begins on which some string stands; behind
-    /// the last line where none does. No step is counted.
+    /// Where the first line with some string begins in a block of whole lines; the end of the block
+    /// if no line has one. No step is counted.
     pub fn first_line(&self, block: &[u8]) -> usize
         requires { IsBlock block.now }
         ensures { PassesUnmatched (any_literal self.now) false block.now result }
@@ -55,8 +55,8 @@ impl Filter {
         self.strings.first_line(block)
     }
 
-    /// Whether some matcher matches the line, as [`crate::is_matched`] tells it. Those from the one
-    /// on that matched last are asked first.
+    /// Whether some matcher matches the line, like [`crate::is_matched`]. The one that matched last
+    /// and those after it are asked first.
     pub fn is_matched<M: LineMatch>(
         &self,
         matchers: &mut [M],
@@ -78,7 +78,7 @@ impl Filter {
         self.is_matched_from(0, before, line, meter)
     }
 
-    // Whether some of these matchers matches the line, of which the first has this number.
+    // Whether one of these matchers matches the line. `first` is the number of the first of them.
     fn is_matched_from<M: LineMatch>(
         &self,
         first: usize,
@@ -103,8 +103,8 @@ impl Filter {
     }
 }
 
-/// Strings of which some stands on each line that some of the matchers matches; `None` where a
-/// matcher is not known to need one. The one error is that memory was refused.
+/// Strings of which each line that some matcher matches has one. `None` if a matcher is not known
+/// to need a string. The one error is that memory was refused.
 pub fn needed_strings(alloc: Global, matchers: &[Matcher]) -> Result<Option<Filter>, AllocError>
     ensures { IfOk result
         (λ found.
@@ -118,8 +118,8 @@ pub fn needed_strings(alloc: Global, matchers: &[Matcher]) -> Result<Option<Filt
     Ok(Some(Filter { strings, likely }))
 }
 
-// A string that each of the matchers needs, each followed by a newline; `None` where one is not
-// known to need a string, or one with a newline in it.
+// One needed string for each matcher, each followed by a newline. `None` if a matcher is not known
+// to need one, or needs one with a newline in it.
 fn needed_lines(alloc: Global, matchers: &[Matcher]) -> Result<Option<Vec<u8>>, AllocError>
     ensures { IfOk result
         (λ found.
@@ -136,7 +136,7 @@ fn needed_lines(alloc: Global, matchers: &[Matcher]) -> Result<Option<Vec<u8>>, 
     Ok(Some(texts))
 }
 
-// The string that the matcher needs, where it is known to need one without a newline in it.
+// The string that the matcher needs, if one without a newline in it is known.
 fn needed_line(matcher: &Matcher) -> Option<&[u8]>
     ensures { IfSome result
         (λ text. IsNeeded text.now (matched_expression matcher.now) × HasNoNewline text.now) }

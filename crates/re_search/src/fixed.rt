@@ -49,14 +49,14 @@ impl Fixed {
         line == self.finder.needle()
     }
 
-    // Whether the string stands at some place of the line.
+    // Whether the string occurs in the line.
     fn stands_in(&self, line: &[u8]) -> bool
         ensures { IsTrue result ↔ Matches (literal_expression self.now) line.now false }
     {
         self.finder.find(line).is_some()
     }
 
-    // The part where the whole line has to be the string.
+    // The matched part if the whole line has to be the string.
     fn whole_line(&self, line: &[u8], from: usize) -> Option<Span>
         ensures { FindsPart (literal_expression self.now ∷ []) line.now true from result }
     {
@@ -69,7 +69,7 @@ impl Fixed {
         })
     }
 
-    // The first place of the string at `from` or later. An empty string makes no part.
+    // The first occurrence of the string at `from` or later. An empty string makes no part.
     fn occurrence(&self, line: &[u8], from: usize) -> Option<Span>
         requires { from ≤ length line.now }
         ensures { FindsPart (literal_expression self.now ∷ []) line.now false from result }

@@ -61,8 +61,8 @@ impl Model for FixedSet {
 }
 
 impl FixedSet {
-    /// A matcher for the texts, the lines of `texts`, of which no byte is special; with `fold` both
-    /// cases of each letter are alike. The one error is that memory was refused, or that the texts
+    /// A matcher for the texts, the lines of `texts`, in which no byte is special. With `fold` both
+    /// cases of each letter are alike. The errors are that memory was refused, or that the texts
     /// have 2^32 beginnings or more.
     pub fn new(alloc: Global, texts: &[u8], fold: bool, whole: bool) -> Result<FixedSet, AllocError>
         ensures { IfOk result
@@ -75,7 +75,7 @@ impl FixedSet {
         FixedSet::by_keys(alloc, texts, texts, fold, whole)
     }
 
-    // A matcher for the texts, which are compared as the lines of `keyed`.
+    // A matcher for the texts. They are compared as the lines of `keyed`.
     fn by_keys(
         alloc: Global,
         texts: &[u8],
@@ -111,8 +111,8 @@ impl FixedSet {
         self.table.is_line(line)
     }
 
-    /// Whether some string stands at some place of the line, whether or not the whole line has to
-    /// be one. No step is counted.
+    /// Whether some string occurs in the line, whether or not the whole line has to be one. No step
+    /// is counted.
     pub fn stands_in(&self, line: &[u8]) -> bool
         ensures { IsTrue result ↔ Matches (any_literal self.now) line.now false }
     {
@@ -122,8 +122,8 @@ impl FixedSet {
         self.table.stands_in(line)
     }
 
-    /// Where in a block of whole lines the first line begins on which some string stands, whether or
-    /// not the whole line has to be one; behind the last line where none does. No step is counted.
+    /// Where the first line with some string begins in a block of whole lines, whether or not the
+    /// whole line has to be one; the end of the block if no line has one. No step is counted.
     pub fn first_line(&self, block: &[u8]) -> usize
         requires { IsBlock block.now }
         ensures { PassesUnmatched (any_literal self.now) false block.now result }
@@ -137,7 +137,7 @@ impl FixedSet {
         }
     }
 
-    // The part where the whole line has to be one of the strings.
+    // The matched part if the whole line has to be one of the strings.
     fn whole_line(&self, line: &[u8], from: usize) -> Option<Span>
         ensures { FindsPart (any_literal self.now ∷ []) line.now true from result }
     {
@@ -150,8 +150,8 @@ impl FixedSet {
         })
     }
 
-    // The first string from a place on, and of those that begin there the longest. An empty string
-    // makes no part.
+    // The first string at `from` or later, and of those that begin there the longest. An empty
+    // string makes no part.
     fn occurrence(&self, line: &[u8], from: usize) -> Option<Span>
         requires { from ≤ length line.now }
         ensures { FindsPart (any_literal self.now ∷ []) line.now false from result }

@@ -9,10 +9,10 @@ use crate::cost::LookCost;
 use crate::span::Span;
 use re_auto::Meter;
 
-/// What decides whether a line is matched, and finds the parts of it that are. It stands for one
+/// What decides whether a line is matched, and finds the parts of it that are. It is made for one
 /// expression, which no search changes.
 pub trait LineMatch {
-    /// The expression that it stands for.
+    /// The expression that it is made for.
     ghost expression: { Self → Expression };
 
     /// Whether the whole line has to be matched (XCU grep, option `-x`).
@@ -34,8 +34,8 @@ pub trait LineMatch {
         ensures same_whole { whole self.new ≡ whole self.old }
         ensures steps { AddsAtMost (length line.now - from + 1) meter.old meter.new };
 
-    /// Where in a block of whole lines the first line begins that may be matched: no line before
-    /// it is. No step is taken. Where only a search would tell, that is the first line.
+    /// Where in a block of whole lines the first line begins that may be matched: no line before it
+    /// is matched. No step is taken. If only a search can say that, it is the first line.
     fn first_candidate(&self, block: &[u8]) -> usize
         requires { IsBlock block.now }
         ensures { PassesUnmatched (expression self.now) (whole self.now) block.now result }
@@ -43,7 +43,7 @@ pub trait LineMatch {
         0
     }
 
-    /// How many lines of a block of whole lines are matched, where that is known without a step.
+    /// How many lines of a block of whole lines are matched, if that is known without a step.
     fn count_matched(&self, block: &[u8]) -> Option<u64>
         requires { IsBlock block.now }
         ensures { IfSome result (λ count. CountsMatched (expression self.now) (whole self.now)

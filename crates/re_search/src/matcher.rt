@@ -40,22 +40,22 @@ pub enum Matcher {
     FixedSet(Box<FixedSet>),
     /// Steps an automaton.
     Simulated(Box<Simulated>),
-    /// Steps an automaton, and keeps what its sets of positions become.
+    /// Steps an automaton, and keeps the steps between its sets of positions.
     Cached(Box<Cached>),
 }
 
 impl Matcher {
     /// The matcher for the text of a pattern, read in its syntax; with `fold` both cases of each
     /// letter are alike (XCU grep, option `-i`), and with `whole` the whole line has to be matched
-    /// (option `-x`). A string that is not folded is looked for as it is, and may be of any length;
-    /// all other patterns get an automaton and a cache of at most `states` entries, from 1 to
-    /// 65,536, which is gone without where memory for it is refused.
+    /// (option `-x`). A string that is not folded is looked for as it is, and may be of any length.
+    /// All other patterns get an automaton and a cache of at most `states` entries, from 1 to
+    /// 65,536. The cache is left out if memory for it is refused.
     ///
     /// # Errors
     ///
-    /// `FaultKind::Memory` at 0 where memory ran out; where the text is no expression the fault of
-    /// [`re_syntax::read_basic`] or [`re_syntax::read_extended`]; `FaultKind::TooLarge` at 0 where
-    /// its expression has more than 4,096 positions, its intervals written out.
+    /// `FaultKind::Memory` at 0 if out of memory; if the text is no expression, the fault of
+    /// [`re_syntax::read_basic`] or [`re_syntax::read_extended`]; `FaultKind::TooLarge` at 0 if its
+    /// expression has more than 4,096 positions once its intervals are written out.
     pub fn new(
         alloc: Global,
         text: &[u8],
@@ -82,7 +82,7 @@ impl Matcher {
         fixed_matcher(alloc, text, whole)
     }
 
-    /// How many entries its cache has; 0 where it has none.
+    /// How many entries its cache has; 0 if it has no cache.
     pub fn cached(&self) -> usize
         ensures held { result ≡ length (entries_of self.now) }
         ensures few { result ≤ room_of self.now }
@@ -93,8 +93,8 @@ impl Matcher {
         }
     }
 
-    /// A string that stands on each stretch that is matched, where one is known of a matcher that
-    /// steps an automaton.
+    /// A string that every matched stretch has, if one is known of a matcher that steps an
+    /// automaton.
     pub(crate) fn needed(&self) -> Option<&[u8]>
         ensures { IfSome result (λ text. IsNeeded text.now (matched_expression self.now)) }
     {
@@ -184,7 +184,7 @@ impl LineMatch for Matcher {
     }
 }
 
-// Whether an expression of the syntax has to be small: an automaton is made for it.
+// Whether an expression of the syntax has to be small, since an automaton is made for it.
 fn is_limited(syntax: Syntax, fold: bool) -> bool
     ensures { result ≡ has_limit syntax fold }
 {
@@ -195,7 +195,7 @@ fn is_limited(syntax: Syntax, fold: bool) -> bool
     }
 }
 
-// The matcher that looks for the text as it is. Its one fault is that memory ran out.
+// The matcher that looks for the text as it is. Its one fault is `Memory`.
 fn fixed_matcher(alloc: Global, text: &[u8], whole: bool) -> Result<Matcher, PatternFault>
     ensures made { IfOk result
         (λ m. m ≡ Matcher.Fixed (record { text = text.now; whole = whole })) }
@@ -207,7 +207,7 @@ fn fixed_matcher(alloc: Global, text: &[u8], whole: bool) -> Result<Matcher, Pat
     }
 }
 
-// The matcher that steps the automaton of what the text means.
+// The matcher that steps the automaton of the text's meaning.
 fn stepping_matcher(
     alloc: Global,
     text: &[u8],
@@ -241,7 +241,7 @@ fn stepping_matcher(
     }
 }
 
-// The matcher that steps the automaton of a tree. Its faults are `TooLarge`, exactly where the
+// The matcher that steps the automaton of a tree. The errors are `TooLarge`, exactly if the
 // expression has more than 4,096 positions, and `Memory`.
 fn simulated_matcher(alloc: Global, tree: Tree, whole: bool) -> Result<Simulated, PatternFault>
     ensures made { IfOk result (λ s. s ≡ record { tree = tree; whole = whole }) }
@@ -255,7 +255,7 @@ fn simulated_matcher(alloc: Global, tree: Tree, whole: bool) -> Result<Simulated
     }
 }
 
-// The matcher with a cache of so many entries, or without one where memory for it is refused.
+// The matcher with a cache of `states` entries, or without one if memory for it is refused.
 fn with_cache(alloc: Global, simulated: Simulated, states: usize) -> Result<Matcher, AllocError>
     requires { 1 ≤ states }
     ensures made { IfOk result (λ m.
@@ -273,8 +273,8 @@ fn with_cache(alloc: Global, simulated: Simulated, states: usize) -> Result<Matc
     }
 }
 
-// The tree of what the text means. Where that has too many positions no tree is built: it could be
-// far greater than the text.
+// The tree of the text's meaning. If it has too many positions, no tree is built, since it could be
+// far larger than the text.
 fn meant_tree(alloc: Global, text: &[u8], syntax: Syntax, fold: bool) -> Result<Tree, PatternFault>
     requires limited { IsTrue (has_limit syntax fold) }
     ensures meant { IfOk result (λ tree. IsMeant syntax fold text.now (expression_of tree)) }
@@ -311,7 +311,7 @@ fn spelled_positions(text: &[u8], syntax: Syntax) -> Result<usize, PatternFault>
     }
 }
 
-// The tree of what the text spells.
+// The tree that the text spells.
 pub(crate) fn spelled_tree(alloc: Global, text: &[u8], syntax: Syntax) -> Result<Tree, PatternFault>
     ensures read { IfOk result (λ tree. IsSpelled syntax text.now (expression_of tree)) }
     ensures refused { IfErr result
@@ -324,7 +324,7 @@ pub(crate) fn spelled_tree(alloc: Global, text: &[u8], syntax: Syntax) -> Result
     }
 }
 
-// A fault of the whole text, told at its first place.
+// A fault of the whole text, reported at its first place.
 fn fault_at_first(kind: FaultKind) -> PatternFault
     ensures { result ≡ record { kind = kind; at = 0 } }
 {

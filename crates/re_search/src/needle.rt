@@ -1,4 +1,4 @@
-//! What every match of an expression has in it.
+//! What every match of an expression contains.
 ghost use Rattle.std.specs.Prelude.{◌≡◌, ◌≤◌, ◌++◌, List, Option, Some, IfOk, IfSome, length, map};
 ghost use Rattle.re_syntax.specs.Bytes.{Bytes, only};
 ghost use Rattle.re_syntax.specs.Expression.{Expression, byte, expression_of};
@@ -26,34 +26,34 @@ use set_finder::SetFinder;
 use std::alloc::{AllocError, Global};
 use survey::rank_of;
 
-// From so many sets on a run of sets of any size is looked for.
+// A run of sets of any size is looked for if it has at least this number of sets.
 const MANY_SETS: usize = 8;
 
-// From this rank on a byte stands on most lines of most texts: the blank, `e` and `t`. The table of
-// ranks takes all bytes from 0xC0 on for common ones, too.
+// A byte of this rank or a higher one is on most lines of most texts: the blank, `e` and `t`. The
+// table of ranks counts all bytes from 0xC0 on as common, too.
 const COMMON: u8 = 250;
 
-/// A run of bytes, or of sets of bytes, that every match of an expression has in it.
+/// A run of bytes, or of sets of bytes, that every match of an expression contains.
 #[derive(Drop)]
 pub struct Needle {
     /// Looks for the run.
     pub finder: RunFinder,
     /// Whether every match begins with the run.
     pub is_first: bool,
-    /// Whether the matches are where the run stands, and nothing else.
+    /// Whether the matches are exactly the places of the run.
     pub is_all: bool,
-    /// Whether the run stands on most lines of some texts, so that it is looked for over blocks, as
-    /// long as lines are passed, and not in each line before a search by kept steps.
+    /// Whether the run is on most lines of some texts. Then it is looked for over blocks, as long
+    /// as lines are passed, and not in each line before a search by kept steps.
     pub is_common: bool,
 }
 
 impl Needle {
-    /// A run of single bytes that is needed, through groups and what is repeated once or more; a
-    /// run of small sets where no two such bytes stand in a row, if it is all there is or stands in
-    /// most texts seldom; the first single byte where there is no such run either. Where that byte
-    /// is common, or there is none, a long run of sets of any size goes before it. A choice has the
-    /// sets of what its branches begin with, and a set that is repeated is so many sets. `None`
-    /// where there is nothing of all this. The one error is that memory was refused.
+    /// The run to look for, the first of these that every match needs, also in groups and in what
+    /// is repeated once or more: two or more single bytes; a run of small sets that is rare in most
+    /// texts or is all there is; one byte that is not common; a long run of sets of any size; a
+    /// common byte. A choice has the sets that its branches begin with, and a set that is repeated
+    /// counts once for each time. `None` if there is none of these. The one error is that memory
+    /// was refused.
     pub fn of(alloc: Global, tree: &Tree) -> Result<Option<Needle>, AllocError>
         ensures { IfOk result (IsNeedleFor (expression_of tree.now)) }
     {
@@ -100,7 +100,7 @@ fn is_uncommon(needle: &Option<Needle>) -> bool {
     }
 }
 
-// The needle of the single bytes from a mark on, where they are so many.
+// The needle of the single bytes from a mark on, if there are at least `least`.
 fn text_needle(
     alloc: Global,
     marks: &[Mark],
@@ -127,12 +127,12 @@ fn text_needle(
     }))
 }
 
-// Whether the text is one byte that stands on most lines of most texts.
+// Whether the text is one byte that is on most lines of most texts.
 fn is_common_byte(text: &[u8]) -> bool {
     text.len() == 1 && rank_of(text[0]) >= COMMON
 }
 
-// The needle of the small sets from a mark on, where they are two or more.
+// The needle of the small sets from a mark on, if there are two or more.
 fn set_needle(alloc: Global, marks: &[Mark], start: usize) -> Result<Option<Needle>, AllocError>
     requires { start ≤ length marks.now }
     ensures { IfOk result
@@ -157,8 +157,8 @@ fn set_needle(alloc: Global, marks: &[Mark], start: usize) -> Result<Option<Need
     }))
 }
 
-// The needle of sets of any size from a mark on, where they are many. On some texts such a run
-// stands on most lines.
+// The needle of sets of any size from a mark on, if there are many. On some texts such a run is on
+// most lines.
 fn wide_needle(alloc: Global, marks: &[Mark], start: usize) -> Result<Option<Needle>, AllocError>
     requires { start ≤ length marks.now }
     ensures { IfOk result
@@ -179,7 +179,7 @@ fn wide_needle(alloc: Global, marks: &[Mark], start: usize) -> Result<Option<Nee
     }))
 }
 
-// The bytes of the marks before the first that isn't one byte.
+// The bytes of the marks before the first that isn't a single byte.
 fn leading_bytes(alloc: Global, marks: &[Mark]) -> Result<Vec<u8>, AllocError>
     ensures { IfOk result
         (λ bytes. (rest : List (Option Bytes)) ×
@@ -195,7 +195,7 @@ fn leading_bytes(alloc: Global, marks: &[Mark]) -> Result<Vec<u8>, AllocError>
     Ok(bytes)
 }
 
-// The byte of the mark, where it is one byte.
+// The byte of the mark, if it is a single byte.
 fn byte_of(mark: &Mark) -> Option<u8>
     ensures { IfSome result (λ b. shown mark.now ≡ Some (only b)) }
 {
@@ -205,7 +205,7 @@ fn byte_of(mark: &Mark) -> Option<u8>
     }
 }
 
-// The byte that the tree takes, where it takes one byte and no other.
+// The byte that the tree matches, if it matches that byte and nothing else.
 pub(crate) fn one_byte(tree: &Tree) -> Option<u8>
     ensures { IfSome result (λ b. expression_of tree.now ≡ byte b) }
 {

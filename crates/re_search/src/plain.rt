@@ -9,7 +9,7 @@ use re_syntax::{Syntax, Tree};
 use std::alloc::Global;
 
 /// Whether the text of a pattern is read as the string that it is: no byte of it is special in the
-/// syntax. `false` tells nothing; it comes too where memory ran out.
+/// syntax. `false` says nothing; it is also the answer if out of memory.
 pub fn is_plain(alloc: Global, text: &[u8], syntax: Syntax) -> bool
     ensures { IsTrue result → IsSpelled syntax text.now (sequence (map byte text.now)) }
 {

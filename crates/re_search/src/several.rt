@@ -18,15 +18,15 @@ use crate::line_match::LineMatch;
 use crate::span::Span;
 use re_auto::Meter;
 
-// How far several matchers look ahead in a block, in bytes. Their answers are not kept, so that
-// each is asked about the same lines again behind the line at which the least of them stops.
+// How far several matchers look ahead in a block, in bytes. Their answers are not kept, so each is
+// asked about the same lines again after the line of the least answer.
 const LOOK_AHEAD: usize = 4096;
 
-/// The next part of the line: of all stretches that are not empty, begin at `from` or later and
-/// are matched by some matcher the one that begins earliest, and of those that begin there the
-/// longest (XBD 9.1). All matchers have to agree on whether the whole line has to be matched.
-/// Called with 0 and then with the end of each part it gives all parts of the line. It takes at
-/// most one step for each matcher and byte from `from` on, and one more for each matcher.
+/// The next part of the line: of all stretches that are not empty, begin at `from` or later and are
+/// matched by some matcher, the one that begins earliest, and of those that begin there the longest
+/// (XBD 9.1). All matchers have to agree on whether the whole line has to be matched. Called with 0
+/// and then with the end of each part, it returns all parts of the line. It takes at most one step
+/// for each matcher and byte from `from` on, and one more for each matcher.
 pub fn parts<M: LineMatch>(
     matchers: &mut [M],
     line: &[u8],
@@ -49,7 +49,7 @@ pub fn parts<M: LineMatch>(
     best
 }
 
-// Of two parts the one that begins earlier, and of two that begin together the longer one.
+// The one of two parts that begins earlier, and of two that begin together the longer one.
 fn better(best: Option<Span>, found: Option<Span>) -> Option<Span>
     ensures { (es fs : List Expression) (line : Text) (whole : Bool) (from : ℕ)
         → FindsPart es line whole from best → FindsPart fs line whole from found
@@ -71,7 +71,7 @@ fn better(best: Option<Span>, found: Option<Span>) -> Option<Span>
 }
 
 /// Whether some matcher matches the line. All matchers have to agree on whether the whole line has
-/// to be matched. None is asked behind the first that matches. It takes at most one step for each
+/// to be matched. None is asked after the first that matches. It takes at most one step for each
 /// matcher and byte, and one more for each matcher.
 pub fn is_matched<M: LineMatch>(matchers: &mut [M], line: &[u8], meter: &mut Meter) -> bool
     requires { (whole : Bool) × AllAnswer whole (map M.whole matchers.old) }
@@ -90,9 +90,9 @@ pub fn is_matched<M: LineMatch>(matchers: &mut [M], line: &[u8], meter: &mut Met
 
 /// Where in a block of whole lines the first line begins that some matcher may match: no line
 /// before it is matched by any. All matchers have to agree on whether the whole line has to be
-/// matched. A filter, where there is one, tells for all of them: strings of which some stands on
-/// each line that some matcher matches. Without one a single matcher is asked about the whole
-/// block, and several about its first lines alone. No step is taken.
+/// matched. A filter, if there is one, answers for all of them: each line that some matcher matches
+/// has one of its strings. Without a filter a single matcher is asked about the whole block, and
+/// several about its first lines alone. No step is taken.
 pub fn first_candidate<M: LineMatch>(matchers: &[M], filter: Option<&Filter>, block: &[u8]) -> usize
     requires block { IsBlock block.now }
     requires needed { IfSome filter (λ f. AreNeeded f.now (map M.expression matchers.now)) }
@@ -108,9 +108,9 @@ pub fn first_candidate<M: LineMatch>(matchers: &[M], filter: Option<&Filter>, bl
     matchers[0].first_candidate(block)
 }
 
-// The first of the lines that some matcher may match, or behind the first lines of the block where
-// there is none among these. Each matcher is asked only about the lines before the answers of those
-// before it.
+// The first of the lines that some matcher may match, or the end of the block's first lines if
+// there is none among them. Each matcher is asked only about the lines before the answers of the
+// matchers before it.
 fn least_candidate<M: LineMatch>(matchers: &[M], block: &[u8]) -> usize
     requires { IsBlock block.now }
     ensures { PassesUnmatchedByAll (map M.expression matchers.now) (map M.whole matchers.now)
@@ -126,7 +126,7 @@ fn least_candidate<M: LineMatch>(matchers: &[M], block: &[u8]) -> usize
     end
 }
 
-// Where the lines of a block end that lie within so many bytes from its first on.
+// Where the lines end that are whole within the first `LOOK_AHEAD` bytes of a block.
 fn first_lines(block: &[u8]) -> usize
     requires { IsBlock block.now }
     ensures { PassesAll (λ _. ⊤) block.now result }
@@ -137,8 +137,8 @@ fn first_lines(block: &[u8]) -> usize
     line_start(&block[..LOOK_AHEAD])
 }
 
-/// How many lines of a block of whole lines some matcher matches, where that is known without a
-/// step: of a single matcher. `None` comes too where there is a filter, which is there for several.
+/// How many lines of a block of whole lines some matcher matches, if a single matcher knows that
+/// without a step. It is also `None` if there is a filter, which is for several matchers.
 pub fn count_matched<M: LineMatch>(
     matchers: &[M],
     filter: Option<&Filter>,

@@ -31,8 +31,8 @@ use std::alloc::Global;
 use std::marker::Model;
 
 /// A matcher for an expression. Contracts see it as the tree and whether the whole line has to be
-/// matched. Where every match has some run of bytes in it, lines without it take no step, but for
-/// runs so common that they are looked for over blocks of lines alone.
+/// matched. If every match has some run of bytes in it, a line without the run takes no step,
+/// unless the run is so common that it is looked for over blocks of lines alone.
 #[derive(Drop)]
 pub struct Simulated {
     automaton: Automaton,
@@ -63,8 +63,8 @@ impl Model for Simulated {
 
 impl Simulated {
     /// A matcher for the tree. All memory that searches need is taken here. The errors are
-    /// `TooLarge`, exactly where the expression has more than 4,096 positions once its intervals
-    /// are written out, and `Memory`.
+    /// `TooLarge`, exactly if the expression has more than 4,096 positions once its intervals are
+    /// written out, and `Memory`.
     pub fn new(alloc: Global, tree: Tree, whole: bool) -> Result<Simulated, BuildFault>
         ensures made { IfOk result (λ s. s ≡ record { tree = tree; whole = whole }) }
         ensures few { IfOk result (λ _. positions (expression_of tree) ≤ most_positions) }
@@ -99,7 +99,7 @@ impl Simulated {
         })
     }
 
-    /// The string that stands on each stretch that is matched, where one is known.
+    /// A string that every matched stretch has, if one is known.
     pub(crate) fn needed(&self) -> Option<&[u8]>
         ensures { IfSome result (λ text. IsNeeded text.now (expression_of self.now.tree)) }
     {
@@ -170,7 +170,7 @@ impl Simulated {
         self.sets.stands_in(&self.automaton, line, meter)
     }
 
-    /// The rest of a search, by steps alone, from a place on at which the set stands.
+    /// The rest of a search, by steps alone, from a place where the search has this set.
     #[inline(never)]
     pub(crate) fn finish(
         &mut self,
@@ -194,7 +194,7 @@ impl Simulated {
             .stands_from(&self.automaton, set, line, from, meter)
     }
 
-    // The part where the whole line has to be matched.
+    // The matched part if the whole line has to be matched.
     fn whole_line(&mut self, line: &[u8], from: usize, meter: &mut Meter) -> Option<Span>
         requires within { from ≤ length line.now }
         requires whole { self.old.whole ≡ true }
@@ -211,7 +211,7 @@ impl Simulated {
         })
     }
 
-    // The next part where it need not be the whole line.
+    // The next part if it need not be the whole line.
     fn part(&mut self, line: &[u8], from: usize, meter: &mut Meter) -> Option<Span>
         requires { from ≤ length line.now }
         ensures told { FindsPart (expression_of self.old.tree ∷ []) line.now false from result }

@@ -1,4 +1,4 @@
--- lemmas by subject; the answers to goals of functions lie in folders of their modules
+-- lemmas by subject; the answers to goals of functions are in folders of their modules
 pub mod lemmas
--- worked examples of the grammars: evidence that the definitions say what they are to say
+-- worked examples of the grammars: evidence that the definitions say what they should
 pub mod examples

@@ -1,7 +1,7 @@
 -- Basic regular expressions (XBD 9.3), with branches and two duplications that the standard leaves
--- undefined and GNU grep has. Each relation has a text at whose front a part stands, the text that
--- follows the part, and what the part means; a number is the part's height, how deep groups and
--- duplications stand in one another there.
+-- undefined and GNU grep has. Each relation is between a text that begins with a part, the text
+-- after the part, and what the part means. A number is the part's height: how deep groups and
+-- duplications are nested in it.
 use Rattle.std.specs.Prelude.{◌≡◌, ℕ, suc, max, Bool, not, List, [], ◌∷◌, ◌++◌, Option, Some, None}
 use Rattle.std.specs.Prelude.{IsTrue, codes}
 use Rattle.re_syntax.specs.Bytes.{Text, any_but_nul}
@@ -20,26 +20,26 @@ pub data Duplication : Text → ℕ → Option ℕ → Type 0 where
   interval : {t : Text} {least : ℕ} {most : Option ℕ} → Interval t least most →
       IsAllowed least most → Duplication (codes "\\{" ++ t ++ codes "\\}") least most
 
--- where in its branch an item stands: first, directly after the anchor that is first, or after
--- another item
+-- where in its branch an item is: first, directly after the anchor that is first, or after another
+-- item
 pub data ItemPlace : Type 0 where
   First AfterAnchor Later : ItemPlace
 
--- whether a byte stands for itself: none of `[.\`; `^` only where it is not first, `*` only first
--- or directly after the anchor (XBD 9.3.3, 9.3.8)
+-- whether a byte stands for itself: not `[`, `.` or `\`; `^` only where it is not first; `*` only
+-- first or directly after the anchor (XBD 9.3.3, 9.3.8)
 abbrev pub is_ordinary : ItemPlace → ℕ → Bool
 is_ordinary First b = not (is_in (codes "[.\\^") b)
 is_ordinary AfterAnchor b = not (is_in (codes "[.\\") b)
 is_ordinary Later b = not (is_in (codes "[.\\*") b)
 
--- a branch ends here: the text does, the group, or another branch follows
+-- a branch ends here: the text ends, the group ends, or another branch follows
 pub data IsAtEnd : Text → Type 0 where
   of_text : IsAtEnd []
   of_group : {t : Text} → IsAtEnd (codes "\\)" ++ t)
   of_branch : {t : Text} → IsAtEnd (codes "\\|" ++ t)
 
 mutual
-  -- branches parted by `\|`, each a sequence, as GNU grep has them
+  -- branches separated by `\|`, each a sequence, as GNU grep has them
   pub data Branches : ℕ → Text → Text → List Expression → Type 0 where
     last : {h : ℕ} {t u : Text} {es : List Expression} → Items First h t u es →
         Branches h t u (sequence es ∷ [])

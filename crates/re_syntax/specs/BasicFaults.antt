@@ -1,6 +1,5 @@
--- Why the text of a basic expression is refused (XBD 9.3): what stands at the place that is told,
--- judged by its bytes, and where a bracket expression or a group is opened or closed also by what
--- can be read there.
+-- Why the text of a basic expression is refused (XBD 9.3). The bytes at the reported place show it.
+-- Where a bracket expression or a group is opened or closed, what can be read there counts too.
 use Rattle.std.specs.Prelude.{◌≡◌, ℕ, ◌⊎◌, [], ◌++◌, List, take, drop, codes}
 use Rattle.re_syntax.specs.declared.fault.FaultKind.{FaultKind}
 use Rattle.re_syntax.specs.declared.fault.FaultKind.TheVariants.{UnclosedBracket, BadClass}
@@ -28,13 +27,14 @@ pub record OpensNoInterval (t : Text) : Type 0 where
   pub opens : t ≡ codes "\\{" ++ inside
   pub none : HasNoInterval (codes "\\}") inside
 
--- a `\{` of any form or none, a `\+` or a `\?`: no byte of its own, so it needs an item before it
+-- a `\{` of any form or none, a `\+` or a `\?`: it never stands for its own bytes, so it needs an
+-- item before it
 pub data NeedsItem : Text → Type 0 where
   needs_interval : {u : Text} → NeedsItem (codes "\\{" ++ u)
   needs_plus : {u : Text} → NeedsItem (codes "\\+" ++ u)
   needs_question : {u : Text} → NeedsItem (codes "\\?" ++ u)
 
--- a `\(` behind which branches go on up to the text's end
+-- a `\(` after which branches go on up to the text's end
 pub record OpensUnclosed (t : Text) : Type 0 where
   pub inside : Text
   pub height : ℕ
@@ -42,22 +42,22 @@ pub record OpensUnclosed (t : Text) : Type 0 where
   pub opens : t ≡ codes "\\(" ++ inside
   pub goes_on : Branches height inside [] members
 
--- a `\)` that comes behind branches from the text's start on, and so is in no group
+-- a `\)` after branches that begin at the text's start, and so in no group
 pub record ClosesNone (before t : Text) : Type 0 where
   pub height : ℕ
   pub members : List Expression
   pub closes : Begins (codes "\\)") t
   pub stands : Branches height (before ++ t) t members
 
--- what stands before a branch: nothing, a group's opening, or a `\|`
+-- what comes before a branch: nothing, a group's opening, or a `\|`
 abbrev pub IsStart : Text → Type 0
 IsStart before = (before ≡ []) ⊎ (Ends (codes "\\(") before ⊎ Ends (codes "\\|") before)
 
--- what a duplication has nothing to repeat behind: the start of a branch, or a caret
+-- what leaves a duplication nothing to repeat: the start of a branch, or a caret
 abbrev pub HasNothingToRepeat : Text → Type 0
 HasNothingToRepeat before = IsStart before ⊎ Ends (codes "^") before
 
--- the bytes where a fault shows: those before its place, and those from there on
+-- the bytes that show a fault: those before its place, and those from there on
 abbrev pub ShowsBasicFault : FaultKind → Text → Text → Type 0
 ShowsBasicFault UnclosedBracket before t = OpensNoBracket t
 ShowsBasicFault BadClass before t = ShowsBracketFault BadClass t
@@ -77,11 +77,11 @@ ShowsBasicFault TooDeep before t = Begins (codes "\\(") t ⊎ BeginsDuplication 
 ShowsBasicFault TooLarge before t = ⊥
 ShowsBasicFault Memory before t = ⊥
 
--- the fault shows at its place of the text
+-- the bytes at the fault's place of the text show it
 abbrev pub IsShownIn : Text → PatternFault → Type 0
 IsShownIn text fault = ShowsBasicFault fault.kind (take fault.at text) (drop fault.at text)
 
--- no basic expression is spelled, and the fault shows at its place
+-- the text spells no basic expression, and the bytes at the fault's place show the fault
 pub record IsNoBasic (text : Text) (fault : PatternFault) : Type 0 where
   pub none : (e : Expression) → ¬ IsSpelled Basic text e
   pub shown : IsShownIn text fault

@@ -1,5 +1,5 @@
--- Bracket expressions (XBD 9.3.5). Each relation has a text at whose front a part stands, the text
--- that follows the part, and what the part means.
+-- Bracket expressions (XBD 9.3.5). Each relation is between a text that begins with a part, the
+-- text after the part, and what the part means.
 use Rattle.std.specs.Prelude.{◌≡◌, ◌≢◌, ℕ, ◌≤◌, ◌⊎◌, ◌∷◌, ◌++◌, length, drop, codes}
 use Rattle.re_syntax.specs.declared.bracket.ListPlace.{ListPlace}
 use Rattle.re_syntax.specs.declared.bracket.ListPlace.TheVariants.{First, AfterPoint, AfterRange}
@@ -12,19 +12,19 @@ use Rattle.re_syntax.specs.Expression.{Expression, one_of, none_of}
 abbrev pub OpensNamed : Text → Type 0
 OpensNamed t = Begins (codes ".") t ⊎ (Begins (codes ":") t ⊎ Begins (codes "=") t)
 
--- a byte as it stands, or `[.c.]`
+-- a byte for itself, or `[.c.]`
 pub data Point : Text → Text → ℕ → Type 0 where
   bare : {t : Text} (b : ℕ) → (b ≡ 91 → ¬ OpensNamed t) → Point (b ∷ t) t b
   symbol : {t : Text} (b : ℕ) → Point (codes "[." ++ b ∷ codes ".]" ++ t) t b
 
--- a point that is no range's start: a `]` stands first; a `-` is first, last, or directly after a
--- range or a class; and a `-` may follow only as the last
+-- a point that begins no range: a `]` is first; a `-` is first, last, or directly after a range or
+-- a class; and a `-` may follow only as the last
 pub record MayBeAlone (p : ListPlace) (t after : Text) : Type 0 where
   pub bracket : Begins (codes "]") t → p ≡ First
   pub hyphen : Begins (codes "-") t → (p ≢ AfterPoint) ⊎ Begins (codes "]") after
   pub before_hyphen : Begins (codes "-") after → Begins (codes "-]") after
 
--- an element at a place in its list, the bytes that it adds, and the place behind it
+-- an element at a place of its list, the bytes that it adds, and the place after it
 pub data Element : ListPlace → Text → Text → Bytes → ListPlace → Type 0 where
   class : {p : ListPlace} {t : Text} (c : Class) →
       Element p (codes "[:" ++ class_name c ++ codes ":]" ++ t) t (in_class c) AfterRange
@@ -43,19 +43,19 @@ pub data Rest : ListPlace → Text → Text → Bytes → Type 0 where
   more : {p q : ListPlace} {t v u : Text} {a s : Bytes} → Element p t v a q → Rest q v u s →
       Rest p t u (union a s)
 
--- `[`, a list of elements and `]`; a caret in front of the list takes the bytes outside it
+-- `[`, a list of elements and `]`; a caret before the list takes the bytes outside it
 pub data IsBracket : Text → Text → Expression → Type 0 where
   matching : {t u : Text} {s : Bytes} → ¬ Begins (codes "^") t → Rest First t u s →
       IsBracket (codes "[" ++ t) u (one_of s)
   non_matching : {t u : Text} {s : Bytes} → Rest First t u s →
       IsBracket (codes "[^" ++ t) u (none_of s)
 
--- the bracket expression of a text that stands from one place up to another, and what it means
+-- a bracket expression of the text, from one place up to another, and what it means
 pub record IsBracketUpTo (text : Text) (from behind : ℕ) (e : Expression) : Type 0 where
   pub within : behind ≤ length text
   pub stands : IsBracket (drop from text) (drop behind text) e
 
--- a bracket expression that stands there ends at that place and has that meaning
+-- every bracket expression at the first place ends at the second and has this meaning
 abbrev pub IsOnlyBracket : Text → ℕ → ℕ → Expression → Type 0
 IsOnlyBracket text from behind e =
     (rest : Text) (other : Expression) → IsBracket (drop from text) rest other →

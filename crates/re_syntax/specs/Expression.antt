@@ -1,5 +1,5 @@
--- Regular expressions, apart from how they are written (XBD 9.3, 9.4), and the one that a `Tree`
--- stands for.
+-- Regular expressions, apart from how they are written (XBD 9.3, 9.4), and the expression that a
+-- `Tree` means.
 use Rattle.std.specs.Prelude.{ℕ, List, [], ◌∷◌, Option}
 use Rattle.re_syntax.specs.Sets.{members}
 use Rattle.re_syntax.specs.Bytes.{Bytes, only}
@@ -21,7 +21,7 @@ pub data Expression : Type 0 where
   -- a choice among none; a first branch and the rest of the choice
   alt_none : Expression
   alt_more : Expression → Expression → Expression
-  -- at least so many times, and at most so many where a number stands
+  -- at least as often as the first number says, and at most as often as the second, if there is one
   repeat : Expression → ℕ → Option ℕ → Expression
 
 -- one after another
@@ -51,13 +51,13 @@ node_expression (Tree-F.Repeat part least most) = repeat part.value least most
 abbrev pub expression_of : Tree → Expression
 expression_of = fold-Tree Expression node_expression
 
--- of no item the empty expression, of one item that item, of several one after another
+-- no item is the empty expression, one item is itself, several are one after another
 abbrev pub sequence : List Expression → Expression
 sequence [] = empty
 sequence (e ∷ []) = e
 sequence (e ∷ f ∷ es) = cat (e ∷ f ∷ es)
 
--- of one branch that branch, of several any one of them
+-- one branch is itself, several are any one of them
 abbrev pub choice : List Expression → Expression
 choice [] = empty
 choice (e ∷ []) = e

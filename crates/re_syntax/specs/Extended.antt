@@ -1,7 +1,6 @@
--- Extended regular expressions (XBD 9.4). Each relation has a text at whose front a part stands,
--- the text that follows the part, and what the part means; a truth value tells whether a group
--- stands around it, and a number is the part's height, how deep groups and duplications stand in
--- one another there.
+-- Extended regular expressions (XBD 9.4). Each relation is between a text that begins with a part,
+-- the text after the part, and what the part means. A truth value says whether the part is in a
+-- group. A number is the part's height: how deep groups and duplications are nested in it.
 use Rattle.std.specs.Prelude.{◌≡◌, ℕ, suc, max, Bool, true, not, ◌&&◌, List, [], ◌∷◌, ◌++◌, Option}
 use Rattle.std.specs.Prelude.{Some, None, IsTrue, codes}
 use Rattle.re_syntax.specs.Bytes.{Text, any_but_nul}
@@ -27,7 +26,7 @@ is_ordinary in_group b =
     not (is_in (codes "[.\\(*+?|^$") b) && not (in_group && is_in (codes ")") b)
 
 mutual
-  -- branches parted by bars, each a sequence (XBD 9.4.7)
+  -- branches separated by bars, each a sequence (XBD 9.4.7)
   pub data Branches : Bool → ℕ → Text → Text → List Expression → Type 0 where
     last : {g : Bool} {h : ℕ} {t u : Text} {es : List Expression} → Items g h t u es →
         Branches g h t u (sequence es ∷ [])

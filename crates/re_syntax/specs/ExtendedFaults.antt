@@ -1,6 +1,5 @@
--- Why the text of an extended expression is refused (XBD 9.4): what stands at the place that is
--- told, judged by its bytes, and where a bracket expression or a group is opened also by what can
--- be read there.
+-- Why the text of an extended expression is refused (XBD 9.4). The bytes at the reported place show
+-- it. Where a bracket expression or a group is opened, what can be read there counts too.
 use Rattle.std.specs.Prelude.{◌≡◌, ℕ, ◌⊎◌, true, List, [], ◌++◌, Option, take, drop, codes}
 use Rattle.re_syntax.specs.declared.fault.FaultKind.{FaultKind}
 use Rattle.re_syntax.specs.declared.fault.FaultKind.TheVariants.{UnclosedBracket, BadClass}
@@ -30,15 +29,15 @@ pub data OpensDuplication : Text → Type 0 where
   opens_interval : {t u : Text} {least : ℕ} {most : Option ℕ} →
       ClosedInterval (codes "}") t u least most → OpensDuplication (codes "{" ++ t)
 
--- what stands before a branch: nothing, a group's opening, or a bar
+-- what comes before a branch: nothing, a group's opening, or a bar
 abbrev pub IsStart : Text → Type 0
 IsStart before = (before ≡ []) ⊎ (Ends (codes "(") before ⊎ Ends (codes "|") before)
 
--- what a duplication has nothing to repeat behind: the start of a branch, or a caret
+-- what leaves a duplication nothing to repeat: the start of a branch, or a caret
 abbrev pub HasNothingToRepeat : Text → Type 0
 HasNothingToRepeat before = IsStart before ⊎ Ends (codes "^") before
 
--- a `(` behind which branches go on up to the text's end
+-- a `(` after which branches go on up to the text's end
 pub record OpensUnclosed (t : Text) : Type 0 where
   pub inside : Text
   pub height : ℕ
@@ -46,7 +45,7 @@ pub record OpensUnclosed (t : Text) : Type 0 where
   pub opens : t ≡ codes "(" ++ inside
   pub goes_on : Branches true height inside [] members
 
--- the bytes where a fault shows: those before its place, and those from there on
+-- the bytes that show a fault: those before its place, and those from there on
 abbrev pub ShowsExtendedFault : FaultKind → Text → Text → Type 0
 ShowsExtendedFault UnclosedBracket before t = OpensNoBracket t
 ShowsExtendedFault BadClass before t = ShowsBracketFault BadClass t
@@ -65,11 +64,11 @@ ShowsExtendedFault TooDeep before t = Begins (codes "(") t ⊎ BeginsDuplication
 ShowsExtendedFault TooLarge before t = ⊥
 ShowsExtendedFault Memory before t = ⊥
 
--- the fault shows at its place of the text
+-- the bytes at the fault's place of the text show it
 abbrev pub IsShownIn : Text → PatternFault → Type 0
 IsShownIn text fault = ShowsExtendedFault fault.kind (take fault.at text) (drop fault.at text)
 
--- no extended expression is spelled, and the fault shows at its place
+-- the text spells no extended expression, and the bytes at the fault's place show the fault
 pub record IsNoExtended (text : Text) (fault : PatternFault) : Type 0 where
   pub none : (e : Expression) → ¬ IsSpelled Extended text e
   pub shown : IsShownIn text fault

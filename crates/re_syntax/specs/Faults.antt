@@ -1,5 +1,4 @@
--- Why a pattern's text is refused: what stands at the place that is told, judged by its bytes
--- alone.
+-- Why a pattern's text is refused, as the bytes at the reported place show it.
 use Rattle.std.specs.Prelude.{◌≡◌, ℕ, ◌⊎◌, ◌∷◌, ◌++◌, Option, drop, codes}
 use Rattle.re_syntax.specs.declared.class.Class.{Class}
 use Rattle.re_syntax.specs.declared.fault.FaultKind.{FaultKind}
@@ -14,7 +13,7 @@ use Rattle.re_syntax.specs.Brackets.{IsBracket}
 abbrev pub Ends : Text → Text → Type 0
 Ends back t = (front : Text) × (t ≡ front ++ back)
 
--- the bytes where a bracket expression's fault shows (XBD 9.3.5): its opening; a `[:` without a
+-- the bytes that show a bracket expression's fault (XBD 9.3.5): its opening; a `[:` without a
 -- class's name and `:]`; a `[.` or `[=` without one byte and the closing pair; a hyphen
 abbrev pub ShowsBracketFault : FaultKind → Text → Type 0
 ShowsBracketFault UnclosedBracket t = Begins (codes "[") t
@@ -41,8 +40,8 @@ pub record OpensNoBracket (t : Text) : Type 0 where
   pub opens : ShowsBracketFault UnclosedBracket t
   pub none : (rest : Text) (e : Expression) → ¬ IsBracket t rest e
 
--- no bracket expression stands at the place, and the fault shows at its own, both counted from the
--- text's start; an unclosed one shows at its opening
+-- no bracket expression begins at `from`, and the bytes at the fault's place show the fault; both
+-- places count from the text's start, and an unclosed bracket expression shows at its opening
 pub record IsNoBracket (text : Text) (from : ℕ) (fault : PatternFault) : Type 0 where
   pub none : (rest : Text) (e : Expression) → ¬ IsBracket (drop from text) rest e
   pub shown : ShowsBracketFault fault.kind (drop fault.at text)

@@ -6,7 +6,7 @@ use Rattle.re_syntax.specs.Bytes.{Text}
 use Rattle.re_syntax.specs.Intervals.{ClosedInterval}
 use Rattle.re_syntax.specs.Profile.{most_repeats}
 
--- why an interval of these numbers is refused; a number that is too large goes first
+-- why an interval of these numbers is refused; too large takes precedence over descending
 pub data IsDisallowed : FaultKind → ℕ → Option ℕ → Type 0 where
   least_too_large : {least : ℕ} {most : Option ℕ} → most_repeats < least →
       IsDisallowed IntervalTooLarge least most
@@ -15,7 +15,7 @@ pub data IsDisallowed : FaultKind → ℕ → Option ℕ → Type 0 where
   descending : {least top : ℕ} → top < least → least ≤ most_repeats →
       IsDisallowed BadInterval least (Some top)
 
--- an interval stands between these braces and is refused for its numbers
+-- the text begins with an interval between these braces that is refused for its numbers
 pub record OpensDisallowed (opening close : Text) (kind : FaultKind) (t : Text) : Type 0 where
   pub inside : Text
   pub rest : Text

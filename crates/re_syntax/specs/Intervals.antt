@@ -1,5 +1,5 @@
--- Interval expressions (XBD 9.3.6 item 5, 9.4.6 item 5): what stands between the braces, and its
--- two numbers. The form without a least number is no form of the standard's, but one of GNU grep's.
+-- Interval expressions (XBD 9.3.6 item 5, 9.4.6 item 5): what is between the braces, and its two
+-- numbers. The form without a least number is not the standard's but GNU grep's.
 use Rattle.std.specs.Prelude.{◌≡◌, ◌≢◌, ℕ, ◌+◌, ◌-◌, ◌*◌, ◌≤◌, min, [], ◌∷◌, ◌++◌, Option, Some}
 use Rattle.std.specs.Prelude.{None, IsTrue, IfSome, codes}
 use Rattle.std.specs.List.{list_all}
@@ -19,7 +19,7 @@ pub record IsNumber (t : Text) : Type 0 where
 abbrev pub value : Text → ℕ
 value = value_after 0
 
--- `m`, `m,`, `m,n`, or `,n` for none up to so many
+-- `m`, `m,`, `m,n`, or `,n` for none up to n
 pub data Interval : Text → ℕ → Option ℕ → Type 0 where
   exactly : (m : Text) → IsNumber m → Interval m (value m) (Some (value m))
   at_least : (m : Text) → IsNumber m → Interval (m ++ codes ",") (value m) None
@@ -33,23 +33,23 @@ pub record IsAllowed (least : ℕ) (most : Option ℕ) : Type 0 where
   pub most_fits : IfSome most (λ n. n ≤ most_repeats)
   pub ordered : IfSome most (λ n. least ≤ n)
 
--- at the front of the first text stands something of an interval's form with these numbers, and
--- what closes it; the second text follows
+-- the first text begins with something of an interval's form with these numbers, and what closes
+-- it; the second text follows
 pub record ClosedInterval (close t u : Text) (least : ℕ) (most : Option ℕ) : Type 0 where
   pub inside : Text
   pub form : Interval inside least most
   pub whole : t ≡ inside ++ (close ++ u)
 
--- a byte comes first, and none that an interval's form can have
+-- the text begins with a byte that no interval's form has
 pub record IsNoPart (t : Text) : Type 0 where
   pub not_empty : t ≢ []
   pub no_digit : (b : ℕ) (u : Text) → t ≡ b ∷ u → ¬ IsTrue (in_class Digit b)
   pub no_comma : ¬ Begins (codes ",") t
 
--- what a reader keeps of a number: one above the limit is as good as any other
+-- what a reader keeps of a number: all numbers above the limit are one
 abbrev pub capped : ℕ → ℕ
 capped n = min n (most_repeats + 1)
 
--- no interval stands there
+-- the text begins with no interval that this closes
 pub record HasNoInterval (close t : Text) : Type 0 where
   pub none : (u : Text) (least : ℕ) (most : Option ℕ) → ¬ ClosedInterval close t u least most

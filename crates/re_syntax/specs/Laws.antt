@@ -1,4 +1,4 @@
--- What the definitions promise of themselves.
+-- What the definitions promise.
 use Rattle.std.specs.Prelude.{◌≡◌, ◌≢◌, ℕ, Bool, List, ◌++◌, codes}
 use Rattle.re_syntax.specs.declared.syntax.Syntax.{Syntax}
 use Rattle.re_syntax.specs.declared.syntax.Syntax.TheVariants.{Basic, Extended}
@@ -17,24 +17,23 @@ abbrev pub SpellsOne : Text → Type 0
 SpellsOne text =
     (syntax : Syntax) (d e : Expression) → IsSpelled syntax text d → IsSpelled syntax text e → d ≡ e
 
--- nowhere in the text a `{` and a comma stand side by side
+-- nowhere in the text does a comma follow a `{`
 abbrev pub HasNoOpenComma : Text → Type 0
 HasNoOpenComma text = (front back : Text) → text ≢ front ++ (codes "{," ++ back)
 
--- what the standard alone makes of a text is what it spells here: of every basic text, and of every
--- extended text without a `{,`
+-- what the standard alone makes of a text is what it spells here: for every basic text, and for
+-- every extended text without a `{,`
 pub record KeepsStandard (text : Text) : Type 0 where
   pub basic : (e : Expression) → IsStandardBasic text e → IsSpelled Basic text e
   pub extended : (e : Expression) → IsStandardExtended text e → HasNoOpenComma text →
       IsSpelled Extended text e
 
--- a text begins with at most one bracket expression, and that means one expression, whatever
--- follows it
+-- a text begins with at most one bracket expression, and that has one meaning, whatever follows it
 abbrev pub BeginsWithOneBracket : Text → Type 0
 BeginsWithOneBracket text =
     (u v : Text) (d e : Expression) → IsBracket text u d → IsBracket text v e → (u ≡ v) × (d ≡ e)
 
--- an input has these lines and no others, also where only ended lines count, and a pattern list
+-- an input has these lines and no others, also where only ended lines count, and a pattern list has
 -- these texts and no others
 pub record HasOneSplit (text : Text) : Type 0 where
   pub lines : AreLines text (lines_of text)
@@ -44,7 +43,7 @@ pub record HasOneSplit (text : Text) : Type 0 where
   pub listed : AreListed text (list_of text)
   pub not_listed_otherwise : (ts : List Text) → AreListed text ts → ts ≡ list_of text
 
--- a line has a list of its parts, and no other
+-- a line has one list of its parts
 abbrev pub HasOnePartList : Text → Type 0
 HasOnePartList line =
     (es : List Expression) (whole : Bool) →

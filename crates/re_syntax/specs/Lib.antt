@@ -1,4 +1,4 @@
--- what the contract of the whole command, or of the session, rests on
+-- the definitions that the contract of the whole command, or of the session, rests on
 pub mod Bytes
 pub mod Profile
 pub mod Sets
@@ -19,5 +19,5 @@ pub mod BasicFaults
 pub mod ExtendedFaults
 -- what the public laws say of the definitions
 pub mod Laws
--- what else contracts are said in: of this crate as a library, and of its private functions
+-- the definitions of the other contracts: of this crate as a library, and of its private functions
 pub mod Working

@@ -21,13 +21,13 @@ abbrev pub put_before_first : ℕ → List Text → List Text
 put_before_first b [] = []
 put_before_first b (t ∷ ts) = (b ∷ t) ∷ ts
 
--- the lines of an input that a newline ends: an unfinished last line is left out
+-- the lines of an input that a newline ends, without an unfinished last line
 unfoldable pub ended_lines_of : Text → List Text
 ended_lines_of [] = []
 ended_lines_of (b ∷ rest) =
     if nat_eq b newline then [] ∷ ended_lines_of rest else put_before_first b (ended_lines_of rest)
 
--- the patterns of a list, parted by newlines: one more than there are newlines
+-- the patterns of a list, separated by newlines: one more than there are newlines
 unfoldable pub list_of : Text → List Text
 list_of [] = [] ∷ []
 list_of (b ∷ rest) = if nat_eq b newline then [] ∷ list_of rest else put_before b (list_of rest)
@@ -46,14 +46,14 @@ joined [] = []
 joined (t ∷ []) = t
 joined (t ∷ u ∷ ts) = t ++ newline ∷ joined (u ∷ ts)
 
--- no text has a newline, and the bytes are each text followed by one, or that without the last
--- newline where the last text is not empty
+-- no text has a newline, and the bytes are each text followed by a newline; the last newline may be
+-- missing where the last text is not empty
 abbrev pub AreLines : Text → List Text → Type 0
 AreLines bytes texts = All HasNoNewline texts × ((bytes ≡ terminated texts) ⊎
     ((front : List Text) × (last : Text) × (texts ≡ front ++ last ∷ []) × (last ≢ []) ×
     (bytes ≡ terminated front ++ last)))
 
--- no text has a newline, and the bytes are each text followed by one and then a rest without
+-- no text has a newline, and the bytes are each text followed by a newline, and then a rest without
 -- newline
 abbrev pub AreEndedLines : Text → List Text → Type 0
 AreEndedLines bytes texts =

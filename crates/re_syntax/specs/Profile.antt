@@ -1,5 +1,5 @@
--- The limits of this grep, and the bytes that it leaves undefined: what the standard leaves open is
--- settled here.
+-- The limits of this grep, and the bytes that it leaves undefined: its choices where the standard
+-- leaves one.
 use Rattle.std.specs.Prelude.{ℕ, codes}
 use Rattle.re_syntax.specs.Bytes.{Text}
 
@@ -7,31 +7,31 @@ use Rattle.re_syntax.specs.Bytes.{Text}
 abbrev pub most_repeats : ℕ
 most_repeats = 255
 
--- how deep groups and duplications may stand in one another
+-- how deep groups and duplications may be nested
 abbrev pub most_levels : ℕ
 most_levels = 256
 
--- how many positions an expression may have, its intervals written out
+-- the greatest number of positions of an expression, its intervals written out
 abbrev pub most_positions : ℕ
 most_positions = 4096
 
--- how many patterns there may be
+-- the greatest number of patterns
 abbrev pub most_patterns : ℕ
 most_patterns = 65535
 
--- how many entries a cache of steps may have
+-- the greatest number of entries of a cache of steps
 abbrev pub most_states : ℕ
 most_states = 65536
 
--- the bytes that a backslash may not stand before, beside letters and digits (XBD 9.3.3, 9.4.3): in
--- a basic expression, and in an extended one
+-- the bytes that may not follow a backslash, beside letters and digits (XBD 9.3.3, 9.4.3): in a
+-- basic expression, and in an extended one
 abbrev pub basic_refused : Text
 basic_refused = codes "<>`'"
 
 abbrev pub extended_refused : Text
 extended_refused = codes "<>`'"
 
--- the bytes that do not stand for themselves behind a backslash in a basic expression, beside
--- letters and digits: those, and the ones that have a meaning there
+-- the bytes that do not stand for themselves after a backslash in a basic expression, beside
+-- letters and digits: those that may not follow it, and those that have a meaning there
 abbrev pub basic_escaped : Text
 basic_escaped = codes "(){+?|<>`'"

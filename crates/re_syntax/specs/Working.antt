@@ -9,7 +9,7 @@ pub mod PieceSteps
 pub mod DuplicationSteps
 pub mod BasicSteps
 pub mod ExtendedSteps
--- the grammars of the standard alone, for the law that they are kept
+-- the grammars of the standard alone, for the law that what it defines keeps its meaning
 pub mod StandardIntervals
 pub mod StandardBasic
 pub mod StandardExtended

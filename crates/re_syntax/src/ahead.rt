@@ -2,7 +2,7 @@ ghost use Rattle.std.specs.Prelude.{◌≡◌, ◌≤◌, Some, length, drop, sl
 ghost use Rattle.re_syntax.specs.Bytes.{Begins};
 ghost use Rattle.re_syntax.specs.Working.Ahead.{IsAfter};
 
-/// The place behind these bytes, where they stand at this place of the text.
+/// The place after these bytes, if the text has them at the place `at`.
 pub fn after(text: &[u8], at: usize, bytes: &[u8]) -> Option<usize>
     requires { at ≤ length text.now }
     ensures { MatchOption result (¬ Begins bytes.now (drop at text.now))

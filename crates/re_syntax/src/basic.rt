@@ -28,8 +28,7 @@ use crate::profile::{BASIC_REFUSED, MOST_LEVELS};
 use crate::tree::Tree;
 use std::alloc::Global;
 
-/// Whether a branch ends at a place: the text does, or a group is closed or another branch begins
-/// there.
+/// Whether a branch ends at a place: the text ends, a group is closed, or another branch begins.
 fn is_at_end(text: &[u8], at: usize) -> bool
     requires { at ≤ length text.now }
     ensures { MatchBool result (IsAtEnd (drop at text.now)) (¬ IsAtEnd (drop at text.now)) }
@@ -43,7 +42,7 @@ fn is_at_end(text: &[u8], at: usize) -> bool
     after(text, at, b"\\)").is_some()
 }
 
-/// The place behind a `$` that is the last of its branch.
+/// The place after a `$` that ends its branch.
 fn after_tail(text: &[u8], at: usize) -> Option<usize>
     requires { at ≤ length text.now }
     ensures { MatchOption result (HasNoTail (drop at text.now)) (IsBehindTail text.now at) }
@@ -56,7 +55,7 @@ fn after_tail(text: &[u8], at: usize) -> Option<usize>
     }
 }
 
-/// The anchor that a branch begins with, where one does.
+/// The anchor that a branch begins with, if it has one.
 fn read_lead(alloc: Option<Global>, text: &[u8], from: usize) -> Result<Pieces, PatternFault>
     requires within { from ≤ length text.now }
     requires starts { IsStart (take from text.now) }
@@ -70,7 +69,7 @@ fn read_lead(alloc: Option<Global>, text: &[u8], from: usize) -> Result<Pieces, 
     }
 }
 
-/// The items with the anchor that their branch ends with, where it does.
+/// The items, and the anchor that ends their branch, if it has one.
 fn read_tail(alloc: Option<Global>, text: &[u8], items: Pieces) -> Result<Pieces, PatternFault>
     requires within { items.behind ≤ length text.now }
     requires ends { HasNoItem (drop items.behind text.now) }
@@ -83,7 +82,7 @@ fn read_tail(alloc: Option<Global>, text: &[u8], items: Pieces) -> Result<Pieces
     }
 }
 
-/// Whether another item stands at a place: neither an end nor the anchor before one.
+/// Whether another item begins at a place: there is neither an end nor the anchor before one.
 fn has_item(text: &[u8], at: usize) -> bool
     requires { at ≤ length text.now }
     ensures { MatchBool result (HasItem (drop at text.now)) (HasNoItem (drop at text.now)) }
@@ -94,7 +93,7 @@ fn has_item(text: &[u8], at: usize) -> bool
     after_tail(text, at).is_none()
 }
 
-/// The group whose `\(` stands at a place, at most so many levels high.
+/// The group whose `\(` is at the place `at`, at most `levels` high.
 #[cycle(read_branches)]
 fn read_group(
     alloc: Option<Global>,
@@ -133,7 +132,7 @@ fn read_group(
     }
 }
 
-/// The group or the escaped byte whose backslash stands at a place.
+/// The group or the escaped byte whose backslash is at a place.
 #[cycle(read_branches)]
 fn read_escaped(
     alloc: Option<Global>,
@@ -163,7 +162,7 @@ fn read_escaped(
     Ok(leaf(alloc, Tree::Set(ByteSet::only(byte)), 1, at + 2))
 }
 
-/// The atom that stands at a place, where neither an anchor nor a duplication does.
+/// The atom at a place where neither an anchor nor a duplication begins.
 #[cycle(read_branches)]
 fn read_atom(
     alloc: Option<Global>,
@@ -189,7 +188,7 @@ fn read_atom(
     }
 }
 
-/// The atom that stands at a place, and the duplications after it.
+/// The atom at a place, and the duplications after it.
 #[cycle(read_branches)]
 fn read_item(
     alloc: Option<Global>,
@@ -221,7 +220,7 @@ fn read_item(
     Ok(piece)
 }
 
-/// The branch that begins at a place, up to where it ends.
+/// The branch that begins at a place, up to its end.
 #[cycle(read_branches)]
 fn read_branch(
     alloc: Option<Global>,
@@ -246,7 +245,7 @@ fn read_branch(
     Ok(all_of(all))
 }
 
-/// The branches of the expression that begins at a place, up to where it ends.
+/// The branches of the expression that begins at a place, up to its end.
 #[cycle(read_branches)]
 fn read_branches(
     alloc: Option<Global>,
@@ -271,7 +270,7 @@ fn read_branches(
     Ok(branches)
 }
 
-/// The basic regular expression that the whole text is.
+/// The basic regular expression that the whole text spells.
 pub(crate) fn read_whole(alloc: Option<Global>, text: &[u8]) -> Result<Piece, PatternFault>
     ensures read { IfOk result
         (λ piece. (e : Expression) × IsSpelled Basic text.now e × IsTold alloc piece e) }
@@ -288,14 +287,14 @@ pub(crate) fn read_whole(alloc: Option<Global>, text: &[u8]) -> Result<Piece, Pa
     Ok(any_of(branches))
 }
 
-/// The tree of a basic regular expression (XBD 9.3, with GNU grep's `\+`, `\?` and `\|`): `Set`,
-/// `Not`, `Begin`, `End` and `Repeat` for its items, of a branch without items `Empty`, with
-/// several a `Cat` in order, and of several branches an `Alt` in order.
+/// The tree of a basic regular expression (XBD 9.3, with GNU grep's `\+`, `\?` and `\|`). Its items
+/// are `Set`, `Not`, `Begin`, `End` and `Repeat`. A branch without items is `Empty`, and one with
+/// several is a `Cat` of them in order. Several branches are an `Alt` of them in order.
 ///
 /// # Errors
 ///
-/// Where the text is no basic expression, the first fault that a reading from the left meets, by
-/// the bytes at its place; `FaultKind::Memory` where memory runs out.
+/// Where the text is no basic expression, the first fault that a reading from the left meets, as
+/// the bytes at its place show it. `FaultKind::Memory` where memory runs out.
 pub fn read_basic(alloc: Global, text: &[u8]) -> Result<Tree, PatternFault>
     ensures read { IfOk result (λ tree. IsSpelled Basic text.now (expression_of tree)) }
     ensures only { IfOk result (λ tree. SpellsNoOther Basic text.now (expression_of tree)) }

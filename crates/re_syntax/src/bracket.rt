@@ -18,7 +18,7 @@ use crate::cursor::Cursor;
 use crate::fault::{FaultKind, PatternFault};
 use crate::tree::Tree;
 
-/// Where in the list of a bracket expression an element stands.
+/// Where an element is in the list of a bracket expression.
 #[derive(Clone, Copy, PartialEq, Eq, Debug, Drop)]
 pub enum ListPlace {
     /// It is the first.
@@ -29,7 +29,7 @@ pub enum ListPlace {
     AfterRange,
 }
 
-/// One byte and the pair that closes a collating symbol or an equivalence class.
+/// One byte, and the pair that closes its collating symbol or equivalence class.
 fn take_closed_byte(cursor: &mut Cursor, closing: &[u8]) -> Option<u8>
     ensures { MatchOption result ((b : ℕ) → ¬ Begins (b ∷ closing.now) (left cursor.old))
         (λ b. Passes (b ∷ closing.now) cursor.old cursor.new) }
@@ -42,7 +42,7 @@ fn take_closed_byte(cursor: &mut Cursor, closing: &[u8]) -> Option<u8>
     }
 }
 
-/// The name of a class and its `:]`.
+/// The class whose name and `:]` come next.
 fn take_class(cursor: &mut Cursor) -> Option<Class>
     ensures { MatchOption result
         ((c : Class) → ¬ Begins (class_name c ++ codes ":]") (left cursor.old))
@@ -56,8 +56,8 @@ fn take_class(cursor: &mut Cursor) -> Option<Class>
     None
 }
 
-/// A byte as it stands, or a collating symbol of one byte. At the text's end the bracket expression
-/// whose `[` stands at `opening` is unclosed.
+/// A byte for itself, or a collating symbol of one byte. At the text's end the bracket expression
+/// whose `[` is at `opening` is unclosed.
 fn read_point(cursor: &mut Cursor, opening: usize) -> Result<u8, PatternFault>
     requires opened { Stands (codes "[") opening cursor.old }
     requires no_class { OpensNoClass (left cursor.old) }
@@ -84,7 +84,7 @@ fn read_point(cursor: &mut Cursor, opening: usize) -> Result<u8, PatternFault>
     }
 }
 
-/// The point that ends a range from the byte `first`, behind the hyphen that stands at `hyphen`.
+/// The point that ends a range from the byte `first`, after the hyphen at `hyphen`.
 fn read_range_end(
     cursor: &mut Cursor,
     first: u8,
@@ -115,7 +115,7 @@ fn read_range_end(
     Ok(last)
 }
 
-/// Whether the point that comes next may begin a range: a hyphen only as the first of its list.
+/// Whether the next point may begin a range: a hyphen may only as the first of its list.
 fn may_begin_range(cursor: &Cursor, place: ListPlace) -> bool
     ensures { MatchBool result (Begins (codes "-") (left cursor.now) → place ≡ ListPlace.First)
         (Begins (codes "-") (left cursor.now) × (place ≢ ListPlace.First)) }
@@ -126,7 +126,7 @@ fn may_begin_range(cursor: &Cursor, place: ListPlace) -> bool
     }
 }
 
-/// Goes past a hyphen that is not the last of its list, and tells its place.
+/// Skips a hyphen that is not the last of its list, and returns its place.
 fn skip_hyphen(cursor: &mut Cursor) -> Option<usize>
     ensures found { IfSome result (PassesHyphen cursor.old cursor.new) }
     ensures none { IfNone result
@@ -142,8 +142,8 @@ fn skip_hyphen(cursor: &mut Cursor) -> Option<usize>
     Some(hyphen)
 }
 
-/// What is wrong where a hyphen that may not begin a range stands before another that is not the
-/// last: the text ends there, or the second, at `hyphen`, may not stand.
+/// The fault of a hyphen that may not begin a range, where another follows that is not the last.
+/// Either the text ends after the two, or the second, at `hyphen`, is not allowed.
 fn stray_hyphen(cursor: &Cursor, hyphen: usize, opening: usize) -> PatternFault
     requires opened { Stands (codes "[") opening cursor.now }
     requires hyphen_stands { Stands (codes "-") hyphen cursor.now }
@@ -190,7 +190,7 @@ fn read_point_or_range(
     }
 }
 
-/// An element at a place of its list: the bytes that it adds, and the place behind it.
+/// An element at a place of its list: the bytes that it adds, and the place after it.
 fn read_element(
     cursor: &mut Cursor,
     place: ListPlace,
@@ -225,7 +225,7 @@ fn read_element(
     read_point_or_range(cursor, place, opening)
 }
 
-/// The elements of a list and the `]` that closes it: the bytes that they add.
+/// The bytes that the elements of a list add, up to the `]` that closes it.
 fn read_list(cursor: &mut Cursor, opening: usize) -> Result<ByteSet, PatternFault>
     requires opened { Stands (codes "[") opening cursor.old }
     ensures read { IfOk result
@@ -242,7 +242,7 @@ fn read_list(cursor: &mut Cursor, opening: usize) -> Result<ByteSet, PatternFaul
     Ok(set)
 }
 
-/// The bracket expression that comes next: a `Set` of the bytes that its list adds, or under a
+/// The bracket expression that comes next: a `Set` of the bytes that its list adds, or after a
 /// caret a `Not` of them. Its faults are those of `read_bracket`.
 pub fn read_next_bracket(cursor: &mut Cursor) -> Result<Tree, PatternFault>
     requires { Begins (codes "[") (left cursor.old) }
@@ -261,15 +261,15 @@ pub fn read_next_bracket(cursor: &mut Cursor) -> Result<Tree, PatternFault>
     Ok(Tree::Set(set))
 }
 
-/// The bracket expression whose `[` stands at `from`: its tree, a `Set` or under a caret a `Not`,
-/// and the place behind its `]`, both places by offsets from the text's start.
+/// The bracket expression whose `[` is at `from`, and the place after its `]`. Its tree is a `Set`,
+/// or after a caret a `Not`. Both places are offsets from the text's start.
 ///
 /// # Errors
 ///
-/// Where no bracket expression stands there, the first fault that a reading from the left meets:
+/// Where no bracket expression is there, the first fault that a reading from the left meets:
 /// `BadClass`, `BadCollatingSymbol` or `BadRange`, or `UnclosedBracket` where the text ends first.
 /// A `[:`, `[=` or `[.` that the text's end cuts off is no unclosed bracket but a bad class or
-/// collating symbol, and as the end of a range a `[:` or `[=` is a bad range.
+/// collating symbol. As the end of a range, a `[:` or `[=` is a bad range.
 pub fn read_bracket(text: &[u8], from: usize) -> Result<(Tree, usize), PatternFault>
     requires { slice_get text.now from ≡ Some 91 }
     ensures read { IfOk result

@@ -21,9 +21,9 @@ pub enum Class {
     Space,
     /// The bytes 0 to 31, and 127.
     Cntrl,
-    /// The printing bytes but the space, letters and digits.
+    /// The printing bytes without the space, the letters and the digits.
     Punct,
-    /// The printing bytes but the space.
+    /// The printing bytes without the space.
     Graph,
     /// The bytes 32 to 126.
     Print,
@@ -48,7 +48,7 @@ impl Class {
         Class::Xdigit,
     ];
 
-    /// The name that a bracket expression has for the class, and the `:]` that ends it there.
+    /// The name of the class in a bracket expression, and the `:]` that ends it there.
     pub fn closed_name(self) -> &'static [u8]
         ensures { result.now ≡ class_name self ++ codes ":]" }
     {

@@ -1,7 +1,7 @@
 ghost use Rattle.std.specs.Prelude.{◌≤◌, length};
 
-/// A place in the text of a pattern: what stands before it has been read, and what is left comes
-/// next. The readers of patterns share it.
+/// A place in the text of a pattern. What is before it has been read, and the rest comes next. The
+/// readers of patterns share it.
 #[derive(Clone, Copy, Drop)]
 pub struct Cursor<'a> {
     text: &'a [u8],
@@ -22,7 +22,7 @@ impl<'a> Cursor<'a> {
         Cursor { text, at }
     }
 
-    /// How many bytes of the text stand before the place.
+    /// The number of the text's bytes before the place.
     pub fn place(&self) -> usize
         ensures { result ≡ self.now.at }
     {
@@ -36,7 +36,7 @@ impl<'a> Cursor<'a> {
         self.text.get(self.at).copied()
     }
 
-    /// Goes past the next byte.
+    /// Moves past the next byte and returns it.
     pub fn take(&mut self) -> Option<u8>
         ensures { MatchOption result (left self.old ≡ []) (λ b. Passes (b ∷ []) self.old self.new) }
     {
@@ -45,7 +45,7 @@ impl<'a> Cursor<'a> {
         Some(byte)
     }
 
-    /// Goes past these bytes where they come next; stays where it is where they do not.
+    /// Moves past these bytes where they come next, and otherwise stays. Says whether it moved.
     pub fn skip(&mut self, bytes: &[u8]) -> bool
         ensures skipped { MatchBool result (Passes bytes.now self.old self.new)
             (¬ Begins bytes.now (left self.old)) }

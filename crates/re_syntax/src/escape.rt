@@ -1,4 +1,4 @@
-//! A backslash and the byte behind it (XBD 9.3.3, 9.4.3), in basic and in extended expressions.
+//! A backslash and the byte after it (XBD 9.3.3, 9.4.3), in basic and in extended expressions.
 ghost use Rattle.std.specs.Prelude.{◌≡◌, IsTrue, IfOk, IfErr, MatchOption, codes, drop};
 ghost use Rattle.re_syntax.specs.Bytes.{Begins, in_class};
 ghost use Rattle.re_syntax.specs.Escapes.{is_undefined};
@@ -19,8 +19,7 @@ fn is_alphanumeric(byte: u8) -> bool
     is_upper | is_lower | is_digit
 }
 
-/// Why a byte may not follow a backslash, if it may not: it is a letter, a digit or one of the
-/// others.
+/// The fault of a byte that may not follow a backslash: a letter, a digit or one of the others.
 fn escape_fault(byte: u8, others: &[u8]) -> Option<FaultKind>
     ensures { MatchOption result (¬ IsTrue (is_undefined others.now byte))
         (λ kind. IsRefusedEscape others.now kind byte) }
@@ -34,8 +33,8 @@ fn escape_fault(byte: u8, others: &[u8]) -> Option<FaultKind>
     None
 }
 
-/// The byte behind the backslash at a place, where it stands for itself there: it is no letter, no
-/// digit and none of the others.
+/// The byte after the backslash at a place. It stands for itself: it is no letter, no digit and
+/// none of the others.
 pub fn read_escape(text: &[u8], at: usize, others: &[u8]) -> Result<u8, PatternFault>
     requires { Begins (codes "\\") (drop at text.now) }
     ensures read { IfOk result (EscapeStands others.now text.now at) }

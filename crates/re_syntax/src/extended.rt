@@ -27,7 +27,7 @@ use crate::profile::{EXTENDED_REFUSED, MOST_LEVELS};
 use crate::tree::Tree;
 use std::alloc::Global;
 
-/// How often a byte repeats what is before it, where it is a duplication alone.
+/// How often a byte repeats the item before it, where it is a duplication alone.
 fn sign_counts(byte: u8) -> Option<Counts>
     ensures { MatchOption result (IsNoSign byte)
         (λ counts. Duplication (byte ∷ []) counts.least counts.most) }
@@ -49,8 +49,8 @@ fn sign_counts(byte: u8) -> Option<Counts>
     }
 }
 
-/// The duplication that stands at a place of the text, if one does, and the place behind it. A `{`
-/// that begins no text of an interval's form is none.
+/// The duplication at a place of the text, if there is one, and the place after it. A `{` that
+/// begins no text of an interval's form is none.
 fn read_duplication(text: &[u8], at: usize) -> Result<Option<(Counts, usize)>, PatternFault>
     requires { at ≤ length text.now }
     ensures read { IfOk result
@@ -78,7 +78,7 @@ fn read_duplication(text: &[u8], at: usize) -> Result<Option<(Counts, usize)>, P
     }
 }
 
-/// Whether a duplication stands at a place, or an interval whose numbers are refused.
+/// Whether a duplication begins at a place, or an interval whose numbers are refused.
 fn opens_duplication(text: &[u8], at: usize) -> bool
     requires { at ≤ length text.now }
     ensures { MatchBool result (OpensDuplication (drop at text.now))
@@ -100,7 +100,7 @@ fn stops_at(text: &[u8], at: usize, in_group: bool) -> bool
     }
 }
 
-/// The group whose `(` stands at a place, at most so many levels high.
+/// The group whose `(` is at a place, at most `levels` high.
 #[cycle(read_branches)]
 fn read_group(
     alloc: Option<Global>,
@@ -140,8 +140,7 @@ fn read_group(
     }
 }
 
-/// The atom that stands at a place, where the branch goes on and neither an anchor nor a
-/// duplication comes first.
+/// The atom at a place where the branch goes on and neither an anchor nor a duplication begins.
 #[cycle(read_branches)]
 fn read_atom(
     alloc: Option<Global>,
@@ -170,7 +169,7 @@ fn read_atom(
     }
 }
 
-/// The atom that stands at a place, and the duplications after it.
+/// The atom at a place, and the duplications after it.
 #[cycle(read_branches)]
 fn read_item(
     alloc: Option<Global>,
@@ -201,7 +200,7 @@ fn read_item(
     Ok(piece)
 }
 
-/// The anchor or the item that stands at a place, where the branch goes on.
+/// The anchor or the item at a place where the branch goes on.
 #[cycle(read_branches)]
 fn read_next(
     alloc: Option<Global>,
@@ -232,7 +231,7 @@ fn read_next(
     read_item(alloc, text, at, in_group, levels)
 }
 
-/// The branch that begins at a place, up to where it ends.
+/// The branch that begins at a place, up to its end.
 #[cycle(read_branches)]
 fn read_branch(
     alloc: Option<Global>,
@@ -258,7 +257,7 @@ fn read_branch(
     Ok(all_of(items))
 }
 
-/// The branches of the expression that begins at a place, up to where it ends.
+/// The branches of the expression that begins at a place, up to its end.
 #[cycle(read_branches)]
 fn read_branches(
     alloc: Option<Global>,
@@ -286,7 +285,7 @@ fn read_branches(
     Ok(branches)
 }
 
-/// The extended regular expression that the whole text is.
+/// The extended regular expression that the whole text spells.
 pub(crate) fn read_whole(alloc: Option<Global>, text: &[u8]) -> Result<Piece, PatternFault>
     ensures read { IfOk result
         (λ piece. (e : Expression) × IsSpelled Extended text.now e × IsTold alloc piece e) }
@@ -298,14 +297,14 @@ pub(crate) fn read_whole(alloc: Option<Global>, text: &[u8]) -> Result<Piece, Pa
     Ok(any_of(branches))
 }
 
-/// The tree of an extended regular expression (XBD 9.4): `Set`, `Not`, `Begin`, `End` and `Repeat`
-/// for its items, of a branch without items `Empty`, with several a `Cat` in order, and of several
-/// branches an `Alt` in order.
+/// The tree of an extended regular expression (XBD 9.4). Its items are `Set`, `Not`, `Begin`, `End`
+/// and `Repeat`. A branch without items is `Empty`, and one with several is a `Cat` of them in
+/// order. Several branches are an `Alt` of them in order.
 ///
 /// # Errors
 ///
-/// Where the text is no extended expression, the first fault that a reading from the left meets, by
-/// the bytes at its place; `FaultKind::Memory` where memory runs out.
+/// Where the text is no extended expression, the first fault that a reading from the left meets, as
+/// the bytes at its place show it. `FaultKind::Memory` where memory runs out.
 pub fn read_extended(alloc: Global, text: &[u8]) -> Result<Tree, PatternFault>
     ensures read { IfOk result (λ tree. IsSpelled Extended text.now (expression_of tree)) }
     ensures only { IfOk result (λ tree. SpellsNoOther Extended text.now (expression_of tree)) }

@@ -1,22 +1,20 @@
-/// Why a text is no pattern. Each kind says what stands at the place that `PatternFault::at` gives
-/// (XBD 9.3, 9.4).
+/// Why a text is no pattern. Each kind says what is at the place `PatternFault::at` (XBD 9.3, 9.4).
 #[derive(Clone, Copy, PartialEq, Eq, Debug, Drop)]
 pub enum FaultKind {
     /// The text ends inside a bracket expression. At the place: its opening `[`.
     UnclosedBracket,
-    /// A `[:` inside a bracket expression that no class's name and `:]` follow. At the place: the
-    /// `[` of it.
+    /// A `[:` inside a bracket expression without a class's name and `:]` after it. At the place:
+    /// its `[`.
     BadClass,
-    /// A `[.` or `[=` inside a bracket expression that one byte and `.]` or `=]` do not follow. At
-    /// the place: the `[` of it.
+    /// A `[.` or `[=` inside a bracket expression without one byte and `.]` or `=]` after it. At
+    /// the place: its `[`.
     BadCollatingSymbol,
-    /// A range in a bracket expression whose end comes before its start or is none, or a hyphen
-    /// where none may stand. At the place: the hyphen.
+    /// A range in a bracket expression whose end is missing or below its start, or a hyphen where
+    /// none is allowed. At the place: the hyphen.
     BadRange,
-    /// The text ends inside a group. At the place: the first byte of the innermost group that is
-    /// open.
+    /// The text ends inside a group. At the place: the first byte of the innermost open group.
     UnclosedGroup,
-    /// In a basic expression the `\)` of no group. At the place: its backslash.
+    /// A `\)` of a basic expression that closes no group. At the place: its backslash.
     UnopenedGroup,
     /// An interval whose greatest count is below its least, or in a basic expression a `\{` that
     /// begins no interval. At the place: the interval's first byte.
@@ -29,15 +27,15 @@ pub enum FaultKind {
     TrailingBackslash,
     /// A backslash before a byte with which it has no meaning. At the place: the backslash.
     UndefinedEscape,
-    /// A backslash before a digit from 1 to 9, a back-reference, which this project leaves out. At
-    /// the place: the backslash.
+    /// A backslash before a digit from 1 to 9. That is a back-reference, which this project leaves
+    /// out. At the place: the backslash.
     BackReference,
-    /// Groups and duplications that stand more than 256 deep in one another. At the place: the
-    /// first byte of the group or duplication that is one too many.
+    /// Groups and duplications nested more than 256 deep. At the place: the first byte of the group
+    /// or duplication that is one too many.
     TooDeep,
     /// An expression of more than 4096 positions, its intervals written out. The place is 0.
     TooLarge,
-    /// Memory ran out. The place is 0, and nothing is said of the text.
+    /// Memory ran out. The place is 0, and the fault says nothing of the text.
     Memory,
 }
 
@@ -46,6 +44,6 @@ pub enum FaultKind {
 pub struct PatternFault {
     /// Why the pattern is refused.
     pub kind: FaultKind,
-    /// The place where that shows: a byte offset from 0 in the pattern's text.
+    /// The place of the fault: a byte offset from 0 in the pattern's text.
     pub at: usize,
 }

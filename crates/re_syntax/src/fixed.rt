@@ -8,7 +8,7 @@ use crate::fault::{FaultKind, PatternFault};
 use crate::tree::Tree;
 use std::alloc::Global;
 
-/// The fault of a reader that memory ran out for.
+/// The fault of a reader that runs out of memory.
 pub fn out_of_memory() -> PatternFault
     ensures { result ≡ record { kind = FaultKind.Memory; at = 0 } }
 {
@@ -18,8 +18,8 @@ pub fn out_of_memory() -> PatternFault
     }
 }
 
-/// The tree of a text in which no byte is special (XCU grep, `-F`): of no byte `Empty`, of one byte
-/// that byte's `Set`, of several a `Cat` of theirs in order. The only refusal is
+/// The tree of a text in which no byte is special (XCU grep, `-F`). An empty text is `Empty`, one
+/// byte is its `Set`, and several bytes are a `Cat` of their sets in order. The only refusal is
 /// `FaultKind::Memory`, at place 0.
 pub fn read_fixed(alloc: Global, text: &[u8]) -> Result<Tree, PatternFault>
     ensures read { IfOk result (λ tree. IsSpelled Fixed text.now (expression_of tree)) }

@@ -5,9 +5,9 @@ ghost use Rattle.re_syntax.specs.Holds.{folded};
 use crate::tree::Tree;
 use std::mem;
 
-/// The expression with both cases of each of its letters (XCU grep, option `-i`): each set of a
-/// `Set` or a `Not` is closed under case, so a complement is taken after that. The tree's parts are
-/// changed in their places, and no memory is taken.
+/// The expression with both cases of each of its letters (XCU grep, option `-i`). The set of each
+/// `Set` or `Not` is closed under case, so a complement is taken after that. The tree is changed in
+/// place, and no memory is allocated.
 #[cycle(fold)]
 #[tactic(auto, using(crate::proofs::lemmas::FoldedLaws::folded_laws))]
 pub fn fold(tree: Tree) -> Tree

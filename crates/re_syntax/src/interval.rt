@@ -1,4 +1,4 @@
-//! Interval expressions (XBD 9.3.6 item 5, 9.4.6 item 5), apart from how a syntax opens them.
+//! Interval expressions (XBD 9.3.6 item 5, 9.4.6 item 5), apart from the syntax that opens them.
 ghost use Rattle.std.specs.Prelude.{◌≡◌, ◌≤◌, length, drop, MatchOption};
 ghost use Rattle.re_syntax.specs.Intervals.{IsNoPart, IsAllowed, value, capped, HasNoInterval};
 ghost use Rattle.re_syntax.specs.IntervalFaults.{IsDisallowed};
@@ -10,8 +10,8 @@ use crate::ahead::after;
 use crate::fault::FaultKind;
 use crate::profile::MOST_REPEATS;
 
-/// How often an expression is repeated: at least so many times, and at most so many where a number
-/// stands. Each count above `MOST_REPEATS` is given as the next number.
+/// How often an expression is repeated: at least `least` times, and at most `most` times where that
+/// is a number. A count above `MOST_REPEATS` is kept as `MOST_REPEATS + 1`.
 #[derive(Clone, Copy, Drop)]
 pub struct Counts {
     /// The least count, from 0 to 256.
@@ -20,7 +20,7 @@ pub struct Counts {
     pub most: Option<u16>,
 }
 
-/// How many digits the text begins with.
+/// The number of digits that the text begins with.
 fn digit_count(text: &[u8]) -> usize
     ensures { IsDigitCount text.now result }
 {
@@ -30,7 +30,7 @@ fn digit_count(text: &[u8]) -> usize
     }
 }
 
-/// The value of decimal digits, or one above `MOST_REPEATS` where it is greater than that.
+/// The value of decimal digits, or `MOST_REPEATS + 1` where the value is greater than that.
 fn capped_value(digits: &[u8]) -> u16
     requires { AreDigits digits.now }
     ensures { result ≡ capped (value digits.now) }
@@ -42,7 +42,7 @@ fn capped_value(digits: &[u8]) -> u16
     value
 }
 
-/// A number of one or more digits, capped, and the place behind it.
+/// A number of one or more digits, capped, and the place after it.
 fn read_number(text: &[u8], at: usize) -> Option<(u16, usize)>
     requires { at ≤ length text.now }
     ensures { MatchOption result (HasNoDigit (drop at text.now))
@@ -55,8 +55,8 @@ fn read_number(text: &[u8], at: usize) -> Option<(u16, usize)>
     Some((capped_value(&text[at..at + count]), at + count))
 }
 
-/// The counts of `,n`, given the place behind its comma, and what closes them, and the place behind
-/// that.
+/// The counts of `,n` where `comma` is the place after its comma, and the place after what closes
+/// them.
 fn read_greatest(text: &[u8], comma: usize, closing: &[u8]) -> Option<(Counts, usize)>
     requires within { comma ≤ length text.now }
     requires closes { IsNoPart closing.now }
@@ -69,8 +69,8 @@ fn read_greatest(text: &[u8], comma: usize, closing: &[u8]) -> Option<(Counts, u
     Some((Counts { least: 0, most }, end))
 }
 
-/// The counts that stand at a place of the text (`m`, `m,`, `m,n` or `,n`) and what closes them,
-/// and the place behind that.
+/// The counts at a place of the text (`m`, `m,`, `m,n` or `,n`), and the place after what closes
+/// them.
 pub fn read_interval(text: &[u8], at: usize, closing: &[u8]) -> Option<(Counts, usize)>
     requires within { at ≤ length text.now }
     requires closes { IsNoPart closing.now }
@@ -99,7 +99,7 @@ pub fn read_interval(text: &[u8], at: usize, closing: &[u8]) -> Option<(Counts, 
     }
 }
 
-/// Why counts are refused, if they are: too large, which goes first, or descending.
+/// The fault of counts that are refused. Too large takes precedence over descending.
 pub fn counts_fault(counts: Counts) -> Option<FaultKind>
     ensures { MatchOption result (IsAllowed counts.least counts.most)
         (λ kind. IsDisallowed kind counts.least counts.most) }

@@ -8,7 +8,7 @@ pub fn spells_one(_text: &[u8])
     ensures { SpellsOne _text.now }
 {}
 
-/// What the standard defines keeps its meaning beside GNU grep's forms: a basic expression of the
+/// What the standard defines keeps its meaning beside GNU grep's forms. A basic expression of the
 /// standard spells the tree that it has there, and so does an extended one without `{,`.
 #[tactic(auto, using(crate::proofs::lemmas::StandardKept::keeps_standard))]
 pub fn standard_is_kept(_text: &[u8])
@@ -27,7 +27,7 @@ pub fn has_one_split(_text: &[u8])
     ensures { HasOneSplit _text.now }
 {}
 
-/// A line has a list of parts, for all expressions, and no other.
+/// A line has one list of parts, for all expressions.
 #[tactic(auto, using(crate::proofs::lemmas::SpelledUnique::has_one_part_list))]
 pub fn parts_are_unique(_line: &[u8])
     ensures { HasOnePartList _line.now }

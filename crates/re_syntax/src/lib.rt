@@ -1,4 +1,4 @@
-//! Regular expressions as trees: what the readers of pattern texts make, and what their texts mean.
+//! Regular expressions as trees: what the readers of patterns return, and what their texts mean.
 #![tactic(auto)]
 
 mod ahead;

@@ -1,5 +1,5 @@
-//! Parts of an expression that were read, in basic and in extended expressions: with the trees of
-//! what they mean, or with the number of their positions alone.
+//! Parts of an expression that were read, in basic and in extended expressions. A part has its
+//! number of positions, and where trees are kept the tree of what it means.
 ghost use Rattle.std.specs.Prelude.{◌≡◌, ◌<◌, ◌++◌, ◌∷◌, [], List, Option, Some, IfOk, IfErr, map};
 ghost use Rattle.std.specs.Prelude.{slice_get};
 ghost use Rattle.std.specs.Global.{Global};
@@ -25,12 +25,12 @@ use std::alloc::Global;
 pub struct Piece {
     /// What it means, where trees are kept.
     pub tree: Option<Tree>,
-    /// How many positions it has, its intervals written out, or the greatest number where there are
-    /// more.
+    /// The number of its positions, its intervals written out, or the greatest number where there
+    /// are more.
     pub positions: usize,
-    /// How deep groups and duplications stand in one another in it.
+    /// How deep groups and duplications are nested in it.
     pub height: usize,
-    /// The place behind it.
+    /// The place after it.
     pub behind: usize,
 }
 
@@ -39,16 +39,16 @@ pub struct Piece {
 pub struct Pieces {
     /// What they mean, in order, where trees are kept.
     pub trees: Option<Vec<Tree>>,
-    /// How many positions they have together, counted as those of a `Piece`.
+    /// The number of their positions together, counted as in a `Piece`.
     pub positions: usize,
     /// The greatest height of one of them.
     pub height: usize,
-    /// The place behind the last of them.
+    /// The place after the last of them.
     pub behind: usize,
 }
 
-/// The bytes that a byte means outside brackets and escapes: a period any but NUL, any other byte
-/// itself.
+/// The bytes that a byte means outside brackets and escapes: a period means any byte but NUL, any
+/// other byte itself.
 pub fn meant_by(byte: u8) -> ByteSet
     ensures { members result ≡ meant_bytes byte }
 {
@@ -59,7 +59,7 @@ pub fn meant_by(byte: u8) -> ByteSet
     }
 }
 
-/// The piece of a tree without parts that has so many positions, up to a place.
+/// The piece of a tree without parts that has `count` positions, up to a place.
 pub fn leaf(alloc: Option<Global>, tree: Tree, count: usize, behind: usize) -> Piece
     requires { count ≡ positions (expression_of tree) }
     ensures told { (e : Expression) → expression_of tree ≡ e → IsTold alloc result e }
@@ -88,7 +88,7 @@ pub fn no_pieces(alloc: Option<Global>, at: usize) -> Pieces
     }
 }
 
-/// The bracket expression that stands at a place.
+/// The bracket expression at a place.
 pub fn read_bracket_atom(
     alloc: Option<Global>,
     text: &[u8],
@@ -102,8 +102,8 @@ pub fn read_bracket_atom(
     Ok(leaf(alloc, tree, 1, behind))
 }
 
-/// How often a repeated part is written out: as often as it may stand at most, or, where it may
-/// stand any number of times, as often as it has to, and once at least.
+/// How often a repeated part is written out: its greatest count, or where it has none its least
+/// count, but at least once.
 fn copies_of(counts: Counts) -> usize
     ensures { result ≡ copies counts.least counts.most }
 {
@@ -113,7 +113,7 @@ fn copies_of(counts: Counts) -> usize
     }
 }
 
-/// The tree of an item with a duplication behind it, where trees are kept.
+/// The tree of an item with a duplication after it, where trees are kept.
 fn repeated_tree(
     alloc: Option<Global>,
     tree: Option<Tree>,
@@ -136,7 +136,7 @@ fn repeated_tree(
     }
 }
 
-/// A piece that a duplication repeats, and the place behind that.
+/// A piece that a duplication repeats, and the place after the duplication.
 pub fn repeated(
     alloc: Option<Global>,
     piece: Piece,
@@ -156,7 +156,7 @@ pub fn repeated(
     })
 }
 
-/// The trees with one more behind them, where they are kept.
+/// The trees and one more after them, where trees are kept.
 fn with_tree(
     trees: Option<Vec<Tree>>,
     tree: Option<Tree>,
@@ -178,7 +178,7 @@ fn with_tree(
     Ok(Some(trees))
 }
 
-/// The pieces with one more behind them.
+/// The pieces and one more after them.
 pub fn joined(pieces: Pieces, piece: Piece) -> Result<Pieces, PatternFault>
     ensures made { IfOk result (IsJoined pieces piece) }
     ensures refused { IfErr result (λ fault. fault ≡ record { kind = FaultKind.Memory; at = 0 }) }

@@ -1,4 +1,4 @@
-//! How many positions expressions have, found without their trees.
+//! The numbers of positions that expressions have, found without their trees.
 ghost use Rattle.std.specs.Prelude.{◌≡◌, ◌⊎◌, IfOk, IfErr};
 ghost use Rattle.re_syntax.specs.declared.fault.FaultKind.{FaultKind};
 ghost use Rattle.re_syntax.specs.declared.syntax.Syntax.TheVariants.{Basic, Extended};
@@ -9,12 +9,12 @@ ghost use Rattle.re_syntax.specs.ExtendedFaults.{IsNoExtended};
 use crate::fault::PatternFault;
 use crate::{basic, extended};
 
-/// How many positions a basic regular expression has, its intervals written out, or the greatest
-/// `usize` where it has more. Its tree is not built.
+/// The number of positions of a basic regular expression, its intervals written out, or the
+/// greatest `usize` where it has more. Its tree is not built.
 ///
 /// # Errors
 ///
-/// Those of [`crate::read_basic`]; but no memory is asked for.
+/// Those of [`crate::read_basic`] but `FaultKind::Memory`: it allocates no memory.
 pub fn basic_positions(text: &[u8]) -> Result<usize, PatternFault>
     ensures counted { IfOk result (HasPositions Basic text.now) }
     ensures refused { IfErr result
@@ -24,12 +24,12 @@ pub fn basic_positions(text: &[u8]) -> Result<usize, PatternFault>
     Ok(piece.positions)
 }
 
-/// How many positions an extended regular expression has, its intervals written out, or the
+/// The number of positions of an extended regular expression, its intervals written out, or the
 /// greatest `usize` where it has more. Its tree is not built.
 ///
 /// # Errors
 ///
-/// Those of [`crate::read_extended`]; but no memory is asked for.
+/// Those of [`crate::read_extended`] but `FaultKind::Memory`: it allocates no memory.
 pub fn extended_positions(text: &[u8]) -> Result<usize, PatternFault>
     ensures counted { IfOk result (HasPositions Extended text.now) }
     ensures refused { IfErr result

@@ -1,8 +1,8 @@
 use crate::bytes::ByteSet;
 
 /// A regular expression, apart from how it is written (XBD 9.3, 9.4). `expression_of` in
-/// `specs/Expression.antt` says what each form stands for, and `Holds` in `specs/Holds.antt` where
-/// it matches.
+/// `specs/Expression.antt` says what each form means, and `Holds` in `specs/Holds.antt` where it
+/// matches.
 #[derive(Drop)]
 pub enum Tree {
     /// Matches the empty string.
@@ -15,10 +15,11 @@ pub enum Tree {
     Begin,
     /// The line's last place, an anchor.
     End,
-    /// One after another.
+    /// The parts one after another.
     Cat(Vec<Tree>),
-    /// Any one of them (XBD 9.4.7).
+    /// Any one of the branches (XBD 9.4.7).
     Alt(Vec<Tree>),
-    /// At least so many times, and at most so many where a number stands (XBD 9.3.6).
+    /// The part repeated, at least as often as the first number says, and at most as often as the
+    /// second, if there is one (XBD 9.3.6).
     Repeat(Box<Tree>, u16, Option<u16>),
 }

@@ -1,7 +1,7 @@
 -- What is known of the files of the system.
 use Rattle.std.specs.Prelude.{Bool, [], Option, None, Some, if◌then◌else◌}
-use Rattle.grep_cmd.specs.Bytes.{Text}
-use Rattle.grep_cmd.specs.Folder.{Folder}
+use Rattle.grep_utility.specs.Bytes.{Text}
+use Rattle.grep_utility.specs.Folder.{Folder}
 use Rattle.grep.specs.declared.disk.Stream.{Stream}
 use Rattle.grep.specs.declared.disk.Stream.TheVariants.{StandardInput, File, Empty, Output}
 

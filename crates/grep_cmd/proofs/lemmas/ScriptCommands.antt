@@ -3,7 +3,8 @@ use Rattle.std.proofs.Common.{◌≡◌, ℕ, true, false, List, [], ◌∷◌, 
 use Rattle.std.proofs.lemmas.Bool.{cond-true, cond-false}
 use Rattle.re_syntax.specs.Bytes.{Text}
 use Rattle.grep_session.specs.Edits.{Splice}
-use Rattle.grep_cmd.specs.Script.{number_of, counts, command_of, file_command, missing_command, splice_from, splice_command, unnamed_command}
+use Rattle.grep_utility.specs.Words.{number_of}
+use Rattle.grep_cmd.specs.Script.{counts, command_of, file_command, missing_command, splice_from, splice_command, unnamed_command}
 use Rattle.grep_cmd.specs.Working.ScriptWords.{four_words}
 
 pub command_none : command_of [] ≡ None

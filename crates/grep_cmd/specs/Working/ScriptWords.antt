@@ -1,6 +1,5 @@
 -- How the words of a command line are read.
-use Rattle.std.specs.Prelude.{ℕ, ◌-◌, nat_le, ◌&&◌, if◌then◌else◌, List, [], ◌∷◌, Option, Some}
-use Rattle.std.specs.Prelude.{None}
+use Rattle.std.specs.Prelude.{List, [], ◌∷◌, Option, Some, None}
 use Rattle.std.specs.Borrow.{Bor}
 use Rattle.re_syntax.specs.Bytes.{Text}
 use Rattle.grep_cmd.specs.Script.{words_of}
@@ -21,7 +20,3 @@ two_words _ = None
 abbrev pub four_words : List Text → Option (List Text)
 four_words (a ∷ b ∷ c ∷ d ∷ []) = Some (a ∷ b ∷ c ∷ d ∷ [])
 four_words _ = None
-
--- the value of a decimal digit
-abbrev pub digit_of : ℕ → Option ℕ
-digit_of byte = if nat_le 48 byte && nat_le byte 57 then Some (byte - 48) else None

@@ -1,17 +1,17 @@
 //! The commands of a script.
 ghost use Rattle.std.specs.Prelude.{◌≡◌, IfOk, option_map};
+ghost use Rattle.grep_utility.specs.Words.{number_of};
 ghost use Rattle.grep_cmd.specs.Script.{name_of, flag_of, switch_of, syntax_of, file_command};
 ghost use Rattle.grep_cmd.specs.Script.{missing_command, close_command, splice_command};
 ghost use Rattle.grep_cmd.specs.Script.{patterns_command, drop_command, flag_command};
 ghost use Rattle.grep_cmd.specs.Script.{syntax_command, no_context, context_from};
 ghost use Rattle.grep_cmd.specs.Script.{context_command, show_command, unnamed_command};
-ghost use Rattle.grep_cmd.specs.Script.{line_command, number_of};
+ghost use Rattle.grep_cmd.specs.Script.{line_command};
 ghost use Rattle.grep_cmd.specs.Working.Commands.{meant};
 
-use crate::number::read_number;
 use crate::script::line_words::{LineWords, words_of};
-use crate::words::pieces::{Meaning, meaning_of_option};
 use grep_core::{Context, Flag};
+use grep_utility::{Meaning, meaning_of_option, read_number};
 use re_syntax::Syntax;
 use std::alloc::{AllocError, Global};
 

@@ -3,13 +3,13 @@ ghost use Rattle.std.specs.Prelude.{◌≡◌, [], ◌++◌, codes, IfOk};
 ghost use Rattle.std.specs.Fmt.{decimal};
 ghost use Rattle.grep_core.specs.Row.{output_line};
 ghost use Rattle.grep_core.specs.Written.{Writes};
+ghost use Rattle.grep_utility.specs.Texts.{kind_name};
 ghost use Rattle.grep_cmd.specs.Replies.{cause, refused_for, reply_to};
-ghost use Rattle.grep_cmd.specs.Texts.{kind_name};
 ghost use Rattle.grep_cmd.specs.Working.Answered.{answer_for};
 
-use crate::refusal::kind_name;
 use grep_core::{CountedWrite, WriteFault, push_all, write_count, write_decimal, write_line};
 use grep_session::EditFault;
+use grep_utility::kind_name;
 use re_syntax::{FaultKind, PatternFault};
 
 /// How a command was answered.

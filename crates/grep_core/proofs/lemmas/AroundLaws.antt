@@ -1,4 +1,5 @@
--- The lines around selected ones: which are shown is decided, a file has one output of them, and none exactly where no line is selected.
+-- The lines around selected ones: which are shown is decided, a file has one output of them, and
+-- none exactly where no line is selected.
 use Rattle.std.proofs.Common.{◌≡◌, ℕ, zero, suc, ◌+◌, ◌<◌, ◌≤◌, List, [], ◌∷◌, ◌++◌, length, get_or, Option, Any, inl, inr, refl, sym, ap, subst, ◌∙◌, arith}
 use Rattle.std.specs.List.{enumerate_from}
 use Rattle.std.proofs.Math.Decide.{dec_le, map_dec}

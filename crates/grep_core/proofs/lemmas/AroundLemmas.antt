@@ -1,4 +1,5 @@
--- A search that shows lines around selected ones: what is written of a file's first lines, one more line at a time.
+-- A search that shows lines around selected ones: what is written of a file's first lines, one more
+-- line at a time.
 use Rattle.std.proofs.Common.{◌≡◌, ℕ, ◌+◌, ◌-◌, nat_lt, ◌<◌, ◌≤◌, ◌⊎◌, ◌↔◌, min, Bool, true, false, ◌&&◌, ◌||◌, IsTrue, Decides, List, [], ◌∷◌, ◌++◌, All, length, take, drop, inl, inr, refl, sym, ap, subst, ◌∙◌, append_assoc, arith, if◌then◌else◌}
 use Rattle.std.specs.List.{enumerate_from}
 use Rattle.std.proofs.Math.Nat.{min-eq_left, min-eq_right}
@@ -25,7 +26,8 @@ use Rattle.grep_core.proofs.lemmas.ShownLemmas.{EachGives-placed, EachGives-plac
 use Rattle.grep_core.proofs.lemmas.GroupLemmas.{behind_group, behind_none, said_before, more_nonempty, Given, groups_grown}
 
 module _ (es : List Expression) (options : Options) (many : Bool) (name : Text) (context : Context) (before : Bool) where
-  -- the search stands so behind these lines, and these rows of them are written, where some line was shown before or none: what the first of them show, the groups, was
+  -- the search is at this progress after these lines, and these rows of them are written; `before`
+  -- says whether some line was shown before them. The groups that the first lines show were
   -- written, and the others are held
   pub record Tracks (p : Progress) (lines rows : List Text) : Type 0 where
     pub same_context : p.context ≡ context
@@ -74,7 +76,7 @@ module _ (es : List Expression) (options : Options) (many : Bool) (name : Text) 
       let front_long : length t.front ≡ length lines - p.waiting = omega (arith, ap length t.parted, length-append t.front t.held, t.many_held) in
       ap (drop (length lines - p.waiting)) t.parted ∙ drop_at t.front t.held (length lines - p.waiting) front_long
 
-  -- the rows of these stand before that of the next line
+  -- the rows of these are before that of the next line
   rows_held : (p : Progress) (lines rows : List Text) (t : Tracks p lines rows) (row : Text)
       → rows_around options many name ((length lines + 1) - length (last_of p.waiting lines)) (last_of p.waiting lines) ++ row ∷ [] ≡ rows_around options many name (length t.front + 1) t.held ++ row ∷ []
   rows_held p lines rows t row =
@@ -126,7 +128,7 @@ module _ (es : List Expression) (options : Options) (many : Bool) (name : Text) 
         first = λ e. absurd (more_nonempty t.groups separator (rows_around options many name (length t.front + 1) t.held) row e);
       }
 
-  -- the next line is not selected, and is shown behind one that is
+  -- the next line is not selected, and is shown after one that is
   tracks_behind : (p : Progress) (lines rows : List Text) (line : Text) → ¬ Selected es options line → 0 < p.left → Tracks p lines rows
       → Tracks (record p { left = p.left - 1 }) (lines ++ line ∷ []) (rows ++ (rows_around options many name ((length lines + 1) - length (last_of p.waiting lines)) (last_of p.waiting lines) ++ row_by options many name false (length lines + 1) line ∷ []))
   tracks_behind p lines rows line passed some t =
@@ -179,7 +181,7 @@ module _ (es : List Expression) (options : Options) (many : Bool) (name : Text) 
         first = λ e. absurd (more_nonempty t.groups (if p.gap then group_separator ∷ [] else []) (rows_around options many name (length t.front + 1) t.held) row e);
       }
 
-  -- lines that are not selected, and not shown behind one that is, wait as far as they may
+  -- lines that are not selected, and not shown after one that is, wait as far as they may
   waits : (p : Progress) (lines rows passed : List Text) (gap : Bool) (n : ℕ) → All (λ line. ¬ Selected es options line) passed → p.left ≡ 0
       → ((p.waiting + length passed ≤ context.before) × (n ≡ p.waiting + length passed) × (gap ≡ p.gap)) ⊎ ((context.before < p.waiting + length passed) × (n ≡ context.before) × (gap ≡ true))
       → Tracks p lines rows → Tracks (record p { gap = gap; waiting = n }) (lines ++ passed) rows
@@ -246,7 +248,8 @@ module _ (es : List Expression) (options : Options) (many : Bool) (name : Text) 
         first = λ e. elim step [ inl s ↦ s.2 ∙ t.first e | inr s ↦ s.2 ];
       }
 
-  -- lines of which none is selected were passed, where no line is shown any more behind a selected one
+  -- lines of which none is selected were passed, where no line is shown any more after a selected
+  -- one
   pub tracks_passed : (p : Progress) (lines rows passed : List Text) → All (λ line. ¬ Selected es options line) passed → p.left ≡ 0 → Tracks p lines rows
       → Tracks (with_waiting (length passed) p) (lines ++ passed) rows
   tracks_passed p lines rows passed none left_none t =

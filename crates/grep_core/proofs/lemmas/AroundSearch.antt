@@ -1,4 +1,5 @@
--- A search of the lines of an open source of which lines around the selected ones are shown, one more line at a time.
+-- A search of the lines of an open source of which lines around the selected ones are shown, one
+-- more line at a time.
 use Rattle.std.proofs.Common.{◌≡◌, ℕ, ◌+◌, ◌-◌, ◌^◌, ◌<◌, ◌≤◌, Bool, true, false, IsTrue, Decides, List, [], ◌∷◌, ◌++◌, Option, length, take, refl, sym, ap, subst, ◌∙◌, append-nil, inl, inr, arith, if◌then◌else◌}
 use Rattle.std.proofs.lemmas.List.{length-append, length_push}
 use Rattle.std.proofs.lemmas.List.Elements.{All-nil}
@@ -59,7 +60,8 @@ module _ {R : Type 0} (remaining : R → Option Text) (failures : R → ℕ) (es
 -- ---- the turns of the search
 
 module _ {R : Type 0} (remaining : R → Option Text) (failures : R → ℕ) (es : List Expression) (options : Options) (many shown : Bool) (name : Text) (reader : R) (context : Context) where
-  -- the lines that were handed out were searched, and what is shown of them so far was written; the last of them are held
+  -- the lines that were handed out were searched, and what is shown of them so far was written; the
+  -- last of them are held
   pub record FollowedSoFar (now : Numbered R) (old new : Writer) (began ended : Steps) (selected : ℕ) (p : Progress) (behind : List Text) : Type 0 where
     pub lines : List Text
     pub rows : List Text
@@ -152,7 +154,7 @@ module _ {R : Type 0} (remaining : R → Option Text) (failures : R → ℕ) (es
     steps = searched_first_lines es options (length es) s.lines h.passes.passed began ended s.steps;
   }
 
-  -- as many lines are held at most as before
+  -- the limit of held lines stays that of the context
   pub passed_limit : (now : Numbered R) (p q : Progress) (behind held : LastLines) (lines : List Text) → PassesWaiting remaining failures es options reader lines now p q behind held → behind.limit ≡ context.before → held.limit ≡ context.before
   passed_limit now p q behind held lines h limit = elim h.waits [
     | inl none ↦ ap (λ (x : LastLines). x.limit) none.2 ∙ limit
@@ -163,7 +165,7 @@ module _ {R : Type 0} (remaining : R → Option Text) (failures : R → ℕ) (es
   pub passed_on : (before now : Numbered R) (p q : Progress) (behind held : LastLines) (lines : List Text) → HasHanded remaining failures reader before lines → PassesWaiting remaining failures es options reader lines now p q behind held → before.number ≤ now.number
   passed_on before now p q behind held lines h w = omega (arith, h.counted, w.passes.handed_too.counted, length-append lines w.passes.passed)
 
-  -- what was gathered was sent
+  -- buffered output was sent
   pub followed_sent : (now : Numbered R) (old mid new : Writer) (began ended : Steps) (selected : ℕ) (p : Progress) (behind : List Text) → Followed now old mid began ended selected p behind → TakesAll mid new [] → Followed now old new began ended selected p behind
   followed_sent now old mid new began ended selected p behind s sent = record {
     lines = s.lines;
@@ -190,7 +192,7 @@ module _ {R : Type 0} (remaining : R → Option Text) (failures : R → ℕ) (es
     pub same_before : p.context.before ≡ context.before
     same_before = ap (λ (c : Context). c.before) s.tracks.same_context
 
-    -- what was gathered could not be sent
+    -- buffered output could not be sent
     pub followed_unsent : (new : Writer) → TakesFront mid new [] → new.failures ≡ one_more mid.failures
         → BreaksSource es options many shown (open_source name (remaining reader)) (OneLeft (remaining before.lines.reader)) (failures reader) (failures before.lines.reader) old new began amid
     followed_unsent new front counted =
@@ -206,7 +208,7 @@ module _ {R : Type 0} (remaining : R → Option Text) (failures : R → ℕ) (es
     pub followed_broken : StandsAs remaining failures reader now s.lines broken → SearchesSource es options many shown (open_source name (remaining reader)) (OneLeft (remaining now.lines.reader)) (failures reader) (failures now.lines.reader) old mid began amid Broken selected
     followed_broken stands = searches_broken es options many shown name (remaining reader) (remaining now.lines.reader) old mid began amid (failures reader) (failures now.lines.reader) s.lines selected writes s.steps (stands name) never_early
 
-    -- want of memory
+    -- out of memory
     pub followed_out : HasHanded remaining failures reader now s.lines → (count : ℕ) → now.number ≡ count
         → StopsSource es options many shown (open_source name (remaining reader)) (OneLeft (remaining now.lines.reader)) count (failures reader) (failures now.lines.reader) old mid began amid
     followed_out handed count is_count =
@@ -230,7 +232,7 @@ module _ {R : Type 0} (remaining : R → Option Text) (failures : R → ℕ) (es
         is_count : count ≡ length s.lines + 1
         is_count = is_number ∙ one_further ∙ ap (λ n. n + 1) (sym s.handed.counted)
 
-        -- as many lines are held as wait
+        -- no more lines are held than were handed out
         pub held_few : length behind ≤ count
         held_few = omega (arith, is_count, ap length s.held ∙ length-last_of p.waiting s.lines s.tracks.within, s.tracks.within)
 

@@ -15,7 +15,7 @@ map_rest : {V : Type 0} (f : V → Text) (xs : List V) → map f (drop 1 xs) ≡
 map_rest f [] = refl
 map_rest f (x ∷ xs) = refl
 
--- a line was put behind the queue, and its first, which was free then, was taken out
+-- a line was appended to the queue, and its first, which was free then, was taken out
 pub pushed : {V : Type 0} (f : V → Text) (limit held count : ℕ) (old more now : List V) (x : V) (line : Text) → held ≤ length old → held ≤ limit → count ≡ min (held + 1) limit → more ≡ old ++ x ∷ [] → f x ≡ line → now ≡ drop 1 more → count < length more
     → last_of count (map f now) ≡ last_of limit (last_of held (map f old) ++ line ∷ [])
 pushed f limit held count old more now x line within few is grown is_line rest free =

@@ -1,4 +1,5 @@
--- The last lines of a block: where they begin, and that no others need be held behind lines that are.
+-- The last lines of a block: where they begin, and that no others need be held after lines that
+-- are.
 use Rattle.std.proofs.Common.{◌≡◌, ◌≢◌, ℕ, ◌+◌, ◌-◌, ◌<◌, ◌≤◌, min, inl, inr, List, [], ◌∷◌, ◌++◌, All, length, take, drop, get_or, refl, sym, ap, ◌∙◌, subst, arith, length-append, append_assoc, append-nil, take-append-drop}
 use Rattle.std.proofs.Math.Seq.{take-append_seam, drop-append_seam}
 use Rattle.std.proofs.lemmas.Bool.{cases_lt}
@@ -20,7 +21,7 @@ use Rattle.grep_core.proofs.lemmas.WaitingRows.{length-last_of}
 pub last_of-few : {A : Type 0} (most : ℕ) (xs : List A) → length xs ≤ most → last_of most xs ≡ xs
 last_of-few most xs few = let none : length xs - most ≡ 0 = omega (arith, few) in ap (λ m. drop m xs) none
 
--- more behind the last n of others
+-- more after the last n of others
 pub last_of-many : {A : Type 0} (most n : ℕ) (xs ys : List A) → n ≤ length xs → n ≤ most → last_of most (last_of n xs ++ ys) ≡ last_of (min (n + length ys) most) (xs ++ ys)
 last_of-many most n xs ys within few =
     let k = length xs - n in
@@ -31,7 +32,7 @@ last_of-many most n xs ys within few =
     let places : k + (n + length ys - most) ≡ length xs + length ys - min (n + length ys) most = omega (arith, within, few) in
     ap (λ m. drop (m - most) (last_of n xs ++ ys)) long ∙ ap (drop (n + length ys - most)) joined ∙ drop-drop (n + length ys - most) k (xs ++ ys) ∙ ap (λ m. drop m (xs ++ ys)) places ∙ ap (λ m. drop (m - min (n + length ys) most) (xs ++ ys)) (sym all)
 
--- more behind the last ones
+-- more after the last ones
 pub last_of-again : {A : Type 0} (most : ℕ) (xs ys : List A) → last_of most (last_of most xs ++ ys) ≡ last_of most (xs ++ ys)
 last_of-again most xs ys = elim (cases_lt most (length xs)) [
   | inl over ↦
@@ -40,7 +41,7 @@ last_of-again most xs ys = elim (cases_lt most (length xs)) [
   | inr fits ↦ ap (λ l. last_of most (l ++ ys)) (last_of-few most xs fits)
 ]
 
--- the last ones behind others
+-- the last ones after others
 pub last_of-late : {A : Type 0} (most : ℕ) (xs ys : List A) → last_of most (xs ++ last_of most ys) ≡ last_of most (xs ++ ys)
 last_of-late most xs ys = elim (cases_lt most (length ys)) [
   | inl over ↦
@@ -64,13 +65,13 @@ holds_more h held now done line e is =
     is ∙ ap (λ (x : LastLines). with_lines x (line ∷ [])) e
     ∙ ap (λ ls. let r : LastLines = record { limit = h.limit; lines = ls } in r) (last_of-again h.limit (h.lines ++ done) (line ∷ []) ∙ ap (last_of h.limit) (append_assoc h.lines done (line ∷ [])))
 
--- no more than the last of them need be put behind
+-- no more than the last of them need be added
 pub holds_last : (h : LastLines) (more : List Text) → with_lines h (last_of h.limit more) ≡ with_lines h more
 holds_last h more = ap (λ ls. let r : LastLines = record { limit = h.limit; lines = ls } in r) (last_of-late h.limit h.lines more)
 
 -- ---- where the last lines of a block begin
 
--- behind whole lines and bytes without newline the last newline stands at their end
+-- after whole lines and bytes without newline the last newline is at the end of the lines
 end_at : (front rest : Text) (r : ℕ) → (0 < length front → get_or front (length front - 1) 0 ≡ newline) → HasNoNewline rest → r ≤ length (front ++ rest) → (0 < r → get_or (front ++ rest) (r - 1) 0 ≡ newline) → HasNoNewline (drop r (front ++ rest)) → r ≡ length front
 end_at front rest r last free within ended cut = elim (cases_lt r (length front)) [
   | inl below ↦
@@ -125,7 +126,7 @@ module _ (block : Text) (h : IsBlock block) where
   pub begins_all : (k most : ℕ) → 0 ≡ from_last k → k < most → drop 0 block ≡ terminated (last_of most lines)
   begins_all k most is below = block_is ∙ ap terminated (sym (last_of-few most lines (omega (arith, few_lines k (sym is), below))))
 
-  -- as many as may be were looked at
+  -- the last `most` lines were looked at
   pub begins_last : (start most : ℕ) → start ≡ from_last most → drop start block ≡ terminated (last_of most lines)
   begins_last start most is =
       let m = length lines - most in

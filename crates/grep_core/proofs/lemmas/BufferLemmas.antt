@@ -11,7 +11,7 @@ use Rattle.grep_core.specs.Buffer.{BufferedWriter, Sends, SendsAll, SendsSome, a
 use Rattle.grep_core.specs.Working.Sent.{EndsRows, SendsFront, SendsWhole, SendsRows}
 
 module _ {W : Type 0} (contents : W → Option Text) (failures : W → ℕ) where
-  -- the first n bytes went, and as many waited
+  -- the first n bytes were sent, and n bytes waited
   whole_front_sent : (old new : BufferedWriter W) (n : ℕ) → n ≡ length old.waiting → SendsFront contents failures n old new → SendsAll contents failures old new
   whole_front_sent old new n all went = record {
     written = subst (Appends (contents old.inner) (contents new.inner)) (take_all n old.waiting (omega (arith, all))) went.written;
@@ -19,25 +19,25 @@ module _ {W : Type 0} (contents : W → Option Text) (failures : W → ℕ) wher
     none_failed = went.none_failed;
   }
 
-  -- all that waited was to go
+  -- all that waited was to be sent
   pub all_sent : {T E : Type 0} (old new : BufferedWriter W) (n : ℕ) (r : Result T E) → n ≡ length old.waiting
       → MatchResult r (λ _. SendsFront contents failures n old new) (λ _. SendsSome contents failures old new) → Sends contents failures old new r
   all_sent old new n (Ok v) all went = whole_front_sent old new n all went
   all_sent old new n (Err e) all went = went
 
-  -- the rows that waited whole were to go
+  -- the rows that waited whole were to be sent
   pub rows_sent : {T E : Type 0} (old new : BufferedWriter W) (n : ℕ) (r : Result T E) → EndsRows old.waiting n
       → MatchResult r (λ _. SendsFront contents failures n old new) (λ _. SendsSome contents failures old new) → SendsRows contents failures old new r
   rows_sent old new n (Ok v) ended went = record { count = n; whole = inl ended; front = went }
   rows_sent old new n (Err e) ended went = went
 
-  -- no row waited whole, and all was to go
+  -- no row waited whole, and all was to be sent
   pub part_sent : {T E : Type 0} (old new : BufferedWriter W) (n : ℕ) (r : Result T E) → HasNoNewline old.waiting → n ≡ length old.waiting
       → MatchResult r (λ _. SendsFront contents failures n old new) (λ _. SendsSome contents failures old new) → SendsRows contents failures old new r
   part_sent old new n (Ok v) none all went = record { count = n; whole = inr (none, all); front = went }
   part_sent old new n (Err e) none all went = went
 
-  -- where bytes waited and rows went, fewer wait
+  -- where bytes waited and rows were sent, fewer wait
   fewer_wait : (old new : BufferedWriter W) → SendsWhole contents failures old new → 0 < length old.waiting → length new.waiting < length old.waiting
   fewer_wait old new went some =
       let count_some : 0 < went.count = ⊎_elim (λ ended. ended.some) (λ all. omega (arith, some, all.1)) went.whole in
@@ -49,19 +49,19 @@ module _ {W : Type 0} (contents : W → Option Text) (failures : W → ℕ) wher
   rows_make_room old new (Ok v) went = fewer_wait old new went
   rows_make_room old new (Err e) went = tt
 
-  -- no byte is lost where all went out
+  -- no byte is lost where all were sent
   pub kept_by_all : (old new : BufferedWriter W) → SendsAll contents failures old new → Keeps (all_contents contents old) (all_contents contents new)
   kept_by_all old new sends =
       append_known-moved (contents old.inner) (contents new.inner) old.waiting new.waiting old.waiting sends.written
       (sym (append-nil old.waiting) ∙ ap (λ l. old.waiting ++ l) (sym sends.none_waits))
 
-  -- no byte is lost where whole rows went out
+  -- no byte is lost where whole rows were sent
   pub kept_by_rows : (old new : BufferedWriter W) → SendsWhole contents failures old new → Keeps (all_contents contents old) (all_contents contents new)
   kept_by_rows old new sends =
       append_known-moved (contents old.inner) (contents new.inner) (take sends.count old.waiting) new.waiting old.waiting sends.front.written
       (sym (take-append-drop sends.count old.waiting) ∙ ap (λ l. take sends.count old.waiting ++ l) (sym sends.front.rest))
 
-  -- no byte is lost where some went out
+  -- no byte is lost where some were sent
   pub kept_by_some : (old new : BufferedWriter W) → SendsSome contents failures old new → Keeps (all_contents contents old) (all_contents contents new)
   kept_by_some old new sends =
       append_known-moved (contents old.inner) (contents new.inner) sends.front new.waiting old.waiting sends.written sends.cut
@@ -77,7 +77,7 @@ module _ {W : Type 0} (contents : W → Option Text) (failures : W → ℕ) wher
     counted = sends.counted;
   }
 
-  -- all that waited went out, and then the inner writer was flushed
+  -- all that waited was sent, and then the inner writer was flushed
   flushed_behind : {T E : Type 0} (old : BufferedWriter W) (inner last : W) (waiting : Text) (r : Result T E) → SendsAll contents failures old (record { inner = inner; waiting = waiting })
       → Writes contents failures inner last [] r → Writes (all_contents contents) (λ out. failures out.inner) old (record { inner = last; waiting = waiting }) [] r
   flushed_behind old inner last waiting (Ok v) sent went = record {

@@ -1,4 +1,5 @@
--- Lists made from the elements that have a property: there is one, and what more elements add to it.
+-- Lists made from the elements that have a property: there is one, and what more elements add to
+-- it.
 use Rattle.std.proofs.Common.{◌≡◌, List, [], ◌∷◌, ◌++◌, inl, inr, refl, sym, ap, subst, ◌∙◌, append_assoc}
 use Rattle.std.proofs.lemmas.List.{append-nil}
 use Rattle.grep_core.specs.Choose.{IfHolds, EachGives, Chosen}
@@ -7,7 +8,7 @@ use Rattle.grep_core.specs.Choose.{IfHolds, EachGives, Chosen}
 pub same_value : {A : Type 0} {a b c : A} → a ≡ c → b ≡ c → a ≡ b
 same_value p q = p ∙ sym q
 
--- two answers to one question fall into the same case
+-- two results of one question are in the same case
 pub IfHolds-both : {P A B C D E : Type 0} → IfHolds P A B → IfHolds P C D → (A → C → E) → (B → D → E) → E
 IfHolds-both (inl a) (inl b) f g = f a.1 b.1
 IfHolds-both (inl a) (inr b) f g = absurd (b.0 a.0)
@@ -53,7 +54,7 @@ EachGives-append R (x ∷ xs) ys us vs h k = (h.0, h.1 ++ vs, h.2, EachGives-app
 pub EachGives-one : {A B : Type 0} (R : A → List B → Type 0) (x : A) (ys : List B) → R x ys → EachGives R (x ∷ []) ys
 EachGives-one R x ys r = (ys, [], r, refl, sym (append-nil ys))
 
--- what one more element gives goes to the end
+-- what one more element gives is added at the end
 pub EachGives-end : {A B : Type 0} (R : A → List B → Type 0) (xs : List A) (x : A) (ys zs : List B) → EachGives R xs ys → R x zs → EachGives R (xs ++ x ∷ []) (ys ++ zs)
 EachGives-end R xs x ys zs h r = EachGives-append R xs (x ∷ []) ys zs h (EachGives-one R x zs r)
 

@@ -46,7 +46,7 @@ out_apart es options context many parts files out other h = h
 out_apart es options context many lines files out other h = h
 out_apart es options context many (around c) files out other h = absurd (false≢true (sym other))
 
--- where one of these options is set, the output is the same whatever context is given
+-- where one of these options is set, the output is the same with any context
 context_ignored : (es : List Expression) (options : Options) (context : Option Context) (files : List File) (out : List Text)
     → IsTrue (options.quiet || (options.files_with_matches || (options.count || options.only_matching))) → Out es (record options { context = context }) files out → Out es options files out
 context_ignored es options context files out some h =

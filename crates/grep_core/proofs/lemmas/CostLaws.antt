@@ -35,7 +35,7 @@ pub from_place : (matchers : ℕ) (line : Text) (from : ℕ) (old new : Steps) �
 from_place matchers line from old new a =
     adds_within (matchers * (length line - from + 1)) (search_cost matchers line) old new (mul-le-mul_left matchers (let shorter : length line - from + 1 ≤ length line + 1 = omega arith in shorter)) a
 
--- one more line was searched of bytes of which so many are behind it
+-- one more line was searched; `behind` bytes are after it
 pub adds_line : (matchers all before behind : ℕ) (line : Text) (old mid new : Steps) → length line + 1 + behind ≤ before → before ≤ all → AddsAtMost (matchers * (all - before)) old mid → AddsAtMost (search_cost matchers line) mid new
     → AddsAtMost (matchers * (all - behind)) old new
 adds_line matchers all before behind line old mid new fits within a b =
@@ -52,7 +52,7 @@ same_length f xs ys e = sym (length-map xs f) ∙ ap length e ∙ length-map ys 
 pub adds_none : (most : ℕ) (steps : Steps) → AddsAtMost most steps steps
 adds_none most steps = record { built = omega arith; reused = omega arith; sum = omega arith }
 
--- the matchers are as many as the expressions that they match
+-- there is one matcher for each of the expressions that they match
 pub as_expressions : {M : Type 0} (expression : M → Expression) (matchers : List M) (es : List Expression) (options : Options) (line : Text) (old new : Steps) → map expression matchers ≡ es
     → SearchesLine (map expression matchers) options (length matchers) line old new → SearchesLine es options (length es) line old new
 as_expressions expression matchers es options line old new e s =
@@ -187,7 +187,7 @@ module _ (es : List Expression) (options : Options) (matchers : ℕ) where
       let one : FilesCost es options matchers (file ∷ []) b.cost = (b.cost, 0, b.is_cost, refl, omega arith) in
       record { cost = a.cost + b.cost; is_cost = both_files_cost files (file ∷ []) a.cost b.cost a.is_cost one; few = adds_both a.cost b.cost old mid new a.few b.few }
 
-  -- one more file was searched, and there are others behind it
+  -- one more file was searched, and there are others after it
   pub searched_up_to : (files : List File) (file : File) (others : List File) (old mid new : Steps) → SearchesFiles es options matchers files old mid → SearchesLines es options matchers file.lines mid new → SearchesFiles es options matchers (files ++ file ∷ others) old new
   searched_up_to files file others old mid new a b =
       let rest = files_cost others in

@@ -8,9 +8,9 @@ use Rattle.re_syntax.proofs.lemmas.LinesLaws.{lines_of-line, lines_of-terminated
 use Rattle.re_search.specs.Working.Blocks.{IsBlock, PassesAll, HoldsOfMany}
 use Rattle.grep_core.proofs.lemmas.WindowBlocks.{drop_past}
 
--- ---- what is left of a block behind its first lines
+-- ---- what is left of a block after its first lines
 
--- where whole lines begin with a line, whole lines are left behind its newline
+-- where whole lines begin with a line, whole lines are left after its newline
 pub block_behind : (rest line more : Text) → IsBlock rest → HasNoNewline line → rest ≡ line ++ newline ∷ more → IsBlock more
 block_behind rest line more (ts, free, is) none cut = go ts free (sym is ∙ cut)
   where
@@ -22,20 +22,20 @@ block_behind rest line more (ts, free, is) none cut = go ts free (sym is ∙ cut
         let over : length line + 1 ≡ length t + 1 = omega (arith, ap length same) in
         (us, all_tail t us all, sym (drop_past line (newline ∷ more) 1) ∙ ap (drop (length line + 1)) (sym e) ∙ ap (λ n. drop n (terminated (t ∷ us))) over ∙ drop_past t (newline ∷ terminated us) 1)
 
--- what is left behind the first lines
+-- what is left after the first lines
 pub left_behind : (lines : List Text) (rest more : Text) (passed : ℕ) → rest ≡ terminated lines ++ more → passed ≡ length (terminated lines) → drop passed rest ≡ more
 left_behind lines rest more passed cut width =
     let whole : passed ≡ length (terminated lines) + 0 = omega (arith, width) in
     ap (λ k. drop k rest) whole ∙ ap (drop (length (terminated lines) + 0)) cut ∙ drop_past (terminated lines) more 0
 
--- so are they behind more lines
+-- whole lines are left after several lines
 pub block_behind_all : (lines : List Text) (rest more : Text) → All HasNoNewline lines → IsBlock rest → rest ≡ terminated lines ++ more → IsBlock more
 block_behind_all [] rest more all is cut = subst IsBlock cut is
 block_behind_all (line ∷ lines) rest more all is cut =
     let next : rest ≡ line ++ newline ∷ (terminated lines ++ more) = cut ∙ append_assoc line (newline ∷ terminated lines) more in
     block_behind_all lines (terminated lines ++ more) more (all_tail line lines all) (block_behind rest line (terminated lines ++ more) is (all_head line lines all) next) refl
 
--- so are they behind lines that are passed
+-- whole lines are left after lines that are passed
 pub block_left : (Holds : Text → Type 0) (rest : Text) (passed : ℕ) → IsBlock rest → PassesAll Holds rest passed → IsBlock (drop passed rest)
 block_left Holds rest passed is (lines, more, free, held, cut, width) = subst IsBlock (sym (left_behind lines rest more passed cut width)) (block_behind_all lines rest more free is cut)
 
@@ -45,7 +45,7 @@ lines_and_more [] more all = refl
 lines_and_more (line ∷ lines) more all =
     ap lines_of (append_assoc line (newline ∷ terminated lines) more) ∙ lines_of-line line (terminated lines ++ more) (all_head line lines all) ∙ ap (λ ls. line ∷ ls) (lines_and_more lines more (all_tail line lines all))
 
--- the byte behind a line
+-- the byte after a line
 at_end : (line more : Text) → get_or (line ++ newline ∷ more) (length line) 0 ≡ newline
 at_end line more = let place : length line ≡ length line + 0 = omega arith in ap (λ n. get_or (line ++ newline ∷ more) n 0) place ∙ get_or-append-add line (newline ∷ more) 0 0
 
@@ -56,7 +56,7 @@ module _ (P : Text → Type 0) where
   none_more [] more n none h = h
   none_more (line ∷ lines) more n none h = (n, none_more lines more n (All-tail (λ l. ¬ P l) line lines none) h, inr (All-head (λ l. ¬ P l) line lines none, refl))
 
-  -- so many lines of a block have the property, and those of the rest besides
+  -- this number of a block's lines have the property, besides those of the rest
   abbrev pub CountedUpTo : Text → Text → ℕ → Type 0
   CountedUpTo block rest count = (n : ℕ) → HoldsOfMany P (lines_of rest) n → HoldsOfMany P (lines_of block) (count + n)
 
@@ -104,7 +104,7 @@ module _ (P : Text → Type 0) where
           let here : length t < length rest = omega (arith, ap length e, length-append t (newline ∷ terminated us)) in
           absurd (none (length t) 0 here (ap (λ l. get_or l (length t) 0) e ∙ at_end t (terminated us)))
 
--- ---- of so many lines
+-- ---- a number of lines
 
 -- no more lines have a property than there are
 pub many_within : (P : Text → Type 0) (lines : List Text) (n : ℕ) → HoldsOfMany P lines n → n ≤ length lines

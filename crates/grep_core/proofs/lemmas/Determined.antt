@@ -1,4 +1,5 @@
--- The output, the messages and the status are determined by the expressions, the options and the files.
+-- The output, the messages and the status are determined by the expressions, the options and the
+-- files.
 use Rattle.std.proofs.Common.{◌≡◌, ℕ, Bool, true, false, List, [], ◌∷◌, ◌++◌, sym, subst, ap, ◌∙◌, length, map, drop, slice_range, MatchBool}
 use Rattle.std.specs.Fmt.{decimal}
 use Rattle.re_syntax.specs.Bytes.{Text}
@@ -60,7 +61,7 @@ module _ (es : List Expression) (options : Options) where
       let rest : a.0 ≡ b.0 = IfHolds-both a.2 b.2 same_value (Reached-determined files a.0 b.0) in
       a.1 ∙ ap (λ t. file ∷ t) rest ∙ sym b.1
 
-  -- at most one thing is told of a file
+  -- a file has at most one list of messages about it
   pub Message-determined : (file : File) (told more : List Text) → Message es options file told → Message es options file more → told ≡ more
   Message-determined file told more a b = IfHolds-both a b same_value same_value
 

@@ -73,7 +73,7 @@ module _ (es : List Expression) (options : Options) where
       by_stop (yes p) rest = (file ∷ [], ([], refl, inl (p, refl)))
       by_stop (no p) rest = (file ∷ rest.0, (rest.0, refl, inr (p, rest.1)))
 
-  -- something is told of a file, if only nothing
+  -- a file has a list of messages about it, which may be empty
   pub Message-exist : (file : File) → (told : List Text) × Message es options file told
   Message-exist file = IfHolds-exist (message file.ending file.name) [] (dec_fault_met es options file)
 

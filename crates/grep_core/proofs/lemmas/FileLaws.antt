@@ -12,7 +12,7 @@ use Rattle.grep_core.specs.Messages.{FaultMet, FaultMetBy}
 use Rattle.grep_core.specs.Reading.{most_lines, up_to_limit}
 use Rattle.grep_core.proofs.lemmas.MoreLines.{file_with}
 
--- behind lines that a newline ends the lines of the rest follow
+-- after lines that a newline ends the lines of the rest follow
 pub lines_of-behind : (ts : List Text) (rest : Text) → All HasNoNewline ts → lines_of (terminated ts ++ rest) ≡ ts ++ lines_of rest
 lines_of-behind [] rest h = refl
 lines_of-behind (t ∷ ts) rest h =
@@ -22,14 +22,15 @@ lines_of-behind (t ∷ ts) rest h =
 pub up_to_limit-few : (name : Text) (lines : List Text) (ending : Ending) → length lines ≤ most_lines → up_to_limit name lines ending ≡ file_with name lines ending
 up_to_limit-few name lines ending few = cond-true _ _ _ (le-leb (length lines) most_lines few)
 
--- where one more line begins, that is a read error behind those that can be counted
+-- where one more line begins, that is a read error after those that can be counted
 pub up_to_limit-over : (name : Text) (lines more : List Text) (line : Text) (ending : Ending) → length lines ≡ most_lines → up_to_limit name (lines ++ line ∷ more) ending ≡ file_with name lines broken
 up_to_limit-over name lines more line ending full =
     let over : most_lines + 1 ≤ length (lines ++ line ∷ more) = rw (length-append lines (line ∷ more)) (omega (arith, full)) in
     let kept : take most_lines (lines ++ line ∷ more) ≡ lines = ap (λ n. take n (lines ++ line ∷ more)) (sym full) ∙ take-append_seam lines (line ∷ more) in
     cond-false _ _ _ (lt-leb (length (lines ++ line ∷ more)) most_lines (omega (arith, over))) ∙ ap (λ ls. file_with name ls broken) kept
 
--- a file of which some lines were read begins with them, and a failed read is the only other ending that it can have
+-- a file of which some lines were read begins with them, and a failed read is the only other ending
+-- that it can have
 pub up_to_limit-behind : (name : Text) (lines more : List Text) (ending : Ending) → length lines ≤ most_lines →
     (kept : List Text) × (end : Ending) × (up_to_limit name (lines ++ more) ending ≡ file_with name (lines ++ kept) end) × ((end ≡ ending) ⊎ (end ≡ broken))
 up_to_limit-behind name lines more ending few =
@@ -53,7 +54,7 @@ lines_of-some b rest = elim (cases_Bool (nat_eq b newline)) [ inl e ↦ ([], lin
     before (l ∷ ls) e = (b ∷ l, ls, e)
 
 module _ (es : List Expression) (options : Options) where
-  -- under `-q` and `-l` no fault is met behind a selected line
+  -- under `-q` and `-l` no fault is met after a selected line
   pub FaultMet-left : (file : File) → (file.ending ≡ whole) ⊎ (file.ending ≡ broken) → IsTrue (options.quiet || options.files_with_matches) → HasSelected es options file → FaultMet es options file → ⊥
   FaultMet-left file (inl e) early has met = subst (λ end. FaultMetBy es options end file) e met
   FaultMet-left file (inr e) early has met = subst (λ end. FaultMetBy es options end file) e met early has

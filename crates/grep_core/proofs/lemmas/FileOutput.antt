@@ -63,7 +63,7 @@ module _ (es : List Expression) (options : Options) (many : Bool) where
             ])
       ]
 
-  -- the number of chosen lines tells whether one is selected
+  -- the number of chosen lines says whether one is selected
   pub chosen_tells : (name : Text) (xs : List Text) (chosen : List (ℕ × Text)) → SelectedLines es options many (file_so_far name xs) chosen → Decides (nat_lt 0 (length chosen)) (Any (Selected es options) xs)
   chosen_tells name xs chosen h = decides_some (length chosen) (some_chosen 1 xs chosen h) (chosen_some 1 xs chosen h)
 
@@ -81,7 +81,7 @@ module _ (es : List Expression) (options : Options) (many : Bool) where
   none_written rows out h (inl (p, e)) = λ i. h i ++ e i
   none_written rows out h (inr (p, e)) = λ i. h i ++ e i
 
-  -- the rows of one more line come behind those of the lines before it
+  -- the rows of one more line follow those of the lines before it
   pub rows_line : (name : Text) (shape : Form) → IsPlain shape → (xs : List Text) (line : Text) (rows out : List Text) → LineRowsOf es options many shape (file_so_far name xs) rows
       → IfHolds (Selected es options line) (RowsOfSelected es options many shape name (length xs + 1) line out) (out ≡ []) → LineRowsOf es options many shape (file_so_far name (xs ++ line ∷ [])) (rows ++ out)
   rows_line name nothing plain xs line rows out h k = none_written rows out h k
@@ -118,7 +118,7 @@ module _ (es : List Expression) (options : Options) (many : Bool) where
   count_out name ls Broken chosen h = (chosen, h, refl)
   count_out name ls Left chosen h = (chosen, h, refl)
 
-  -- behind the rows of all lines the summary completes the output
+  -- after the rows of all lines the summary completes the output
   pub output_all : (name : Text) (ls : List Text) (end : FileEnd) (shape : Form) (rows : List Text) (chosen : List (ℕ × Text)) → LineRowsOf es options many shape (file_so_far name ls) rows → SelectedLines es options many (file_so_far name ls) chosen
       → GroupedAs es options many shape (file_with name ls (ending_of end) ∷ []) (rows ++ summary_as shape many name end (length chosen))
   output_all name ls end nothing rows chosen h c = λ i. h i ++ []
@@ -179,7 +179,7 @@ plain_rows parts plain shown rows = refl
 plain_rows lines plain shown rows = refl
 plain_rows (around context) plain shown rows = absurd plain
 
--- of no rows none is left out
+-- where there are no rows, none is left out
 pub behind_rows-none : (shape : Form) (shown : Bool) → behind_rows shape shown [] ≡ []
 behind_rows-none nothing shown = refl
 behind_rows-none names shown = refl

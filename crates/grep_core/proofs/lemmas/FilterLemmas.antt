@@ -1,4 +1,4 @@
--- What a filter of lines tells of the lines that it rules out.
+-- What a filter of lines says of the lines that it rules out.
 use Rattle.std.proofs.Common.{Bool, false, List}
 use Rattle.std.proofs.lemmas.Bool.{false≢true}
 use Rattle.re_syntax.specs.Bytes.{Text}
@@ -8,6 +8,6 @@ use Rattle.re_search.specs.Searching.{TellsMatchOfAll}
 use Rattle.re_search.specs.Working.Filters.{AreNeeded}
 use Rattle.re_search.specs.Working.Literals.{Literals, any_literal}
 
--- a line on which none of the needed strings stands is not matched
+-- a line on which none of the needed strings occurs is not matched
 pub ruled_out : (es : List Expression) (wholes : List Bool) (line : Text) (strings : Literals) → AreNeeded strings es → (Matches (any_literal strings) line false → ⊥) → TellsMatchOfAll es wholes line false
 ruled_out es wholes line strings needed out = λ whole alike. ((λ e. absurd (false≢true e)), (λ m. absurd (out (needed line whole m))))

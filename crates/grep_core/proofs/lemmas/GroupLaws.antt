@@ -1,4 +1,5 @@
--- What is written of output in which each group of lines stands behind a separator, for some files and for others behind them.
+-- What is written of output in which each group of lines is after a separator, for some files and
+-- for others after them.
 use Rattle.std.proofs.Common.{◌≡◌, ℕ, Bool, true, false, Decides, List, [], ◌∷◌, ◌++◌, drop, inl, inr, refl, sym, ap, ◌∙◌, append-nil}
 use Rattle.std.proofs.lemmas.Bool.{false≢true}
 use Rattle.re_syntax.specs.Bytes.{Text}
@@ -49,7 +50,7 @@ behind_summary lines shown many name end selected rows = refl
 behind_summary (around context) shown many name end selected rows =
     ap (behind_rows (around context) shown) (append-nil rows) ∙ sym (append-nil (behind_rows (around context) shown rows))
 
--- groups behind others, of which there are some or none
+-- groups after others, of which there are some or none
 two_written : (context : Context) (some : Bool) (rows more : List Text) → (some ≡ true → rows ≡ [] → ⊥) → (some ≡ false → rows ≡ [])
     → behind_rows (around context) false (rows ++ more) ≡ behind_rows (around context) false rows ++ behind_rows (around context) some more
 two_written context true [] more there none = absurd (there refl refl)
@@ -77,7 +78,8 @@ module _ (es : List Expression) (options : Options) (many : Bool) where
         | inr later ↦ (λ nothing. all_some context files h.1 h.3 later (second_empty h.0 h.1 (sym h.4 ∙ nothing)))
       ]
 
-  -- what is written for some files and for others behind them, where `some` tells whether those have a selected line
+  -- what is written for some files and for others after them, where `some` says whether the first
+  -- have a selected line
   pub behind_both : (shape : Form) (files : List File) (rows more : List Text) (some : Bool) → GroupedAs es options many shape files rows → Decides some (AnySelected es options files)
       → behind_rows shape false (rows ++ more) ≡ behind_rows shape false rows ++ behind_rows shape some more
   behind_both nothing files rows more some h d = refl

@@ -1,4 +1,5 @@
--- The groups of lines around selected ones, as a file has one more line, and what is written of them.
+-- The groups of lines around selected ones, as a file has one more line, and what is written of
+-- them.
 use Rattle.std.proofs.Common.{◌≡◌, ℕ, ◌+◌, ◌<◌, ◌≤◌, ◌⊎◌, Bool, true, false, ◌&&◌, IsTrue, Decides, List, [], ◌∷◌, ◌++◌, All, length, inl, inr, refl, sym, ap, subst, ◌∙◌, append_assoc, arith, if◌then◌else◌}
 use Rattle.std.specs.List.{enumerate_from}
 use Rattle.std.proofs.lemmas.Bool.{false≢true}
@@ -20,7 +21,7 @@ use Rattle.grep_core.proofs.lemmas.ChooseLaws.{EachGives-one, EachGives-append}
 use Rattle.grep_core.proofs.lemmas.MoreLines.{enumerate_from-append}
 use Rattle.grep_core.proofs.lemmas.ShownLemmas.{EachGives-placed, shown_more, begins_at, begins_same, shows_same}
 
--- a group that begins is behind a separator where something was written before
+-- a group that begins is after a separator where something was written before
 pub behind_group : (context : Context) (before gap shown : Bool) (groups rest : List Text) → Decides shown (IsTrue before ⊎ (groups ≡ [] → ⊥)) → (groups ≡ [] → gap ≡ true)
     → behind_rows (around context) before groups ++ ((if gap && shown then group_separator ∷ [] else []) ++ rest) ≡ behind_rows (around context) before (groups ++ ((if gap then group_separator ∷ [] else []) ++ rest))
 behind_group context true true true groups rest told first = refl
@@ -33,12 +34,12 @@ behind_group context false true true (g ∷ gs) rest told first = refl
 behind_group context false false true (g ∷ gs) rest told first = refl
 behind_group context false gap false (g ∷ gs) rest told first = absurd (false≢true (told.1 (inr (λ e. let bad : ⊥ = omega (arith, ap length e) in bad))))
 
--- of no group nothing is written
+-- where there is no group, nothing is written
 pub behind_none : (context : Context) (before : Bool) → [] ≡ behind_rows (around context) before []
 behind_none context true = refl
 behind_none context false = refl
 
--- what was said of a group, or of nothing before it
+-- the verdict on whether something was shown before, where there is no group yet
 pub said_before : (before : Bool) → Decides before (IsTrue before ⊎ (◌≡◌ {A = List Text} [] [] → ⊥))
 said_before before = ((λ t. inl t), (λ h. elim h [ inl t ↦ t | inr n ↦ absurd (n refl) ]))
 
@@ -53,7 +54,8 @@ module _ (es : List Expression) (options : Options) (many : Bool) (name : Text) 
   abbrev pub Given : List Text → ℕ × Text → List Text → Type 0
   Given lines line out = Shows es options context (name_shown many name) (shown_number options (line.0 + 1)) lines line.0 line.1 out
 
-  -- the lines before one that is shown are shown with it: they are not selected, and the first of them begins a group or does not
+  -- the lines before one that is shown are shown with it: they are not selected, and the first of
+  -- them begins a group or does not
   group_held : (lines held : List Text) (f : ℕ) (line row : Text) (separator : List Text) → All (λ l. ¬ Selected es options l) held
       → ((k : ℕ) → f ≤ k → k ≤ f + length held → IsShown es options context lines k) → IfHolds (BeginsGroup es options context lines f) (separator ≡ group_separator ∷ []) (separator ≡ [])
       → IsRow es options context (name_shown many name) (shown_number options ((f + length held) + 1)) line row

@@ -1,4 +1,5 @@
--- The lines that a reader of lines has handed out, one more at a time, and the file for which its source stands.
+-- The lines that a reader of lines has handed out, one more at a time, and the file for which its
+-- source stands.
 use Rattle.std.proofs.Common.{◌≡◌, ◌≢◌, ℕ, ◌≤◌, List, [], ◌∷◌, ◌++◌, Option, None, Some, IfSome, length, All, inl, inr, refl, sym, ap, ◌∙◌, subst, append_assoc, append-nil}
 use Rattle.std.proofs.KnownBytes.{Consumes-nil, Consumes-trans, Consumes-kept, prepend_known-nil}
 use Rattle.std.proofs.lemmas.List.Elements.{All-push}
@@ -60,7 +61,7 @@ lines_given Open given handed h = ap lines_of h.0 ∙ lines_of-terminated handed
 lines_given Ended given handed h = h
 lines_given Failed given handed h = absurd h
 
--- a reader of lines that did not come to its end goes on
+-- a reader of lines that is not at its end is still open
 pub still_open : (stage : Stage) (given : Text) (handed : List Text) → AreHanded stage given handed → stage ≢ Ended → stage ≡ Open
 still_open Open given handed h apart = refl
 still_open Ended given handed h apart = absurd (apart refl)
@@ -151,7 +152,7 @@ module _ {R : Type 0} (remaining : R → Option Text) (failures : R → ℕ) whe
         counted = h.none_failed ∙ s.none_failed;
       }
 
-  -- a read failed behind the lines
+  -- a read failed after the lines
   pub stands_broken : (name : Text) (reader : R) (old new : LineReader R) (handed : List Text) → HandsLines remaining failures reader old handed → length handed ≤ most_lines → old.stage ≡ Open
       → IsCutOff remaining failures old new → StandsFor name (remaining reader) (remaining new.reader) (failures reader) (failures new.reader) handed broken
   stands_broken name reader old new handed s few was_open h =

@@ -1,4 +1,5 @@
--- The laws of the definitions: one output, one list of messages, one status, one cost of the search, and one meaning of the patterns.
+-- The laws of the definitions: one output, one list of messages, one status, one cost of the
+-- search, and one meaning of the patterns.
 use Rattle.std.proofs.Common.{◌≡◌, Bool, [], ◌∷◌, refl, sym, ap, ◌∙◌, if◌then◌else◌}
 use Rattle.re_syntax.specs.declared.syntax.Syntax.{Syntax}
 use Rattle.re_syntax.specs.Bytes.{Text}

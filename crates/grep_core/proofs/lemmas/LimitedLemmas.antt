@@ -15,7 +15,7 @@ take_none : (n : ℕ) → take {A = ℕ} n [] ≡ []
 take_none zero = refl
 take_none (suc n) = refl
 
--- a read of n bytes leaves n fewer to go
+-- after a read of n bytes, n fewer may still be read
 pub limited-Consumes : (step left n : ℕ) (old new : Option Text) (bs : Text) → length bs ≡ n → n ≤ left → n ≤ step
     → Consumes old new bs → Consumes (limited step left old) (limited step (left - n) new) bs
 limited-Consumes zero left n old new [] e l s p = refl

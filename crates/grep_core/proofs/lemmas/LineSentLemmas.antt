@@ -1,4 +1,4 @@
--- Lines that go out whole behind what waited.
+-- Lines that are sent whole after what waited.
 use Rattle.std.proofs.Common.{◌≡◌, ◌≢◌, ℕ, ◌+◌, ◌-◌, ◌<◌, ◌≤◌, [], ◌++◌, Option, Some, None, Result, Ok, Err, IfSome, MatchResult, length, take, drop, sym, ap, ◌∙◌, arith, append-nil, append_assoc, take-append-drop, length-append, length-take, subst}
 use Rattle.std.proofs.KnownBytes.{append_known-grown, Keeps-trans}
 use Rattle.std.proofs.Math.Seq.{take-append-add, drop-append_seam}
@@ -23,7 +23,7 @@ front_of_both : (held line : Text) (n : ℕ) → n ≡ length held → take n (h
 front_of_both held line n is = take-append-le n held line (omega (arith, is)) ∙ take_all n held (omega (arith, is))
 
 module _ {W : Type 0} (contents : W → Option Text) (failures : W → ℕ) where
-  -- no byte of the line went out, and a write failed
+  -- no byte of the line was sent, and a write failed
   pub line_stays : (a b : W) (held line both back rest : Text) (n k : ℕ) → both ≡ held ++ line → k ≡ length held → n ≤ k → Appends (contents a) (contents b) (take n both)
       → failures b ≡ one_more (failures a) → back ≡ take k both → rest ≡ drop n back
       → SendsSome contents failures (record { inner = a; waiting = held }) (record { inner = b; waiting = rest })
@@ -35,7 +35,7 @@ module _ {W : Type 0} (contents : W → Option Text) (failures : W → ℕ) wher
         counted = more;
       }
 
-  -- bytes of the line went out
+  -- bytes of the line were sent
   pub line_goes : (a b : W) (held line both rest : Text) (n k : ℕ) → both ≡ held ++ line → k ≡ length held → k < n → n ≤ length both → Appends (contents a) (contents b) (take n both)
       → failures b ≡ failures a → rest ≡ []
       → SendsLine contents failures (record { inner = a; waiting = held }) (record { inner = b; waiting = rest }) line (Some (n - k))
@@ -49,7 +49,7 @@ module _ {W : Type 0} (contents : W → Option Text) (failures : W → ℕ) wher
         subst (Appends (contents a) (contents b)) (ap (take n) joined ∙ take_behind held line n (omega (arith, low, is)) ∙ ap (λ m. held ++ take m line) place) went,
       )
 
--- a text was written behind what waited
+-- a text was written after what waited
 passed_behind : (a b c : Option Text) (held rest bytes : Text) → Keeps a (append_known b held) → Appends b c (held ++ bytes) → rest ≡ [] → Appends a (append_known c rest) bytes
 passed_behind None b c held rest bytes p q none = tt
 passed_behind (Some x) None c held rest bytes p q none = absurd p
@@ -70,13 +70,13 @@ no_newline_in_none : (rest : Text) → rest ≡ [] → HasNoNewline rest
 no_newline_in_none rest none = subst HasNoNewline (sym none) (All-nil (λ b. b ≢ newline))
 
 module _ {W : Type 0} (contents : W → Option Text) (failures : W → ℕ) where
-  -- no newline waits behind a beginning that was to go out
+  -- no newline waits after a beginning that was to be sent
   pub no_newline_behind_front : {T E : Type 0} (old new : BufferedWriter W) (n : ℕ) (r : Result T E)
       → MatchResult r (λ _. SendsFront contents failures n old new) (λ _. SendsSome contents failures old new) → HasNoNewline old.waiting → HasNoNewline new.waiting
   no_newline_behind_front old new n (Ok v) went none = subst HasNoNewline (sym went.rest) (All-drop (λ b. b ≢ newline) n old.waiting none)
   no_newline_behind_front old new n (Err e) went none = no_newline_behind old.waiting went.front new.waiting went.cut none
 
-  -- no newline waits behind a line that was to go out
+  -- no newline waits after a line that was to be sent
   pub no_newline_waits : (old new : BufferedWriter W) (line : Text) (sent : Option ℕ) → SendsLine contents failures old new line sent → HasNoNewline old.waiting → HasNoNewline new.waiting
   no_newline_waits old new line None went none = no_newline_behind old.waiting went.front new.waiting went.cut none
   no_newline_waits old new line (Some n) went none = no_newline_in_none new.waiting went.2
@@ -117,7 +117,7 @@ module _ {W : Type 0} (contents : W → Option Text) (failures : W → ℕ) wher
   line_counted old mid inner last waiting rest line sent is same went =
       line_counted_behind old inner last waiting rest line sent (ap (λ (b : BufferedWriter W). failures b.inner) is ∙ same) went
 
-  -- bytes were put behind what waited
+  -- bytes were put after what waited
   pub text_gathered : (old mid : BufferedWriter W) (inner : W) (waiting more bytes : Text) → (let now : BufferedWriter W = record { inner = inner; waiting = waiting } in now ≡ mid)
       → Keeps (all_contents contents old) (all_contents contents mid) → more ≡ waiting ++ bytes → Appends (all_contents contents old) (append_known (contents inner) more) bytes
   text_gathered old mid inner waiting more bytes is kept joined =

@@ -1,4 +1,5 @@
--- A search of the lines of an open source, one more line at a time, and what it says of the source's file.
+-- A search of the lines of an open source, one more line at a time, and what it says of the
+-- source's file.
 use Rattle.std.proofs.Common.{◌≡◌, ℕ, ◌+◌, ◌-◌, ◌^◌, nat_lt, ◌<◌, ◌≤◌, ◌⊎◌, Bool, true, false, ◌&&◌, IsTrue, Decides, List, [], ◌∷◌, ◌++◌, All, Option, length, take, refl, sym, ap, subst, ◌∙◌, append-nil, append_assoc, inl, inr, arith, Any, if◌then◌else◌}
 use Rattle.std.proofs.Math.Seq.{take-append_seam}
 use Rattle.std.proofs.lemmas.Bool.{false≢true, cases_Bool, cond-true, cond-false}
@@ -55,7 +56,7 @@ pub counts_late : (options : Options) → form options ≡ counts → IsTrue (le
 counts_late options asked early = elim (early_form options early) [ inl none ↦ (let no : nothing ≡ counts = sym none ∙ asked in absurd (let never : ⊥ = cc no in never)) | inr named ↦ (let no : names ≡ counts = sym named ∙ asked in absurd (let never : ⊥ = cc no in never)) ]
 
 module _ (es : List Expression) (options : Options) (many shown : Bool) (name : Text) where
-  -- these rows are written of these lines, whatever comes behind them
+  -- these rows are written of these lines, with any lines after them
   pub record WrittenOf (shape : Form) (lines rows : List Text) : Type 0 where
     pub groups : List Text
     pub are_groups : LineRowsOf es options many shape (file_so_far name lines) groups
@@ -77,7 +78,7 @@ module _ (es : List Expression) (options : Options) (many shown : Bool) (name : 
   plain_written : (shape : Form) → IsPlain shape → (lines rows : List Text) → WrittenOf shape lines rows → LineRowsOf es options many shape (file_so_far name lines) rows
   plain_written shape plain lines rows w = subst (LineRowsOf es options many shape (file_so_far name lines)) (sym (w.are_rows ∙ plain_rows shape plain shown w.groups)) w.are_groups
 
-  -- the rows of the lines were written, and so many of them are selected
+  -- the rows of the lines were written, and this number of them is selected
   pub record WritesLines (lines : List Text) (old new : Writer) (selected : ℕ) : Type 0 where
     pub rows : List Text
     pub of : WrittenOf (form options) lines rows
@@ -140,13 +141,13 @@ module _ (es : List Expression) (options : Options) (many shown : Bool) (name : 
       subst (WritesLines (lines ++ line ∷ passed) old new) same
       (subst (λ ls. WritesLines ls old new (selected + others)) (append_assoc lines (line ∷ []) passed) (writes_counted plain asked passed (lines ++ line ∷ []) old new selected others (writes_line plain lines line old new new selected false w skipped) h))
 
-  -- what was gathered was sent
+  -- buffered output was sent
   writes_sent : (lines : List Text) (old mid new : Writer) (selected : ℕ) → WritesLines lines old mid selected → TakesAll mid new [] → WritesLines lines old new selected
   writes_sent lines old mid new selected w sent =
       let wrote = subst (TakesAll old new) (append-nil w.rows) (TakesAll-more old mid new w.rows [] w.wrote sent) in
       record { rows = w.rows; of = w.of; wrote = wrote; chosen = w.chosen; are_chosen = w.are_chosen; counted = w.counted }
 
-  -- the number tells whether a line is selected
+  -- the number says whether a line is selected
   some_tells : (lines : List Text) (old new : Writer) (selected : ℕ) → WritesLines lines old new selected → Decides (nat_lt 0 selected) (Any (Selected es options) lines)
   some_tells lines old new selected w = subst (λ n. Decides (nat_lt 0 n) (Any (Selected es options) lines)) w.counted (chosen_tells es options many name lines w.chosen w.are_chosen)
 
@@ -171,7 +172,7 @@ module _ (es : List Expression) (options : Options) (many shown : Bool) (name : 
             steps = subst (λ f. SearchesLines es options (length es) f.lines began ended) (sym s.file) spent;
           }
 
-      -- a read failed behind them
+      -- a read failed after them
       pub searches_broken : StandsFor name known rest failed_before failed lines broken → (IsTrue (leaves_early options) → selected ≡ 0) → SearchesSource es options many shown (open_source name known) (OneLeft rest) failed_before failed old new began ended Broken selected
       searches_broken s none =
           let ends : File = record { name = name; lines = lines; ending = broken } in
@@ -192,7 +193,7 @@ module _ (es : List Expression) (options : Options) (many shown : Bool) (name : 
             steps = subst (λ f. SearchesLines es options (length es) f.lines began ended) (sym s.file) spent;
           }
 
-      -- the source was left behind them, at a selected line
+      -- the source was left after them, at a selected line
       pub searches_left : BeginsWith name known lines → failed ≡ failed_before → IsTrue (leaves_early options) → 0 < selected → SearchesSource es options many shown (open_source name known) (OneLeft rest) failed_before failed old new began ended Left selected
       searches_left b none_failed early found =
           let file = file_of name b.reading in
@@ -213,7 +214,7 @@ module _ (es : List Expression) (options : Options) (many shown : Bool) (name : 
             steps = subst (λ ls. SearchesLines es options (length es) ls began ended) (sym b.has_lines) (searched_first_lines es options (length es) lines b.more began ended spent);
           }
 
-    -- want of memory came behind the lines
+    -- out of memory after the lines
     pub stops_behind : (lines : List Text) (selected count : ℕ) → WritesLines lines old new selected → SearchesLines es options (length es) lines began ended → BeginsWith name known lines → length lines ≡ count
         → (failed_before failed : ℕ) → failed ≡ failed_before → StopsSource es options many shown (open_source name known) (OneLeft rest) count failed_before failed old new began ended
     stops_behind lines selected count w spent b counted failed_before failed none_failed =
@@ -271,7 +272,7 @@ module _ (es : List Expression) (options : Options) (many shown : Bool) (name : 
         let rows = rows_line es options many name (form options) plain lines line w.rows broke.rows (plain_written (form options) plain lines w.rows w.of) broke.are_rows in
         breaks_adding lines line broke.rows w (written_plain (form options) plain (lines ++ line ∷ []) (w.rows ++ broke.rows) rows) spent b broke.wrote broke.counted
 
-    -- all rows so far were written, and what was gathered could not be sent
+    -- all rows so far were written, and buffered output could not be sent
     breaks_behind : (lines : List Text) → WritesLines lines old mid selected → SearchesLines es options (length es) lines began ended → BeginsWith name known lines → TakesFront mid new [] → new.failures ≡ one_more mid.failures
         → BreaksSource es options many shown (open_source name known) (OneLeft rest) failed_before failed old new began ended
     breaks_behind lines w spent b front counted =
@@ -279,14 +280,15 @@ module _ (es : List Expression) (options : Options) (many shown : Bool) (name : 
 
 -- ---- the turns of the search
 
--- where the search goes on, a line that is found is no reason to leave
+-- where the search continues, a line that is found is no reason to leave
 pub goes_on : (found early asked : Bool) → early ≡ asked → (found && early) ≡ false → IsTrue asked → found ≡ false
 goes_on true true asked is both early = absurd (false≢true (sym both))
 goes_on true false asked is both early = absurd (false≢true (is ∙ early))
 goes_on false b asked is both early = refl
 
 module _ {R : Type 0} (remaining : R → Option Text) (failures : R → ℕ) (es : List Expression) (options : Options) (many shown : Bool) (name : Text) (reader : R) where
-  -- the lines that were handed out were searched, and their rows written; under `-q` and `-l` none of them is selected
+  -- the lines that were handed out were searched, and their rows written; under `-q` and `-l` none
+  -- of them is selected
   pub record SearchedSoFar (now : Numbered R) (old new : Writer) (began ended : Steps) (selected : ℕ) : Type 0 where
     pub lines : List Text
     pub handed : HasHanded remaining failures reader now lines
@@ -345,7 +347,7 @@ module _ {R : Type 0} (remaining : R → Option Text) (failures : R → ℕ) (es
   passed_further before now lines h p = omega (arith, h.counted, p.handed_too.counted, length-append lines p.passed)
 
   module _ (now : Numbered R) (old mid new : Writer) (began ended : Steps) (selected : ℕ) (s : SearchedSoFar now old mid began ended selected) where
-    -- what was gathered was sent
+    -- buffered output was sent
     pub searched_sent : TakesAll mid new [] → SearchedSoFar now old new began ended selected
     searched_sent sent = record { lines = s.lines; handed = s.handed; wrote = writes_sent es options many shown name s.lines old mid new selected s.wrote sent; few = s.few; none_early = s.none_early; steps = s.steps }
 
@@ -383,7 +385,7 @@ module _ {R : Type 0} (remaining : R → Option Text) (failures : R → ℕ) (es
       pub spent : SearchesLine es options (length es) line amid ended → SearchesLines es options (length es) (s.lines ++ line ∷ []) began ended
       spent one = searched_one_line es options (length es) s.lines line began amid ended s.steps one
 
-      -- it was searched, and the search goes on
+      -- it was searched, and the search continues
       pub searched_line : IsPlain (form options) → (found : Bool) (more : ℕ) → TakesLine es options many name count line mid new found → SearchesLine es options (length es) line amid ended
           → more ≡ (if found then selected + 1 else selected) → (IsTrue (leaves_early options) → found ≡ false) → SearchedSoFar now old new began ended more
       searched_line plain found more t one e goes_on = record {
@@ -429,7 +431,7 @@ module _ {R : Type 0} (remaining : R → Option Text) (failures : R → ℕ) (es
     pub ends_broken : StandsAs remaining failures reader now s.lines broken → SearchesSource es options many shown (open_source name (remaining reader)) (OneLeft (remaining now.lines.reader)) (failures reader) (failures now.lines.reader) old new began ended Broken selected
     ends_broken stands = searches_broken es options many shown name (remaining reader) (remaining now.lines.reader) old new began ended (failures reader) (failures now.lines.reader) s.lines selected s.wrote s.steps (stands name) s.none_early
 
-    -- want of memory
+    -- out of memory
     pub runs_out : HasHanded remaining failures reader now s.lines → (count : ℕ) → now.number ≡ count
         → StopsSource es options many shown (open_source name (remaining reader)) (OneLeft (remaining now.lines.reader)) count (failures reader) (failures now.lines.reader) old new began ended
     runs_out handed count is_count =

@@ -21,7 +21,7 @@ AllZip-append P [] vs (y ∷ ys) ws h k = absurd h
 AllZip-append P (x ∷ xs) vs [] ws h k = absurd h
 AllZip-append P (x ∷ xs) vs (y ∷ ys) ws h k = (h.0, AllZip-append P xs vs ys ws h.1 k)
 
--- what stands behind the elements of a list
+-- what is after the elements of a list
 at_end : (ts : List Text) (t : Text) (rest : List Text) → (take (length ts) (ts ++ t ∷ rest) ≡ ts) × (get_or (ts ++ t ∷ rest) (length ts) [] ≡ t) × (length ts < length (ts ++ t ∷ rest))
 at_end [] t rest = (refl, refl, omega arith)
 at_end (u ∷ ts) t rest = let h = at_end ts t rest in (ap (λ l. u ∷ l) h.0, h.1, omega (arith, h.2))

@@ -12,7 +12,7 @@ use Rattle.grep_core.proofs.lemmas.ChooseLaws.{EachGives-append, EachGives-exist
 use Rattle.grep_core.proofs.lemmas.Exist.{Reached-exist, Message-exist}
 
 module _ (es : List Expression) (options : Options) where
-  -- behind files at which a run does not stop, the files that are reached follow
+  -- after files at which a run does not stop, the files that are reached follow
   pub Reached-behind : (front rest reached : List File) → (Any (Stops es options) front → ⊥) → Reached es options rest reached → Reached es options (front ++ rest) (front ++ reached)
   Reached-behind [] rest reached none r = r
   Reached-behind (file ∷ front) rest reached none r =
@@ -26,7 +26,7 @@ module _ (es : List Expression) (options : Options) where
   pub Reached-stopped : (front rest : List File) (file : File) → (Any (Stops es options) front → ⊥) → Stops es options file → Reached es options (front ++ file ∷ rest) (front ++ file ∷ [])
   Reached-stopped front rest file none stops = Reached-behind front (file ∷ rest) (file ∷ []) none ([], refl, inl (stops, refl))
 
-  -- the messages are what is told of the files that are reached
+  -- the messages are those about the files that are reached
   pub Messages-reached : (files reached : List File) (told : List Text) → Reached es options files reached → Told es options reached told → Messages es options files told
   Messages-reached files reached told r t = by_flag options.no_messages t
     where
@@ -35,7 +35,7 @@ module _ (es : List Expression) (options : Options) where
       by_flag true h = h
       by_flag false h = (reached, r, h)
 
-  -- nothing is told of no file
+  -- no file has no message
   pub Told-nothing : Told es options [] []
   Told-nothing = by_flag options.no_messages
     where
@@ -43,7 +43,7 @@ module _ (es : List Expression) (options : Options) where
       by_flag true = refl
       by_flag false = refl
 
-  -- what is told of some files, and of others behind them
+  -- the messages about some files, and about others after them
   pub Told-append : (xs ys : List File) (us vs : List Text) → Told es options xs us → Told es options ys vs → Told es options (xs ++ ys) (us ++ vs)
   Told-append xs ys us vs a b = by_flag options.no_messages a b
     where
@@ -52,7 +52,7 @@ module _ (es : List Expression) (options : Options) where
       by_flag true h k = λ i. h i ++ k i
       by_flag false h k = EachGives-append _ xs ys us vs h k
 
-  -- something is told of any files, if only nothing
+  -- any files have a list of messages about them, which may be empty
   pub Told-exist : (files : List File) → (told : List Text) × Told es options files told
   Told-exist files = by_flag options.no_messages
     where
@@ -60,7 +60,7 @@ module _ (es : List Expression) (options : Options) where
       by_flag true = ([], refl)
       by_flag false = EachGives-exist (Message es options) (Message-exist es options) files
 
-  -- what is told of files at which a run does not stop is a beginning of the messages
+  -- the messages about files at which a run does not stop are a beginning of all messages
   pub Messages-front : (front rest : List File) (told : List Text) → (Any (Stops es options) front → ⊥) → Told es options front told → (more : List Text) × Messages es options (front ++ rest) (told ++ more)
   Messages-front front rest told none t =
       let reached = Reached-exist es options rest in

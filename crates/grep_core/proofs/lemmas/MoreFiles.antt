@@ -1,4 +1,5 @@
--- The output for more files begins with that for fewer, where each group of lines stands behind a separator.
+-- The output for more files begins with that for fewer, where each group of lines is after a
+-- separator.
 use Rattle.std.proofs.Common.{Bool, false, List, ◌++◌, refl, sym, ◌∙◌}
 use Rattle.std.proofs.lemmas.List.{map-append}
 use Rattle.re_syntax.specs.Bytes.{Text}
@@ -11,7 +12,7 @@ use Rattle.grep_core.proofs.lemmas.ChooseLaws.{EachGives-append}
 use Rattle.grep_core.proofs.lemmas.Exist.{OutAs-exist, groups_exist}
 
 module _ (es : List Expression) (options : Options) (many : Bool) where
-  -- the output for some files, and that for others behind it
+  -- the output for some files, and that for others after it
   pub GroupedAs-append : (shape : Form) (xs ys : List File) (us vs : List Text) → GroupedAs es options many shape xs us → GroupedAs es options many shape ys vs → GroupedAs es options many shape (xs ++ ys) (us ++ vs)
   GroupedAs-append nothing xs ys us vs a b = λ i. a i ++ b i
   GroupedAs-append names xs ys us vs a b = (a.0 ++ b.0, EachGives-append _ xs ys a.0 b.0 a.1 b.1, (λ i. a.2 i ++ b.2 i) ∙ sym (map-append (λ file. file.name) a.0 b.0))

@@ -12,7 +12,7 @@ use Rattle.grep_core.proofs.lemmas.ChooseLaws.{EachGives-append, EachGives-end, 
 use Rattle.grep_core.proofs.lemmas.Decided.{dec_selected}
 use Rattle.grep_core.proofs.lemmas.Exist.{PartsOfLine-exist}
 
--- the numbers go on behind a list
+-- the numbers continue after a list
 pub enumerate_from-append : {A : Type 0} (n : ℕ) (xs ys : List A) → enumerate_from n (xs ++ ys) ≡ enumerate_from n xs ++ enumerate_from (n + length xs) ys
 enumerate_from-append n [] ys = let e : n ≡ n + 0 = omega arith in ap (λ m. enumerate_from m ys) e
 enumerate_from-append n (x ∷ xs) ys =

@@ -44,7 +44,7 @@ module _ (es : List Expression) (options : Options) (loud : options.quiet ≡ fa
     abbrev ends : Ending → File
     ends ending = record { name = name; lines = ls; ending = ending }
 
-    -- nothing is told of a whole file
+    -- there is no message about a whole file
     pub Messages-whole : options.no_messages ≡ false → Messages es options (ends whole ∷ []) []
     Messages-whole speaks = Messages-one (ends whole) [] speaks (inr ((λ h. h), refl))
 
@@ -52,7 +52,7 @@ module _ (es : List Expression) (options : Options) (loud : options.quiet ≡ fa
     pub broken-met : options.files_with_matches ≡ false → FaultMet es options (ends broken)
     broken-met plain = λ e _. let no : ⊥ = cc (e, loud, plain) in no
 
-    -- and told
+    -- and reported
     pub Messages-broken : options.no_messages ≡ false → options.files_with_matches ≡ false → Messages es options (ends broken ∷ []) (read_error name ∷ [])
     Messages-broken speaks plain = Messages-one (ends broken) (read_error name ∷ []) speaks (inl (broken-met plain, refl))
 

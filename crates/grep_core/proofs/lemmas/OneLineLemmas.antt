@@ -28,12 +28,12 @@ module _ {W : Type 0} (contents : W → Option Text) (failures : W → ℕ) (es 
   line_row : RowsOfSelected es options many (form options) name number line (head_and_line ∷ [])
   line_row = subst (λ shape. RowsOfSelected es options many shape name number line (head_and_line ∷ [])) (sym asked) refl
 
-  -- it went out
+  -- it was written
   pub row_written : {T E : Type 0} (r : Result T E) → Writes contents failures a b (output_line [] head_and_line) r → IfOk r (λ _. WritesSelected es options many name number line (writer contents failures a) (writer contents failures b))
   row_written (Ok v) w = record { rows = _; are_rows = line_row; wrote = TakesAll-line contents failures a b head_and_line w }
   row_written (Err e) w = tt
 
-  -- a beginning of it did
+  -- a beginning of it was written
   pub row_broken : {T E : Type 0} (r : Result T E) → Writes contents failures a b (output_line [] head_and_line) r → OnErr r (BreaksSelected es options many name number line (writer contents failures a) (writer contents failures b))
   row_broken (Ok v) w = tt
   row_broken (Err e) w = record { rows = _; are_rows = line_row; wrote = TakesFront-line contents failures a b head_and_line w; counted = w.counted }

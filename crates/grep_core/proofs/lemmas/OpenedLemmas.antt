@@ -32,7 +32,7 @@ opened source not_opened opens h = absurd (false≢true (sym h))
 opened source (fails_after bytes) opens h = (opens, h.1)
 opened source (ends_after bytes) opens h = (opens, h.1)
 
--- what a reader counts from nothing on is counted on
+-- what a reader counts from nothing on is added to the count
 pub count_on : (n own : ℕ) → own ≤ 1 → count_more n (count_more 0 own) ≡ count_more n own
 count_on n own few = elim (cases_own own few) [ inl e ↦ ap (λ k. count_more n (count_more 0 k)) e ∙ ap (count_more n) (sym e) | inr e ↦ ap (λ k. count_more n (count_more 0 k)) e ∙ ap (count_more n) one ∙ ap (count_more n) (sym e) ]
   where
@@ -116,7 +116,7 @@ module _ (es : List Expression) (options : Options) (many shown : Bool) (source 
   }
 
 module _ (es : List Expression) (options : Options) (many shown : Bool) (source : Source) (given : List (Option Text) → Type 0) (w : Writer) (steps : Steps) where
-  -- want of memory before a source was read
+  -- out of memory before a source was read
   pub source_unread : (before after : ℕ) → after ≡ before → (rest : Option Text) → given (rest ∷ []) → StopsSource es options many shown source given 0 before after w w steps steps
   source_unread before after same rest gives =
       let some = IsReadingOf-exists source in
@@ -156,7 +156,8 @@ module _ (es : List Expression) (options : Options) (many shown : Bool) (source 
     steps = searched_no_line es options (length es) steps;
   }
 
--- where no lines are shown around selected ones, it is all one whether a source before has a selected line
+-- where no lines are shown around selected ones, it makes no difference whether an earlier source
+-- has a selected line
 module _ (es : List Expression) (options : Options) (many : Bool) (plain : IsPlain (form options)) (first shown : Bool) (source : Source) (given : List (Option Text) → Type 0) where
   same_rows : (rows : List Text) → behind_rows (form options) first rows ≡ behind_rows (form options) shown rows
   same_rows rows = plain_rows (form options) plain first rows ∙ sym (plain_rows (form options) plain shown rows)
@@ -237,7 +238,7 @@ module _ {R : Type 0} (remaining : R → Option Text) (failures : R → ℕ) (es
         let from_none = subst (λ n. BreaksSource es options many shown (open_source source.name source.bytes) (OneLeft rest) n failed old new began ended) fresh_start at_source in
         source_broken es options many shown source given rest gives opens old new began ended before after failed counted from_none
 
-    -- want of memory came behind n lines
+    -- out of memory after n lines
     pub stopped_in : (n : ℕ) → StopsSource es options many shown (open_source name (remaining start.reader)) (OneLeft rest) n (failures start.reader) failed old new began ended → StopsSource es options many shown source given n before after old new began ended
     stopped_in n s =
         let at_source = subst (λ src. StopsSource es options many shown src (OneLeft rest) n (failures start.reader) failed old new began ended) same_source s in

@@ -9,14 +9,14 @@ use Rattle.grep_core.specs.Run.{writer, TakesAll, TakesFront}
 -- ---- writers
 
 module _ {W : Type 0} (contents : W → Option Text) (failures : W → ℕ) where
-  -- one line went out
+  -- one line was written
   pub TakesAll-line : (a b : W) (text : Text) → GoesOut contents failures a b (output_line [] text) → TakesAll (writer contents failures a) (writer contents failures b) (text ∷ [])
   TakesAll-line a b text g = record {
     written_all = subst (Appends (contents a) (contents b)) (sym (append-nil (output_line [] text))) g.written;
     none_failed = g.none_failed;
   }
 
-  -- a beginning of one line went out
+  -- a beginning of one line was written
   pub TakesFront-line : (a b : W) (text : Text) → StopsWithin contents failures a b (output_line [] text) → TakesFront (writer contents failures a) (writer contents failures b) (text ∷ [])
   TakesFront-line a b text s = record {
     front = s.front;

@@ -52,7 +52,7 @@ module _ (hay : Text) where
       ap length (cond-false _ _ _ (ap (is_byte newline) (first_byte hay (t ++ newline ∷ rest) i b e) ∙ first_differs b t free))
       ∙ in_line t rest (i + 1) n k p (rest_has_none b t free) (after_first hay (t ++ newline ∷ rest) i b e) (omega (arith, many)) (omega (arith, far))
 
-  -- there are as many as lines
+  -- there is one for each line
   count_from : (ts : List Text) (i m : ℕ) → All HasNoNewline ts → drop i hay ≡ terminated ts → m ≡ length (terminated ts) → length (newlines i m) ≡ length ts
   unfolding places_from
   count_from [] i zero free e many = refl
@@ -63,11 +63,11 @@ module _ (hay : Text) where
       in_line t (terminated ts) i (length (terminated ts)) m (i + length t + 1) (all_head t ts free) e (omega (arith, many, length-append t (newline ∷ terminated ts))) refl
       ∙ ap suc (count_from ts (i + length t + 1) (length (terminated ts)) (all_tail t ts free) rest refl)
 
--- whole lines hold as many newlines as they are
+-- whole lines hold one newline each
 pub count_lines : (bytes : Text) (ts : List Text) → All HasNoNewline ts → bytes ≡ terminated ts → length (places (is_byte newline) bytes) ≡ length ts
 count_lines bytes ts free e = count_from bytes ts 0 (length bytes - 0) free e (omega (arith, ap length e))
 
--- as many as there are lines in a block
+-- a block holds one newline for each line
 pub count_block : (block : Text) → IsBlock block → length (places (is_byte newline) block) ≡ length (lines_of block)
 count_block block h = count_lines block h.0 h.1 h.2 ∙ ap length (sym (ap lines_of h.2 ∙ lines_of-terminated h.0 h.1))
 
@@ -94,7 +94,7 @@ module _ {R : Type 0} (remaining : R → Option Text) (failures : R → ℕ) whe
       (prepend_known-read (to_come remaining failures old) (remaining new.reader) old.ahead new.ahead bytes ⊥
       (subst (λ r. Keeps (to_come remaining failures old) (prepend_known old.ahead (remaining r))) (sym same) (Keeps-refl (to_come remaining failures old))) cut (λ no. absurd no)).0
 
-  -- how far a reader of lines has come stays true of fewer bytes ahead
+  -- how far a reader of lines has read stays true of fewer bytes ahead
   pub stage_stays : (stage : Stage) (old new : Text) (reader : R) (count : ℕ) → IsStageOf remaining failures stage old reader → old ≡ take count old ++ new → IsStageOf remaining failures stage new reader
   stage_stays Open old new reader count h cut = tt
   stage_stays Ended old new reader count h cut =

@@ -18,7 +18,7 @@ take_further at n bs h =
     ∙ ap (λ l. l ++ drop at (take (at + n) bs)) (sym (take-take at (at + n) bs (omega arith)))
     ∙ take-append-drop at (take (at + n) bs)
 
--- n more bytes went out
+-- n more bytes were written
 pub written_further : (a b c : Option Text) (at n : ℕ) (bs : Text) → at + n ≤ length bs
     → Appends a b (take at bs) → Appends b c (take n (slice_range bs at (length bs))) → Appends a c (take (at + n) bs)
 written_further a b c at n bs h first second =
@@ -30,7 +30,7 @@ output_line-parts margin front text =
     ap (λ l. margin ++ l) (sym (append_assoc front text (newline ∷ []))) ∙ sym (append_assoc margin (front ++ text) (newline ∷ []))
 
 module _ {W : Type 0} (contents : W → Option Text) (failures : W → ℕ) where
-  -- n of the bytes went out, and then a write failed
+  -- n of the bytes were written, and then a write failed
   pub stops_at : (a b : W) (n : ℕ) (bytes : Text) → Appends (contents a) (contents b) (take n bytes) → failures b ≡ one_more (failures a)
       → StopsWithin contents failures a b bytes
   stops_at a b n bytes went more = record {
@@ -41,7 +41,7 @@ module _ {W : Type 0} (contents : W → Option Text) (failures : W → ℕ) wher
     counted = more;
   }
 
-  -- as many of the bytes went out as there are
+  -- all of the bytes were written
   pub goes_whole : (a b : W) (n : ℕ) (bytes : Text) → length bytes ≤ n → Appends (contents a) (contents b) (take n bytes) → failures b ≡ failures a
       → GoesOut contents failures a b bytes
   goes_whole a b n bytes all went same = record {
@@ -53,7 +53,7 @@ module _ {W : Type 0} (contents : W → Option Text) (failures : W → ℕ) wher
   pub goes_nowhere : (a : W) → GoesOut contents failures a a []
   goes_nowhere a = record { written = Appends-nil (contents a); none_failed = refl }
 
-  -- the second bytes went out after the first
+  -- the second bytes were written after the first
   pub goes_on : (a b c : W) (xs ys : Text) → GoesOut contents failures a b xs → GoesOut contents failures b c ys → GoesOut contents failures a c (xs ++ ys)
   goes_on a b c xs ys p q = record {
     written = Appends-trans (contents a) (contents b) (contents c) xs ys p.written q.written;
@@ -80,17 +80,17 @@ module _ {W : Type 0} (contents : W → Option Text) (failures : W → ℕ) wher
     counted = q.counted ∙ ap one_more p.none_failed;
   }
 
-  -- a write failed within the bytes, and this is answered
+  -- a write failed within the bytes, and this is returned
   pub writes_no_more : {T E : Type 0} (a b : W) (bytes : Text) (r : Result T E) → IsErr r → StopsWithin contents failures a b bytes → Writes contents failures a b bytes r
   writes_no_more a b bytes (Ok v) failed p = absurd (false≢true failed)
   writes_no_more a b bytes (Err e) failed p = p
 
-  -- the first bytes went out, and the second as the last call answers
+  -- the first bytes were written, and the second as the last call returns
   pub writes_last : {T E : Type 0} (a b c : W) (xs ys : Text) (r : Result T E) → GoesOut contents failures a b xs → Writes contents failures b c ys r → Writes contents failures a c (xs ++ ys) r
   writes_last a b c xs ys (Ok v) p q = goes_on a b c xs ys p q
   writes_last a b c xs ys (Err e) p q = stops_later a b c xs ys p q
 
-  -- the bytes went out, and nothing more was written
+  -- the bytes were written, and nothing more
   pub writes_then_nothing : {T E : Type 0} (a b c : W) (xs : Text) (r : Result T E) → GoesOut contents failures a b xs → Writes contents failures b c [] r → Writes contents failures a c xs r
   writes_then_nothing a b c xs r p q = subst (λ bytes. Writes contents failures a c bytes r) (append-nil xs) (writes_last a b c xs [] r p q)
 

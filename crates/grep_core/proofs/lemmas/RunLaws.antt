@@ -1,4 +1,4 @@
--- A run over sources, one more source at a time, and how it comes to its end.
+-- A run over sources, one more source at a time, and how it ends.
 use Rattle.std.proofs.Common.{◌≡◌, ℕ, zero, suc, ◌+◌, nat_lt, nat_le, ◌<◌, ◌≤◌, Bool, true, false, ◌||◌, ◌&&◌, IsTrue, Decides, List, [], ◌∷◌, ◌++◌, length, take, drop, get_or, Option, None, Ok, Err, Any, refl, sym, ap, subst, ◌∙◌, inl, inr, arith, append-nil, append_assoc}
 use Rattle.std.proofs.Math.Seq.{take-suc, take-append_seam, get_or-append_seam}
 use Rattle.std.proofs.lemmas.Bool.{false≢true, cond-true}
@@ -61,14 +61,14 @@ both_hold true true e d = (refl, d.0 refl)
 both_hold true false e d = absurd (false≢true e)
 both_hold false some e d = absurd (false≢true e)
 
--- a list is what stands before a place, what stands there and the rest
+-- a list is what is before a place, what is at it and the rest
 cut_at : {A : Type 0} (xs : List A) (k : ℕ) (d : A) → k < length xs → xs ≡ take k xs ++ get_or xs k d ∷ drop (suc k) xs
 cut_at [] k d h = absurd (omega (arith, h))
 cut_at (x ∷ xs) zero d h = refl
 cut_at (x ∷ xs) (suc k) d h = ap (λ l. x ∷ l) (cut_at xs k d (omega (arith, h)))
 
 module _ (es : List Expression) (options : Options) (many : Bool) where
-  -- output and messages for these sources were written, and the run goes on
+  -- output and messages for these sources were written, and the run continues
   pub record RunSoFar (before : List Source) (given : List (Option Text) → Type 0) (old new : Devices) (some faulty : Bool) : Type 0 where
     pub readings : List Reading
     pub are_readings : AreReadings before readings
@@ -120,7 +120,7 @@ module _ (es : List Expression) (options : Options) (many : Bool) where
       nothing_written lines = refl
       nothing_written (around context) = refl
 
-  -- what was given back before this source, in its search, and up to behind it
+  -- what was returned before this source, in its search, and up to its end
   module _ (before : List Source) (source : Source) (given own_given all_given : List (Option Text) → Type 0) (join : (a b : List (Option Text)) → given a → own_given b → all_given (a ++ b))
       (old mid : Devices) (some faulty : Bool) (s : RunSoFar before given old mid some faulty) where
     -- what was written for the first sources, and for this one
@@ -160,7 +160,7 @@ module _ (es : List Expression) (options : Options) (many : Bool) where
         }
 
     module _ (after : List Source) (is_many : many ≡ nat_le 2 (length (before ++ source ∷ after))) (r : Reading) (is_reading : IsReadingOf source r) where
-      -- what the sources behind this one did is any that they may have done
+      -- what the sources after this one did is any that they may have done
       abbrev rest : (rs : List Reading) × AreReadings after rs
       rest = AreReadings-exist after
 
@@ -268,7 +268,7 @@ module _ (es : List Expression) (options : Options) (many : Bool) where
             steps = spent new steps;
           }
 
-      -- what was told of the first sources and this one is a beginning of the messages
+      -- the messages about the first sources and this one are a beginning of all messages
       told_front : (messages : List Text) → Told es options (file ∷ []) messages → (more : List Text) × Messages es options (files_of all_sources readings) ((s.messages ++ messages) ++ more)
       told_front messages tells =
           elim (dec_stops es options file) [
@@ -310,7 +310,7 @@ module _ (es : List Expression) (options : Options) (many : Bool) where
             steps = spent new steps;
           }
 
-      -- want of memory came behind n of its lines
+      -- out of memory after n of its lines
       stops : (new : Devices) (n : ℕ) (rows : List Text) → n ≤ length file.lines → GroupedAs es options many (form options) (begun (form options) n file) rows → TakesAll mid.out new.out (behind_rows (form options) some rows) → new.messages ≡ mid.messages
           → new.source_failures ≡ mid.source_failures → (last : Option Text) → own_given (last ∷ []) → SearchesLines es options (length es) file.lines mid.steps new.steps → StopsBehind es options all_sources all_given old new (length before) n
       stops new n rows within are took same none_failed last gives steps =
@@ -451,7 +451,7 @@ module _ (es : List Expression) (options : Options) (many : Bool) where
     place : k ≡ length (take k sources)
     place = sym (length-take-le k sources (omega (arith, inside)))
 
-    -- source k was searched, and the run goes on
+    -- source k was searched, and the run continues
     pub run_further : (end : FileEnd) (found : ℕ) (here told fault : Bool) → FinishesSource es options many some (source_at sources k) own_given mid new end found → here ≡ nat_lt 0 found → (options.quiet && here) ≡ false → told ≡ nat_lt 0 found → fault ≡ is_fault end
         → RunSoFar (take (k + 1) sources) all_given old new (some || told) (faulty || fault)
     run_further end found here told fault f here_is goes told_is fault_is =

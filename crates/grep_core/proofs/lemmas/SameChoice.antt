@@ -1,4 +1,5 @@
--- Expressions that hold on the same stretches give the same output, messages and status, and fewer of them cost no more.
+-- Expressions that hold on the same stretches give the same output, messages and status, and fewer
+-- of them cost no more.
 use Rattle.std.proofs.Common.{◌≡◌, ℕ, zero, suc, ◌+◌, ◌*◌, ◌≤◌, ◌↔◌, Bool, true, false, List, [], ◌∷◌, inl, inr, length, Any, MatchBool, Option, Result, Ok, Err, refl, arith, take, get_or}
 use Rattle.std.specs.List.{enumerate_from}
 use Rattle.std.proofs.Math.Nat.{mul-le-mul_left, mul-le-mul_right}

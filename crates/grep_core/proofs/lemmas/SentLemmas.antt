@@ -1,4 +1,4 @@
--- Where rows end, and bytes that go out of a buffer.
+-- Where rows end, and bytes that are sent of a buffer.
 use Rattle.std.proofs.Common.{◌≡◌, ◌≢◌, ℕ, ◌+◌, ◌≤◌, [], ◌∷◌, ◌++◌, Option, length, take, drop, sym, ap, ◌∙◌, arith, eq-eqb, eqb-true, length-drop, take-append-drop, subst}
 use Rattle.std.proofs.lemmas.List.{take_more, take-take, get_or-drop}
 use Rattle.std.proofs.lemmas.List.Elements.{All-from_get_or}
@@ -14,7 +14,7 @@ use Rattle.grep_core.specs.Working.Sent.{EndsRows, SendsFront}
 pub no_row_ends : (bytes : Text) → Nowhere (Passes (is_byte newline) bytes) 0 (length bytes) → HasNoNewline bytes
 no_row_ends bytes none = All-from_get_or (λ b. b ≢ newline) bytes 0 (λ i lt same. none i (omega arith) lt (eq-eqb _ newline same))
 
--- the rows end behind the last newline
+-- the rows end after the last newline
 pub rows_end_behind : (bytes : Text) (k : ℕ) → NoneAfter (Passes (is_byte newline) bytes) 0 (length bytes) k → Passes (is_byte newline) bytes k → EndsRows bytes (k + 1)
 rows_end_behind bytes k last is = record {
   some = omega arith;
@@ -26,7 +26,7 @@ rows_end_behind bytes k last is = record {
 }
 
 module _ {W : Type 0} (contents : W → Option Text) (failures : W → ℕ) where
-  -- n of the first m bytes went out, as many as there are
+  -- n of the first m bytes were sent, which are all of them
   pub front_sent : (a b : W) (held rest : Text) (n m : ℕ) → m ≤ length held → n ≤ m → m ≤ n → Appends (contents a) (contents b) (take n (take m held))
       → rest ≡ drop n held → failures b ≡ failures a
       → SendsFront contents failures m (record { inner = a; waiting = held }) (record { inner = b; waiting = rest })
@@ -37,7 +37,7 @@ module _ {W : Type 0} (contents : W → Option Text) (failures : W → ℕ) wher
         none_failed = same;
       }
 
-  -- n of the first m bytes went out, and a write failed
+  -- n of the first m bytes were sent, and a write failed
   pub some_sent : (a b : W) (held rest : Text) (n m : ℕ) → n ≤ m → Appends (contents a) (contents b) (take n (take m held))
       → rest ≡ drop n held → failures b ≡ one_more (failures a)
       → SendsSome contents failures (record { inner = a; waiting = held }) (record { inner = b; waiting = rest })

@@ -12,21 +12,21 @@ use Rattle.grep_core.specs.Sources.{GivesBack}
 use Rattle.re_syntax.specs.Bytes.{Text}
 use Rattle.grep_core.proofs.lemmas.Decided.{dec_stops}
 
--- readings of some sources, and of others behind them
+-- readings of some sources, and of others after them
 pub AreReadings-append : (xs ys : List Source) (rs ss : List Reading) → AreReadings xs rs → AreReadings ys ss → AreReadings (xs ++ ys) (rs ++ ss)
 AreReadings-append [] ys [] ss h k = k
 AreReadings-append [] ys (r ∷ rs) ss h k = absurd h
 AreReadings-append (x ∷ xs) ys [] ss h k = absurd h
 AreReadings-append (x ∷ xs) ys (r ∷ rs) ss h k = (h.0, AreReadings-append xs ys rs ss h.1 k)
 
--- the files of some sources, and of others behind them
+-- the files of some sources, and of others after them
 pub files_of-append : (xs ys : List Source) (rs ss : List Reading) → AreReadings xs rs → files_of (xs ++ ys) (rs ++ ss) ≡ files_of xs rs ++ files_of ys ss
 files_of-append [] ys [] ss h = refl
 files_of-append [] ys (r ∷ rs) ss h = absurd h
 files_of-append (x ∷ xs) ys [] ss h = absurd h
 files_of-append (x ∷ xs) ys (r ∷ rs) ss h = ap (λ fs. file_of x.name r ∷ fs) (files_of-append xs ys rs ss h.1)
 
--- there are as many files as sources
+-- there is one file for each source
 pub length-files_of : (xs : List Source) (rs : List Reading) → AreReadings xs rs → length (files_of xs rs) ≡ length xs
 length-files_of [] [] h = refl
 length-files_of [] (r ∷ rs) h = absurd h
@@ -39,7 +39,7 @@ count_more-add n a zero = let e : a + 0 ≡ a = omega arith in ap (count_more n)
 count_more-add n a (suc b) = let e : a + suc b ≡ suc (a + b) = omega arith in ap (count_more n) e ∙ ap one_more (count_more-add n a b)
 
 module _ (es : List Expression) (options : Options) where
-  -- how often the devices failed in sources at which a run does not stop, and in others behind them
+  -- how often the devices failed in sources at which a run does not stop, and in others after them
   pub FailuresMet-append : (xs ys : List Source) (rs ss : List Reading) (n m : ℕ) → AreReadings xs rs → (Any (Stops es options) (files_of xs rs) → ⊥) →
       FailuresMet es options xs rs n → FailuresMet es options ys ss m → FailuresMet es options (xs ++ ys) (rs ++ ss) (n + m)
   FailuresMet-append [] ys [] ss n m h none f g = let none_failed : n ≡ 0 = f in let e : m ≡ n + m = omega arith in subst (FailuresMet es options ys ss) e g
@@ -58,7 +58,7 @@ module _ (es : List Expression) (options : Options) where
         )
       ]
 
-  -- how often they failed in a first source at which a run stops, whatever follows
+  -- how often they failed in a first source at which a run stops, with any sources after it
   pub FailuresMet-stopped : (x : Source) (xs : List Source) (r : Reading) (rs : List Reading) (own : ℕ) → Stops es options (file_of x.name r) →
       IfHolds (FaultMet es options (file_of x.name r)) (own ≡ failures_of r) (own ≡ 0) → FailuresMet es options (x ∷ xs) (r ∷ rs) own
   FailuresMet-stopped x xs r rs own stops h = (own, 0, h, inl (stops, refl), omega arith)
@@ -67,7 +67,7 @@ module _ (es : List Expression) (options : Options) where
   pub FailuresMet-one : (x : Source) (r : Reading) (own : ℕ) → IfHolds (FaultMet es options (file_of x.name r)) (own ≡ failures_of r) (own ≡ 0) → FailuresMet es options (x ∷ []) (r ∷ []) own
   FailuresMet-one x r own h = elim (dec_stops es options (file_of x.name r)) [ yes stops ↦ FailuresMet-stopped x [] r [] own stops h | no goes_on ↦ (own, 0, h, inr (goes_on, refl), omega arith) ]
 
-  -- what the sources behind did makes no difference
+  -- what the later sources did makes no difference
   pub FailuresMet-longer : (xs : List Source) (rs ss : List Reading) (n : ℕ) → AreReadings xs rs → FailuresMet es options xs rs n → FailuresMet es options xs (rs ++ ss) n
   FailuresMet-longer [] [] ss n h f = f
   FailuresMet-longer [] (r ∷ rs) ss n h f = absurd h
@@ -75,7 +75,7 @@ module _ (es : List Expression) (options : Options) where
   FailuresMet-longer (x ∷ xs) (r ∷ rs) ss n h f =
       (f.0, f.1, f.2, elim f.3 [ inl stops ↦ inl stops | inr goes_on ↦ inr (goes_on.0, FailuresMet-longer xs rs ss f.1 h.1 goes_on.1) ], f.4)
 
-  -- what the readers of sources had left at which a run does not stop, and of others behind them
+  -- what the readers of sources at which a run does not stop had left, and of others after them
   pub LeftMet-append : (xs ys : List Source) (rs ss : List Reading) (a b : List (Option Text)) → AreReadings xs rs → (Any (Stops es options) (files_of xs rs) → ⊥) →
       LeftMet es options xs rs a → LeftMet es options ys ss b → LeftMet es options (xs ++ ys) (rs ++ ss) (a ++ b)
   LeftMet-append [] ys [] ss a b h none f g = subst (LeftMet es options ys ss) (ap (λ l. l ++ b) (sym f)) g
@@ -94,7 +94,7 @@ module _ (es : List Expression) (options : Options) where
         )
       ]
 
-  -- of a first source at which a run stops, whatever follows
+  -- of a first source at which a run stops, with any sources after it
   pub LeftMet-stopped : (x : Source) (xs : List Source) (r : Reading) (rs : List Reading) (own : List (Option Text)) → Stops es options (file_of x.name r) → AreLeft x r own → LeftMet es options (x ∷ xs) (r ∷ rs) own
   LeftMet-stopped x xs r rs own stops h = (own, [], h, inl (stops, refl), sym (append-nil own))
 
@@ -102,7 +102,7 @@ module _ (es : List Expression) (options : Options) where
   pub LeftMet-one : (x : Source) (r : Reading) (own : List (Option Text)) → AreLeft x r own → LeftMet es options (x ∷ []) (r ∷ []) own
   LeftMet-one x r own h = elim (dec_stops es options (file_of x.name r)) [ yes stops ↦ LeftMet-stopped x [] r [] own stops h | no goes_on ↦ (own, [], h, inr (goes_on, refl), sym (append-nil own)) ]
 
-  -- what the sources behind did makes no difference
+  -- what the later sources did makes no difference
   pub LeftMet-longer : (xs : List Source) (rs ss : List Reading) (left : List (Option Text)) → AreReadings xs rs → LeftMet es options xs rs left → LeftMet es options xs (rs ++ ss) left
   LeftMet-longer [] [] ss left h f = f
   LeftMet-longer [] (r ∷ rs) ss left h f = absurd h
@@ -110,7 +110,7 @@ module _ (es : List Expression) (options : Options) where
   LeftMet-longer (x ∷ xs) (r ∷ rs) ss left h f =
       (f.0, f.1, f.2, elim f.3 [ inl stops ↦ inl stops | inr goes_on ↦ inr (goes_on.0, LeftMet-longer xs rs ss f.1 h.1 goes_on.1) ], f.4)
 
--- ---- readers that were given back
+-- ---- readers that were returned
 
 module _ {S : Type 0} (given_back : S → List (Option Text) → Type 0) where
   -- none was

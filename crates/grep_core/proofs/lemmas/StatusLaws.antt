@@ -13,7 +13,7 @@ module _ (es : List Expression) (options : Options) where
   pub StatusOf-quiet : (files : List File) → IsTrue options.quiet → AnySelected es options files → StatusOf es options files selected
   StatusOf-quiet files quiet any = inl ((quiet, any), refl)
 
-  -- under `-q` a file with a selected line decides, whatever follows it
+  -- under `-q` a file with a selected line decides, with any files after it
   pub StatusOf-stopped : (front rest : List File) (file : File) → IsTrue options.quiet → HasSelected es options file → StatusOf es options (front ++ file ∷ rest) selected
   StatusOf-stopped front rest file quiet has = StatusOf-quiet (front ++ file ∷ rest) quiet (Any-right (HasSelected es options) front (file ∷ rest) (Any-first (HasSelected es options) file rest has))
 

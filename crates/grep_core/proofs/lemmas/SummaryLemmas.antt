@@ -1,4 +1,4 @@
--- One source is done: its summary and its message, behind the rows of its lines.
+-- One source is done: its summary and its message, after the rows of its lines.
 use Rattle.std.proofs.Common.{◌≡◌, ℕ, Bool, true, false, Decides, IsTrue, List, [], ◌∷◌, ◌++◌, MatchBool, nat_le, length, refl, sym, ap, subst, ◌∙◌, inl, inr, Option}
 use Rattle.std.proofs.lemmas.Bool.{false≢true, cases_Bool, cond-true, cond-false}
 use Rattle.re_syntax.specs.Bytes.{Text}
@@ -32,7 +32,7 @@ file_named name (fails_after bytes) = limit_named name (ended_lines_of bytes) br
 file_named name (ends_after bytes) = limit_named name (lines_of bytes) whole
 
 module _ (es : List Expression) (options : Options) where
-  -- what is told of one file
+  -- the message about one file
   one_told : (end : FileEnd) (file : File) (name : Text) → Decides (is_fault end) (FaultMet es options file) → (IsTrue (is_fault end) → file.ending ≡ ending_of end) → file.name ≡ name → Message es options file (message (ending_of end) name)
   one_told Missing file name d e n = inl (d.0 refl, λ i. message (sym (e refl) i) (sym n i))
   one_told Whole file name d e n = inr ((λ m. false≢true (d.1 m)), refl)

@@ -1,4 +1,5 @@
--- What is written at a line, where lines around selected ones are shown, and which lines wait behind it.
+-- What is written at a line, where lines around selected ones are shown, and which lines wait after
+-- it.
 use Rattle.std.proofs.Common.{◌≡◌, ℕ, zero, suc, ◌+◌, ◌-◌, ◌<◌, ◌≤◌, nat_lt, min, Bool, true, false, not, List, [], ◌∷◌, ◌++◌, Option, Result, Ok, Err, IfOk, length, take, drop, get_or, refl, sym, ap, ◌∙◌, subst, append-nil, append_assoc, arith, take-append-drop, if◌then◌else◌}
 use Rattle.std.specs.Result.{IsErr, is_err}
 use Rattle.std.proofs.lemmas.Bool.{false≢true, ltb-true, ltb-false}
@@ -31,7 +32,7 @@ last_of-none xs = drop_all (length xs - 0) xs (omega arith)
 pub length-last_of : {A : Type 0} (n : ℕ) (xs : List A) → n ≤ length xs → length (last_of n xs) ≡ n
 length-last_of n xs h = length-drop (length xs - n) xs ∙ (let e : length xs - (length xs - n) ≡ n = omega (arith, h) in e)
 
--- one more behind them, of which at most so many are kept
+-- one more after them, of which at most this number are kept
 pub last_of-more : {A : Type 0} (most n : ℕ) (xs : List A) (x : A) → n ≤ length xs → n ≤ most → last_of most (last_of n xs ++ x ∷ []) ≡ last_of (min (n + 1) most) (xs ++ x ∷ [])
 last_of-more most n xs x within few =
     let k = length xs - n in
@@ -42,9 +43,9 @@ last_of-more most n xs x within few =
     let places : k + (n + 1 - most) ≡ length xs + 1 - min (n + 1) most = omega (arith, within, few) in
     ap (λ m. drop (m - most) (last_of n xs ++ x ∷ [])) long ∙ ap (drop (n + 1 - most)) joined ∙ drop-drop (n + 1 - most) k (xs ++ x ∷ []) ∙ ap (λ m. drop m (xs ++ x ∷ [])) places ∙ ap (λ m. drop (m - min (n + 1) most) (xs ++ x ∷ [])) (sym all)
 
--- ---- which lines wait behind a line
+-- ---- which lines wait after a line
 
--- behind a selected line none waits, and where a line is shown behind it
+-- no line waits while lines after a selected one are still shown
 abbrev pub WaitsNot : Progress → Type 0
 WaitsNot p = 0 < p.left → p.waiting ≡ 0
 
@@ -134,7 +135,7 @@ module _ {W : Type 0} (contents : W → Option Text) (failures : W → ℕ) wher
         subst (λ t. StopsWithin contents failures a c (written [] t)) (sym (ap all_at e)) (subst (StopsWithin contents failures a c) (sym bytes_at)
         (stops_later contents failures a b c (written [] between) (written [] waiting ++ output_line [] row) g (stops_early contents failures b c (written [] waiting) (output_line [] row) s)))
 
-    -- the line's row comes last
+    -- the line's row is the last
     pub row_last : {T E : Type 0} (itself : Bool) → itself ≡ true → (a b c d : W) (r : Result T E) → GoesOut contents failures a b (written [] between) → GoesOut contents failures b c (written [] waiting) → Writes contents failures c d (output_line [] row) r
         → Writes contents failures a d (written [] (all_at itself)) r
     row_last itself e a b c d r g h w =

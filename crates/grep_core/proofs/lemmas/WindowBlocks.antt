@@ -11,22 +11,22 @@ use Rattle.re_search.specs.Working.Blocks.{IsBlock, PassesAll}
 use Rattle.re_search.proofs.lemmas.BlockLemmas.{ended_text}
 use Rattle.grep_core.specs.Working.Held.{HasWholeLine}
 
--- ---- bytes of a part
+-- ---- bytes of a range
 
--- a byte of a part is one of the buffer
+-- a byte of a range is one of the buffer
 pub at_range : (buffer : Text) (start end k : ℕ) → start + k < end → get_or (slice_range buffer start end) k 0 ≡ get_or buffer (start + k) 0
 at_range buffer start end k below = get_or-take (end - start) (drop start buffer) k 0 (omega arith) ∙ get_or-drop start buffer k 0
 
 pub length_range : (buffer : Text) (start end : ℕ) → end ≤ length buffer → length (slice_range buffer start end) ≡ end - start
 length_range buffer start end within = omega (arith, length-take (end - start) (drop start buffer), length-drop start buffer)
 
--- what follows the first bytes of a part is a part
+-- what follows the first bytes of a range is a range
 pub drop_range : (buffer : Text) (start end k : ℕ) → start + k ≤ end → drop k (slice_range buffer start end) ≡ slice_range buffer (start + k) end
 drop_range buffer start end k h =
     ap (λ n. drop k (take n (drop start buffer))) (omega arith) ∙ drop-take k (end - (start + k)) (drop start buffer)
     ∙ ap (take (end - (start + k))) (drop-drop k start buffer ∙ ap (λ n. drop n buffer) (omega arith))
 
--- two parts that meet are one
+-- two ranges that meet are one
 pub joined_range : (buffer : Text) (start mid end : ℕ) → start ≤ mid → mid ≤ end → slice_range buffer start mid ++ slice_range buffer mid end ≡ slice_range buffer start end
 joined_range buffer start mid end low high =
     let part = slice_range buffer start end in
@@ -42,7 +42,7 @@ byte_at bytes k below cut =
     let place : k ≡ length (take k bytes) + 0 = omega (arith, below, length-take k bytes) in
     ap (λ l. get_or l k 0) cut ∙ ap (λ n. get_or (take k bytes ++ newline ∷ drop (k + 1) bytes) n 0) place ∙ get_or-append-add (take k bytes) (newline ∷ drop (k + 1) bytes) 0 0
 
--- a newline in a part lies before the place behind which there is none
+-- a newline in a range is before the place after which there is none
 pub newline_before : (buffer : Text) (start last end k : ℕ) → end ≤ length buffer → HasNoNewline (slice_range buffer last end) → start + k < end → get_or buffer (start + k) 0 ≡ newline → start + k + 1 ≤ last
 newline_before buffer start last end k within free below is =
     elim (cases_lt (start + k) last) [
@@ -56,7 +56,7 @@ newline_before buffer start last end k within free below is =
 
 module _ (buffer before : Text) (start last end : ℕ) (ordered : start ≤ last) (before_end : last ≤ end) (within : end ≤ length buffer)
     (ended : start < last → get_or buffer (last - 1) 0 ≡ newline) (cut_off : HasNoNewline (slice_range buffer last end)) where
-  -- a line is whole where the part reaches behind a newline
+  -- a line is whole where the range extends past a newline
   pub whole_line : HasNoNewline before → HasWholeLine (before ++ slice_range buffer start end) (nat_lt start last)
   whole_line none = go (nat_lt start last) refl
     where
@@ -71,7 +71,7 @@ module _ (buffer before : Text) (start last end : ℕ) (ordered : start ≤ last
           let same : last ≡ start = omega (arith, ltb-false start last e) in
           All-append (λ b. b ≢ newline) before (slice_range buffer start end) none (subst (λ n. HasNoNewline (slice_range buffer n end)) same cut_off)
 
-  -- the part up to the newline is whole lines
+  -- the range up to the newline is whole lines
   pub block_range : IsBlock (slice_range buffer start last)
   block_range =
       elim (cases_lt start last) [
@@ -84,7 +84,8 @@ module _ (buffer before : Text) (start last end : ℕ) (ordered : start ≤ last
         | inr le ↦ let width : last - start ≡ 0 = omega (arith, le) in ([], all_none, ap (λ n. take n (drop start buffer)) width)
       ]
 
--- where no more is ahead than lies in the part nothing waits, and what is ahead begins with the whole lines of the part
+-- where no more is ahead than is in the range nothing waits, and what is ahead begins with the
+-- whole lines of the range
 none_waits : (before rest : Text) → length (before ++ rest) ≤ length rest → before ≡ []
 none_waits [] rest few = refl
 none_waits (b ∷ before) rest few = absurd (omega (arith, few, length-append before rest))
@@ -153,7 +154,7 @@ module _ (buffer before : Text) (start last end count : ℕ) (within : end ≤ l
         | inr le ↦ absurd (none (count - 1) 0 (omega (arith, le, some)) (sym (get_or_append_left before part 0 (count - 1) (omega (arith, le, some))) ∙ last_byte.1))
       ]
 
-  -- the lines end before the place behind which there is no newline
+  -- the lines end before the place after which there is no newline
   pub passed_before : start + (count - length before) ≤ last
   passed_before =
       let k : ℕ = count - 1 - length before in

@@ -1,4 +1,4 @@
--- The parts of a buffer before and after a newline.
+-- The ranges of a buffer before and after a newline.
 use Rattle.std.proofs.Common.{◌≡◌, ◌≢◌, ℕ, ◌+◌, ◌-◌, ◌<◌, ◌≤◌, [], ◌∷◌, ◌++◌, Option, Some, None, Result, Ok, Err, OnErr, MatchOption, IfSome, is_some, length, take, drop, slice_range, refl, sym, ap, ◌∙◌, arith, append_assoc, subst}
 use Rattle.std.proofs.lemmas.List.{length-append, take-append-le, length-take, take-take, drop-take, drop-drop}
 use Rattle.std.proofs.lemmas.List.Elements.{All-append, All-take, All-head, All-tail}
@@ -6,12 +6,12 @@ use Rattle.re_syntax.specs.Bytes.{Text}
 use Rattle.re_syntax.specs.Lines.{newline, HasNoNewline}
 use Rattle.grep_core.specs.Working.Held.{IsOneLineAndFew, HasWholeLine}
 
--- the first k bytes of a part are a part
+-- the first k bytes of a range are a range
 front_of_range : (buffer : Text) (start end k : ℕ) → start + k ≤ end → take k (slice_range buffer start end) ≡ slice_range buffer start (start + k)
 front_of_range buffer start end k h =
     take-take k (end - start) (drop start buffer) (omega arith) ∙ ap (λ n. take n (drop start buffer)) (omega arith)
 
--- what follows a byte in a part is a part
+-- what follows a byte in a range is a range
 rest_of_range : (buffer : Text) (start end k : ℕ) → start + k < end → drop (k + 1) (slice_range buffer start end) ≡ slice_range buffer (start + k + 1) end
 rest_of_range buffer start end k h =
     let split : end - start ≡ (k + 1) + (end - (start + k + 1)) = omega arith in
@@ -19,7 +19,7 @@ rest_of_range buffer start end k h =
     ∙ drop-take (k + 1) (end - (start + k + 1)) (drop start buffer)
     ∙ ap (take (end - (start + k + 1))) (drop-drop (k + 1) start buffer ∙ ap (λ n. drop n buffer) (omega arith))
 
--- a place within a part lies before its end
+-- a place within a range is before its end
 pub below_range : (buffer : Text) (start end k : ℕ) → k < length (slice_range buffer start end) → start + k < end
 below_range buffer start end k h = omega (arith, length-take (end - start) (drop start buffer))
 
@@ -35,7 +35,7 @@ ahead_at_newline buffer before line after start end k h cut is none =
     ∙ ap (λ l. l ++ newline ∷ slice_range buffer (start + k + 1) end) (sym is)
     ∙ ap (λ l. line ++ newline ∷ (l ++ slice_range buffer (start + k + 1) end)) (sym none)
 
--- what waited and what stands before the first newline is a line
+-- what waited and what is before the first newline is a line
 pub line_has_no_newline : (buffer before line : Text) (start end k : ℕ) → start + k ≤ end
     → HasNoNewline before → HasNoNewline (take k (slice_range buffer start end))
     → line ≡ before ++ slice_range buffer start (start + k) → HasNoNewline line
@@ -57,7 +57,8 @@ line_ends : (before after : Text) → HasNoNewline (before ++ newline ∷ after)
 line_ends [] after h = All-head (λ b. b ≢ newline) newline after h refl
 line_ends (b ∷ before) after h = line_ends before after (All-tail (λ c. c ≢ newline) b (before ++ newline ∷ after) h)
 
--- where no newline is in what waits and in a part, no line is whole; where one is in the part, one is
+-- where no newline is in what waits and in a range, no line is whole; where one is in the range,
+-- one is
 pub has_whole_line : (before part : Text) (found : Option ℕ) → HasNoNewline before → MatchOption found (HasNoNewline part) (λ k. HasNoNewline (take k part))
     → IfSome found (λ k. (k < length part) × (part ≡ take k part ++ newline ∷ drop (k + 1) part)) → HasWholeLine (before ++ part) (is_some found)
 has_whole_line before part None h none some = All-append (λ b. b ≢ newline) before part h none

@@ -6,7 +6,7 @@ use Rattle.re_syntax.specs.Bytes.{Text}
 use Rattle.grep_core.specs.Output.{written}
 use Rattle.grep_core.specs.Run.{Writer, TakesAll, TakesFront}
 
--- the bytes of some lines and of others behind them
+-- the bytes of some lines and of others after them
 pub written-append : (margin : Text) (xs ys : List Text) → written margin (xs ++ ys) ≡ written margin xs ++ written margin ys
 written-append margin xs ys = flat_map-append _ xs ys
 

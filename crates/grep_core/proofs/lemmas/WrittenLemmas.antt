@@ -1,4 +1,4 @@
--- Bytes that went out, as output lines behind a margin.
+-- Bytes that were written, as output lines after a margin.
 use Rattle.std.proofs.Common.{ℕ, [], ◌∷◌, ◌++◌, List, Option, Result, sym, append_assoc, append-nil, subst}
 use Rattle.re_syntax.specs.Bytes.{Text}
 use Rattle.re_syntax.specs.Lines.{newline}

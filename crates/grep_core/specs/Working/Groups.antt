@@ -1,5 +1,5 @@
--- Output in which each group of lines around selected ones stands behind a separator, the first one
--- too, so that the output of several files is that of each of them in turn.
+-- Output in which each group of lines around selected ones is after a separator, the first one too,
+-- so that the output of several files is that of each of them in turn.
 use Rattle.std.specs.Prelude.{Bool, List, drop, if◌then◌else◌}
 use Rattle.re_syntax.specs.Bytes.{Text}
 use Rattle.re_syntax.specs.Expression.{Expression}
@@ -13,7 +13,7 @@ module _ (es : List Expression) (options : Options) (many : Bool) where
   GroupedAs (around context) files rows = EachGives (GroupsOf es options many context) files rows
   GroupedAs shape files rows = OutAs es options many shape files rows
 
--- what is written of such output: where no group stands before it, the first separator is left out
+-- what is written of such output: where no group is before it, the first separator is left out
 abbrev pub behind_rows : Form → Bool → List Text → List Text
 behind_rows (around context) some rows = if some then rows else drop 1 rows
 behind_rows _ some rows = rows

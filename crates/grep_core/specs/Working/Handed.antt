@@ -27,8 +27,8 @@ module _ {R : Type 0} (remaining : R → Option Text) (failures : R → ℕ) whe
     pub all_given : now.stage ≡ Ended → IsAtEnd (to_come remaining failures now)
     pub none_failed : failures now.reader ≡ failures reader
 
--- a source that is open, failed so often while it was read, and has this left, stands for a file of
--- these lines
+-- a source that is open, failed this often while it was read, and has this left, stands for a file
+-- of these lines
 pub record StandsFor (name : Text) (known rest : Option Text) (failed_before failed : ℕ)
     (lines : List Text) (ending : Ending) : Type 0 where
   pub reading : Reading

@@ -20,7 +20,7 @@ abbrev pub HasWholeLine : Text → Bool → Type 0
 HasWholeLine bytes true = HasNoNewline bytes → ⊥
 HasWholeLine bytes false = HasNoNewline bytes
 
--- what is kept of a line that goes on: nothing where the spilled bytes are the line handed out
+-- what is kept of a line that continues: nothing where the spilled bytes are the line handed out
 abbrev pub waiting : Shown → Text → Text
 waiting Nothing spill = spill
 waiting (Short from to) spill = spill

@@ -8,7 +8,7 @@ pub record LastLines : Type 0 where
   pub limit : ℕ
   pub lines : List Text
 
--- behind more lines
+-- with more lines after them
 abbrev pub with_lines : LastLines → List Text → LastLines
 with_lines held more =
     record { limit = held.limit; lines = last_of held.limit (held.lines ++ more) }

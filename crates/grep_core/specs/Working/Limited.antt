@@ -4,14 +4,14 @@ use Rattle.std.proofs.Common.{zero, suc}
 use Rattle.std.specs.Option.{option_map}
 use Rattle.re_syntax.specs.Bytes.{Text}
 
--- of a reader that gives at most `step` bytes a call, and fails once `left` bytes have gone: none
--- with no step, and else the first `left` of those of the reader beneath it
+-- the bytes of a reader that gives at most `step` bytes a call, and fails once it gave `left`
+-- bytes: none with no step, and else the first `left` of those of the reader beneath it
 abbrev pub limited : ℕ → ℕ → Option Text → Option Text
 limited zero left known = Some []
 limited (suc step) left known = option_map (take left) known
 
--- the bytes that a call moved are at most `step`, and those that may still go are fewer by them; a
--- call that failed moved none
+-- the bytes that a call moved are at most `step`, and those that may still be moved are fewer by
+-- them; a call that failed moved none
 abbrev pub MovesFew : {E : Type 0} → ℕ → ℕ → ℕ → Result ℕ E → Type 0
 MovesFew step old_left new_left moved =
     MatchResult moved (λ n. (n ≤ step) × (n + new_left ≡ old_left)) (λ _. new_left ≡ old_left)

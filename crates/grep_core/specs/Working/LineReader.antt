@@ -63,7 +63,7 @@ module _ {R : Type 0} (remaining : R → Option Text) (failures : R → ℕ) whe
     pub counted : old.stage ≡ Open → failures new.reader ≡ one_more (failures old.reader)
     pub untouched : old.stage ≡ Failed → new.reader ≡ old.reader
 
-  -- a growth was refused: nothing is lost, and the next call goes on with the same line
+  -- a growth was refused: nothing is lost, and the next call continues with the same line
   pub record RunsOutOfMemory (old new : LineReader R) : Type 0 where
     pub still_open : new.stage ≡ Open
     pub kept : Keeps (to_come old) (to_come new)

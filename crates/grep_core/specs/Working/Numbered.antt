@@ -16,7 +16,7 @@ pub record Numbered (R : Type 0) : Type 0 where
   -- how many were handed out
   pub number : ℕ
 
--- so many whole lines, in these bytes, are ahead, and all of them can be numbered
+-- the block is ahead and is `count` whole lines, and all of them can be numbered
 pub record AreAhead {R : Type 0} (now : Numbered R) (block : Text) (count : ℕ) : Type 0 where
   pub rest : Text
   pub ahead : now.lines.ahead ≡ block ++ rest
@@ -38,7 +38,7 @@ module _ {R : Type 0} (remaining : R → Option Text) (failures : R → ℕ) whe
       StandsFor name (remaining reader) (remaining now.lines.reader) (failures reader)
       (failures now.lines.reader) handed ending
 
-  -- behind these lines a line was handed out; or they are all; or a read failed, or there is one
+  -- after these lines a line was handed out; or they are all; or a read failed, or there is one
   -- more than can be numbered; or a growth was refused, and nothing is lost
   abbrev pub NextIs : R → List Text → Numbered R → Result Bool ReadFault → Type 0
   NextIs reader handed now (Ok true) = HasHanded reader now (handed ++ now.lines.line ∷ [])

@@ -17,7 +17,7 @@ IsPlain (around context) = ⊥
 IsPlain _ = ⊤
 
 module _ (es : List Expression) (options : Options) (many : Bool) where
-  -- the rows of a file's lines, each group of them behind a separator where lines around are shown;
+  -- the rows of a file's lines, each group of them after a separator where lines around are shown;
   -- there are none under `-c`, `-l` and `-q`
   abbrev pub LineRowsOf : Form → File → List Text → Type 0
   LineRowsOf lines file rows = RowsOf es options many file rows
@@ -53,7 +53,7 @@ module _ (es : List Expression) (options : Options) (many : Bool) where
       pub wrote : TakesFront old new rows
       pub counted : new.failures ≡ one_more old.failures
 
-    -- the rows of a line were written, and `found` tells whether it is selected
+    -- the rows of a line were written, and `found` says whether it is selected
     pub record TakesLine (found : Bool) : Type 0 where
       pub rows : List Text
       pub are_rows : RowsOfLine name number line rows

@@ -19,15 +19,15 @@ AreUnselected es options lines = All (λ line. ¬ Selected es options line) line
 
 module _ {R : Type 0} (remaining : R → Option Text) (failures : R → ℕ) (es : List Expression)
     (options : Options) where
-  -- behind the lines that were handed out some were passed, as if they had been handed out, none of
+  -- after the lines that were handed out some were passed, as if they had been handed out, none of
   -- which is selected
   pub record PassesUnselected (reader : R) (handed : List Text) (now : Numbered R) : Type 0 where
     pub passed : List Text
     pub unselected : AreUnselected es options passed
     pub handed_too : HasHanded remaining failures reader now (handed ++ passed)
 
-  -- behind the lines that were handed out some were passed, as if they had been handed out, so many
-  -- of which are selected, in no more steps than their search costs
+  -- after the lines that were handed out some were passed, as if they had been handed out; `count`
+  -- of them are selected, and the steps are no more than their search costs
   pub record PassesCounted (reader : R) (handed : List Text) (now : Numbered R)
       (began ended : Steps) (count : ℕ) : Type 0 where
     pub passed : List Text
@@ -41,8 +41,7 @@ module _ {R : Type 0} (remaining : R → Option Text) (failures : R → ℕ) (es
       (count : ℕ) × PassesCounted reader handed now began ended count
       × (new ≡ min (old + count) (2 ^ 64 - 1))
 
-  -- they were passed where none is shown behind the last selected one, and the last of them are
-  -- held
+  -- they were passed where none is shown after the last selected one, and the last of them are held
   pub record PassesWaiting (reader : R) (handed : List Text) (now : Numbered R)
       (old new : Progress) (behind held : LastLines) : Type 0 where
     pub passes : PassesUnselected reader handed now

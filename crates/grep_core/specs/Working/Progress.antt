@@ -22,8 +22,7 @@ abbrev pub next_shown : Progress → Bool → Shown
 next_shown p true = record { separated = p.gap && p.shown; before = p.waiting; itself = true }
 next_shown p false = record { separated = false; before = 0; itself = nat_lt 0 p.left }
 
--- so many lines more wait that are not shown yet, as far as they may be before the next selected
--- one
+-- n lines more wait that are not shown yet, as far as they may be before the next selected one
 abbrev pub with_waiting : ℕ → Progress → Progress
 with_waiting n p =
     record p {
@@ -31,7 +30,7 @@ with_waiting n p =
       waiting = min (p.waiting + n) p.context.before;
     }
 
--- behind that line
+-- after that line
 abbrev pub behind_line : Progress → Bool → Progress
 behind_line p true =
     record p { shown = true; gap = false; waiting = 0; left = p.context.after }
@@ -56,7 +55,7 @@ module _ (options : Options) (many : Bool) (name : Text) where
   abbrev pub row_by : Bool → ℕ → Text → Text
   row_by selected number line = row_with (if selected then colon else hyphen) number line
 
-  -- what is written at the line behind these, before which those wait
+  -- what is written at the next line, before which these wait
   abbrev pub rows_at : Bool → Shown → List Text → ℕ → Text → List Text
   rows_at selected shown waiting number line =
       (if shown.separated then group_separator ∷ [] else [])

@@ -1,5 +1,5 @@
--- Expressions that stand for others: they hold on the same stretches, as the one choice of several
--- expressions does for these.
+-- Expressions that can replace others: they hold on the same stretches, as the one choice of
+-- several expressions does for these.
 use Rattle.std.specs.Prelude.{◌≡◌, ℕ, ◌≤◌, ◌↔◌, List, Option, length, Any, Result}
 use Rattle.re_syntax.specs.Bytes.{Text}
 use Rattle.re_syntax.specs.Expression.{Expression}

@@ -53,25 +53,24 @@ abbrev pub count_line : Bool → Text → FileEnd → ℕ → List Text
 count_line many name end selected =
     if is_missing end then [] else (prefix colon (name_shown many name) ++ decimal selected) ∷ []
 
--- what is written of a file behind the rows of its lines
+-- what is written of a file after the rows of its lines
 abbrev pub summary_as : Form → Bool → Text → FileEnd → ℕ → List Text
 summary_as names many name end selected = if nat_lt 0 selected then name ∷ [] else []
 summary_as counts many name end selected = count_line many name end selected
 summary_as _ many name end selected = []
 
--- what is told of a file that ended so, and nothing under `-s`
+-- the messages about a file that ended so, and none under `-s`
 abbrev pub told_of : Bool → FileEnd → Text → List Text
 told_of silent end name = if silent then [] else message (ending_of end) name
 
--- the status of a run that did not stop on its way: a fault goes before a selected line
+-- the status of a run that did not stop on its way: a fault takes precedence over a selected line
 abbrev pub status_by : Bool → Bool → Status
 status_by some faulty = if faulty then Error else if some then Selected else NoneSelected
 
 -- `began` and `ended` are the steps that were counted before and after the search; there are no
 -- more than that of the file's lines costs.
--- `shown` tells whether a source before has a selected line.
--- `given` says of what readers may have left that readers were given back that had this left, in
--- the search of the source
+-- `shown` says whether an earlier source has a selected line.
+-- `given l` says that readers that had l left were returned in the search of the source
 module _ (es : List Expression) (options : Options) (many shown : Bool) (source : Source)
     (given : List (Option Text) → Type 0) where
   -- how often the devices failed in the source, where a fault is met in it, and what its reader had
@@ -85,7 +84,7 @@ module _ (es : List Expression) (options : Options) (many shown : Bool) (source 
     pub are_left : AreLeft source reading left
     pub gave_back : given left
 
-  -- a beginning of what is written of the source's file went out, and a write failed
+  -- a beginning of what is written of the source's file was written, and a write failed
   pub record BreaksSource (failed_before failed : ℕ) (old new : Writer)
       (began ended : Steps) : Type 0 where
     pub reading : Reading
@@ -97,7 +96,7 @@ module _ (es : List Expression) (options : Options) (many shown : Bool) (source 
     pub counted : new.failures ≡ one_more old.failures
     pub steps : SearchesLines es options (length es) (file_of source.name reading).lines began ended
 
-  -- the rows of the first n lines of the source's file went out, and no device failed
+  -- the rows of the first n lines of the source's file were written, and no device failed
   pub record StopsSource (n failed_before failed : ℕ) (old new : Writer)
       (began ended : Steps) : Type 0 where
     pub reading : Reading
@@ -112,7 +111,7 @@ module _ (es : List Expression) (options : Options) (many shown : Bool) (source 
     pub wrote : TakesAll old new (behind_rows (form options) shown rows)
     pub steps : SearchesLines es options (length es) (file_of source.name reading).lines began ended
 
-  -- the source was searched: it stands for a file, of whose output the rows went out and the
+  -- the source was searched: it stands for a file, the rows of its output were written, and the
   -- summary is left
   pub record SearchesSource (failed_before failed : ℕ) (old new : Writer) (began ended : Steps)
       (end : FileEnd) (selected : ℕ) : Type 0 where
@@ -159,7 +158,7 @@ module _ (es : List Expression) (options : Options) (many shown : Bool) (source 
     pub steps : SearchesLines es options (length es) (file_of source.name reading).lines old.steps
         new.steps
 
-  -- what a search of source k answers
+  -- what a search of source k returns
   abbrev pub SourceGives : ℕ → Devices → Devices → Result FileFound RunFault → Type 0
   SourceGives k old new (Ok found) = FinishesSource old new found.end found.selected
   SourceGives k old new (Err Write) =

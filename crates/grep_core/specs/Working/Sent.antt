@@ -1,4 +1,4 @@
--- What goes out of a buffer, and where the rows in it end.
+-- What is sent of a buffer, and where the rows in it end.
 use Rattle.std.specs.Prelude.{◌≡◌, ℕ, ◌<◌, ◌≤◌, ◌⊎◌, [], ◌∷◌, ◌++◌, Option, Result, MatchOption}
 use Rattle.std.specs.Prelude.{MatchResult, length, take, drop}
 use Rattle.std.specs.Io.KnownBytes.{Appends}
@@ -6,7 +6,7 @@ use Rattle.re_syntax.specs.Bytes.{Text}
 use Rattle.re_syntax.specs.Lines.{newline, HasNoNewline}
 use Rattle.grep_core.specs.Buffer.{BufferedWriter, SendsSome}
 
--- the first n bytes end in a newline, and no newline stands behind them
+-- the first n bytes end in a newline, and no newline is after them
 pub record EndsRows (bytes : Text) (n : ℕ) : Type 0 where
   pub some : 0 < n
   pub within : n ≤ length bytes
@@ -15,28 +15,29 @@ pub record EndsRows (bytes : Text) (n : ℕ) : Type 0 where
   pub none_behind : HasNoNewline (drop n bytes)
 
 module _ {W : Type 0} (contents : W → Option Text) (failures : W → ℕ) where
-  -- the first n bytes that waited went to the inner writer, and no write failed; the others wait
+  -- the first n bytes that waited were sent to the inner writer, and no write failed; the others
+  -- wait
   pub record SendsFront (n : ℕ) (old new : BufferedWriter W) : Type 0 where
     pub written : Appends (contents old.inner) (contents new.inner) (take n old.waiting)
     pub rest : new.waiting ≡ drop n old.waiting
     pub none_failed : failures new.inner ≡ failures old.inner
 
-  -- all rows that waited whole went to the inner writer, or all bytes where no row was whole, and
-  -- no write failed
+  -- all rows that waited whole were sent to the inner writer, or all bytes where no row was whole,
+  -- and no write failed
   pub record SendsWhole (old new : BufferedWriter W) : Type 0 where
     pub count : ℕ
     pub whole : EndsRows old.waiting count ⊎
         (HasNoNewline old.waiting × (count ≡ length old.waiting))
     pub front : SendsFront count old new
 
-  -- at an Ok the whole rows went, at an Err a beginning of what waited
+  -- at an Ok the whole rows were sent, at an Err a beginning of what waited
   abbrev pub SendsRows : {T E : Type 0} → BufferedWriter W → BufferedWriter W → Result T E → Type 0
   SendsRows old new r =
       MatchResult r (λ _. SendsWhole old new) (λ _. SendsSome contents failures old new)
 
-  -- a line that was put behind what waited: at Some(n) all that waited went to the inner writer
-  -- with the first n bytes of the line, and nothing waits; at a None a beginning of what waited
-  -- went, and a write failed; the rest waits, without the line
+  -- a line that was put after what waited: at Some(n) all that waited was sent to the inner writer
+  -- with the first n bytes of the line, and nothing waits; at a None a beginning of what waited was
+  -- sent, and a write failed; the rest waits, without the line
   abbrev pub SendsLine : BufferedWriter W → BufferedWriter W → Text → Option ℕ → Type 0
   SendsLine old new line sent = MatchOption sent (SendsSome contents failures old new)
       (λ n. (0 < n) × (n ≤ length line) × (new.waiting ≡ []) ×

@@ -1,4 +1,4 @@
-// A writer that gathers bytes before they go to the device.
+// A writer that buffers bytes before it sends them to the device.
 ghost use Rattle.std.specs.Prelude.{◌≡◌, ◌+◌, ◌<◌, [], IfOk, OnErr, length};
 ghost use Rattle.std.specs.Io.KnownBytes.{Keeps};
 ghost use Rattle.grep_core.specs.Counted.{one_more};
@@ -10,12 +10,12 @@ use crate::devices::sending::{gather, rows_end, send_front};
 use std::alloc::{AllocError, Global};
 use std::marker::Model;
 
-// How many bytes are gathered.
+// The most bytes that are buffered.
 const ROOM: usize = 65_536;
 
-/// A writer that gathers up to 65,536 bytes before they go to the inner writer. Where it is full it
-/// sends the rows that are whole, so that no row that fits is parted between two sends; where no
-/// newline waits it sends all. A failed write of the inner writer ends the call that made it, and
+/// A writer that buffers up to 65,536 bytes before it sends them to the inner writer. A full buffer
+/// sends the rows that are whole, so that no row that fits is split between two sends; if no
+/// newline waits, it sends all. A failed write of the inner writer ends the call that made it, and
 /// is not tried again in that call.
 /// Contracts see it as the inner writer and the bytes that wait. Bytes that still wait when it is
 /// dropped are lost: call `send` or `flush` first.
@@ -61,7 +61,8 @@ impl<W> Buffered<W> {
 impl<W: CountedWrite> Buffered<W> {
     /// Sends all bytes that wait to the inner writer.
     ///
-    /// `WriteFault` comes where a write of the inner writer fails. What it did not take waits on.
+    /// Returns `WriteFault` if a write of the inner writer fails. What it did not take keeps
+    /// waiting.
     pub fn send(&mut self) -> Result<(), WriteFault>
         ensures { Sends W.contents W.failures self.old self.new result }
     {

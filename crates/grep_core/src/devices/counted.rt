@@ -14,9 +14,9 @@ pub trait CountedRead {
     /// How many reads have failed.
     ghost failures: { Self → ℕ };
 
-    /// Which loan a reader is that is a `&mut`, by the name of its referent's value in proofs. It
-    /// is the same for all readers that are none. What is handed a `&mut` and gives it back can
-    /// say by this that it is the same one.
+    /// Which loan a reader that is a `&mut` is, by the name of its referent's value in proofs. All
+    /// other readers have the same value. What takes a `&mut` and returns it can state with this
+    /// that it is the same one.
     ghost loan: { Self → ℕ } = { λ _. 0 };
 
     /// One read into a slice that is not empty. `Some(0)` says that no byte is left, `None` that
@@ -33,7 +33,7 @@ pub trait CountedRead {
         ensures { result ≡ failures self.now };
 }
 
-/// A write failed; the writer has counted it. A beginning of what was to be written went out.
+/// A write failed; the writer has counted it. A beginning of the bytes was written.
 #[derive(Clone, Copy, Debug, PartialEq, Eq)]
 pub struct WriteFault;
 
@@ -45,7 +45,7 @@ pub trait CountedWrite {
     /// How many writes have failed.
     ghost failures: { Self → ℕ };
 
-    /// How many of the bytes were gathered and have not gone to the device.
+    /// How many of the bytes are buffered and not yet sent to the device.
     ghost waiting: { Self → ℕ } = { λ _. 0 };
 
     /// One write of bytes of which there is at least one. It takes at least one of them, in order
@@ -57,9 +57,9 @@ pub trait CountedWrite {
         ensures bytes { PushAppends (contents self.old) (contents self.new) result from.now }
         ensures counted { Counts (failures self.old) (failures self.new) result };
 
-    /// Sends what was gathered to the device.
+    /// Sends the buffered bytes to the device.
     ///
-    /// `WriteFault` comes where a write fails. What did not go waits on.
+    /// Returns `WriteFault` if a write fails. What was not sent keeps waiting.
     fn flush(&mut self) -> Result<(), WriteFault>
         ensures kept { Writes contents failures self.old self.new [] result }
         ensures sent { IfOk result (λ _. waiting self.new ≡ 0) };
@@ -138,7 +138,7 @@ impl<T> Tally<T> {
     }
 }
 
-// One more, unless the count stands at the greatest.
+// One more, unless the count is the greatest `u64`.
 fn one_more(count: u64) -> u64
     ensures { result ≡ one_more count }
 {

@@ -1,4 +1,4 @@
-// A reader or a writer that goes on only so far, for tests.
+// A reader or a writer that moves only a limited number of bytes, for tests.
 ghost use Rattle.std.specs.Prelude.{◌≡◌, ◌<◌, ◌≤◌, length, take, IfOk, IsErr, OnErr};
 ghost use Rattle.std.specs.Io.{ReadsAtMost, WritesAtMost};
 ghost use Rattle.std.specs.Io.KnownBytes.{Keeps, Consumes, IsAtEnd, ReadConsumes, WriteAppends};
@@ -6,16 +6,16 @@ ghost use Rattle.grep_core.specs.Working.Limited.{limited, MovesFew};
 
 use std::io::{Error, ErrorKind, Read, Result, Write};
 
-/// A device that gives or takes at most `step` bytes a call, 0 too, and of which each call fails
-/// once `left` bytes have gone. The contracts leave open which calls fail before that: those are
-/// the calls in which the device beneath fails.
+/// A device that gives or takes at most `step` bytes a call, which may be 0. Each call fails once
+/// `left` bytes were moved. The contracts leave open which calls fail before that: those are the
+/// calls in which the device beneath fails.
 #[derive(Drop)]
 pub struct Limited<T> {
     /// The device beneath.
     pub inner: T,
     /// The most bytes that one call moves.
     pub step: usize,
-    /// How many bytes may still go.
+    /// How many bytes may still be moved.
     pub left: usize,
 }
 

@@ -1,4 +1,4 @@
-// Bytes that come into a buffer and leave it for the writer beneath, and where rows end.
+// Bytes that are added to a buffer and sent to the writer beneath, and where rows end.
 ghost use Rattle.std.specs.Prelude.{◌≡◌, ◌+◌, ◌≤◌, ◌++◌, MatchOption, MatchResult, drop, length};
 ghost use Rattle.std.specs.Prelude.{vec_len, vec_capacity};
 ghost use Rattle.re_syntax.specs.Lines.{HasNoNewline};
@@ -20,7 +20,7 @@ pub fn rows_end(bytes: &[u8]) -> Option<usize>
     Some(last + 1)
 }
 
-/// Puts bytes behind those in a buffer that has room for them.
+/// Appends bytes to a buffer that has room for them.
 #[inline]
 pub fn gather(buffer: &mut Vec<u8>, bytes: &[u8])
     requires { vec_len buffer.old + length bytes.now ≤ vec_capacity buffer.old }
@@ -33,7 +33,7 @@ pub fn gather(buffer: &mut Vec<u8>, bytes: &[u8])
     }
 }
 
-/// Takes the first bytes off a buffer.
+/// Removes the first bytes of a buffer.
 #[inline]
 pub fn take_off(buffer: &mut Vec<u8>, count: usize)
     requires { count ≤ vec_len buffer.old }
@@ -43,9 +43,9 @@ pub fn take_off(buffer: &mut Vec<u8>, count: usize)
     buffer.drain(..count);
 }
 
-/// Sends the first bytes of a buffer, as many as `end` says, and takes off it what went out.
+/// Sends the first `end` bytes of a buffer, and removes what was sent from it.
 ///
-/// `WriteFault` comes where a write fails. What it did not take stays in the buffer.
+/// Returns `WriteFault` if a write fails. What it did not take stays in the buffer.
 pub fn send_front<W: CountedWrite>(
     out: &mut W,
     buffer: &mut Vec<u8>,

@@ -12,15 +12,15 @@ use crate::devices::sending::{gather, rows_end, send_front, take_off};
 use std::alloc::{AllocError, Global};
 use std::marker::Model;
 
-// How many bytes are gathered.
+// The most bytes that are buffered.
 const ROOM: usize = 4_096;
 
-/// A writer that gathers bytes until a newline comes, and then hands all that was gathered to the
-/// inner writer in one write, so that lines that several programs write to one terminal or append
-/// to one file aren't mixed. A line that is longer than 4,096 bytes goes in pieces. Where a write
-/// takes a part alone, the rest goes in further writes.
+/// A writer that buffers bytes until a newline is added, and then hands all of them to the inner
+/// writer in one write, so that lines that several programs write to one terminal or append to one
+/// file aren't mixed. A line that is longer than 4,096 bytes is sent in pieces. If a write takes
+/// only some of the bytes, further writes send the rest.
 /// A failed write of the inner writer ends the call that made it, and is not tried again in that
-/// call; of the bytes that the call was given none waits then.
+/// call. None of the bytes that the call was given waits then.
 /// Contracts see it as the inner writer and the bytes that wait, among which there never is a
 /// newline. Bytes that still wait when it is dropped are lost: call `flush` first.
 #[derive(Drop)]
@@ -91,8 +91,8 @@ impl<W: CountedWrite> WholeLines<W> {
     }
 }
 
-// Writes the bytes until more than `few` of them went out or a write fails, and answers how many
-// went out.
+// Writes the bytes until more than `few` of them are written or a write fails, and returns how many
+// were written.
 fn push_past<W: CountedWrite>(out: &mut W, bytes: &[u8], few: usize) -> usize
     requires { few < length bytes.now }
     ensures within { result ≤ length bytes.now }
@@ -110,8 +110,8 @@ fn push_past<W: CountedWrite>(out: &mut W, bytes: &[u8], few: usize) -> usize
     at
 }
 
-// Sends what waits and a line behind it, and answers how many bytes of the line went out. Where a
-// write fails before any of them went out, none of them waits.
+// Sends what waits and then a line, and returns how many bytes of the line were sent. If a write
+// fails before any of them was sent, none of them waits.
 fn push_line<W: CountedWrite>(out: &mut W, buffer: &mut Vec<u8>, line: &[u8]) -> Option<usize>
     requires some { 0 < length line.now }
     requires room { vec_len buffer.old + length line.now ≤ vec_capacity buffer.old }

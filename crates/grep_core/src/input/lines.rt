@@ -16,7 +16,7 @@ use std::marker::Model;
 pub enum ReadFault {
     /// A read failed, in this call or in an earlier one.
     Device,
-    /// A growth was refused. Nothing is lost, and the next call goes on with the same line.
+    /// A growth was refused. Nothing is lost, and the next call continues with the same line.
     Memory,
 }
 
@@ -31,7 +31,7 @@ impl From<AllocError> for ReadFault {
     }
 }
 
-/// How far a reader of lines has come.
+/// How far a reader of lines has read.
 #[derive(Clone, Copy, Debug, PartialEq, Eq)]
 pub enum Stage {
     /// There may be more to read.
@@ -45,7 +45,7 @@ pub enum Stage {
 /// The lines of a reader (XBD 3.206; a last line may lack its newline). 65,536 bytes are asked of
 /// the reader at a time, and no more is held than the longest line and one such portion.
 /// Contracts see it as the reader, what was taken from it and not handed out, the line that was
-/// handed out last, and how far it has come.
+/// handed out last, and how far it has read.
 #[derive(Drop)]
 pub struct Lines<R: CountedRead> {
     reader: R,
@@ -69,8 +69,8 @@ impl<R: CountedRead> Model for Lines<R> {
 }
 
 impl<R: CountedRead> Lines<R> {
-    /// The lines of the reader, of which nothing is read yet. The reader comes back where memory
-    /// is refused.
+    /// The lines of the reader, of which nothing is read yet. The reader is returned if memory is
+    /// refused.
     pub fn new(alloc: Global, reader: R) -> Result<Lines<R>, R>
         ensures ok { IfOk result
             (λ lines. lines ≡
@@ -102,7 +102,7 @@ impl<R: CountedRead> Lines<R> {
         self.window.len()
     }
 
-    /// Whether the next line is held with its newline, so that no read comes before it.
+    /// Whether the next line is held with its newline, so that no read is needed for it.
     pub fn has_line(&self) -> bool
         ensures { HasWholeLine self.now.ahead result }
     {
@@ -117,7 +117,7 @@ impl<R: CountedRead> Lines<R> {
         self.window.ready()
     }
 
-    /// Passes the next lines, of so many bytes, without handing them out.
+    /// Passes the next lines, which have `count` bytes, without handing them out.
     pub fn pass(&mut self, count: usize)
         requires { PassesAll (λ _. ⊤) self.old.ahead count }
         ensures ahead { self.old.ahead ≡ take count self.old.ahead ++ self.new.ahead }
@@ -140,10 +140,10 @@ impl<R: CountedRead> Lines<R> {
         reader
     }
 
-    /// Hands out the next line, and answers whether there was one.
+    /// Hands out the next line, and returns whether there was one.
     ///
-    /// `ReadFault::Device` comes in the call in which a read fails and in every later one.
-    /// After `ReadFault::Memory` the next call goes on with the same line.
+    /// Returns `ReadFault::Device` in the call in which a read fails and in every later one. After
+    /// `ReadFault::Memory` the next call continues with the same line.
     pub fn next_line(&mut self) -> Result<bool, ReadFault>
         ensures line { IfOk result (λ more. MatchBool more
             (HandsOut R.remaining R.failures self.old self.new)

@@ -44,8 +44,7 @@ fn far_newline(bytes: &[u8]) -> Option<usize>
     memchr(b'\n', bytes)
 }
 
-/// The first line of the bytes, and what stands behind its newline. `None` where they have no
-/// newline.
+/// The first line of the bytes, and what follows its newline. `None` if they have no newline.
 #[inline(always)]
 pub fn first_line(bytes: &[u8]) -> Option<(&[u8], &[u8])>
     ensures { MatchOption result (HasNoNewline bytes.now) (λ cut. HasNoNewline cut.0.now

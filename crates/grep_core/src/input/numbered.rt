@@ -31,8 +31,8 @@ impl<R: CountedRead> Model for NumberedLines<R> {
 }
 
 impl<R: CountedRead> NumberedLines<R> {
-    /// The lines of the reader, of which nothing is read yet. The reader comes back where memory
-    /// is refused.
+    /// The lines of the reader, of which nothing is read yet. The reader is returned if memory is
+    /// refused.
     pub fn new(alloc: Global, reader: R) -> Result<NumberedLines<R>, R>
         ensures ok { IfOk result (λ numbered. numbered ≡ record {
           lines = record { reader = reader; ahead = []; line = []; stage = Stage.Open };
@@ -60,7 +60,7 @@ impl<R: CountedRead> NumberedLines<R> {
         self.number
     }
 
-    /// Whether the next line is held with its newline, so that no read comes before it.
+    /// Whether the next line is held with its newline, so that no read is needed for it.
     pub fn has_line(&self) -> bool
         ensures { HasWholeLine self.now.lines.ahead result }
     {
@@ -75,7 +75,7 @@ impl<R: CountedRead> NumberedLines<R> {
         self.lines.ready()
     }
 
-    /// How many lines there are in whole ones, where so many more can be numbered.
+    /// The number of lines in a block of whole lines, or `None` if not all can still be numbered.
     pub fn count(&self, block: &[u8]) -> Option<u64>
         requires { IsBlock block.now }
         ensures { IfSome result (λ count. (count ≡ length (lines_of block.now))
@@ -88,7 +88,7 @@ impl<R: CountedRead> NumberedLines<R> {
         Some(count)
     }
 
-    /// Passes so many of the lines that are ahead, in so many bytes, without handing them out.
+    /// Passes the next `count` lines, which have `bytes` bytes, without handing them out.
     pub fn pass(&mut self, bytes: usize, count: u64)
         requires { (block : Text) × (bytes ≡ length block) × AreAhead self.old block count }
         ensures passed { PassesNext R.remaining R.failures self.old self.new
@@ -107,10 +107,10 @@ impl<R: CountedRead> NumberedLines<R> {
         lines.into_reader()
     }
 
-    /// Hands out the next line, and answers whether there was one.
+    /// Hands out the next line, and returns whether there was one.
     ///
-    /// `ReadFault::Device` comes where a read fails, or where one more line begins than can be
-    /// numbered. After `ReadFault::Memory` the next call goes on with the same line.
+    /// Returns `ReadFault::Device` if a read fails, or if one more line begins than can be
+    /// numbered. After `ReadFault::Memory` the next call continues with the same line.
     pub fn next_line(&mut self) -> Result<bool, ReadFault>
         ensures next { HandsNext R.remaining R.failures self.old self.new result }
         ensures same_loan { R.loan self.new.lines.reader ≡ R.loan self.old.lines.reader }

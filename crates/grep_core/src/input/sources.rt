@@ -7,7 +7,7 @@ ghost use Rattle.grep_core.specs.Sources.{source_at, Opens, GivesBack};
 use crate::devices::counted::CountedRead;
 
 /// Files, streams or pieces of memory, by their places in a list, counted from 0. They are opened
-/// in order, each at most once, read from front to back, and their readers are given back.
+/// in order, each at most once, and read from front to back; their readers are returned.
 pub trait Sources {
     /// What a source is read by.
     type Reader: CountedRead;
@@ -16,15 +16,14 @@ pub trait Sources {
     /// where that is known. The bytes are those of one reading from front to back.
     ghost listed: { Self → List Source };
 
-    /// How many attempts to open a source, and reads of readers that were given back, have failed.
+    /// How many attempts to open a source, and reads of returned readers, have failed.
     ghost failures: { Self → ℕ };
 
-    /// What the readers that were given back had left, in order: any history of them that a caller
-    /// keeps. What is promised by it holds of what was read from each source before its reader was
-    /// given back.
+    /// What the returned readers had left, in order: any history of them that a caller keeps. What
+    /// it promises holds of what was read from each source before its reader was returned.
     ghost given_back: { Self → List (Option (List ℕ)) → Type 0 } = { λ _ _. ⊤ };
 
-    /// The sources stand at this place: the one there may be opened next.
+    /// The sources are at this place: the one there may be opened next.
     ghost stands_at: { Self → ℕ → Type 0 } = { λ _ _. ⊤ };
 
     /// Which loan the sources are, or hold, by the name of its referent's value in proofs. It is
@@ -62,8 +61,8 @@ pub trait Sources {
         ensures counted { failures self.new ≡
             count_more (failures self.old) (Self.Reader.failures reader) };
 
-    /// How many attempts to open a source, and reads of readers that were given back, have failed.
-    /// The count stays at the greatest `u64`.
+    /// How many attempts to open a source, and reads of returned readers, have failed. The count
+    /// stays at the greatest `u64`.
     fn failures(&self) -> u64
         ensures { result ≡ failures self.now };
 }

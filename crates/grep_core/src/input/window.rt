@@ -19,7 +19,7 @@ use std::marker::Model;
 // How many bytes are asked of the reader at a time.
 const ROOM: usize = 65_536;
 
-// Where the line stands that was handed out last.
+// Where the line is that was handed out last.
 #[derive(Clone, Copy)]
 enum Shown {
     Nothing,
@@ -41,8 +41,8 @@ pub enum Refill {
 }
 
 /// The bytes that were taken from a reader and not handed out, and the line handed out last.
-// `buffer[start..end]` is read and not handed out, and no newline stands from `last` on in it. What
-// was read before and goes on into it is spilled.
+// `buffer[start..end]` is read and not handed out, and has no newline from `last` on. What was read
+// before and continues into it is spilled.
 #[derive(Drop)]
 pub struct Window {
     buffer: Vec<u8>,
@@ -216,7 +216,7 @@ fn pull_over<R: CountedRead>(reader: &mut R, buffer: &mut Vec<u8>) -> Option<usi
     reader.pull(buffer.as_mut_slice())
 }
 
-/// Where the lines end that newlines end: behind the last newline.
+/// Where the lines that have a newline end: after the last newline.
 pub fn lines_end(bytes: &[u8]) -> usize
     ensures within { result ≤ length bytes.now }
     ensures ended { 0 < result → get_or bytes.now (result - 1) 0 ≡ newline }
@@ -228,7 +228,7 @@ pub fn lines_end(bytes: &[u8]) -> usize
     }
 }
 
-// Shows the line that begins with what was spilled and goes on in the buffer.
+// Shows the line that begins with what was spilled and continues in the buffer.
 fn show(buffer: &[u8], from: usize, to: usize, spill: &mut Vec<u8>) -> Result<Shown, AllocError>
     requires ordered { from ≤ to }
     requires within { to ≤ length buffer.now }

@@ -8,7 +8,7 @@ use crate::options::Context;
 /// What is shown at a line of a file.
 #[derive(Clone, Copy, PartialEq, Eq, Debug, Drop)]
 pub struct Shown {
-    /// Whether a separator comes first.
+    /// Whether a separator is written first.
     pub separated: bool,
     /// How many of the lines just before it are shown now.
     pub before: u64,
@@ -16,24 +16,25 @@ pub struct Shown {
     pub itself: bool,
 }
 
-/// How far the lines of a file have come, where lines around selected ones are shown.
+/// How far the lines of a file are done, where lines around selected ones are shown.
 #[derive(Clone, Copy, PartialEq, Eq, Debug, Drop)]
 pub struct Progress {
     /// How many lines are asked for around a selected one.
     pub context: Context,
     /// Whether some line is shown, of this file or of one before it.
     pub shown: bool,
-    /// Whether a line stands before those that wait and is not shown, or none stands there.
+    /// Whether there is no line before those that wait, or it is not shown.
     pub gap: bool,
-    /// How many lines wait: the last ones that were not shown, as far as they may be before the
-    /// next selected line; at most as many as are asked for.
+    /// How many lines wait: the last ones that were not shown and may be before the next selected
+    /// line; at most the number that is asked for.
     pub waiting: u64,
-    /// How many lines are still shown behind the last selected one.
+    /// How many lines are still shown after the last selected one.
     pub left: u64,
 }
 
 impl Progress {
-    /// Before the first line of a file, behind files of which some line is shown, or none.
+    /// Before the first line of a file; `shown` says whether some line of a file before it is
+    /// shown.
     pub fn new(context: Context, shown: bool) -> Progress
         ensures { result ≡ progress_from context shown }
     {
@@ -46,7 +47,7 @@ impl Progress {
         }
     }
 
-    /// Goes over the next line, which is selected or is not, and tells what is shown at it.
+    /// Goes over the next line, which is selected or is not, and returns what is shown at it.
     pub fn step(&mut self, selected: bool) -> Shown
         requires few { self.old.waiting ≤ self.old.context.before }
         ensures shown { result ≡ next_shown self.old selected }
@@ -77,7 +78,7 @@ impl Progress {
         }
     }
 
-    /// Goes over so many lines none of which is shown yet.
+    /// Goes over `count` lines, none of which is shown yet.
     pub fn wait(&mut self, count: u64)
         requires few { self.old.waiting ≤ self.old.context.before }
         ensures now { self.new ≡ with_waiting count self.old }

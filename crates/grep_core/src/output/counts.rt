@@ -32,7 +32,7 @@ fn write_prefixed_decimal<W: CountedWrite>(
 /// Writes a count of lines (XCU grep, option `-c`): the margin; the name and a colon, where there
 /// is a name; the count in decimal and a newline.
 ///
-/// `WriteFault` comes where a write fails. It is not tried again.
+/// Returns `WriteFault` if a write fails. It is not tried again.
 pub fn write_count<W: CountedWrite>(
     out: &mut W,
     margin: &[u8],
@@ -48,7 +48,7 @@ pub fn write_count<W: CountedWrite>(
 
 /// Writes the name of a file (XCU grep, option `-l`): the margin, the name and a newline.
 ///
-/// `WriteFault` comes where a write fails. It is not tried again.
+/// Returns `WriteFault` if a write fails. It is not tried again.
 pub fn write_name<W: CountedWrite>(
     out: &mut W,
     margin: &[u8],

@@ -9,7 +9,7 @@ use crate::output::rows::write_row;
 
 /// Writes the message on a file that could not be opened.
 ///
-/// `WriteFault` comes where a write fails. It is not tried again.
+/// Returns `WriteFault` if a write fails. It is not tried again.
 pub fn write_cannot_open<M: CountedWrite>(messages: &mut M, name: &[u8]) -> Result<(), WriteFault>
     ensures { Writes M.contents M.failures messages.old messages.new
         (output_line [] (cannot_open name.now)) result }
@@ -19,7 +19,7 @@ pub fn write_cannot_open<M: CountedWrite>(messages: &mut M, name: &[u8]) -> Resu
 
 /// Writes the message on a file whose read failed.
 ///
-/// `WriteFault` comes where a write fails. It is not tried again.
+/// Returns `WriteFault` if a write fails. It is not tried again.
 pub fn write_read_error<M: CountedWrite>(messages: &mut M, name: &[u8]) -> Result<(), WriteFault>
     ensures { Writes M.contents M.failures messages.old messages.new
         (output_line [] (read_error name.now)) result }

@@ -1,4 +1,4 @@
-// Writes of several bytes, however few of them a single write takes.
+// Writes of several bytes; a single write may take only some of them.
 ghost use Rattle.std.specs.Prelude.{◌≡◌, ◌<◌, ◌≤◌, length, take};
 ghost use Rattle.std.specs.Io.KnownBytes.{Appends};
 ghost use Rattle.grep_core.specs.Counted.{one_more};
@@ -6,7 +6,7 @@ ghost use Rattle.grep_core.specs.Written.{Writes};
 
 use crate::devices::counted::{CountedWrite, WriteFault};
 
-/// Writes the bytes until all went out or a write fails, and answers how many went out.
+/// Writes the bytes until all are written or a write fails, and returns how many were written.
 pub fn push_most<W: CountedWrite>(out: &mut W, bytes: &[u8]) -> usize
     ensures within { result ≤ length bytes.now }
     ensures written { Appends (W.contents out.old) (W.contents out.new) (take result bytes.now) }
@@ -26,7 +26,7 @@ pub fn push_most<W: CountedWrite>(out: &mut W, bytes: &[u8]) -> usize
 
 /// Writes all the bytes.
 ///
-/// `WriteFault` comes where a write fails. It is not tried again.
+/// Returns `WriteFault` if a write fails. It is not tried again.
 #[tactic(auto, using(crate::proofs::lemmas::RowLemmas::pushing))]
 pub fn push_all<W: CountedWrite>(out: &mut W, bytes: &[u8]) -> Result<(), WriteFault>
     ensures { Writes W.contents W.failures out.old out.new bytes.now result }

@@ -65,7 +65,7 @@ fn write_head<W: CountedWrite>(
 
 /// Writes the text and a newline.
 ///
-/// `WriteFault` comes where a write fails. It is not tried again.
+/// Returns `WriteFault` if a write fails. It is not tried again.
 pub fn write_line<W: CountedWrite>(out: &mut W, text: &[u8]) -> Result<(), WriteFault>
     ensures { Writes W.contents W.failures out.old out.new (output_line [] text.now) result }
 {
@@ -75,7 +75,7 @@ pub fn write_line<W: CountedWrite>(out: &mut W, text: &[u8]) -> Result<(), Write
 
 /// Writes the margin, the line and a newline.
 ///
-/// `WriteFault` comes where a write fails. It is not tried again.
+/// Returns `WriteFault` if a write fails. It is not tried again.
 pub fn write_line_behind<W: CountedWrite>(
     out: &mut W,
     margin: &[u8],
@@ -88,9 +88,9 @@ pub fn write_line_behind<W: CountedWrite>(
     write_line(out, line)
 }
 
-/// Writes the line that parts groups of lines: the margin, two hyphens and a newline.
+/// Writes the line that separates groups of lines: the margin, two hyphens and a newline.
 ///
-/// `WriteFault` comes where a write fails. It is not tried again.
+/// Returns `WriteFault` if a write fails. It is not tried again.
 pub fn write_separator<W: CountedWrite>(out: &mut W, margin: &[u8]) -> Result<(), WriteFault>
     ensures { Writes W.contents W.failures out.old out.new
         (output_line margin.now group_separator) result }
@@ -116,7 +116,7 @@ fn write_headed<W: CountedWrite>(
 /// is a name; the number in decimal and the separator, where there is a number; the text and a
 /// newline.
 ///
-/// `WriteFault` comes where a write fails. It is not tried again.
+/// Returns `WriteFault` if a write fails. It is not tried again.
 pub fn write_row<W: CountedWrite>(
     out: &mut W,
     margin: &[u8],

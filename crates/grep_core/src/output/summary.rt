@@ -1,4 +1,4 @@
-//! What is written of a file behind the rows of its lines, and how a run ends: for one pass over
+//! What is written of a file after the rows of its lines, and how a run ends: for one pass over
 //! sources, and for files that are kept.
 ghost use Rattle.std.specs.Prelude.{◌≡◌};
 ghost use Rattle.grep_core.specs.Messages.{cannot_open, read_error};
@@ -16,10 +16,10 @@ use crate::output::wanted::Wanted;
 use crate::search::file::{FileEnd, FileFound};
 use crate::status::Status;
 
-/// Writes what comes behind the rows of a file's lines: under `-l` the file's name, where a line
-/// is selected, and under `-c` the number of its selected lines, where it could be opened.
+/// Writes what follows the rows of a file's lines: under `-l` the file's name, if a line is
+/// selected, and under `-c` the number of its selected lines, if it could be opened.
 ///
-/// `WriteFault` comes where a write fails. It is not tried again.
+/// Returns `WriteFault` if a write fails. It is not tried again.
 #[tactic(auto, using(crate::proofs::lemmas::WrittenLemmas::as_written))]
 pub fn write_summary<W: CountedWrite>(
     wanted: &Wanted,
@@ -75,10 +75,10 @@ fn tell_broken<N: CountedWrite>(
     write_read_error(messages, name)
 }
 
-/// Writes the message on a file that could not be opened or read, and none where
-/// that is asked for (option `-s`).
+/// Writes the message on a file that could not be opened or read, or none if that is asked for
+/// (option `-s`).
 ///
-/// `WriteFault` comes where a write fails. It is not tried again.
+/// Returns `WriteFault` if a write fails. It is not tried again.
 #[tactic(auto, using(crate::proofs::lemmas::WrittenLemmas::as_written))]
 pub fn tell_fault<N: CountedWrite>(
     silent: bool,

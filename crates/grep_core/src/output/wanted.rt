@@ -67,7 +67,7 @@ impl Wanted<'_> {
     /// Writes an output line for a line of the file: the margin, the file's name and the line's
     /// number as far as they are shown, and the text, which is the line or a part of it.
     ///
-    /// `WriteFault` comes where a write fails. It is not tried again.
+    /// Returns `WriteFault` if a write fails. It is not tried again.
     pub fn write_text<W: CountedWrite>(
         &self,
         number: u64,
@@ -82,10 +82,10 @@ impl Wanted<'_> {
         self.write_with(b':', number, text, out, margin)
     }
 
-    /// Writes an output line for a line that is not selected and stands around one that is: what
+    /// Writes an output line for a line that is not selected and is shown around one that is: what
     /// [`Wanted::write_text`] writes, with hyphens for the colons.
     ///
-    /// `WriteFault` comes where a write fails. It is not tried again.
+    /// Returns `WriteFault` if a write fails. It is not tried again.
     pub fn write_around<W: CountedWrite>(
         &self,
         number: u64,
@@ -103,7 +103,7 @@ impl Wanted<'_> {
     /// Writes an output line for a part of a line of the file: what [`Wanted::write_text`] writes
     /// for the part's text.
     ///
-    /// `WriteFault` comes where a write fails. It is not tried again.
+    /// Returns `WriteFault` if a write fails. It is not tried again.
     pub fn write_part<W: CountedWrite>(
         &self,
         number: u64,

@@ -31,7 +31,7 @@ use crate::search::sending::send_before_read;
 use re_search::{Filter, LineMatch, Meter, look_cost};
 use std::alloc::AllocError;
 
-// Writes the separator, where a group begins behind another.
+// Writes the separator, where a group begins after another.
 #[tactic(auto, using(crate::proofs::lemmas::WrittenLemmas::as_written))]
 fn write_between<W: CountedWrite>(separated: bool, out: &mut W) -> Result<(), WriteFault>
     ensures { Writes W.contents W.failures out.old out.new
@@ -63,7 +63,7 @@ fn write_waiting<W: CountedWrite>(
     Ok(())
 }
 
-// Writes the row of a line, which is selected or stands beside one that is.
+// Writes the row of a line that is selected or is shown around one that is.
 fn write_itself<W: CountedWrite>(
     wanted: &Wanted,
     selected: bool,
@@ -105,7 +105,7 @@ fn write_shown<W: CountedWrite>(
     write_itself(wanted, selected, number, line, out)
 }
 
-// Keeps a line that is not shown, and lets go of all where it is.
+// Keeps a line that is not shown, and forgets all kept lines if it is shown.
 fn keep(behind: &mut Behind, shown: bool, line: &[u8]) -> Result<(), AllocError>
     ensures lines { IfOk result (λ _. behind.new.lines ≡ (if shown then []
         else last_of behind.old.limit (behind.old.lines ++ line.now ∷ []))) }
@@ -156,9 +156,9 @@ fn pass_waiting<R: CountedRead, M: LineMatch>(
 }
 
 /// Searches the lines of a reader, from the first on: writes the rows of the selected lines and of
-/// those around them. What was gathered is sent before a read, which may wait.
+/// those around them. Buffered output is sent before a read, which may wait.
 ///
-/// `shown` tells whether a line of a source before is selected. `behind` is for the lines that may
+/// `shown` says whether a line of an earlier source is selected. `behind` is for the lines that may
 /// be shown before the next selected one, and holds none yet.
 pub fn search_around<R: CountedRead, M: LineMatch, W: CountedWrite>(
     filter: Option<&Filter>,

@@ -41,7 +41,7 @@ impl Model for Behind {
     ghost invariant = { λ a. (a.held ≤ length a.lines.items) × (a.held ≤ a.limit) };
 }
 
-// How many lines are held behind one more.
+// How many lines are held once one more is added.
 fn held_with(held: usize, limit: u64) -> usize
     requires few { held ≤ limit }
     requires countable { held + 1 < 2 ^ 64 }
@@ -54,7 +54,7 @@ fn held_with(held: usize, limit: u64) -> usize
     }
 }
 
-// Where the last lines of a block begin, at most so many of them.
+// Where the last lines of a block begin, at most `most` of them.
 fn last_lines(block: &[u8], most: u64) -> usize
     requires { IsBlock block.now }
     ensures within { result ≤ length block.now }
@@ -100,17 +100,17 @@ impl Behind {
         &self.lines[self.lines.len() - self.held + k]
     }
 
-    /// Lets all lines go. Their memory is kept for later ones.
+    /// Forgets all lines. Their memory is kept for later ones.
     pub fn clear(&mut self)
         ensures { self.new ≡ record self.old { lines = [] } }
     {
         self.held = 0;
     }
 
-    /// One more line; the oldest goes where as many are held as may be. Where no line held before
-    /// was shorter, nothing is allocated.
+    /// Adds a line; the oldest is removed if the limit is reached. If no line held before was
+    /// shorter, nothing is allocated.
     ///
-    /// `AllocError` comes where a growth is refused. The lines are then as before.
+    /// Returns `AllocError` if a growth is refused. The lines are then as before.
     pub fn push(&mut self, line: &[u8]) -> Result<(), AllocError>
         ensures ok { IfOk result (λ _. self.new ≡ with_lines self.old (line.now ∷ [])) }
         ensures err { OnErr result (self.new ≡ self.old) }
@@ -134,9 +134,9 @@ impl Behind {
         Ok(())
     }
 
-    /// More lines, each with its newline, of which no more than can be held are looked at.
+    /// Adds lines, each with its newline. No more of them are looked at than can be held.
     ///
-    /// `AllocError` comes where a growth is refused. Some of the lines may be held then.
+    /// Returns `AllocError` if a growth is refused. Some of the lines may be held then.
     pub fn push_block(&mut self, block: &[u8]) -> Result<(), AllocError>
         requires { IsBlock block.now }
         ensures { IfOk result (λ _. self.new ≡ with_lines self.old (lines_of block.now)) }

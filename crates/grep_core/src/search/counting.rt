@@ -27,8 +27,8 @@ use crate::search::matching::is_matched_behind;
 use crate::search::sending::send_before_read;
 use re_search::{Filter, LineMatch, Meter, count_matched, first_candidate, look_cost};
 
-// What is left of a block of whole lines behind the first of them, of which it is known without a
-// search that no matcher matches them; all of it where no look is due.
+// What is left of a block of whole lines after its first lines that no matcher matches, as far as
+// this is known without a search; all of it where no look is due.
 #[inline(always)]
 fn behind_unmatched<'a, M: LineMatch>(
     matchers: &[M],
@@ -103,7 +103,7 @@ fn count_in_block<M: LineMatch>(
     count_by_search(matchers, filter, block, looks, meter)
 }
 
-// How many lines are selected where so many of so many are matched (XCU grep, option `-v`).
+// How many of `count` lines are selected, of which `matched` are matched (XCU grep, option `-v`).
 fn count_selected(options: &Options, count: u64, matched: u64) -> u64
     requires { matched ≤ count }
     ensures { result ≡ (if options.now.invert_match then count - matched else matched) }
@@ -115,8 +115,8 @@ fn count_selected(options: &Options, count: u64, matched: u64) -> u64
     }
 }
 
-// Passes the next lines, as far as they are held, and adds how many of them are selected to those
-// before. None is passed where they are more than can be numbered.
+// Passes the next lines, as far as they are held, and adds the number of the selected ones to the
+// count. None is passed where there are more than can be numbered.
 fn pass_counted<R: CountedRead, M: LineMatch>(
     lines: &mut NumberedLines<R>,
     matchers: &mut [M],
@@ -146,7 +146,7 @@ fn pass_counted<R: CountedRead, M: LineMatch>(
 }
 
 /// Searches the lines of a reader, from the first on, where only the number of selected lines is
-/// written, and that behind the last. What was gathered is sent before a read, which may wait.
+/// written, and that after the last line. Buffered output is sent before a read, which may wait.
 pub fn count_lines<R: CountedRead, M: LineMatch, W: CountedWrite>(
     lines: &mut NumberedLines<R>,
     matchers: &mut [M],

@@ -26,7 +26,7 @@ use crate::search::sending::send_before_read;
 use crate::search::setting::Setting;
 use re_search::{Filter, LineMatch, Meter, look_cost};
 
-/// How the search of a file came to its end.
+/// How the search of a file ended.
 #[derive(Clone, Copy, PartialEq, Eq, Debug, Drop)]
 pub enum FileEnd {
     /// The file could not be opened.
@@ -68,7 +68,7 @@ impl FileEnd {
 /// What the search of a file found.
 #[derive(Clone, Copy, PartialEq, Eq, Debug, Drop)]
 pub struct FileFound {
-    /// How it came to its end.
+    /// How it ended.
     pub end: FileEnd,
     /// How many of the lines that were searched are selected.
     pub selected: u64,
@@ -87,7 +87,7 @@ impl FileFound {
 #[derive(Clone, Copy, PartialEq, Eq, Debug, Drop)]
 pub enum SearchFault {
     Write,
-    /// A growth was refused behind so many lines.
+    /// A growth was refused after this number of lines.
     Memory(u64),
 }
 
@@ -111,7 +111,7 @@ pub fn count_found(selected: u64, found: bool) -> u64
 }
 
 /// Searches the lines of a reader, from the first on: writes the rows of the selected lines, and
-/// under `-q` and `-l` stops at the first. What was gathered is sent before a read, which may wait.
+/// under `-q` and `-l` stops at the first. Buffered output is sent before a read, which may wait.
 fn search_lines<R: CountedRead, M: LineMatch, W: CountedWrite>(
     lines: &mut NumberedLines<R>,
     matchers: &mut [M],
@@ -179,7 +179,7 @@ fn search_lines<R: CountedRead, M: LineMatch, W: CountedWrite>(
     }
 }
 
-// Searches the lines of a reader, from the first on, as its options ask for it.
+// Searches the lines of a reader, from the first on, as the options ask.
 fn search_opened<R: CountedRead, M: LineMatch, W: CountedWrite>(
     setting: &Setting,
     lines: &mut NumberedLines<R>,
@@ -238,7 +238,7 @@ fn search_opened<R: CountedRead, M: LineMatch, W: CountedWrite>(
     )
 }
 
-/// Opens the next source, searches its lines and gives its reader back.
+/// Opens the next source, searches its lines and returns its reader.
 pub fn search_file<S: Sources, M: LineMatch, W: CountedWrite>(
     setting: &Setting,
     sources: &mut S,

@@ -15,7 +15,7 @@ use crate::output::wanted::Wanted;
 use crate::search::matching::{is_selected_behind, next_part};
 use re_search::{Filter, LineMatch, Meter};
 
-/// Writes the parts of a line, each behind the line's head.
+/// Writes the parts of a line, each after the line's head.
 fn write_parts<M: LineMatch, W: CountedWrite>(
     matchers: &mut [M],
     wanted: &Wanted,
@@ -78,7 +78,7 @@ fn write_selected<M: LineMatch, W: CountedWrite>(
     }
 }
 
-/// Writes the rows of a line, where there are any, and answers whether it is selected.
+/// Writes the rows of a line, if there are any, and returns whether it is selected.
 pub fn search_line<M: LineMatch, W: CountedWrite>(
     matchers: &mut [M],
     filter: Option<&Filter>,

@@ -1,10 +1,11 @@
-//! When it is worth while to look over a whole block for the next line that may be selected.
-//! Nothing that a contract says rests on it.
+//! When it is worth while to look over a whole block for the next line that may be selected. No
+//! contract rests on it.
 
 use re_search::LookCost;
 
-/// What was seen of looks so far. Behind one that passed too little to pay, lines are searched
-/// without one: at first one line, and twice as many each time, up to so many as its cost sets.
+/// What was seen of looks so far. After a look that passed too little to pay, lines are searched
+/// without one: at first one line, then twice the number each time, up to a limit that the cost
+/// sets.
 #[derive(Drop)]
 pub struct Looks {
     cost: LookCost,
@@ -32,7 +33,7 @@ impl Looks {
         false
     }
 
-    /// A look passed so many bytes.
+    /// A look passed `bytes` bytes.
     #[inline(always)]
     pub fn note(&mut self, bytes: usize) {
         if bytes >= worth_a_look(self.cost) {
@@ -44,8 +45,8 @@ impl Looks {
     }
 }
 
-// From how many passed bytes on a look has paid. A cheap one has where it passed any; one that
-// passes none is for nothing, as each of a matcher that knows no string is.
+// From how many passed bytes on a look has paid. A cheap one has paid if it passed any. One that
+// passes none is for nothing, as is each look of a matcher that knows no string.
 #[inline(always)]
 fn worth_a_look(cost: LookCost) -> usize {
     match cost {
@@ -55,7 +56,7 @@ fn worth_a_look(cost: LookCost) -> usize {
     }
 }
 
-// How many lines lie between two looks at most.
+// The most lines between two looks.
 #[inline(always)]
 fn most_rest(cost: LookCost) -> u32 {
     match cost {

@@ -14,8 +14,8 @@ use crate::search::looks::Looks;
 use re_search::{Filter, LineMatch, first_candidate};
 
 /// The next lines, as far as they are held and it is known without a search that none of them is
-/// selected, and how many they are. `None` comes under `-v`, where no look is due, and where they
-/// are more than can be numbered.
+/// selected, and their number. Returns `None` under `-v`, where no look is due, and where there are
+/// more lines than can be numbered.
 #[inline(always)]
 pub fn unselected_ahead<'a, R: CountedRead, M: LineMatch>(
     lines: &'a NumberedLines<R>,

@@ -19,9 +19,8 @@ use crate::status::{RunFault, Status};
 use re_search::{LineMatch, Meter};
 use std::alloc::Global;
 
-/// Writes what comes behind the rows of a source's lines. Where a message will be told of it, what
-/// was gathered is sent before, so that output and messages stand in order where both go to one
-/// place.
+/// Writes what follows the rows of a source's lines. If a message about the source is due, buffered
+/// output is sent first, so that output and messages are in order if both are sent to one place.
 fn end_output<W: CountedWrite>(
     wanted: &Wanted,
     found: FileFound,
@@ -93,24 +92,24 @@ fn search_source<S: Sources, M: LineMatch, W: CountedWrite, N: CountedWrite>(
 }
 
 /// One pass over all sources, in order, each opened at most once and read once from front to back
-/// (XCU grep): what is written are the output and the messages that grep's definition gives for
-/// the files for which the sources stand, and the answer is its status. Every reader is given
-/// back. The matchers are those of the patterns, and `-i` is theirs to heed.
+/// (XCU grep). It writes the output and the messages that grep's definition gives for the files for
+/// which the sources stand, and returns its status. Every reader is returned. The matchers are
+/// those of the patterns, and `-i` is theirs to heed.
 ///
-/// Under `-q` nothing is read behind the first selected line, and under `-l` a source is left
-/// there; what is left unread may be anything that agrees with what is known of the source. A
-/// source of more than `u64::MAX` lines is broken behind that line.
+/// Under `-q` nothing is read after the first selected line, and under `-l` a source is left there;
+/// what is left unread may be anything that agrees with what is known of the source. A source of
+/// more than `u64::MAX` lines is broken after that number of lines.
 ///
 /// The steps that the meter counts are at most those of one search of each line by each matcher,
 /// and where parts are written, of one more for each part of the line and one for its end.
 ///
-/// What a gathering writer holds is sent before a read, which may wait, and before a message; what
+/// What a buffering writer holds is sent before a read, which may wait, and before a message; what
 /// it holds at the end is left to the caller.
 ///
-/// `RunFault::Write` and `RunFault::MessageWrite` come where a write fails, and what went out are
-/// beginnings of the output and of the messages. `RunFault::Memory` comes where a growth is
-/// refused: what went out are the output and the messages for the sources before that one, and the
-/// rows of its first lines. No failed read, open or write is tried again.
+/// Returns `RunFault::Write` or `RunFault::MessageWrite` if a write fails; beginnings of the output
+/// and of the messages are written then. Returns `RunFault::Memory` if a growth is refused; the
+/// output and the messages for the sources before that one are written then, and the rows of its
+/// first lines. No failed read, open or write is tried again.
 pub fn search_all<S: Sources, M: LineMatch, W: CountedWrite, N: CountedWrite>(
     alloc: Global,
     sources: &mut S,
@@ -140,10 +139,10 @@ pub fn search_all<S: Sources, M: LineMatch, W: CountedWrite, N: CountedWrite>(
     search_filtered(&asked, sources, matchers, out, messages, meter)
 }
 
-/// One pass over all sources, as [`search_all`] makes it, in which a filter, where there is one, is
-/// asked about each line before any matcher: strings of which some stands on each line that some
-/// matcher matches. Where none of them stands on a line no matcher is asked, which spares most of
-/// the work where there are many matchers and few lines that they match.
+/// One pass over all sources, as [`search_all`] makes it, with a filter: strings, at least one of
+/// which occurs on each line that some matcher matches. If there is a filter, it is asked about
+/// each line first. If none of its strings occurs on a line, no matcher is asked, which spares most
+/// of the work where there are many matchers and few lines that they match.
 ///
 /// The output, the messages, the status and the bound on the steps are the same as without a
 /// filter. A look through the filter counts no step, as the search for a string that a matcher

@@ -1,14 +1,14 @@
-//! Sending what a writer gathered before a read that may wait.
+//! Sending buffered output before a read that may wait.
 ghost use Rattle.std.specs.Prelude.{[]};
 ghost use Rattle.grep_core.specs.Written.{Writes};
 
 use crate::devices::counted::{CountedRead, CountedWrite, WriteFault};
 use crate::input::numbered::NumberedLines;
 
-/// Sends what was gathered where the next line is not held whole, so that a read, which may wait,
-/// comes before it.
+/// Sends buffered output if the next line is not held whole, since it then needs a read, which may
+/// wait.
 ///
-/// `WriteFault` comes where a write fails. It is not tried again.
+/// Returns `WriteFault` if a write fails. It is not tried again.
 #[tactic(auto, using(crate::proofs::lemmas::RowLemmas::writing))]
 pub fn send_before_read<R: CountedRead, W: CountedWrite>(
     lines: &NumberedLines<R>,

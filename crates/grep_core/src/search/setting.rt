@@ -1,4 +1,4 @@
-//! What a search goes by.
+//! What a search is asked to do.
 
 use crate::options::Options;
 use re_search::Filter;
@@ -11,18 +11,18 @@ pub struct Asked<'a> {
     pub alloc: Global,
     /// The options of the run. `-i` is for the matchers to heed.
     pub options: Options,
-    /// Strings of which some stands on each line that some matcher matches, where they are known.
+    /// Strings, at least one of which occurs on each line that some matcher matches, if known.
     pub filter: Option<&'a Filter>,
 }
 
-/// What the search of each source goes by.
+/// What the search of each source is asked to do.
 #[derive(Clone, Copy)]
 pub struct Setting<'a> {
     /// What is asked of the search.
     pub asked: Asked<'a>,
     /// Whether there are two sources or more: rows and counts then begin with the source's name.
     pub many: bool,
-    /// Whether a line of a source before is selected: where lines around selected ones are shown, a
-    /// separator then stands before the first group.
+    /// Whether a line of an earlier source is selected: where lines around selected ones are shown,
+    /// a separator is then written before the first group.
     pub shown: bool,
 }

@@ -1,4 +1,5 @@
--- What was added, part by part: sequences, choices and repeated parts, from the last part to the first.
+-- What was added, part by part: sequences, choices and repeated parts, from the last part to the
+-- first.
 use Rattle.std.proofs.Common.{◌≡◌, ℕ, zero, suc, ◌+◌, ◌-◌, ◌<◌, ◌≤◌, Bool, IsTrue, List, [], ◌∷◌, map, drop, length, get_or, drop-cons, ◌↔◌, sym, ap, ◌∙◌, subst, arith}
 use Rattle.re_syntax.specs.Expression.{Expression, cat, alt, expression_of}
 use Rattle.re_syntax.specs.Holds.{positions}
@@ -56,7 +57,7 @@ module _ (f g : ℕ → Part) (size more behind : ℕ) (r0 r1 r2 : Rows) (a b : 
         adds = subst (λ n. Adds (either (f n) (g (n + size))) r0 r2) (sym begins) (adds_either (f a.begins) (g (a.begins + size)) r0 r1 r2 behind_it.1 fa.adds);
       }
 
-  -- what joining them asks for
+  -- what joining the parts asks for
   pub may_join : HasRoom behind r0 → ((n : ℕ) → IsNumbered (f n) n (n + size)) → HasWidth r2.width a × HasWidth r2.width b × (r2.width ≤ 64) × HasRows (Has a.last_inside.items) r2
   may_join room numbered =
       let front : Shows (f a.begins) r2.width a = rw (← fa.adds.width) at fa.shows in
@@ -100,7 +101,7 @@ front members left member some within is =
     let next : suc (left - 1) ≡ left = omega arith in
     drop-cons members (left - 1) member lt ∙ ap (λ x. x ∷ drop (suc (left - 1)) members) (sym is) ∙ ap (λ n. member ∷ drop n members) next
 
--- some of the members have no more positions than all
+-- some of the members have no more positions than all of them
 pub fewer : (k : ℕ) (members : List Tree) → positions (cat (map expression_of (drop k members))) ≤ positions (cat (map expression_of members))
 fewer zero members = omega arith
 fewer (suc k) [] = omega arith

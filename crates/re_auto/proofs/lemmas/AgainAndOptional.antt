@@ -5,7 +5,7 @@ use Rattle.re_syntax.specs.Holds.{Turns}
 use Rattle.re_auto.specs.Working.Positions.{Part, Reaches, PartHolds, again, optional}
 use Rattle.re_auto.proofs.lemmas.Chains.{not_at_begin, not_at_end, reaches_bounds, graft, widen}
 
--- one turn more behind some turns
+-- one turn more after some turns
 last_added : (P : ℕ → ℕ → Type 0) (turns i k j : ℕ) → Turns P turns i k → P k j → Turns P (suc turns) i j
 last_added P zero i k j e p = (j, rw e p, refl)
 last_added P (suc turns) i k j (l, first, before) p = (l, first, last_added P turns l k j before p)
@@ -32,7 +32,7 @@ module _ (f : Part) (line : Text) where
         (t, inl (refl, rw (not_at_begin j (omega (arith, bounds.0))) w.1)),
       )
 
-  -- where a part holds again and again, there are turns of it, one at least
+  -- where a part holds again and again, there is at least one turn of it
   pub turns_of : (i j : ℕ) → PartHolds (again f) line i j → (turns : ℕ) × Turns (PartHolds f line) (suc turns) i j
   unfolding LastTurn
   turns_of i j (inl (e, a)) = (0, (j, inl (e, a), refl))
@@ -61,7 +61,7 @@ module _ (f : Part) (line : Text) where
         l,
       )
 
-  -- where there are turns of a part, one at least, it holds again and again
+  -- where there is at least one turn of a part, it holds again and again
   pub of_turns : (turns i j : ℕ) → Turns (PartHolds f line) (suc turns) i j → PartHolds (again f) line i j
   of_turns zero i j (k, h, e) = subst (λ j. PartHolds (again f) line i j) e (once i k h)
   of_turns (suc turns) i j (k, h, rest) = one_more i k j h (of_turns turns k j rest)
@@ -72,7 +72,7 @@ module _ (f : Part) (line : Text) where
   optional_of i j (inr (inl h)) = inl (h.0, tt)
   optional_of i j (inr (inr (q, r, l))) = inr (q, widen f (optional f) line (λ b q w. w) (λ p q w. w) (λ q c t. t) i j q r, l)
 
-  -- and nowhere else
+  -- a part that may be left out holds nowhere else
   pub of_optional : (i j : ℕ) → PartHolds (optional f) line i j → (i ≡ j) ⊎ PartHolds f line i j
   of_optional i j (inl h) = inl h.0
   of_optional i j (inr (q, r, l)) = inr (inr (q, widen (optional f) f line (λ b q w. w) (λ p q w. w) (λ q c t. t) i j q r, l))

@@ -35,7 +35,7 @@ tells_three a b d c =
       λ h. elim (any.1 h) [ inl x ↦ inl (eqb-true c a x) | inr m ↦ inr (elim m [ inl y ↦ inl (eqb-true c b y) | inr z ↦ inr (eqb-true c d z) ]) ],
     )
 
--- a search for the bytes that pass a test, which are those that are marked, behind a place
+-- a search for the bytes that pass a test, which are the marked ones, from a place on
 pub first_found : (marks : List Bool) (test : ℕ → Bool) (line : Text) (place result : ℕ) (found : Option ℕ) → place ≤ length line
     → ((k : ℕ) → IsMarked marks (slice_index line k) ↔ (test (slice_index line k) ≡ true))
     → IsFirstByte test (take (length line - place) (drop place line)) found → MatchOption found (result ≡ length line) (λ n. result ≡ place + n)

@@ -15,7 +15,7 @@ use borrow.Rule.Slice.PartMut.{put_mid}
 pub one_of_max : (x y : ℕ) → x < 2 → y < 2 → max x y ≡ 1 → (x ≡ 1) ⊎ (y ≡ 1)
 one_of_max x y a b h = elim (cases_eq x 1) [ inl e ↦ inl e | inr n ↦ inr (omega arith) ]
 
--- no number past the last word
+-- the set has no number after its last word
 pub within : (xs : List ℕ) (e : ℕ) → Has xs e → e / 64 < length xs
 unfolding Has
 within xs e h =
@@ -152,7 +152,8 @@ lowest word some fits =
 abbrev pub AreAmong : ℕ → ℕ → Type 0
 AreAmong left word = (b : ℕ) → b < 64 → bit_at left b ≡ 1 → bit_at word b ≡ 1
 
--- what is there now, and R of what is left of a word, make up what was there and R of the whole word
+-- what is there now, and R of what is left of a word, are together what was there and R of the
+-- whole word
 abbrev pub AddsUp : (now old : Type 0) (R : ℕ → Type 0) (left word : ℕ) → Type 0
 AddsUp now old R left word = (now ⊎ ((b : ℕ) × (b < 64) × (bit_at left b ≡ 1) × R b)) ↔ (old ⊎ ((b : ℕ) × (b < 64) × (bit_at word b ≡ 1) × R b))
 
@@ -189,7 +190,7 @@ at_word xs k b lt =
     let bit : (k * 64 + b) % 64 ≡ b = omega arith in
     (λ h. rw (word, bit) at h, λ h. rw (word, bit) h)
 
--- What S names among the numbers of one word more is added, among those of one word less left.
+-- What S names among the numbers of one word is added, and the next word is the first one left.
 pub named_added : (A B : Type 0) (S R : ℕ → Type 0) (k word : ℕ) → ((b : ℕ) → b < 64 → S (k * 64 + b) ↔ (bit_at word b ≡ 1)) →
     (B ↔ (A ⊎ ((b : ℕ) × (b < 64) × (bit_at word b ≡ 1) × R (k * 64 + b)))) →
     (B ⊎ ((p : ℕ) × ((k + 1) * 64 ≤ p) × S p × R p)) ↔ (A ⊎ ((p : ℕ) × (k * 64 ≤ p) × S p × R p))
@@ -214,7 +215,7 @@ named_added A B S R k word named add = (to, back)
     back (inr (p, low, h, r)) =
         elim (cases_lt p ((k + 1) * 64)) [ inl high ↦ inl (here p low high h r) | inr high ↦ inr (p, high, h, r) ]
 
--- nothing is left where S names none
+-- nothing is left where S names no number
 pub all_named : (A B : Type 0) (S R : ℕ → Type 0) (k : ℕ) → ((p : ℕ) → k * 64 ≤ p → S p → ⊥) →
     ((B ⊎ ((p : ℕ) × (k * 64 ≤ p) × S p × R p)) ↔ (A ⊎ ((p : ℕ) × S p × R p))) → B ↔ (A ⊎ ((p : ℕ) × S p × R p))
 all_named A B S R k none add = (λ b. add.0 (inl b), λ a. here (add.1 a))
@@ -243,17 +244,17 @@ without_none B S T R add = (λ b. to (add.0 b), λ (p, s, t, r). add.1 (inr (p, 
     to (inl none) = absurd none
     to (inr (p, both, r)) = (p, both.0, both.1, r)
 
--- no number of the set is past its last word
+-- no number of the set is after its last word
 pub none_past : (xs : List ℕ) (k : ℕ) → length xs ≤ k → (p : ℕ) → k * 64 ≤ p → Has xs p → ⊥
 none_past xs k le p low h = let lt = within xs p h in omega (arith, lt)
 
--- so it is with the members of a set, which a word of it names
+-- the same for the members of a set, which its word names
 pub word_added : (A B : Type 0) (R : ℕ → Type 0) (from : List ℕ) (k : ℕ) →
     (B ↔ (A ⊎ ((b : ℕ) × (b < 64) × (bit_at (get_or from k 0) b ≡ 1) × R (k * 64 + b)))) →
     (B ⊎ ((p : ℕ) × ((k + 1) * 64 ≤ p) × Has from p × R p)) ↔ (A ⊎ ((p : ℕ) × (k * 64 ≤ p) × Has from p × R p))
 word_added A B R from k = named_added A B (Has from) R k (get_or from k 0) (at_word from k)
 
--- of which none is past the last word
+-- the same where no member is after the last word
 pub all_added : (A B : Type 0) (R : ℕ → Type 0) (from : List ℕ) (k : ℕ) → length from ≤ k →
     ((B ⊎ ((p : ℕ) × (k * 64 ≤ p) × Has from p × R p)) ↔ (A ⊎ ((p : ℕ) × Has from p × R p))) → B ↔ (A ⊎ ((p : ℕ) × Has from p × R p))
 all_added A B R from k le = all_named A B (Has from) R k (none_past from k le)
@@ -294,7 +295,7 @@ has_bit xs e =
     let shifted = shr_and_one (get_or xs (e / 64) 0) (e % 64) in
     (λ h. sym shifted ∙ eqb-true _ 1 h, λ h. eq-eqb _ 1 (shifted ∙ h))
 
--- so many zeros are the empty set
+-- n zeros are the empty set
 pub zeros_are : (n : ℕ) → Are (replicate n 0) (λ _. ⊥) n
 zeros_are n = (
   length-replicate {A = ℕ} n 0,

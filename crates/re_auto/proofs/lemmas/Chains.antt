@@ -4,7 +4,7 @@ use Rattle.std.proofs.lemmas.List.{get_or_append_left}
 use Rattle.re_syntax.specs.Bytes.{Text}
 use Rattle.re_auto.specs.Working.Positions.{Part, is_begin, is_end, ByteAt, Reaches}
 
--- a place behind the first is not the first
+-- a place after the first is not the first
 pub not_at_begin : (k : ℕ) → 0 < k → is_begin k ≡ false
 not_at_begin k h = ne_eqb k 0 (λ e. omega arith)
 
@@ -12,7 +12,7 @@ not_at_begin k h = ne_eqb k 0 (λ e. omega arith)
 pub not_at_end : (line : Text) (k : ℕ) → k < length line → is_end line k ≡ false
 not_at_end line k h = ne_eqb k (length line) (λ e. omega arith)
 
--- a chain reads at least one byte, and none past the line's end
+-- a chain reads at least one byte, and none after the line's end
 pub reaches_bounds : (part : Part) (line : Text) (i j q : ℕ) → Reaches part line i j q → (i < j) × (j ≤ length line)
 reaches_bounds part line i zero q r = absurd r
 reaches_bounds part line i (suc j) q (t, inl (e, f)) = omega (arith, t.0, e)
@@ -20,7 +20,8 @@ reaches_bounds part line i (suc j) q (t, inr (p, r, w)) =
     let b = reaches_bounds part line i j p r in
     omega (arith, t.0, b.0)
 
--- a chain of one part goes on in another that has its steps, once its first position is reached there
+-- a chain of one part goes on in another that has its steps, once its first position is reached
+-- there
 pub graft : (f h : Part) (line : Text) (i k : ℕ) → ((p q : ℕ) → f.follow p q → h.follow p q) →
     ((q c : ℕ) → f.takes q c → h.takes q c) →
     ((q : ℕ) → f.first (is_begin k) q → ByteAt (h.takes q) line k → Reaches h line i (suc k) q) → (j q : ℕ) →
@@ -41,7 +42,7 @@ widen f h line first follow takes i j q r =
     graft f h line i i follow takes (λ q start t. (t, inl (refl, first (is_begin i) q start))) j q r
 
 module _ (part : Part) (w rest : Text) where
-  -- a chain behind a front is one on each line that begins with it
+  -- a chain over a front is one on each line that begins with it
   pub reaches_on : (i j q : ℕ) → j ≤ length w → Reaches part w i j q → Reaches part (w ++ rest) i j q
   reaches_on i zero q le r = absurd r
   reaches_on i (suc j) q le ((lt, t), before) =
@@ -49,7 +50,7 @@ module _ (part : Part) (w rest : Text) where
       let taken : part.takes q (slice_index (w ++ rest) j) = rw (get_or_append_left w rest 0 j lt) t in
       ((within, taken), elim before [ inl first ↦ inl first | inr (p, r, follows) ↦ inr (p, reaches_on i j p (omega arith) r, follows) ])
 
-  -- and a chain on such a line is one behind the front, as far as that goes
+  -- a chain on such a line is one over the front, as far as that goes
   pub reaches_back : (i j q : ℕ) → j ≤ length w → Reaches part (w ++ rest) i j q → Reaches part w i j q
   reaches_back i zero q le r = absurd r
   reaches_back i (suc j) q le ((lt, t), before) =

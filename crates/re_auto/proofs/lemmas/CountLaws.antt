@@ -8,17 +8,17 @@ use Rattle.re_syntax.specs.declared.tree.Tree.{Tree}
 use Rattle.re_syntax.specs.declared.tree.Tree.TheVariants.{Alt, Repeat}
 use Rattle.re_syntax.proofs.lemmas.ExpressionLaws.{expression-Alt, expression-Repeat}
 
--- a choice has as many as the sequence of its branches
+-- a choice has as many positions as the sequence of its branches
 pub positions-alt : (es : List Expression) → positions (alt es) ≡ positions (cat es)
 positions-alt [] = refl
 positions-alt (e ∷ es) = ap (λ n. positions e + n) (positions-alt es)
 
--- one more member
+-- the positions with one more member
 pub positions-more : (es : List Expression) (e : Expression) → positions (cat (es ++ (e ∷ []))) ≡ positions (cat es) + positions e
 positions-more [] e = omega arith
 positions-more (f ∷ es) e = omega (arith, positions-more es e)
 
--- a tree of branches, and one that is repeated
+-- a tree of branches, and a repeated tree
 pub count-Alt : (members : Vec Tree Global) → positions (expression_of (Alt members)) ≡ positions (cat (map expression_of members.items))
 count-Alt members = ap positions (expression-Alt members) ∙ positions-alt (map expression_of members.items)
 
@@ -30,7 +30,7 @@ pub min_product : (a b limit : ℕ) → min (a * min b limit) limit ≡ min (a *
 min_product zero b limit = omega arith
 min_product (suc a) b limit = omega (arith, min_product a b limit)
 
--- one more member, up to the limit
+-- the positions with one more member, up to the limit
 pub counted_more : (members : List Tree) (i : ℕ) (member : Tree) → i < length members → member ≡ get_or members i member → (count more next : ℕ) →
     count ≡ min (positions (cat (map expression_of (take i members)))) (most_positions + 1) → more ≡ min (positions (expression_of member)) (most_positions + 1) → next ≡ min (count + more) (most_positions + 1) →
     next ≡ min (positions (cat (map expression_of (take (i + 1) members)))) (most_positions + 1)

@@ -1,4 +1,4 @@
--- The tables of an expression, from blank rows to what they tell.
+-- The tables of an expression, from blank rows to what they say.
 use Rattle.std.proofs.Common.{◌≡◌, ℕ, ◌+◌, ◌-◌, ◌*◌, ◌/◌, ◌%◌, ◌<◌, ◌≤◌, Bool, List, length-take, drop, get_or, inl, inr, ◌↔◌, sym, ap, ◌∙◌, subst, arith}
 use Rattle.std.proofs.lemmas.List.{get_or-take, get_or-drop}
 use Rattle.std.specs.Global.{Global}
@@ -33,7 +33,7 @@ none_in_row table width p q none h =
     let bit : (start * 64 + q) % 64 ≡ q % 64 = omega arith in
     none (start * 64 + q) (rw (at, bit) (sym (ap (λ x. bit_at x (q % 64)) word) ∙ h))
 
--- what was added to blank rows is all that they tell
+-- what was added to blank rows is all that the tables say
 pub tells : (e : Expression) (count : ℕ) (r0 r1 : Rows) (a : Ends) (classes : Classes) (marks : List Bool) (ranges : Vec WordRange Global) → count ≡ positions e → count ≤ most_positions → AreBlankRows count r0 → IsAddedOf e count r0 r1 a →
     AreClasses r1.takes.items r1.width classes →
     Marks marks (λ c. (q : ℕ) × Has a.first_inside.items q × Has (row_of r1.takes.items r1.width c) q) →

@@ -8,7 +8,7 @@ use Rattle.re_auto.proofs.lemmas.Chains.{not_at_begin, not_at_end, reaches_bound
 use Rattle.re_auto.proofs.lemmas.JoinedChains.{Run, of_first, of_second, of_both, run}
 
 module _ (f g : Part) (line : Text) where
-  -- a chain of the first part that ends, and one of the second behind it
+  -- a chain of the first part that ends, and one of the second after it
   follow_on : (i k j p q : ℕ) → Reaches f line i k p → f.last (is_end line k) p → Reaches g line k j q → Reaches (in_turn f g) line i j q
   follow_on i k j p q r l s =
       let bounds = reaches_bounds g line k j q s in

@@ -1,4 +1,5 @@
--- How a chain of two joined parts runs: in the one, in the other, or across from the first to the second.
+-- How a chain of two joined parts runs: in the one, in the other, or across from the first to the
+-- second.
 use Rattle.std.proofs.Common.{◌≡◌, ℕ, zero, suc, ◌<◌, ◌≤◌, Bool, false, inl, inr, length, slice_index, refl, arith}
 use Rattle.re_syntax.specs.Bytes.{Text}
 use Rattle.re_auto.specs.Working.Positions.{Part, is_begin, Reaches, joined}
@@ -30,7 +31,7 @@ module _ (f g : Part) (Skip : Bool → Type 0) (Cross : Type 0) (E : Bool → Bo
     of_second : mid ≤ q → Skip (is_begin i) → Reaches g line i j q → Run line i j q
     of_both : mid ≤ q → Cross → (k p : ℕ) → Reaches f line i k p → f.last false p → Reaches g line k j q → Run line i j q
 
-  -- a step more of such a run
+  -- one more step of such a run
   on : (line : Text) (i j p q : ℕ) → j < length line → Move p q (slice_index line j) → Run line i j p → Run line i (suc j) q
   on line i j p q lt (in_first w t m) (of_first b r) = of_first (nf.takes q _ t).1 ((lt, t), inr (p, r, w))
   on line i j p q lt (in_first w t m) (of_second b s r) = absurd (omega arith)

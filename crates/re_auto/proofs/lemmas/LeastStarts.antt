@@ -14,11 +14,12 @@ at_least : (P : ℕ → Type 0) (o : Option ℕ) → Least P o → (k : ℕ) →
 at_least P None none k p = absurd (none k p)
 at_least P (Some m) least k p = (m, refl, least.1 k p, least.0)
 
--- what an option is known to be, it is the least of
+-- the value of an option that is the least of P is the least of P
 the_least : (P : ℕ → Type 0) (o : Option ℕ) (i : ℕ) → Least P o → o ≡ Some i → IsLeast P i
 the_least P o i least same = subst (Least P) same least
 
--- the least number of P is that of Q, where each number of either has one of the other that is no greater
+-- the least number of P is that of Q, where each number of either has one of the other that is no
+-- greater
 moved : (P Q : ℕ → Type 0) → ((i : ℕ) → P i → Q i) → ((k : ℕ) → Q k → (m : ℕ) × (m ≤ k) × P m) → (o : Option ℕ) → Least P o → Least Q o
 moved P Q to back None none = λ k q. let (m, le, p) = back k q in none m p
 moved P Q to back (Some i) least = (to i least.0, λ k q. let (m, le, p) = back k q in omega (arith, le, least.1 m p))
@@ -53,7 +54,7 @@ step_of_starts part mode from line j least next after low lt step q =
 pub starts_stay : StartsStay
 starts_stay e n = step_of_starts (part_of e n)
 
--- the last positions tell the least start
+-- the last positions say the least start
 pub starts_tell : StartsTell
 starts_tell e n mode from line j least told after is =
     moved (Told (part_of e n) (is_end line j) least) (λ i. IsMatched e mode from line i j) to back told is
@@ -72,11 +73,11 @@ starts_tell e n mode from line j least told after is =
     back : (k : ℕ) → IsMatched e mode from line k j → (m : ℕ) × (m ≤ k) × Told (part_of e n) (is_end line j) least m
     back k (le, lt, b, h) = chain k (le, lt, b) ((positions_tell e n line k j).0 h)
 
--- a place up to the next one is the next one or up to this one
+-- a place up to the next one is the next one, or it is up to this one
 next_or_before : (l to : ℕ) → l ≤ suc to → (l ≡ suc to) ⊎ (l ≤ to)
 next_or_before l to le = elim (eq-or-lt_of_le le) [ inl e ↦ inl e | inr h ↦ inr (omega arith) ]
 
--- of any relation's stretches the least start at the next end is enough for the best
+-- for the stretches of any relation, the least start at the next end is enough for the best
 best_so_far : (R : ℕ → ℕ → Type 0) (to : ℕ) (best : Option (ℕ × ℕ)) (told : Option ℕ) → IsBest R to best
     → Least (λ i. R i (suc to)) told → IsBest R (suc to) (better best (suc to) told)
 best_so_far R to None None none told = λ i j le r.
@@ -111,7 +112,7 @@ best_so_far R to (Some (i, j)) (Some k) (r, le, early, long) (t, least) = go (na
           (λ l m s. elim (next_or_before l to m) [ inl e ↦ absurd (omega (arith, large, least i (subst (R i) e s))) | inr m ↦ long l m s ]),
         )
 
--- so it is for the matched stretches
+-- so it is enough for the matched stretches
 pub one_pass_is_enough : OnePassIsEnough
 one_pass_is_enough e mode from line = best_so_far (IsMatched e mode from line)
 
@@ -129,7 +130,7 @@ passes part line i j (suc k) q lt le (t, inr (p, r, w)) =
       | inr small ↦ passes part line i j k p lt small r
     ]
 
--- once each carried start is behind s, no stretch that begins at s or before ends here or later
+-- once each carried start is after s, no stretch that begins at s or before ends here or later
 pub spent_is_over : SpentIsOver
 spent_is_over e n mode from line j least s after spent lt i k le far m = chain ((positions_tell e n line i k).0 m.3)
   where
@@ -141,7 +142,7 @@ spent_is_over e n mode from line j least s after spent lt i k le far m = chain (
         omega (arith, small, spent p h is)
 
 module _ (part : Part) (w rest : Text) where
-  -- least starts that are right behind a front are right there on each line that begins with it
+  -- least starts that are right after a front are right there on each line that begins with it
   pub starts_fronts : (mode : Mode) (from : ℕ) (least : ℕ → Option ℕ) → StartsAfter part mode from w (length w) least →
       StartsAfter part mode from (w ++ rest) (length w) least
   starts_fronts mode from least after q =
@@ -150,7 +151,7 @@ module _ (part : Part) (w rest : Text) where
       (λ i (le, b, r). (i, omega arith, (le, b, reaches_back part w rest i (length w) q (omega arith) r)))
       (least q) (after q)
 
-  -- and the other way round
+  -- the converse: least starts that are right there on such a line are right after the front
   pub starts_fronts_back : (mode : Mode) (from : ℕ) (least : ℕ → Option ℕ) → StartsAfter part mode from (w ++ rest) (length w) least →
       StartsAfter part mode from w (length w) least
   starts_fronts_back mode from least after q =

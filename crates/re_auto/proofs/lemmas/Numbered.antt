@@ -1,4 +1,5 @@
--- The numbers of a part's positions: they fill a range that the expression's count of positions gives.
+-- The numbers of a part's positions: they fill a range whose length is the expression's number of
+-- positions.
 use Rattle.std.proofs.Common.{◌≡◌, ℕ, zero, suc, ◌+◌, ◌-◌, ◌*◌, ◌<◌, ◌≤◌, Bool, true, false, nat_le, inl, inr, Option, Some, None, max, refl, ap, ◌∙◌, arith, leb-true, add-mul}
 use Rattle.re_syntax.specs.Expression.{Expression, empty, one_of, none_of, begin, end, cat_none, cat_more, alt_none, alt_more, repeat}
 use Rattle.re_syntax.specs.Holds.{positions, copies}
@@ -53,20 +54,20 @@ module _ (f g : Part) (from mid to : ℕ) (nf : IsNumbered f from mid) (ng : IsN
     takes = λ q c w. elim w [ inl a ↦ omega (arith, nf.takes q c a) | inr a ↦ omega (arith, ng.takes q c a) ];
   }
 
-  -- so have two parts in turn
+  -- two parts in turn have both ranges
   pub in_turn_numbered : IsNumbered (in_turn f g) from to
   in_turn_numbered =
       joined_numbered _ _ _ _
       (λ z q l. elim l [ inl a ↦ omega (arith, ng.last z q a) | inr a ↦ omega (arith, nf.last z q a.1) ])
 
-  -- and one of two parts
+  -- a choice of two parts has both ranges
   pub either_numbered : IsNumbered (either f g) from to
   either_numbered =
       joined_numbered _ _ _ _
       (λ z q l. elim l [ inl a ↦ omega (arith, nf.last z q a) | inr a ↦ omega (arith, ng.last z q a) ])
 
 module _ (part : ℕ → Part) (size : ℕ) (numbered : (n : ℕ) → IsNumbered (part n) n (n + size)) where
-  -- so many copies and a rest have the range of all of them
+  -- `turns` copies and a rest have the range of all of them
   pub copies_before_numbered : (rest : ℕ → Part) (more : ℕ) → ((n : ℕ) → IsNumbered (rest n) n (n + more)) →
       (turns from : ℕ) → IsNumbered (copies_before part size turns rest from) from (from + (turns * size + more))
   copies_before_numbered rest more behind zero from = let e : 0 * size + more ≡ more = omega arith in rw e (behind from)
@@ -76,7 +77,7 @@ module _ (part : ℕ → Part) (size : ℕ) (numbered : (n : ℕ) → IsNumbered
       (in_turn_numbered (part from) (copies_before part size turns rest (from + size)) from (from + size) (from + size + (turns * size + more))
       (numbered from) (copies_before_numbered rest more behind turns (from + size)) (omega arith) (omega arith))
 
-  -- up to so many copies have the range of so many
+  -- up to `turns` copies have the range of that number of copies
   pub up_to_numbered : (turns from : ℕ) → IsNumbered (up_to part size turns from) from (from + turns * size)
   up_to_numbered zero from = without_numbered _ _ _
   up_to_numbered (suc turns) from =
@@ -110,7 +111,7 @@ module _ (part : ℕ → Part) (size : ℕ) (numbered : (n : ℕ) → IsNumbered
       rw (m, e) (copies_before_numbered (λ m. again (part m)) size again_copy_numbered least from)
   repeated_numbered least (Some most) from = between_numbered (nat_le least most) least most from refl
 
--- an expression's positions are numbered from n on, as many as it has
+-- the numbers of an expression's positions begin at n, and are as many as its positions
 pub part_numbered : (e : Expression) (n : ℕ) → IsNumbered (part_of e n) n (n + positions e)
 part_numbered empty n = without_numbered _ _ _
 part_numbered (one_of s) n = one_numbered n _

@@ -17,7 +17,7 @@ skipped h = (
   λ x. elim x [ inl a ↦ h.1 (inl a) | inr c ↦ h.1 (inr c.1) ],
 )
 
--- what holds is always so; what does not is never so
+-- what holds is always so; what does not hold is never so
 pub always : {A : Type 0} → A → A ↔ ⊤
 always a = (λ h. tt, λ h. a)
 
@@ -34,7 +34,7 @@ pair f g = (λ x. (f.0 x.0, g.0 x.1), λ x. (f.1 x.0, g.1 x.1))
 pub one_of : {A B C D : Type 0} → A ↔ B → C ↔ D → (A ⊎ C) ↔ (B ⊎ D)
 one_of f g = (λ x. elim x [ inl a ↦ inl (f.0 a) | inr c ↦ inr (g.0 c) ], λ x. elim x [ inl b ↦ inl (f.1 b) | inr d ↦ inr (g.1 d) ])
 
--- a set by another name
+-- the words of a set are those of an equal set
 pub named : (words : List ℕ) (S T : ℕ → Type 0) (width : ℕ) → Are words S width → ((q : ℕ) → S q ↔ T q) → Are words T width
 named words S T width are same = (are.0, λ q. via (are.1 q) (same q))
 
@@ -84,7 +84,7 @@ shows_optional f width a r fa left_out = record {
   };
 }
 
--- a part that comes again and again has the ends of the part
+-- a part again and again has the ends of the part
 pub shows_again : (f : Part) (width : ℕ) (a : Ends) → Shows f width a → Shows (again f) width a
 shows_again f width a fa = record {
   first_at_begin = fa.first_at_begin;
@@ -99,7 +99,7 @@ shows_again f width a fa = record {
   };
 }
 
--- the words of each set
+-- each of a part's sets has `width` words
 pub width_of : (f : Part) (width : ℕ) (a : Ends) → Shows f width a → HasWidth width a
 width_of f width a fa = record {
   first_at_begin = fa.first_at_begin.0;
@@ -133,7 +133,7 @@ adds_nothing part rows none = record {
   takes = λ c q lt. (inl, λ h. elim h [ inl was ↦ was | inr more ↦ absurd (none.takes q c more) ]);
 }
 
--- two additions, of which the second speaks of the first one's rows
+-- two additions, where the second is to the rows of the first
 follow_then : (f g : Part) (r0 r1 r2 : Rows) → Adds g r0 r1 → Adds f r1 r2 → (p q : ℕ) → p * r0.width + r0.width ≤ length r0.follow.items →
     Has (row_of r2.follow.items r0.width p) q ↔ ((Has (row_of r0.follow.items r0.width p) q ⊎ g.follow p q) ⊎ f.follow p q)
 follow_then f g r0 r1 r2 ga fa p q within =
@@ -147,7 +147,7 @@ takes_then f g r0 r1 r2 ga fa c q lt =
     let step : Has (row_of r2.takes.items r0.width c) q ↔ (Has (row_of r1.takes.items r0.width c) q ⊎ f.takes q c) = rw ga.width at (fa.takes c q lt) in
     via step (one_of (ga.takes c q lt) (λ h. h, λ h. h))
 
--- two additions are the addition of what both tell
+-- two additions are one addition of what both parts say
 pub both_added : (f g whole : Part) (r0 r1 r2 : Rows) → Adds g r0 r1 → Adds f r1 r2 →
     ((p q : ℕ) → (g.follow p q ⊎ f.follow p q) ↔ whole.follow p q) → ((q c : ℕ) → (g.takes q c ⊎ f.takes q c) ↔ whole.takes q c) → Adds whole r0 r2
 both_added f g whole r0 r1 r2 ga fa follow takes = record {
@@ -205,7 +205,7 @@ adds_again f width a r0 r1 r2 fs fa crossed =
 pub adds_optional : (f : Part) (r0 r1 : Rows) → Adds f r0 r1 → Adds (optional f) r0 r1
 adds_optional f r0 r1 fa = record { width = fa.width; follow_length = fa.follow_length; takes_length = fa.takes_length; follow = fa.follow; takes = fa.takes }
 
--- room stays, also for fewer numbers
+-- the room stays, also for fewer numbers
 pub room_kept : (part : Part) (behind below : ℕ) (old new : Rows) → HasRoom behind old → Adds part old new → below ≤ behind → HasRoom below new
 room_kept part behind below old new room adds le = record {
   few = rw adds.width room.few;

@@ -1,4 +1,4 @@
--- The positions of an expression tell where it holds.
+-- The positions of an expression say where it holds.
 use Rattle.std.proofs.Common.{◌≡◌, ℕ, zero, suc, ◌+◌, Bool, IsTrue, inl, inr, ◌↔◌, length, slice_get, slice_index, Some, refl, sym, ◌∙◌, subst, arith, eq-eqb, eqb-true}
 use Rattle.std.specs.Prelude.{⊤}
 use Rattle.std.proofs.lemmas.Option.{slice_get_within, slice_get-get_or, get_or_from_slice_get}
@@ -11,7 +11,7 @@ use Rattle.re_auto.proofs.lemmas.Numbered.{part_numbered}
 use Rattle.re_auto.proofs.lemmas.InTurnAndEither.{cut, joint, choose, chosen}
 use Rattle.re_auto.proofs.lemmas.RepeatedByCopies.{repeated_give, repeated_need}
 
--- one byte that passes a test is told by one position that takes such bytes
+-- one byte that passes a test is read by one position that takes such bytes
 byte_tells : (P : ℕ → Type 0) (n : ℕ) (line : Text) (i j : ℕ) →
     ((b : ℕ) × (slice_get line i ≡ Some b) × P b × (j ≡ i + 1)) ↔ PartHolds (one_position n P) line i j
 byte_tells P n line i j = (give, need j)
@@ -34,17 +34,17 @@ none_need : (E : Bool → Bool → Type 0) (line : Text) (i j : ℕ) → PartHol
 none_need E line i j (inl h) = h
 none_need E line i j (inr (q, r, l)) = absurd l
 
--- the empty stretch is told by a part that holds there anywhere
+-- a part that is empty anywhere holds exactly on the empty stretches
 empty_tells : (line : Text) (i j : ℕ) → (i ≡ j) ↔ PartHolds (without_positions (λ b z. ⊤)) line i j
 empty_tells line i j = (λ e. inl (e, tt), λ h. (none_need (λ b z. ⊤) line i j h).0)
 
--- an anchor at place k is told by a part that holds on the empty stretch there
+-- a part without positions that is empty only at place k holds only on the empty stretch there
 anchor_need : (E : Bool → Bool → Type 0) (line : Text) (k i j : ℕ) → (E (is_begin i) (is_end line i) → i ≡ k) →
     PartHolds (without_positions E) line i j → (i ≡ k) × (j ≡ k)
 anchor_need E line k i j at h = let (e, here) = none_need E line i j h in (at here, sym e ∙ at here)
 
 module _ (line : Text) where
-  -- on each stretch the expression's positions say whether it holds
+  -- the expression holds on a stretch exactly where its positions say so
   tells : (e : Expression) (n i j : ℕ) → Holds line e i j ↔ PartHolds (part_of e n) line i j
   tells empty n i j = empty_tells line i j
   tells (one_of s) n i j = byte_tells (λ c. IsTrue (s c)) n line i j

@@ -1,4 +1,4 @@
--- Ranges of words that the members of rows lie in.
+-- Ranges of words that contain the members of rows.
 use Rattle.std.proofs.Common.{◌≡◌, ℕ, ◌/◌, ◌%◌, ◌<◌, ◌≤◌, max, List, [], ◌∷◌, ◌++◌, zero, suc, length, get_or, ◌⊎◌, inl, inr, ◌↔◌, sym, ap, ◌∙◌, subst, arith}
 use Rattle.std.proofs.lemmas.Bool.{cases_lt}
 use Rattle.std.proofs.lemmas.Nat.Bits.{bit_at_or, bit_at-lt, bit_at-zero}
@@ -17,7 +17,7 @@ none_in_zero xs q blank h =
     let none : bit_at (get_or xs (q / 64) 0) (q % 64) ≡ bit_at 0 (q % 64) = ap (λ x. bit_at x (q % 64)) blank in
     omega (arith, none, h, bit_at-zero (q % 64))
 
--- where the words before k are 0, or those from k on
+-- where the words before k are 0, no member is in them; the same for those from k on
 pub not_before : (xs : List ℕ) (k : ℕ) → ((j : ℕ) → j < k → get_or xs j 0 ≡ 0) → (q : ℕ) → Has xs q → k ≤ q / 64
 not_before xs k zeros q h = elim (cases_lt (q / 64) k) [ inl lt ↦ absurd (none_in_zero xs q (zeros (q / 64) lt) h) | inr ge ↦ ge ]
 
@@ -60,7 +60,7 @@ added_within old row new range covers each before from e =
           λ h. elim h [ inl h ↦ omega (arith, both, h, bit_at-lt r (e % 64)) | inr h ↦ omega (arith, both, h, bit_at-lt o (e % 64)) ],
         )
 
--- one more range at the end of the list, of which something holds as of those before
+-- one more range at the end of the list, of which the same holds as of those before
 pub one_more : (P : ℕ → WordRange → Type 0) (ranges : List WordRange) (more : WordRange) → ((k : ℕ) (range : WordRange) → slice_get ranges k ≡ Some range → P k range) → P (length ranges) more →
     (k : ℕ) (range : WordRange) → slice_get (ranges ++ more ∷ []) k ≡ Some range → P k range
 one_more P [] more each last zero range is = subst (P zero) (same_Some more range is) last

@@ -17,7 +17,7 @@ turns_add : (R : ℕ → ℕ → Type 0) (a b i k j : ℕ) → Turns R a i k →
 turns_add R zero b i k j e y = let same : 0 + b ≡ b = omega arith in rw (same, e) y
 turns_add R (suc a) b i k j (l, r, x) y = let next : suc a + b ≡ suc (a + b) = omega arith in rw next (l, r, turns_add R a b l k j x y)
 
--- turns are cut behind some of them
+-- turns are cut after some of them
 turns_cut : (R : ℕ → ℕ → Type 0) (a b i j : ℕ) → Turns R (a + b) i j → (k : ℕ) × Turns R a i k × Turns R b k j
 turns_cut R zero b i j x = let same : 0 + b ≡ b = omega arith in (i, refl, rw same at x)
 turns_cut R (suc a) b i j x =
@@ -28,7 +28,8 @@ turns_cut R (suc a) b i j x =
 
 module _ (R : ℕ → ℕ → Type 0) (part : ℕ → Part) (size : ℕ) (line : Text) (tells : (n i j : ℕ) → R i j ↔ PartHolds (part n) line i j) (numbered : (n : ℕ) → IsNumbered (part n) n (n + size)) where
   module _ (rest : ℕ → Part) (more : ℕ) (behind : (n : ℕ) → IsNumbered (rest n) n (n + more)) (S : ℕ → ℕ → Type 0) where
-    -- turns, and what a rest tells behind them, are told by so many copies before that rest
+    -- where there is a number of turns and then the rest holds, that number of copies before the
+    -- rest holds
     copies_give : ((n i j : ℕ) → S i j → PartHolds (rest n) line i j) → (turns from i k j : ℕ) → Turns R turns i k → S k j →
         PartHolds (copies_before part size turns rest from) line i j
     copies_give give zero from i k j e s = rw e (give from k j s)
@@ -36,7 +37,7 @@ module _ (R : ℕ → ℕ → Type 0) (part : ℕ → Part) (size : ℕ) (line :
         joint (part from) (copies_before part size turns rest (from + size)) line i l j
         ((tells from i l).0 r) (copies_give give turns (from + size) l k j t s)
 
-    -- copies before a rest tell nothing else
+    -- copies before a rest hold nowhere else
     copies_need : ((n i j : ℕ) → PartHolds (rest n) line i j → S i j) → (turns from i j : ℕ) → PartHolds (copies_before part size turns rest from) line i j →
         (k : ℕ) × Turns R turns i k × S k j
     copies_need need zero from i j h = (i, refl, need from i j h)
@@ -46,11 +47,11 @@ module _ (R : ℕ → ℕ → Type 0) (part : ℕ → Part) (size : ℕ) (line :
         let (k, u, s) = copies_need need turns (from + size) l j t in
         (k, (l, (tells from i l).1 r, u), s)
 
-  -- no more turns than the number
+  -- turns, up to a number
   abbrev UpTo : ℕ → ℕ → ℕ → Type 0
   UpTo most i j = (turns : ℕ) × (turns ≤ most) × Turns R turns i j
 
-  -- up to so many copies tell up to so many turns
+  -- where there are up to n turns, up to n copies hold
   up_to_give : (most from i j : ℕ) → UpTo most i j → PartHolds (up_to part size most from) line i j
   up_to_give zero from i j (zero, le, e) = inl (e, tt)
   up_to_give zero from i j (suc turns, le, e) = absurd (omega arith)
@@ -60,7 +61,7 @@ module _ (R : ℕ → ℕ → Type 0) (part : ℕ → Part) (size : ℕ) (line :
       (inr (joint (part from) (up_to part size most (from + size)) line i k j ((tells from i k).0 r)
       (up_to_give most (from + size) k j (turns, omega arith, t))))
 
-  -- and nothing else
+  -- up to n copies hold nowhere else
   up_to_need : (most from i j : ℕ) → PartHolds (up_to part size most from) line i j → UpTo most i j
   up_to_need zero from i j (inl h) = (0, omega arith, h.0)
   up_to_need zero from i j (inr (q, r, l)) = absurd l
@@ -78,12 +79,12 @@ module _ (R : ℕ → ℕ → Type 0) (part : ℕ → Part) (size : ℕ) (line :
   abbrev OneOrMore : ℕ → ℕ → Type 0
   OneOrMore i j = (turns : ℕ) × Turns R (suc turns) i j
 
-  -- a copy again and again tells one turn or more
+  -- where there is one turn or more, a copy again and again holds
   again_give : (from i j : ℕ) → OneOrMore i j → PartHolds (again (part from)) line i j
   again_give from i j (turns, t) =
       of_turns (part from) line turns i j (turns_map R (PartHolds (part from) line) (λ i j. (tells from i j).0) (suc turns) i j t)
 
-  -- and nothing else
+  -- a copy again and again holds nowhere else
   again_need : (from i j : ℕ) → PartHolds (again (part from)) line i j → OneOrMore i j
   again_need from i j h =
       let (turns, t) = turns_of (part from) line i j h in
@@ -92,7 +93,7 @@ module _ (R : ℕ → ℕ → Type 0) (part : ℕ → Part) (size : ℕ) (line :
   abbrev Repeated : ℕ → Option ℕ → ℕ → ℕ → Type 0
   Repeated least most i j = (n : ℕ) × IsWithin least most n × Turns R n i j
 
-  -- a repeated part tells the turns within its bounds
+  -- where there are turns within its bounds, a repeated part holds
   pub repeated_give : (least : ℕ) (most : Option ℕ) (from i j : ℕ) → Repeated least most i j → PartHolds (repeated part size least most from) line i j
   repeated_give zero None from i j (zero, w, t) = optional_of (again (part from)) line i j (inl t)
   repeated_give zero None from i j (suc turns, w, t) = optional_of (again (part from)) line i j (inr (again_give from i j (turns, t)))
@@ -108,7 +109,7 @@ module _ (R : ℕ → ℕ → Type 0) (part : ℕ → Part) (size : ℕ) (line :
       (copies_give (up_to part size (most - least)) ((most - least) * size) (up_to_numbered part size numbered (most - least)) (UpTo (most - least)) (up_to_give (most - least))
       least from i k j front (turns - least, omega (arith, w.1), back))
 
-  -- so does one between two bounds
+  -- copies between two bounds hold only where there are turns within the bounds
   between_need : (b : Bool) (least most from i j : ℕ) → nat_le least most ≡ b →
       PartHolds (only_if b (copies_before part size least (up_to part size (most - least)) from)) line i j → Repeated least (Some most) i j
   between_need false least most from i j is (inl h) = absurd h.1
@@ -119,7 +120,7 @@ module _ (R : ℕ → ℕ → Type 0) (part : ℕ → Part) (size : ℕ) (line :
       (UpTo (most - least)) (up_to_need (most - least)) least from i j h in
       (least + turns, (omega arith, omega (arith, le, bound)), turns_add R least turns i k j front back)
 
-  -- and a repeated part tells nothing else
+  -- a repeated part holds nowhere else
   pub repeated_need : (least : ℕ) (most : Option ℕ) (from i j : ℕ) → PartHolds (repeated part size least most from) line i j → Repeated least most i j
   repeated_need zero None from i j h =
       elim (of_optional (again (part from)) line i j h) [

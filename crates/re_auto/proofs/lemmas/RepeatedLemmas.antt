@@ -13,17 +13,17 @@ use Rattle.re_auto.proofs.lemmas.WithoutPositions.{HasNoPositions, turns_empty, 
 use Rattle.re_auto.proofs.lemmas.PartLemmas.{named, via, shows_blank, adds_nothing}
 use Rattle.re_auto.proofs.lemmas.AddedLemmas.{turn_added, optional_added, again_added}
 
--- a count by another name
+-- an equal number of positions
 pub resized : (f : ℕ → Part) (size other behind : ℕ) (r0 r1 : Rows) (a : Ends) → size ≡ other → IsAdded f size behind r0 r1 a → IsAdded f other behind r0 r1 a
 resized f size other behind r0 r1 a same added = subst (λ n. IsAdded f n behind r0 r1 a) same added
 
--- one copy more has room
+-- one more copy has room
 pub turn_fits : (turns all size more behind begins : ℕ) → turns < all → all * size + more ≤ behind → begins + (turns * size + more) ≡ behind → size ≤ begins
 turn_fits turns all size more behind begins lt fits meet = omega (arith, mul-le-mul_right size (let h : suc turns ≤ all = omega arith in h), fits, meet)
 
 module _ (e : Expression) (turns behind : ℕ) (r0 r1 r2 r3 : Rows) (a b r : Ends) (copy : IsAddedOf e b.begins r1 r2 a) (begins : r.begins ≡ a.begins)
     (shows : Shows (in_turn (shown a) (shown b)) r2.width r) (adds : Adds (in_turn (shown a) (shown b)) r2 r3) where
-  -- one copy more before a tail
+  -- one more copy before a tail
   pub turns_step : (tail : Option ℕ) → AreTurns e turns tail behind r0 r1 b → AreTurns e (turns + 1) tail behind r0 r3 r
   turns_step tail before =
       let next : suc turns ≡ turns + 1 = omega arith in
@@ -31,7 +31,7 @@ module _ (e : Expression) (turns behind : ℕ) (r0 r1 r2 r3 : Rows) (a b r : End
       (resized (copies_before (part_of e) (positions e) (suc turns) (tail_of (part_of e) (positions e) tail)) (positions e + (turns * positions e + tail_copies tail * positions e)) (suc turns * positions e + tail_copies tail * positions e) behind r0 r3 r (omega arith)
       (turn_added (part_of e) (copies_before (part_of e) (positions e) turns (tail_of (part_of e) (positions e) tail)) (positions e) (turns * positions e + tail_copies tail * positions e) behind r0 r1 r2 a b before copy r3 r begins shows adds))
 
-  -- one copy more that may be left out with those behind it
+  -- one more copy that may be left out with those after it
   pub up_to_step : (s : Ends) → s.begins ≡ r.begins → Shows (optional (shown r)) (length r.first_inside.items) s → AreUpTo e turns behind r0 r1 b → AreUpTo e (turns + 1) behind r0 r3 s
   up_to_step s same left_out before =
       let next : suc turns ≡ turns + 1 = omega arith in
@@ -51,7 +51,7 @@ pub again_tail : (e : Expression) (behind : ℕ) (r0 r1 r2 : Rows) (a : Ends) �
 again_tail e behind r0 r1 r2 a added crossed =
     resized (tail_of (part_of e) (positions e) None) (positions e) (1 * positions e) behind r0 r2 a (omega arith) (again_added (part_of e) (positions e) behind r0 r1 r2 a added crossed)
 
--- no copy at all
+-- no copy
 pub no_more : (e : Expression) (empty : Empty) (behind : ℕ) (rows : Rows) (a : Ends) → ((b z : Bool) → IsTrue (empty_at empty b z)) → IsBlank rows.width behind empty a → AreUpTo e 0 behind rows rows a
 no_more e empty behind rows a everywhere blank =
     let none : HasNoPositions (up_to (part_of e) (positions e) 0 a.begins) = record { first = λ b q h. h; last = λ z q h. h; follow = λ p q h. h; takes = λ q c h. h } in
@@ -69,7 +69,7 @@ bounded_added e least most behind r0 r1 a le added =
     let all : least * size + (most - least) * size ≡ most * size = sym (ap (λ n. n * size) (let h : most ≡ least + (most - least) = omega arith in h) ∙ omega arith) in
     subst (λ c. IsAdded (λ n. only_if c (copies n)) (most * size) behind r0 r1 a) (sym (le-leb least most le)) (resized copies (least * size + (most - least) * size) (most * size) behind r0 r1 a all added)
 
--- so many copies or more
+-- `least` copies or more
 pub unbounded_added : (e : Expression) (least behind : ℕ) (r0 r1 : Rows) (a : Ends) → 0 < least → AreTurns e (least - 1) None behind r0 r1 a → IsAddedOf (repeat e least None) behind r0 r1 a
 unbounded_added e zero behind r0 r1 a some added = absurd (omega arith)
 unbounded_added e (suc least) behind r0 r1 a some added =
@@ -86,7 +86,7 @@ any_added e behind r0 r1 a r added begins shows =
     resized (part_of (repeat e 0 None)) (0 * positions e + 1 * positions e) (max 0 1 * positions e) behind r0 r1 r (rw count (omega arith))
     (optional_added (copies_before (part_of e) (positions e) 0 (tail_of (part_of e) (positions e) None)) (0 * positions e + 1 * positions e) behind r0 r1 a r added begins shows)
 
--- a count up to its limit is the count itself where as many copies fit
+-- a count up to its limit is the count itself where that number of copies fits
 pub counted_whole : (n most size behind : ℕ) → size ≡ min n (most_positions + 1) → most * n ≤ behind → behind ≤ most_positions → most * size ≡ most * n
 counted_whole n zero size behind is fits few = omega arith
 counted_whole n (suc most) size behind is fits few = ap (λ k. suc most * k) (let h : size ≡ n = omega (arith, fits) in h)
@@ -136,14 +136,14 @@ module _ (e : Expression) (least : ℕ) (most : Option ℕ) (within : IfSome mos
         };
       }
 
-  -- where it has to stand, it is empty where one turn is
+  -- where at least one turn is needed, the repeated part is empty where one turn is
   pub once_added : (behind : ℕ) (r0 r1 : Rows) (a : Ends) → 0 < least → IsAddedOf e behind r0 r1 a → IsAddedOf (repeat e least most) behind r0 r1 a
   once_added behind r0 r1 a some added =
       once (part_of e a.begins) behind r0 r1 a (no_positions e a.begins none)
       (λ b z. (λ h. (within, inr h), λ h. elim h.1 [ inl nought ↦ absurd (omega (arith, nought)) | inr turn ↦ turn ]))
       (omega (arith, none, added.begins)) added.shows added.adds
 
-  -- where it may be left out, it is empty anywhere
+  -- where it may be left out, the repeated part is empty anywhere
   pub maybe_added : (behind : ℕ) (r0 r1 : Rows) (a r : Ends) → least ≡ 0 → IsAddedOf e behind r0 r1 a → r.begins ≡ a.begins → Shows (optional (shown a)) (length a.first_inside.items) r → IsAddedOf (repeat e least most) behind r0 r1 r
   maybe_added behind r0 r1 a r nought added begins shows =
       let left_out = optional_added (part_of e) (positions e) behind r0 r1 a r added begins shows in

@@ -7,7 +7,7 @@ use Rattle.std.proofs.lemmas.Bool.{cases_eq}
 pub row_within : (p rows width : ℕ) → p < rows → p * width + width ≤ rows * width
 row_within p rows width lt = let more = mul-le-mul_right width (let h : suc p ≤ rows = omega arith in h) in omega (arith, more)
 
--- one more byte, which is to be marked
+-- one more byte, which is marked
 pub marked : (A B C : Type 0) (M : ℕ → Type 0) (Q : Type 0) (c x : ℕ) → (B ↔ (A ⊎ (x < c) × M x × Q)) → (C ↔ (B ⊎ (x ≡ c) × Q)) → M c → C ↔ (A ⊎ (x < c + 1) × M x × Q)
 marked A B C M Q c x before step m = (to, back)
   where
@@ -26,7 +26,7 @@ marked A B C M Q c x before step m = (to, back)
     back (inl a) = step.1 (inl (before.1 (inl a)))
     back (inr (lt, h, q)) = elim (cases_eq x c) [ inl same ↦ step.1 (inr (same, q)) | inr other ↦ step.1 (inl (before.1 (inr (omega arith, h, q)))) ]
 
--- one more byte, which is not
+-- one more byte, which is not marked
 pub not_marked : (A B : Type 0) (M : ℕ → Type 0) (Q : Type 0) (c x : ℕ) → (B ↔ (A ⊎ (x < c) × M x × Q)) → ¬ M c → B ↔ (A ⊎ (x < c + 1) × M x × Q)
 not_marked A B M Q c x before m = (to, back)
   where
@@ -41,7 +41,7 @@ not_marked A B M Q c x before m = (to, back)
     back (inl a) = before.1 (inl a)
     back (inr (lt, h, q)) = elim (cases_eq x c) [ inl same ↦ absurd (m (subst M same h)) | inr other ↦ before.1 (inr (omega arith, h, q)) ]
 
--- the rows of the members of a set, one by one and all
+-- the rows of the members of a set: one of them, and all of them
 pub one_row : (A B : Type 0) (S : ℕ → Type 0) (Q : Type 0) (x : ℕ) → (B ↔ (A ⊎ ((p : ℕ) × S p × ((x ≡ p) × Q)))) → B ↔ (A ⊎ S x × Q)
 one_row A B S Q x all = (to, back)
   where
@@ -56,7 +56,7 @@ one_row A B S Q x all = (to, back)
     back (inl a) = all.1 (inl a)
     back (inr (h, q)) = all.1 (inr (x, h, (refl, q)))
 
--- what a comparison of two truths tells
+-- two truth values that compare as equal are equal
 pub same_truth : (a b : Bool) → beq a b ≡ true → a ≡ b
 same_truth true true h = refl
 same_truth false false h = refl

@@ -46,14 +46,14 @@ accept_is_right e n mode line j S after = (to, back)
     back (i, b, h) = told i b ((positions_tell e n line i j).0 h)
 
 module _ (part : Part) (w rest : Text) where
-  -- a set that is right behind a front is right there on each line that begins with it
+  -- a set that is right after a front is right there on each line that begins with it
   pub fronts : (mode : Mode) (S : ℕ → Type 0) → IsAfter part mode w (length w) S → IsAfter part mode (w ++ rest) (length w) S
   fronts mode S after q = (
     λ s. let (i, b, r) = (after q).0 s in (i, b, reaches_on part w rest i (length w) q (omega arith) r),
     λ (i, b, r). (after q).1 (i, b, reaches_back part w rest i (length w) q (omega arith) r),
   )
 
-  -- and the other way round
+  -- the converse: a set that is right there on such a line is right after the front
   pub fronts_back : (mode : Mode) (S : ℕ → Type 0) → IsAfter part mode (w ++ rest) (length w) S → IsAfter part mode w (length w) S
   fronts_back mode S after q = (
     λ s. let (i, b, r) = (after q).0 s in (i, b, reaches_back part w rest i (length w) q (omega arith) r),

@@ -1,4 +1,4 @@
--- What sets of positions stand for, from what their words are.
+-- What sets of positions mean, by what their words are.
 use Rattle.std.proofs.Common.{◌≡◌, ℕ, suc, ◌<◌, Bool, true, false, IsTrue, List, length, ◌||◌, ◌&&◌, inl, inr, refl, sym, ◌∙◌, subst, arith, true≢false, Some, slice_get}
 use Rattle.std.specs.Prelude.{◌↔◌, slice_index}
 use Rattle.std.proofs.lemmas.Option.{slice_get_within, get_or_from_slice_get}
@@ -22,7 +22,7 @@ pub starts_at : (e : Expression) (mode : Mode) (line : Text) (set : StateSet) �
 unfolding StandsAt
 starts_at e mode line set marked none = (marked, none_is_right (part_of e 0) mode line (Has set.words.items) none)
 
--- a set that is next over a line's byte is right behind it
+-- a set that is next over a line's byte is right after it
 pub stands_next : (e : Expression) (mode : Mode) (from into : StateSet) (byte : ℕ) → IsNextSet e mode from byte into →
     (line : Text) (j : ℕ) → slice_get line j ≡ Some byte → StandsAt e mode line j from → StandsAt e mode line (suc j) into
 unfolding StandsAt IsNextSet
@@ -32,12 +32,12 @@ stands_next e mode from into byte next line j is stands =
     let here : IsNext (part_of e 0) mode (is_begin j) (Has from.words.items) (slice_index line j) (Has into.words.items) = rw (stands.0, ← byte_is) at next.1 in
     (next.0 ∙ sym (not_at_begin (suc j) (omega arith)), step_is_right (part_of e 0) mode line j _ _ stands.1 lt here)
 
--- the next set has none but the expression's positions
+-- the next set has only the expression's positions
 pub next_small : (e : Expression) (mode : Mode) (begin : Bool) (from into : List ℕ) (byte : ℕ) → IsNext (part_of e 0) mode begin (Has from) byte (Has into) →
     (q : ℕ) → Has into q → q < positions e
 next_small e mode begin from into byte next q h = omega (arith, (part_numbered e 0).takes q byte ((next q).0 h).0)
 
--- a set is accepted for a last position, or where a stretch may begin here and be empty
+-- a set accepts where it has a last position, or where a stretch may begin here and be empty
 pub accepted : (part : Part) (mode : Mode) (begin end longer may empty : Bool) (words : List ℕ) →
     (IsTrue longer ↔ ((q : ℕ) × Has words q × part.last end q)) → (IsTrue may ↔ MayBegin mode begin) → (IsTrue empty ↔ part.empty begin end) →
     IsTrue (longer || (may && empty)) ↔ Accepts part mode begin end (Has words)

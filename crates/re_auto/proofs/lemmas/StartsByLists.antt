@@ -1,4 +1,4 @@
--- What least starts stand for, from what their lists are.
+-- What least starts mean, by what their lists are.
 use Rattle.std.proofs.Common.{◌≡◌, ℕ, suc, ◌/◌, ◌%◌, if◌then◌else◌, ◌<◌, ◌≤◌, Bool, true, false, IsTrue, List, length, nat_eq, nat_lt, ltb-true, ltb-false, ◌⊎◌, inl, inr, refl, sym, ap, ◌∙◌, subst, arith, Option, Some, None, slice_get, eqb-true, eq-eqb, ne_eqb}
 use Rattle.std.specs.Prelude.{◌↔◌, slice_index}
 use Rattle.std.specs.Int.{bit_at}
@@ -39,7 +39,7 @@ first_row A B May First Row Taken Low may row add = (λ b. to (add.0 b), λ a. a
     back (inl a) = inl a
     back (inr (m, f, t, l)) = inr (row.1 f, t, l)
 
--- an option is the least number of P, if the numbers that are no less are those of P's numbers
+-- an option is the least number of P, if it is at most m exactly where some number of P is
 pub least_by_bounds : (P : ℕ → Type 0) (o : Option ℕ) → ((m : ℕ) → AtMost o m ↔ ((i : ℕ) × P i × (i ≤ m))) → Least P o
 least_by_bounds P None bounds = λ k p. (bounds k).1 (k, p, omega arith)
 least_by_bounds P (Some i) bounds = (known, least)
@@ -59,17 +59,17 @@ at_most_some None m none = absurd none
 at_most_some (Some i) m le = (i, refl, le)
 
 module _ (starts : Starts) (q : ℕ) where
-  -- a position that is held has its start
+  -- a held position has its start
   pub least_some : Has starts.held.items q → least_of starts q ≡ Some (slice_index starts.starts.items q)
   unfolding least_of Has
   least_some h = ap (λ b. if b then Some (slice_index starts.starts.items q) else None) (eq-eqb _ 1 h)
 
-  -- one that is not has none
+  -- a position that is not held has no start
   pub least_none : (Has starts.held.items q → ⊥) → least_of starts q ≡ None
   unfolding least_of Has
   least_none no_one = ap (λ b. if b then Some (slice_index starts.starts.items q) else None) (ne_eqb _ 1 no_one)
 
-  -- and a start that there is, is that of a held position
+  -- a position that has a start is held
   pub held_of : (i : ℕ) → least_of starts q ≡ Some i → Has starts.held.items q × (slice_index starts.starts.items q ≡ i)
   unfolding least_of Has
   held_of i = go (nat_eq (bit_at (slice_index starts.held.items (q / 64)) (q % 64)) 1) refl
@@ -86,14 +86,14 @@ module _ (starts : Starts) (q : ℕ) where
     λ at. let (i, is, le) = at_most_some (least_of starts q) m at in let (h, same) = held_of i is in (h, omega arith),
   )
 
--- where nothing is held, the starts are right for the stretches that are to begin
+-- where nothing is held, the starts are right for the stretches that begin at the place or later
 pub starts_begin : (e : Expression) (mode : Mode) (line : Text) (from : ℕ) (starts : Starts) → starts.place ≡ from → ((q : ℕ) → Has starts.held.items q → ⊥) →
     StartsAt e mode from line from starts
 unfolding StartsAt
 starts_begin e mode line from starts here none =
     (here, omega arith, (pass_begins e 0 mode from line (least_of starts) (λ q. least_none starts q (none q))).0)
 
--- what is carried from one set to the next, and what begins, are the next least starts
+-- what is carried from one set to the next, and what begins there, are the next least starts
 pub next_starts : (e : Expression) (mode : Mode) (byte : ℕ) (from carried into : Starts) (cleared before taking : List ℕ) → ((q : ℕ) → Has cleared q → ⊥) →
     ((q : ℕ) → Has taking q ↔ (part_of e 0).takes q byte) →
     ((q m : ℕ) → Carries carried q m ↔ ((Has cleared q × (slice_index before q ≤ m)) ⊎ ((p : ℕ) × Has from.held.items p × Brings e from taking p q m))) →
@@ -123,7 +123,7 @@ next_starts e mode byte from carried into cleared before taking none taken carri
         let small : slice_index from.starts.items p ≤ m = omega arith in
         (begun q m).1 (inl ((carries q m).1 (inr (p, held, (small, follow, (taken q).1 t)))))
 
--- starts that are next over a line's byte are right behind it
+-- starts that are next over a line's byte are right after it
 pub starts_next : (e : Expression) (mode : Mode) (byte : ℕ) (starts into : Starts) → AreNext e mode starts byte into →
     (from : ℕ) (line : Text) (j : ℕ) → slice_get line j ≡ Some byte → StartsAt e mode from line j starts → StartsAt e mode from line (suc j) into
 unfolding StartsAt AreNext
@@ -148,7 +148,7 @@ told_least e at_end starts row o last bounds mode from line j stands ends =
       λ (i, (q, is, l), le). let (held, same) = held_of starts q i is in (bounds m).1 (q, held, (last q).1 l, omega arith),
     ))
 
--- each start is behind s exactly if the least of all is not at most s
+-- each start is after s exactly if the least of all is not at most s
 pub spent_by : (starts : Starts) (o : Option ℕ) (s : ℕ) →
     ((m : ℕ) → AtMost o m ↔ ((q : ℕ) × Has starts.held.items q × Has starts.held.items q × (slice_index starts.starts.items q ≤ m))) →
     (AtMost o s → ⊥) ↔ IsSpent (least_of starts) s
@@ -166,11 +166,11 @@ spent_by starts o s bounds = (to, back)
         let behind : s < slice_index starts.starts.items q = spent q _ (least_some starts q held) in
         omega arith
 
--- the test on a least start that there is
+-- the test of a least start
 pub spent_some : (P : Type 0) (least s : ℕ) → ((least ≤ s → ⊥) ↔ P) → IsTrue (nat_lt s least) ↔ P
 spent_some P least s told = (λ h. told.0 (λ le. let lt = ltb-true s least h in omega arith), λ p. true_from_ne_false (nat_lt s least) (λ off. told.1 p (ltb-false s least off)))
 
--- and then the pass is over
+-- where each start is after s, the pass is over
 pub over_by : (starts : Starts) (s : ℕ) → IsSpent (least_of starts) s → (e : Expression) (mode : Mode) (from : ℕ) (line : Text) (j : ℕ) → StartsAt e mode from line j starts →
     s < j → (i k : ℕ) → i ≤ s → j ≤ k → ¬ IsMatched e mode from line i k
 unfolding StartsAt

@@ -12,11 +12,11 @@ pub record HasNoPositions (part : Part) : Type 0 where
   pub follow : (p q : ℕ) → ¬ part.follow p q
   pub takes : (q c : ℕ) → ¬ part.takes q c
 
--- some number of turns is within the bounds, and either no turn is or each turn may be empty
+-- some number of turns is within the bounds, and is 0 or each turn may be empty
 abbrev pub turns_empty : (Bool → Bool → Type 0) → ℕ → Option ℕ → Bool → Bool → Type 0
 turns_empty E least most b z = IfSome most (λ top. least ≤ top) × ((least ≡ 0) ⊎ E b z)
 
--- an expression whose count of positions is nought has none
+-- an expression whose number of positions is 0 has none
 pub no_positions : (e : Expression) (n : ℕ) → positions e ≡ 0 → HasNoPositions (part_of e n)
 no_positions e n none =
     let numbered = part_numbered e n in
@@ -28,12 +28,12 @@ no_positions e n none =
     }
 
 module _ (part : ℕ → Part) (size : ℕ) (b z : Bool) (anywhere : (m n : ℕ) → (part m).empty b z → (part n).empty b z) where
-  -- up to so many copies may be empty
+  -- up to n copies may be empty
   up_to_empty : (turns from : ℕ) → (up_to part size turns from).empty b z
   up_to_empty zero from = tt
   up_to_empty (suc turns) from = tt
 
-  -- copies that may be empty and a rest that may be are empty together
+  -- copies that may be empty and a rest that may be empty are empty together
   copies_empty : (rest : ℕ → Part) → ((n : ℕ) → (rest n).empty b z) → (n turns from : ℕ) → (part n).empty b z → (copies_before part size turns rest from).empty b z
   copies_empty rest behind n zero from h = behind from
   copies_empty rest behind n (suc turns) from h = (anywhere n from h, copies_empty rest behind n turns (from + size) h)
@@ -41,7 +41,7 @@ module _ (part : ℕ → Part) (size : ℕ) (b z : Bool) (anywhere : (m n : ℕ)
   abbrev Between : ℕ → ℕ → ℕ → Part
   Between least most from = copies_before part size least (up_to part size (most - least)) from
 
-  -- no copy, or copies that may be empty, and up to some more
+  -- copies between two bounds may be empty where no copy is needed, or where a copy may be empty
   between_give : (n least most from : ℕ) → (least ≡ 0) ⊎ (part n).empty b z → (Between least most from).empty b z
   between_give n zero most from h = up_to_empty (most - 0) from
   between_give n (suc least) most from (inl h) = absurd (omega (arith, h))
@@ -55,13 +55,13 @@ module _ (part : ℕ → Part) (size : ℕ) (b z : Bool) (anywhere : (m n : ℕ)
   repeated_empty n least (Some most) from (w, h) =
       subst (λ c. (only_if c (Between least most from)).empty b z) (sym (le-leb least most w)) (between_give n least most from h)
 
-  -- a copy and others are empty only where the copy may be
+  -- copies between two bounds may be empty only there
   between_need : (n least most from : ℕ) (c : Bool) → nat_le least most ≡ c → (only_if c (Between least most from)).empty b z → turns_empty (part n).empty least (Some most) b z
   between_need n least most from false is h = absurd h
   between_need n zero most from true is h = (leb-true zero most is, inl refl)
   between_need n (suc least) most from true is h = (leb-true (suc least) most is, inr (anywhere from n h.0))
 
-  -- and nowhere else
+  -- a repeated part is empty only where its turns may be
   empty_repeated : (n least : ℕ) (most : Option ℕ) (from : ℕ) → (repeated part size least most from).empty b z → turns_empty (part n).empty least most b z
   empty_repeated n zero None from h = (tt, inl refl)
   empty_repeated n (suc zero) None from h = (tt, inr (anywhere from n h))
@@ -91,6 +91,6 @@ repeat_empty e least most n b z =
     let same : (m n : ℕ) → (part_of e m).empty b z → (part_of e n).empty b z = λ m n. empty_anywhere e m n b z in
     (empty_repeated (part_of e) (positions e) b z same n least most n, repeated_empty (part_of e) (positions e) b z same n least most n)
 
--- of an expression without positions, the repeated one has none either
+-- a repeated expression without positions has none
 pub repeat_no_positions : (e : Expression) (least : ℕ) (most : Option ℕ) → positions e ≡ 0 → positions (repeat e least most) ≡ 0
 repeat_no_positions e least most none = rw none (omega arith)

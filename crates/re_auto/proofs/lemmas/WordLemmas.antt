@@ -11,11 +11,11 @@ use Rattle.re_auto.specs.Working.Positions.{Part}
 use Rattle.re_auto.specs.Working.Stepping.{MayBegin, IsNext}
 use Rattle.re_auto.proofs.lemmas.BitLemmas.{one_of_max, within}
 
--- no number past the last bit
+-- a word has no number above its last bit
 none_above : (word e : ℕ) → word < 2 ^ 64 → 64 ≤ e → InWord word e → ⊥
 none_above word e fits le h = omega (arith, h, bit_at_above word 64 e fits le)
 
--- the word, and the list of that word
+-- the members of a one-word list are those of its word
 pub word_has : (xs : List ℕ) → length xs ≡ 1 → get_or xs 0 0 < 2 ^ 64 → (q : ℕ) → InWord (get_or xs 0 0) q ↔ Has xs q
 unfolding Has
 word_has xs one fits q =
@@ -27,7 +27,7 @@ word_has xs one fits q =
       | inr le ↦ (λ h. absurd (none_above (get_or xs 0 0) q fits le h), λ h. absurd (let lt = within xs q h in omega (arith, lt)))
     ]
 
--- a list of one word that is written
+-- the members of a one-word list after its word is written
 pub written_has : (xs : List ℕ) (word : ℕ) → length xs ≡ 1 → word < 2 ^ 64 → (q : ℕ) → Has (set xs 0 word) q ↔ InWord word q
 written_has xs word one fits q =
     let is : get_or (set xs 0 word) 0 0 ≡ word = get_or-set_same xs 0 word 0 (omega arith) in
@@ -57,7 +57,7 @@ bounded word R fits = (λ (b, lt, h, r). (b, h, r), λ (p, h, r). (p, below p h,
 pub turned : {A B : Type 0} → A ↔ B → B ↔ A
 turned f = (f.1, f.0)
 
--- what is right of two choices of which the second is right
+-- where the second choice is equivalent to another, so is the choice
 pub second_as : (A B C : Type 0) → B ↔ C → (A ⊎ B) ↔ (A ⊎ C)
 second_as A B C f = (
   λ h. elim h [ inl a ↦ inl a | inr b ↦ inr (f.0 b) ],
@@ -75,7 +75,7 @@ module _ (part : Part) (mode : Mode) (begin : Bool) (byte : ℕ) where
     λ w. (in_both after taking q).1 ((follows q).1 (elim w.1 [ inl f ↦ inl ((begins q).1 f) | inr p ↦ inr p ]), (takes q).1 w.0),
   )
 
-  -- is one of the set itself
+  -- the step of a one-word set is a step of the set itself
   pub next_of_word : (S T : ℕ → Type 0) (from into : ℕ) → ((q : ℕ) → InWord from q ↔ S q) → ((q : ℕ) → InWord into q ↔ T q) →
       IsNext part mode begin (InWord from) byte (InWord into) → IsNext part mode begin S byte T
   next_of_word S T from into is are next q = (

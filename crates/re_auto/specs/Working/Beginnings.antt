@@ -1,4 +1,4 @@
--- Sets of bytes by marks, and their members where these are few.
+-- Sets of bytes by marks, and their members where there are few.
 use Rattle.std.specs.Prelude.{◌≡◌, ℕ, ⊤, ◌<◌, ◌≤◌, Bool, false, IsTrue, ◌↔◌, ◌⊎◌, List, slice_index}
 use Rattle.std.specs.Prelude.{slice_index_or}
 use Rattle.re_syntax.specs.Bytes.{Text}
@@ -9,13 +9,14 @@ use Rattle.re_auto.specs.declared.beginnings.Few.TheVariants.{Never, One, Two, T
 abbrev pub IsMarked : List Bool → ℕ → Type 0
 IsMarked marks c = IsTrue (slice_index_or marks c false)
 
--- the first place from one on and before an end whose byte is marked; the end where there is none
+-- the first place from `from` on and before `end` whose byte is marked, or `end` where there is
+-- none
 pub record IsFirstMarked (marks : List Bool) (line : Text) (from end result : ℕ) : Type 0 where
   pub on : (from ≤ result) × (result ≤ end)
   pub passed : (k : ℕ) → from ≤ k → k < result → ¬ IsMarked marks (slice_index line k)
   pub stops : result < end → IsMarked marks (slice_index line result)
 
--- the first marked byte from one on; 256 where there is none
+-- the first marked byte from `from` on, or 256 where there is none
 pub record IsNextMark (marks : List Bool) (from result : ℕ) : Type 0 where
   pub on : (from ≤ result) × (result ≤ 256)
   pub passed : (c : ℕ) → from ≤ c → c < result → ¬ IsMarked marks c

@@ -14,11 +14,11 @@ use Rattle.re_auto.specs.Working.Positions.{Part, without_positions, one_positio
 use Rattle.re_auto.specs.Working.Positions.{copies_before, up_to, part_of}
 use Rattle.re_auto.specs.Working.Tables.{TellsEmpty, most_words, words_for}
 
--- the words are the set, and so many
+-- the words are the set, and their number is `width`
 abbrev pub IsSet : (ℕ → Type 0) → ℕ → Vec ℕ Global → Type 0
 IsSet S width set = Are set.items S width
 
--- the ends are those of the part, as sets of so many words
+-- the ends are those of the part, as sets of `width` words
 pub record Shows (part : Part) (width : ℕ) (ends : Ends) : Type 0 where
   pub first_at_begin : Are ends.first_at_begin.items (part.first true) width
   pub first_inside : Are ends.first_inside.items (part.first false) width
@@ -26,7 +26,7 @@ pub record Shows (part : Part) (width : ℕ) (ends : Ends) : Type 0 where
   pub last_inside : Are ends.last_inside.items (part.last false) width
   pub empty : TellsEmpty part ends.empty
 
--- the rows have what they had, and what the part tells of its positions
+-- the rows have what they had, and what the part says of its positions
 pub record Adds (part : Part) (old new : Rows) : Type 0 where
   pub width : new.width ≡ old.width
   pub follow_length : length new.follow.items ≡ length old.follow.items
@@ -45,7 +45,7 @@ pub record HasRoom (behind : ℕ) (rows : Rows) : Type 0 where
   pub follow : behind * rows.width ≤ length rows.follow.items
   pub takes : length rows.takes.items ≡ 256 * rows.width
 
--- a part of so many positions, the last of them before `behind`, was added to the rows, and these
+-- a part of `size` positions, the last of them before `behind`, was added to the rows, and these
 -- are its ends
 pub record IsAdded (part : ℕ → Part) (size behind : ℕ) (old new : Rows) (ends : Ends) : Type 0 where
   pub begins : ends.begins + size ≡ behind
@@ -68,7 +68,7 @@ abbrev pub last_at : Ends → Bool → ℕ → Type 0
 last_at ends true q = Has ends.last_at_end.items q
 last_at ends false q = Has ends.last_inside.items q
 
--- the ends as a part that tells nothing of what is between them
+-- the ends as a part that says nothing of what is between them
 abbrev pub shown : Ends → Part
 shown ends = record {
   empty = λ b z. IsTrue (empty_at ends.empty b z);
@@ -78,7 +78,7 @@ shown ends = record {
   takes = λ q c. ⊥;
 }
 
--- each position of the one set followed by each of the other, and nothing else
+-- each position of the one set is followed by each of the other, and by nothing else
 abbrev pub crossing : (ℕ → Type 0) → (ℕ → Type 0) → Part
 crossing P Q = record {
   empty = λ b z. ⊥;
@@ -88,7 +88,7 @@ crossing P Q = record {
   takes = λ q c. ⊥;
 }
 
--- each set has so many words
+-- each set has `width` words
 pub record HasWidth (width : ℕ) (ends : Ends) : Type 0 where
   pub first_at_begin : length ends.first_at_begin.items ≡ width
   pub first_inside : length ends.first_inside.items ≡ width
@@ -123,24 +123,24 @@ IsAddedOf e behind old new ends = IsAdded (part_of e) (positions e) behind old n
 abbrev pub HasRows : (ℕ → Type 0) → Rows → Type 0
 HasRows S rows = (p : ℕ) → S p → p * rows.width + rows.width ≤ length rows.follow.items
 
--- what stands behind the copies that a repeated part has to have: up to so many more, or the part
+-- what follows the copies that a repeated part must have: up to the given number more, or the part
 -- again and again
 abbrev pub tail_of : (ℕ → Part) → ℕ → Option ℕ → ℕ → Part
 tail_of part size None from = again (part from)
 tail_of part size (Some turns) from = up_to part size turns from
 
--- how many copies that takes
+-- the number of copies in that tail
 abbrev pub tail_copies : Option ℕ → ℕ
 tail_copies None = 1
 tail_copies (Some turns) = turns
 
--- so many copies of the expression and such a tail were added
+-- `turns` copies of the expression and such a tail were added
 abbrev pub AreTurns : Expression → ℕ → Option ℕ → ℕ → Rows → Rows → Ends → Type 0
 AreTurns e turns tail behind old new ends =
     IsAdded (copies_before (part_of e) (positions e) turns (tail_of (part_of e) (positions e) tail))
     (turns * positions e + tail_copies tail * positions e) behind old new ends
 
--- up to so many copies of the expression were added
+-- up to `turns` copies of the expression were added
 abbrev pub AreUpTo : Expression → ℕ → ℕ → Rows → Rows → Ends → Type 0
 AreUpTo e turns behind old new ends =
     IsAdded (up_to (part_of e) (positions e) turns) (turns * positions e) behind old new ends
@@ -151,14 +151,14 @@ IsTail e tail behind old new ends =
     IsAdded (tail_of (part_of e) (positions e) tail) (tail_copies tail * positions e) behind old new
     ends
 
--- an expression without positions was added, as one that is repeated from `least` times on, to any
+-- an expression without positions was added, as if repeated at least `least` times, with any upper
 -- bound that is not below
 abbrev pub IsOnce : Expression → ℕ → ℕ → Rows → Rows → Ends → Type 0
 IsOnce e least behind old new ends =
     (most : Option ℕ) → IfSome most (λ top. least ≤ top) →
     IsAddedOf (repeat e least most) behind old new ends
 
--- rows without members, for so many positions
+-- rows without members, for `count` positions
 pub record AreBlankRows (count : ℕ) (rows : Rows) : Type 0 where
   pub width : rows.width ≡ words_for count
   pub follow_length : length rows.follow.items ≡ count * rows.width

@@ -11,7 +11,7 @@ pub record AreClasses (rows : List ℕ) (width : ℕ) (classes : Classes) : Type
   pub same : (c : ℕ) → c < 256 →
       row_of classes.takes.items width (slice_index classes.class_of.items c) ≡ row_of rows width c
 
--- the row has this class, which may be a new one behind those that there were
+-- the row has this class, which may be a new one after the old ones
 pub record IsClassed (count width : ℕ) (row old new : List ℕ) (class : ℕ) : Type 0 where
   pub known : class ≤ count
   pub longer : length new ≡ max count (class + 1) * width

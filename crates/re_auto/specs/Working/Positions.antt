@@ -1,6 +1,6 @@
 -- The positions of an expression: the places in it that take a byte, numbered from the left once
--- each interval is written out (Glushkov's position automaton). Each question that an anchor can
--- change has an answer for each kind of place.
+-- each interval is written out (Glushkov's position automaton). Where an anchor can change an
+-- answer, there is one for each kind of place.
 use Rattle.std.specs.Prelude.{◌≡◌, ℕ, zero, suc, ◌+◌, ◌-◌, ◌<◌, ⊤, Bool, true, false, IsTrue}
 use Rattle.std.specs.Prelude.{nat_eq, nat_le, ◌⊎◌, length, slice_index, Option, Some, None}
 use Rattle.re_syntax.specs.Bytes.{Text}
@@ -8,8 +8,8 @@ use Rattle.re_syntax.specs.Expression.{Expression, empty, one_of, none_of, begin
 use Rattle.re_syntax.specs.Expression.{cat_more, alt_none, alt_more, repeat}
 use Rattle.re_syntax.specs.Holds.{positions}
 
--- What is asked of a part of an expression. The first Bool says that the place is the line's first,
--- the second that it is its last.
+-- The questions about a part of an expression. The first Bool says that the place is the line's
+-- first, the second that it is its last.
 pub record Part : Type 1 where
   -- holds on the empty stretch
   pub empty : Bool → Bool → Type 0
@@ -73,7 +73,7 @@ one_position n P = record {
   takes = λ q c. (q ≡ n) × P c;
 }
 
--- both parts, the second beginning a stretch where `Skip` lets it, and following the first where
+-- both parts; the second can begin a stretch where `Skip` lets it, and follow the first where
 -- `Cross` does
 abbrev pub joined : Part → Part → (Bool → Type 0) → Type 0 → (Bool → Bool → Type 0) →
     (Bool → ℕ → Type 0) → Part
@@ -98,7 +98,7 @@ either f g =
     (λ b z. f.empty b z ⊎ g.empty b z)
     (λ z q. f.last z q ⊎ g.last z q)
 
--- the part again and again, one time at least
+-- the part again and again, at least once
 abbrev pub again : Part → Part
 again f = record {
   empty = f.empty;
@@ -118,13 +118,13 @@ optional f = record {
   takes = f.takes;
 }
 
--- so many copies in turn, each with numbers of its own, and then what follows them
+-- `turns` copies in turn, each with numbers of its own, and then what follows them
 abbrev pub copies_before : (ℕ → Part) → ℕ → ℕ → (ℕ → Part) → ℕ → Part
 copies_before part size zero rest from = rest from
 copies_before part size (suc turns) rest from =
     in_turn (part from) (copies_before part size turns rest (from + size))
 
--- none of the copies, or the first and then perhaps more of them
+-- no copy, or the first and then up to the remaining number
 abbrev pub up_to : (ℕ → Part) → ℕ → ℕ → ℕ → Part
 up_to part size zero from = nothing_more
 up_to part size (suc turns) from =
@@ -135,7 +135,7 @@ abbrev pub only_if : Bool → Part → Part
 only_if true part = part
 only_if false part = never
 
--- from `least` to `most` turns; never, if `most` is the smaller
+-- from `least` to `most` turns; the part never holds where `most` is the smaller
 abbrev pub repeated : (ℕ → Part) → ℕ → ℕ → Option ℕ → ℕ → Part
 repeated part size zero None from = optional (again (part from))
 repeated part size (suc least) None from = copies_before part size least (λ m. again (part m)) from

@@ -1,15 +1,15 @@
--- Ranges of words that the members of rows lie in.
+-- Ranges of words that contain the members of rows.
 use Rattle.std.specs.Prelude.{◌≡◌, ℕ, ◌/◌, ◌<◌, ◌≤◌, List, length, Some, slice_get}
 use Rattle.re_auto.specs.declared.ranges.WordRange.{WordRange}
 use Rattle.re_auto.specs.Working.Bits.{Has, row_of}
 
--- the range is one of the set's words, and each member lies in a word of it
+-- the range is one of the set's words, and each member is in a word of it
 pub record Covers (range : WordRange) (set : List ℕ) : Type 0 where
   pub ordered : range.first ≤ range.past
   pub within : range.past ≤ length set
   pub members : (q : ℕ) → Has set q → (range.first ≤ q / 64) × (q / 64 < range.past)
 
--- for each of so many rows of the table there is a range, which covers it
+-- each of the table's `rows` rows has a range, which covers it
 abbrev pub CoverRows : List WordRange → List ℕ → ℕ → ℕ → Type 0
 CoverRows ranges table rows width =
     (length ranges ≡ rows) ×

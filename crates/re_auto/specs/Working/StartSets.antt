@@ -1,4 +1,4 @@
--- What a set of positions with least starts stands for on a line and a place.
+-- What a set of positions with least starts means on a line and at a place.
 use Rattle.std.specs.Prelude.{◌≡◌, ℕ, suc, ◌/◌, ◌%◌, ◌≤◌, List, nat_eq, if◌then◌else◌, length}
 use Rattle.std.specs.Prelude.{slice_index, Option, Some, None}
 use Rattle.std.specs.Int.{bit_at}
@@ -26,7 +26,7 @@ least_of starts q =
 abbrev pub Carries : Starts → ℕ → ℕ → Type 0
 Carries starts q m = Has starts.held.items q × (slice_index starts.starts.items q ≤ m)
 
--- position p brings q a start of at most m: it carries one, q can come directly after it, and
+-- position p brings q a start of at most m: p carries one, q can come directly after p, and
 -- `taking` has q
 abbrev pub Brings : Expression → Starts → List ℕ → ℕ → ℕ → ℕ → Type 0
 Brings e starts taking p q m =
@@ -50,7 +50,7 @@ AreAlike one other =
     (length one.held.items ≡ length other.held.items) ×
     (length one.starts.items ≡ length other.starts.items) × (one.place ≡ other.place)
 
--- there is room for as many positions in the one as in the other
+-- the two have room for the same number of positions
 abbrev pub AreOfOneSize : Starts → Starts → Type 0
 AreOfOneSize one other =
     (length one.held.items ≡ length other.held.items) ×

@@ -1,4 +1,4 @@
--- Least starts: for each position the least place at which a stretch begins that can have come to
+-- Least starts: for each position, the least place at which a stretch begins that can have come to
 -- it.
 use Rattle.std.specs.Prelude.{◌≡◌, ℕ, ◌<◌, ◌≤◌, Bool, ◌⊎◌, nat_le, if◌then◌else◌, Option, Some}
 use Rattle.std.specs.Prelude.{None}
@@ -13,7 +13,7 @@ use Rattle.re_auto.specs.Working.Stepping.{MayBegin}
 abbrev pub IsLeast : (ℕ → Type 0) → ℕ → Type 0
 IsLeast P i = P i × ((k : ℕ) → P k → i ≤ k)
 
--- the option is the least number of P, None where there is none
+-- the option is the least number of P, or None where there is none
 abbrev pub Least : (ℕ → Type 0) → Option ℕ → Type 0
 Least P (Some i) = IsLeast P i
 Least P None = (k : ℕ) → ¬ P k
@@ -25,8 +25,8 @@ StartsAfter part mode from line j least =
     (q : ℕ) →
     Least (λ i. (from ≤ i) × MayBegin mode (is_begin i) × Reaches part line i j q) (least q)
 
--- the starts that the byte c at place j can bring to position q: from a position before it, or this
--- place itself
+-- the starts that the byte c at place j can bring to position q: from a position before it, or from
+-- this place itself
 abbrev pub Brought : Part → Mode → ℕ → (ℕ → Option ℕ) → ℕ → ℕ → ℕ → Type 0
 Brought part mode j least c q i =
     part.takes q c
@@ -37,7 +37,7 @@ Brought part mode j least c q i =
 abbrev pub IsNextStarts : Part → Mode → ℕ → (ℕ → Option ℕ) → ℕ → (ℕ → Option ℕ) → Type 0
 IsNextStarts part mode j least c next = (q : ℕ) → Least (Brought part mode j least c q) (next q)
 
--- the starts of the matched stretches that end here, as the positions tell them
+-- the starts of the matched stretches that end here, as the positions say
 abbrev pub Told : Part → Bool → (ℕ → Option ℕ) → ℕ → Type 0
 Told part end least i = (q : ℕ) × (least q ≡ Some i) × part.last end q
 
@@ -55,12 +55,12 @@ IsBest R to (Some (i, j)) =
     × ((k l : ℕ) → l ≤ to → R k l → i ≤ k)
     × ((l : ℕ) → l ≤ to → R i l → l ≤ j)
 
--- the best so far, and the least start of the stretches that end at the next place
+-- the best stretch so far, improved by the least start of the stretches that end at the next place
 abbrev pub better : Option (ℕ × ℕ) → ℕ → Option ℕ → Option (ℕ × ℕ)
 better best to None = best
 better None to (Some k) = Some (k, to)
 better (Some (i, j)) to (Some k) = if nat_le k i then Some (k, to) else Some (i, j)
 
--- each start that is still carried is behind s
+-- each start that is still carried is after s
 abbrev pub IsSpent : (ℕ → Option ℕ) → ℕ → Type 0
 IsSpent least s = (q m : ℕ) → least q ≡ Some m → s < m

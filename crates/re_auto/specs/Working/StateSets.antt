@@ -1,4 +1,4 @@
--- What a set of positions stands for on a line and a place.
+-- What a set of positions means on a line and at a place.
 use Rattle.std.specs.Prelude.{◌≡◌, ℕ, ◌<◌, ◌↔◌, Bool, List, false, length, slice_index}
 use Rattle.re_syntax.specs.Bytes.{Text}
 use Rattle.re_syntax.specs.Expression.{Expression}
@@ -10,7 +10,7 @@ use Rattle.re_auto.specs.Working.Positions.{is_begin, part_of}
 use Rattle.re_auto.specs.Working.Stepping.{IsAfter, IsNext, Accepts}
 use Rattle.re_auto.specs.Working.Tables.{words_for}
 
--- the set was made for the automaton of this expression, and has none but its positions
+-- the set was made for the automaton of this expression, and has only its positions
 abbrev pub IsMadeFor : Expression → StateSet → Type 0
 IsMadeFor e set =
     (length set.words.items ≡ words_for (positions e)) ×
@@ -20,8 +20,8 @@ IsMadeFor e set =
 abbrev pub IsAlike : StateSet → StateSet → Type 0
 IsAlike one other = length one.words.items ≡ length other.words.items
 
--- the two sets have the same positions and the same mark, so that all that is said of the one is
--- true of the other
+-- the two sets have the same positions and the same mark, so all that is said of the one is true of
+-- the other
 abbrev pub IsSame : StateSet → StateSet → Type 0
 IsSame one other = (one.words.items ≡ other.words.items) × (one.at_begin ≡ other.at_begin)
 

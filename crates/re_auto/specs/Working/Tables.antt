@@ -1,4 +1,4 @@
--- What the tables of an automaton tell of the positions of an expression.
+-- What the tables of an automaton say of the positions of an expression.
 use Rattle.std.specs.Prelude.{◌≡◌, ℕ, ◌+◌, ◌*◌, ◌/◌, ◌<◌, ◌≤◌, Bool, true, false, IsTrue, ◌↔◌, List}
 use Rattle.std.specs.Prelude.{length, slice_index, slice_index_or}
 use Rattle.re_syntax.specs.Expression.{Expression}
@@ -12,11 +12,11 @@ use Rattle.re_auto.specs.Working.Bits.{Has, row_of, Are, RowsAre}
 use Rattle.re_auto.specs.Working.Positions.{Part, part_of}
 use Rattle.re_auto.specs.Working.Ranges.{CoverRows}
 
--- how many words of 64 bits hold so many positions
+-- the number of words of 64 bits that hold `count` positions
 abbrev pub words_for : ℕ → ℕ
 words_for count = (count + 63) / 64
 
--- how many words a set of positions has at most
+-- the greatest number of words of a set of positions
 abbrev pub most_words : ℕ
 most_words = words_for most_positions
 
@@ -64,8 +64,7 @@ pub record AreTablesOf (e : Expression) (tables : Tables) : Type 0 where
   pub empty : TellsEmpty (part_of e 0) tables.empty
   pub beginnings : Marks tables.beginnings (CanBegin (part_of e 0))
 
--- what a refusal says of the count of positions: too large exactly where there are more than an
--- automaton may have
+-- what a refusal says of the number of positions: too large exactly where it is above the limit
 abbrev pub IsRefused : ℕ → BuildFault → Type 0
 IsRefused count TooLarge = most_positions < count
 IsRefused count Memory = count ≤ most_positions

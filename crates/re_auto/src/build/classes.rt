@@ -1,4 +1,4 @@
-//! Bytes by what takes them: those with equal rows share a class.
+//! Bytes by the positions that take them: bytes with equal rows share a class.
 ghost use Rattle.std.specs.Prelude.{◌≡◌, ℕ, ◌*◌, ◌<◌, ◌≤◌, ◌↔◌, IsTrue, IfOk, length};
 ghost use Rattle.re_auto.specs.Working.Bits.{Has, row_of};
 ghost use Rattle.re_auto.specs.Working.ByteClasses.{AreClasses, IsClassed};
@@ -16,7 +16,7 @@ pub struct Classes {
     pub takes: Vec<u64>,
 }
 
-/// The classes of the bytes, of which each has a row.
+/// The classes of the bytes, each of which has a row.
 pub fn classes_of(alloc: Global, rows: &[u64], width: usize) -> Result<Classes, AllocError>
     requires { length rows.now ≡ 256 * width }
     ensures { IfOk result (AreClasses rows.now width) }
@@ -32,7 +32,7 @@ pub fn classes_of(alloc: Global, rows: &[u64], width: usize) -> Result<Classes, 
     Ok(Classes { class_of, takes })
 }
 
-// The class of a row, a new one where no class has the row.
+// The class of a row. A new class is added where none has the row.
 fn add_class(
     takes: &mut Vec<u64>,
     width: usize,
@@ -50,7 +50,7 @@ fn add_class(
     Ok(class)
 }
 
-// The first class that has this row, or the count of the classes where none has.
+// The first class that has this row, or the number of classes where none has.
 fn find_class(takes: &[u64], width: usize, count: usize, row: &[u64]) -> usize
     requires table { length takes.now ≡ count * width }
     requires same { length row.now ≡ width }

@@ -1,15 +1,15 @@
-//! How many positions an expression has, without writing its intervals out.
+//! The number of an expression's positions, without writing its intervals out.
 ghost use Rattle.std.specs.Prelude.{◌≡◌, ◌<◌, map, min};
 ghost use Rattle.re_syntax.specs.Expression.{cat, expression_of};
 ghost use Rattle.re_syntax.specs.Holds.{copies, positions};
 
 use re_syntax::{MOST_POSITIONS, Tree};
 
-/// Where counting stops: one more than the most positions that an automaton may have.
+/// Where counting stops: one more than the greatest number of positions of an automaton.
 pub(crate) const TOO_MANY: usize = MOST_POSITIONS + 1;
 
-/// The positions of the expression once each interval is written out, or [`TOO_MANY`] where there
-/// are more.
+/// The number of positions of the expression once each interval is written out, or [`TOO_MANY`]
+/// where there are more.
 #[cycle(count)]
 pub fn position_count(tree: &Tree) -> usize
     ensures { result ≡ min (positions (expression_of tree.now)) TOO_MANY }
@@ -41,8 +41,8 @@ fn count_all(members: &[Tree]) -> usize
     count
 }
 
-/// How often a repeated part is written out: as often as it may stand at most, or, where it may
-/// stand any number of times, as often as it has to, and once at least.
+/// How often a repeated part is written out: its greatest count, or where it has none its least
+/// count, but at least once.
 pub fn copies_of(least: u16, most: Option<u16>) -> usize
     ensures is { result ≡ copies least most }
     ensures small { result < 65536 }

@@ -1,4 +1,4 @@
-//! The ends of a part of an expression: what its neighbours have to know of it.
+//! The ends of a part of an expression: what its neighbours use of it.
 ghost use Rattle.std.specs.Prelude.{◌≡◌, ℕ, ◌<◌, ◌*◌, ◌↔◌, ◌⊎◌, IsTrue, IfOk, length};
 ghost use Rattle.re_auto.specs.Working.Bits.{Has};
 ghost use Rattle.re_auto.specs.Working.Building.{HasWidth, IsBlank, IsOne, IsSet, Shows, shown};
@@ -130,7 +130,7 @@ impl Ends {
     }
 }
 
-/// A set without members, of so many words.
+/// A set without members, of `width` words.
 pub fn blank_set(alloc: Global, width: usize) -> Result<Vec<u64>, AllocError>
     ensures { IfOk result (IsSet (λ q. ⊥) width) }
 {
@@ -147,7 +147,7 @@ fn one_member(alloc: Global, width: usize, member: usize) -> Result<Vec<u64>, Al
     Ok(set)
 }
 
-// Adds the members of `row` where that is wanted.
+// Adds the members of `row` where `wanted` is set.
 fn add_if(into: &mut Vec<u64>, row: &Vec<u64>, wanted: bool)
     requires same { length into.old.items ≡ length row.now.items }
     ensures len { length into.new.items ≡ length into.old.items }

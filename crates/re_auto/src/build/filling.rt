@@ -15,8 +15,8 @@ use crate::tables::Tables;
 use re_syntax::Tree;
 use std::alloc::{AllocError, Global};
 
-/// The tables of an expression. The errors are `TooLarge`, exactly where it has more than 4,096
-/// positions, which is known before any memory is taken, and `Memory`.
+/// The tables of an expression. The errors are `Memory`, and `TooLarge` exactly where it has more
+/// than 4,096 positions, which is known before any memory is allocated.
 pub fn build_tables(alloc: Global, tree: &Tree) -> Result<Tables, BuildFault>
     ensures built { IfOk result (AreTablesOf (expression_of tree.now)) }
     ensures refused { IfErr result (IsRefused (positions (expression_of tree.now))) }
@@ -31,7 +31,7 @@ pub fn build_tables(alloc: Global, tree: &Tree) -> Result<Tables, BuildFault>
     }
 }
 
-// The tables of an expression with so many positions.
+// The tables of an expression with `count` positions.
 fn fill_tables(alloc: Global, tree: &Tree, count: usize) -> Result<Tables, AllocError>
     requires is { count ≡ positions (expression_of tree.now) }
     requires few { count ≤ most_positions }

@@ -13,8 +13,8 @@ use re_syntax::{ByteSet, Tree};
 use std::alloc::{AllocError, Global};
 
 impl Rows {
-    /// Adds the expression to the rows, its positions being the last before the number `behind`,
-    /// and gives its ends.
+    /// Adds the expression to the rows and returns its ends. Its positions are the last before the
+    /// number `behind`.
     #[cycle(add)]
     pub fn add(&mut self, alloc: Global, tree: &Tree, behind: usize) -> Result<Ends, AllocError>
         requires fits { positions (expression_of tree.now) ≤ behind }
@@ -88,8 +88,8 @@ impl Rows {
         Ok(rest)
     }
 
-    /// Adds a part that stands from `least` to `most` times. One that never holds keeps the numbers
-    /// of its copies.
+    /// Adds a part that is repeated from `least` to `most` times. One that never holds keeps the
+    /// numbers of its copies.
     #[cycle(add)]
     fn add_bounded(
         &mut self,
@@ -116,7 +116,7 @@ impl Rows {
         self.add_turns(alloc, part, least, Some(most - least), behind)
     }
 
-    /// Adds a part that stands `least` times or more often.
+    /// Adds a part that is repeated `least` times or more.
     #[cycle(add)]
     fn add_unbounded(
         &mut self,
@@ -140,7 +140,7 @@ impl Rows {
         self.add_turns(alloc, part, least - 1, None, behind)
     }
 
-    /// Adds a part without positions, however often it stands: its turns are all on the empty
+    /// Adds a part without positions, repeated any number of times: its turns are all on the empty
     /// stretch.
     #[cycle(add)]
     fn add_once(
@@ -161,8 +161,8 @@ impl Rows {
         Ok(once)
     }
 
-    /// Adds so many copies of a part and a tail: up to so many more copies, or, where there is no
-    /// bound, the part again and again.
+    /// Adds `turns` copies of a part, and a tail: up to the given number of further copies, or
+    /// where there is no bound the part again and again.
     #[cycle(add)]
     fn add_turns(
         &mut self,
@@ -209,7 +209,7 @@ impl Rows {
         }
     }
 
-    /// Adds so many copies, each of which may be left out with those behind it.
+    /// Adds up to `turns` copies: each may be left out with those after it.
     #[cycle(add)]
     fn add_up_to(
         &mut self,
@@ -230,7 +230,7 @@ impl Rows {
         Ok(rest)
     }
 
-    /// Adds one position, which takes the bytes of the set or those that are not in it.
+    /// Adds one position, which takes the bytes in the set or those outside it.
     fn add_position(
         &mut self,
         alloc: Global,

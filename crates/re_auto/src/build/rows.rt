@@ -14,11 +14,11 @@ use crate::build::ends::{Ends, blank_set};
 use re_syntax::ByteSet;
 use std::alloc::{AllocError, Global};
 
-/// For each position a row, those that can come directly after it, and for each byte a row, the
-/// positions that take it; a row has `width` words.
+/// For each position a row of those that can come directly after it, and for each byte a row of the
+/// positions that take it. A row has `width` words.
 #[derive(Drop)]
 pub struct Rows {
-    /// How many words a row has.
+    /// The number of words of a row.
     pub width: usize,
     /// The row of each position.
     pub follow: Vec<u64>,
@@ -27,7 +27,7 @@ pub struct Rows {
 }
 
 impl Rows {
-    /// Rows without members, for so many positions.
+    /// Rows without members, for `count` positions.
     pub fn blank(alloc: Global, count: usize) -> Result<Rows, AllocError>
         requires { count ≤ most_positions }
         ensures { IfOk result (AreBlankRows count) }
@@ -42,7 +42,7 @@ impl Rows {
         })
     }
 
-    /// Adds that the second part can follow the first, and gives the ends of both in turn.
+    /// Adds that the second part can follow the first, and returns the ends of both in turn.
     pub fn in_turn(&mut self, part: Ends, rest: Ends) -> Ends
         requires left { HasWidth self.old.width part }
         requires right { HasWidth self.old.width rest }
@@ -66,7 +66,7 @@ impl Rows {
         self.cross(&part.last_inside, &part.first_inside);
     }
 
-    /// Adds a position that takes the bytes of the set, or those that are not in it.
+    /// Adds a position that takes the bytes in the set, or those outside it.
     pub fn take(&mut self, set: &ByteSet, wanted: bool, position: usize)
         requires room { length self.old.takes.items ≡ 256 * self.old.width }
         requires small { position < self.old.width * 64 }
@@ -75,7 +75,7 @@ impl Rows {
         mark_takers(&mut self.takes, self.width, set, wanted, position);
     }
 
-    // Adds that each position of `first` can come after each of `last`.
+    // Adds that each position of `first` can come directly after each of `last`.
     fn cross(&mut self, last: &Vec<u64>, first: &Vec<u64>)
         requires same { length first.now.items ≡ self.old.width }
         requires few { length last.now.items ≤ most_words }
@@ -131,7 +131,7 @@ fn insert_in_row(table: &mut [u64], width: usize, r: usize, e: usize)
     bits::insert(&mut table[r * width..r * width + width], e);
 }
 
-// Adds a position to the row of each byte that is in the set, or of each that is not.
+// Adds a position to the row of each byte in the set, or of each byte outside it.
 fn mark_takers(takes: &mut [u64], width: usize, set: &ByteSet, wanted: bool, position: usize)
     requires room { length takes.old ≡ 256 * width }
     requires small { position < width * 64 }

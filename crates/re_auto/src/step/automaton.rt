@@ -1,4 +1,4 @@
-//! The position automaton of an expression, and how sets of its positions are stepped.
+//! The position automaton of an expression, and the steps of sets of its positions.
 ghost use Rattle.std.specs.Prelude.{◌≡◌, ℕ, suc, Bool, true, false, ◌<◌, ◌≤◌, ◌↔◌, Some, IsTrue};
 ghost use Rattle.std.specs.Prelude.{IfOk, IfErr, vec_len, length, slice_get, slice_index};
 ghost use Rattle.re_syntax.specs.Bytes.{Text};
@@ -51,9 +51,9 @@ impl Model for Automaton {
 }
 
 impl Automaton {
-    /// The automaton of an expression; it keeps the tree. The errors are `TooLarge`, exactly where
-    /// the expression has more than 4,096 positions once its intervals are written out, which is
-    /// known before any memory is taken, and `Memory`.
+    /// The automaton of an expression, which keeps the tree. The errors are `Memory`, and
+    /// `TooLarge` exactly where the expression has more than 4,096 positions once its intervals are
+    /// written out, which is known before any memory is allocated.
     pub fn build(alloc: Global, tree: Tree) -> Result<Automaton, BuildFault>
         ensures built { IfOk result (λ automaton. automaton ≡ tree) }
         ensures few { IfOk result (λ _. positions (expression_of tree) ≤ most_positions) }
@@ -65,7 +65,7 @@ impl Automaton {
         }
     }
 
-    /// Sets the set to that of a line's first place.
+    /// Makes the set that of a line's first place.
     pub fn start(&self, into: &mut StateSet)
         requires made { IsMadeFor (expression_of self.now) into.old }
         ensures made { IsMadeFor (expression_of self.now) into.new }
@@ -76,7 +76,7 @@ impl Automaton {
         into.at_begin = true;
     }
 
-    /// Sets the one set to what the other becomes by one more byte, which counts as one step.
+    /// Sets `into` to what `from` becomes by one more byte, which counts as one step.
     pub fn advance(
         &self,
         mode: Mode,
@@ -116,7 +116,7 @@ impl Automaton {
     }
 
     /// Whether a stretch inside a line can begin with this byte. Where none can, a set that is
-    /// nowhere stays so in mode `Search`, and the byte may be passed without a step.
+    /// nowhere stays so in mode `Search`, and the byte may be skipped without a step.
     #[inline(always)]
     pub fn begins(&self, byte: u8) -> bool
         ensures can { IsTrue result ↔ CanBegin (part_of (expression_of self.now) 0) byte }
@@ -128,7 +128,7 @@ impl Automaton {
         self.tables.beginnings.has(byte)
     }
 
-    /// The first place, `place` or later, whose byte a stretch inside a line can begin with; the
+    /// The first place, `place` or later, with whose byte a stretch inside a line can begin, or the
     /// line's end where there is none.
     #[inline]
     pub fn next_beginning(&self, line: &[u8], place: usize) -> usize
@@ -142,7 +142,7 @@ impl Automaton {
         self.tables.beginnings.next_in(line, place)
     }
 
-    /// A class for each of the 256 bytes: bytes of one class are taken by the same positions.
+    /// The class of each of the 256 bytes: bytes of one class are taken by the same positions.
     pub fn classes(&self) -> &[u8]
         ensures len { length result.now ≡ 256 }
         ensures alike { AreAlikeInClasses (expression_of self.now) result.now }
@@ -150,7 +150,7 @@ impl Automaton {
         &self.tables.class_of
     }
 
-    /// How many positions there are.
+    /// The number of positions.
     pub(crate) fn size(&self) -> usize
         ensures { result ≡ positions (expression_of self.now) }
     {
@@ -203,7 +203,7 @@ impl Automaton {
         bits::keep(into, self.taking(byte));
     }
 
-    /// The positions that a stretch can begin with at such a place.
+    /// The positions that a stretch can begin with at the line's first place, or at any other.
     #[inline(always)]
     pub(crate) fn beginning(&self, at_begin: bool) -> &[u64]
         ensures { Are result.now (λ q. (part_of (expression_of self.now) 0).first at_begin q)
@@ -215,7 +215,7 @@ impl Automaton {
         &self.tables.first_inside
     }
 
-    /// The positions that a stretch can end with at such a place.
+    /// The positions that a stretch can end with at the line's last place, or at any other.
     #[inline(always)]
     pub(crate) fn ending(&self, at_end: bool) -> &[u64]
         ensures { Are result.now (λ q. (part_of (expression_of self.now) 0).last at_end q)
@@ -256,7 +256,7 @@ impl Automaton {
         bits::meets(words, self.ending(at_end))
     }
 
-    // Whether the expression holds on the empty stretch at such a place.
+    // Whether the expression holds on the empty stretch at a place of this kind.
     fn is_empty(&self, at_begin: bool, at_end: bool) -> bool
         ensures { IsTrue result ↔ (part_of (expression_of self.now) 0).empty at_begin at_end }
     {

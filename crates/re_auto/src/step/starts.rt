@@ -1,4 +1,4 @@
-//! Least starts on the way over a line.
+//! Least starts while they are stepped over a line.
 ghost use Rattle.std.specs.Prelude.{ℕ, ◌<◌, vec_len};
 ghost use Rattle.re_auto.specs.Working.Bits.{Has};
 
@@ -6,14 +6,14 @@ mod lowering;
 mod reading;
 mod stepping;
 
-/// For each position of an automaton the least place of a line at which a stretch begins that can
-/// have come to it. What it stands for on a line and a place is `StartsAt` in
-/// `specs/Working/StartSets.antt`.
+/// For each position of an automaton, the least place of a line at which a stretch begins that can
+/// have come to it. `StartsAt` in `specs/Working/StartSets.antt` says what it means on a line and
+/// at a place.
 #[derive(Drop)]
 pub struct Starts {
     place: usize,
     held: Vec<u64>,
-    // One for each position; it counts only where `held` has the position.
+    // The start of each position. It counts only where `held` has the position.
     starts: Vec<usize>,
     ghost one_each: { (q : ℕ) → Has held.items q → q < vec_len starts },
 }

@@ -1,4 +1,4 @@
-//! Sets of positions on the way over a line.
+//! Sets of positions while they are stepped over a line.
 ghost use Rattle.std.specs.Prelude.{◌≡◌, IsTrue, ◌↔◌, IfOk, IfErr};
 ghost use Rattle.re_syntax.specs.Expression.{expression_of};
 ghost use Rattle.re_auto.specs.declared.build.BuildFault.TheVariants.{Memory};
@@ -9,11 +9,11 @@ use crate::build::BuildFault;
 use crate::step::automaton::Automaton;
 use std::alloc::Global;
 
-// From how many positions on a set is large.
+// The number of positions from which a set is large.
 const LARGE: u32 = 128;
 
-/// A set of positions of an automaton, and a mark 'at the line's first place'. What it stands for
-/// on a line and a place is `StandsAt` in `specs/Working/StateSets.antt`.
+/// A set of positions of an automaton, and a mark 'at the line's first place'. `StandsAt` in
+/// `specs/Working/StateSets.antt` says what it means on a line and at a place.
 #[derive(PartialEq, Eq, Hash, Drop)]
 pub struct StateSet {
     pub(crate) words: Vec<u64>,
@@ -21,8 +21,8 @@ pub struct StateSet {
 }
 
 impl StateSet {
-    /// A set without positions and without the mark, for this automaton. The only call that takes
-    /// memory; its one error is `Memory`.
+    /// A set without positions and without the mark, for this automaton. Only this call allocates
+    /// memory, and its only error is `Memory`.
     pub fn blank(alloc: Global, automaton: &Automaton) -> Result<StateSet, BuildFault>
         ensures made { IfOk result (IsMadeFor (expression_of automaton.now)) }
         ensures nowhere { IfOk result IsNowhere }
@@ -37,7 +37,8 @@ impl StateSet {
         }
     }
 
-    /// Makes this set that one, without memory. Both were made for the same automaton.
+    /// Makes this set equal to `from`, without allocating memory. Both were made for the same
+    /// automaton.
     pub fn copy_from(&mut self, from: &StateSet)
         requires alike { IsAlike self.old from.now }
         ensures { IsSame self.new from.now }
@@ -46,7 +47,7 @@ impl StateSet {
         self.at_begin = from.at_begin;
     }
 
-    /// Whether it holds no position and has no mark: no stretch is on its way.
+    /// Whether the set has no position and no mark: no stretch is on its way.
     pub fn is_nowhere(&self) -> bool
         ensures { IsTrue result ↔ IsNowhere self.now }
     {
@@ -54,8 +55,8 @@ impl StateSet {
         !self.at_begin & clear
     }
 
-    /// Whether it holds so many positions that a step from it takes longer than to keep what came
-    /// of it. Nothing that a contract says rests on it.
+    /// Whether the set has so many positions that a step from it takes longer than storing the
+    /// step's result. No contract depends on it.
     pub fn is_large(&self) -> bool {
         let mut held: u32 = 0;
         for word in self.words.iter() {

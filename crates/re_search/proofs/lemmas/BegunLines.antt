@@ -18,7 +18,7 @@ use Rattle.re_search.proofs.lemmas.LeastPasses.{passes_block}
 
 -- ---- where lines begin
 
--- where one begins behind a line, it begins in the whole
+-- where one begins after a line, it begins in the whole
 begins_behind : (t line : Text) (k : ℕ) → LineBegins line k → LineBegins ((t ++ newline ∷ []) ++ line) (length (t ++ newline ∷ []) + k)
 begins_behind t line k (inl is) =
     let long : length (t ++ newline ∷ []) ≡ length t + 1 = length-append t (newline ∷ []) in
@@ -30,7 +30,7 @@ begins_behind t line k (inr (j, is, byte)) =
     let front = t ++ newline ∷ [] in
     inr (length front + j, omega (arith, is), get_or-append-add front line j 0 ∙ byte)
 
--- behind the first place the byte before it tells
+-- after the first place the byte before it decides
 pub begins_by_byte : (text : Text) (place : ℕ) → (place ≡ 0 → ⊥) → IsTrue (nat_eq (slice_index text (place - 1)) newline) ↔ LineBegins text place
 begins_by_byte text place some = (λ told. inr (place - 1, omega (arith, some), eqb-true (slice_index text (place - 1)) newline told), back)
   where
@@ -51,7 +51,7 @@ passes_begun text k within (inr (j, is, byte)) =
 
 -- ---- lines that do not begin with the run
 
--- where it stands at no line's beginning
+-- where the run is at no line's beginning
 begin_without : (run : List Bytes) (lines : List Text) (rest : Text)
     → ((k : ℕ) → k < length (terminated lines) → LineBegins (terminated lines ++ rest) k → ¬ RunStandsAt (terminated lines ++ rest) run k) → All (BeginsWithout run) lines
 begin_without run [] rest none = All-nil (BeginsWithout run)
@@ -75,7 +75,7 @@ begin_without run (t ∷ ts) rest none = All-cons (BeginsWithout run) t ts first
         (subst (λ l. RunStandsAt l run (length (t ++ newline ∷ []) + k)) cut (run_behind run (t ++ newline ∷ []) (terminated ts ++ rest) k o))
 
 module _ (run : List Bytes) (block : Text) where
-  -- at no line's beginning before the place the run stands
+  -- the run is at no line's beginning before the place
   abbrev pub NoneBegins : ℕ → Type 0
   NoneBegins count = (k : ℕ) → k < count → LineBegins block k → ¬ RunStandsAt block run k
 
@@ -103,7 +103,7 @@ module _ (run : List Bytes) (block : Text) where
   pub passed_so_far : (start : ℕ) → IsPassedTo start → PassesAll (BeginsWithout run) block start
   passed_so_far start is = begun_without start is.lines is.none
 
-  -- the run stands nowhere from there on
+  -- the run is nowhere from there on
   pub passed_to_end : (start : ℕ) → IsBlock block → IsPassedTo start → FindsRun (drop start block) run None → PassesAll (BeginsWithout run) block (length block)
   passed_to_end start whole is finds = begun_without (length block) (passes_block block whole) none
     where
@@ -113,7 +113,7 @@ module _ (run : List Bytes) (block : Text) where
         | no before ↦ is.none k (omega (arith, before)) begins o
       ]
 
-  -- the run stands first at a place
+  -- the first place of the run from there on
   module _ (start place : ℕ) (is : IsPassedTo start) (finds : FindsRun (drop start block) run (Some place)) where
     none_before : NoneBegins (start + place)
     none_before k below begins o = elim (dec_le start k) [
@@ -124,11 +124,11 @@ module _ (run : List Bytes) (block : Text) where
     pub place_within : start + place ≤ length block
     place_within = let within : start ≤ length block = is.within in let high = finds.0.high in omega (arith, within, high, length-drop start block)
 
-    -- and there a line begins
+    -- a line begins there
     pub passed_to_line : LineBegins block (start + place) → PassesAll (BeginsWithout run) block (start + place)
     passed_to_line begins = begun_without (start + place) (passes_begun block (start + place) place_within begins) none_before
 
-    -- or none does, and the search goes on behind its line
+    -- or none does, and the search goes on after its line
     pub passed_line : (LineBegins block (start + place) → ⊥) → (k : ℕ) → k < length (drop (start + place) block) → HasNoNewline (take k (drop (start + place) block))
         → drop (start + place) block ≡ take k (drop (start + place) block) ++ newline ∷ drop (k + 1) (drop (start + place) block) → IsPassedTo (start + place + k + 1)
     passed_line inside k below free cut = record { within = within; lines = passes_begun block (start + place + k + 1) within (inr (start + place + k, refl, ended)); none = none }

@@ -52,12 +52,12 @@ module _ (e : Expression) (line : Text) where
       let (p, f, t) = reaches_first (part_of e 0) line i j q r in
       (p, subst (λ b. (part_of e 0).first b p) (not_at_begin i inside) f, t)
 
--- where there is no span there is none
+-- an option without a value is None
 pub none_of : (best : Option Span) → is_some best ≡ false → best ≡ None
 none_of None none = refl
 none_of (Some span) some = absurd (true≢false some)
 
--- which of two spans is better is told by their places
+-- their places decide which of two spans is better
 pub better_places : (best : Option Span) (start to : ℕ) → places (better_span best (record { start = start; end = to })) ≡ better (places best) to (Some start)
 better_places None start to = refl
 better_places (Some known) start to = go (nat_lt known.start start) refl (nat_le start known.start) refl
@@ -81,7 +81,7 @@ module _ (e : Expression) (from : ℕ) (line : Text) where
     best = λ i j le m. omega (arith, le, m.0, m.1);
   }
 
-  -- one step more: the least start of the stretches that end behind it is enough
+  -- one step more: the least start of the stretches that end after it is enough
   pub carries_on : (j : ℕ) (old into new : Starts) (best result : Option Span) (told : Option ℕ) → j < length line → Carries e from line j old best
       → ((floor : ℕ) (l : Text) (k : ℕ) → slice_get l k ≡ Some (slice_index line j) → StartsAt e Search floor l k old → StartsAt e Search floor l (suc k) into) → new ≡ into
       → ((mode : Mode) (floor : ℕ) (l : Text) (k : ℕ) → StartsAt e mode floor l k new → nat_eq (j + 1) (length line) ≡ is_end l k → Least (λ i. IsMatched e mode floor l i k) told)
@@ -105,7 +105,7 @@ module _ (e : Expression) (from : ℕ) (line : Text) where
         λ k m. least.1 k (carries.none_before k (suc j) m, m.1, m.2, m.3),
       )
 
-  -- once all that is carried begins behind the best stretch so far, that is the best of the line
+  -- once all that is carried begins after the best stretch so far, that is the best of the line
   pub settled : (j : ℕ) (starts : Starts) (span : Span) → Carries e from line j starts (Some span)
       → ((e : Expression) (mode : Mode) (from : ℕ) (line : Text) (j : ℕ) → StartsAt e mode from line j starts → span.start < j → (i k : ℕ) → i ≤ span.start → j ≤ k → ¬ IsMatched e mode from line i k)
       → IsBestSpan e from line (length line) (Some span)

@@ -26,7 +26,7 @@ terminated-push [] t = refl
 terminated-push (u ∷ ts) t =
     append_assoc u (newline ∷ terminated ts) (t ++ newline ∷ []) ∙ ap (λ l. u ++ newline ∷ l) (terminated-push ts t)
 
--- a text and a newline behind it are whole lines
+-- a text and a newline after it are whole lines
 pub ended_text : (t : Text) → IsBlock (t ++ newline ∷ [])
 ended_text t =
     let ended = AreEndedLines-ended_lines_of t in
@@ -39,7 +39,7 @@ ended_text t =
 
 -- ---- what begins in a line begins in a block
 
--- of something that may begin at places of a text
+-- something that may begin at places of a text
 module _ (Begins : Text → ℕ → Type 0) (within : (line : Text) (k : ℕ) → Begins line k → k ≤ length line)
     (before : (line after : Text) (k : ℕ) → Begins line k → Begins (line ++ after) k)
     (behind : (front line : Text) (k : ℕ) → Begins line k → Begins (front ++ line) (length front + k)) where
@@ -93,7 +93,7 @@ module _ (Begins : Text → ℕ → Type 0) (within : (line : Text) (k : ℕ) �
 pub passes_none : (Holds : Text → Type 0) (bytes : Text) → PassesAll Holds bytes 0
 passes_none Holds bytes = ([], bytes, all_none, All-nil Holds, refl, refl)
 
--- behind a newline a line begins
+-- after a newline a line begins
 pub passes_behind : (bytes : Text) (at : ℕ) → at < length bytes → bytes ≡ take at bytes ++ newline ∷ drop (at + 1) bytes → PassesAll (λ _. ⊤) bytes (at + 1)
 passes_behind bytes at below cut =
     let front = ended_text (take at bytes) in
@@ -106,17 +106,17 @@ passes_behind bytes at below cut =
       omega (arith, ap length front.2, length_push (take at bytes) newline, length-take at bytes),
     )
 
--- ---- where a run stands
+-- ---- where a run is
 
 run_within : (run : List Bytes) (line : Text) (k : ℕ) → RunStandsAt line run k → k ≤ length line
 run_within run line k o = let fits : k + length run ≤ length line = o.fits in omega (arith, fits)
 
--- a block in which the run does not stand is passed as a whole
+-- a block without the run is passed as a whole
 pub passes_whole_run : (run : List Bytes) (block : Text) → IsBlock block → FindsRun block run None → PassesAll (LacksRun run) block (length block)
 passes_whole_run run block whole none =
     passes_free_block (λ l k. RunStandsAt l run k) (run_within run) (run_before run) (run_behind run) block whole (λ k below o. none k (omega arith) (omega (arith, below)) o)
 
--- the lines before the one in which the run stands first are passed
+-- the lines before the first one with the run are passed
 pub passes_front_run : (run : List Bytes) (block : Text) (at count : ℕ) → FindsRun block run (Some at) → PassesAll (λ _. ⊤) (take at block) count → PassesAll (LacksRun run) block count
 passes_front_run run block at count (first, stands) front =
     let inside : at ≤ length block = omega (arith, first.high) in
@@ -132,7 +132,7 @@ passes_whole text block is none = passes_text text block (length block) (passes_
 pub passes_front : (text block : Text) (at count : ℕ) → FindsNeedle block text 0 (Some at) → PassesAll (λ _. ⊤) (take at block) count → PassesAll (Lacks text) block count
 passes_front text block at count finds front = passes_text text block count (passes_front_run (map only text) block at count (finds_text block text (Some at) finds) front)
 
--- a line in which a text does not stand that the expression needs is not matched
+-- a line without a text that the expression needs is not matched
 pub unmatched : (e : Expression) (text line : Text) (whole : Bool) → IsNeeded text e → Lacks text line → ¬ Matches e line whole
 unmatched e text line false needed lacks (i, j, within, holds) = let there = needed line i j within holds in lacks there.0 there.3
 unmatched e text line true needed lacks holds = let there = needed line 0 (length line) (omega arith) holds in lacks there.0 there.3
@@ -175,7 +175,7 @@ passes_whole_too e false block count passes = passes
 passes_whole_too e true block count (lines, rest, free, none, is, counted) =
     (lines, rest, free, λ i d below holds. none i d below (0, length (get_or lines i d), omega arith, holds), is, counted)
 
--- where some of the strings of a filter stands on each line that is matched, lines without any are passed
+-- where each line that is matched has one of the strings of a filter, lines without any are passed
 pub passes_by_filter : (strings : Literals) (es : List Expression) (wholes : List Bool) (block : Text) (count : ℕ) → AreNeeded strings es → PassesUnmatched (any_literal strings) false block count → PassesUnmatchedByAll es wholes block count
 passes_by_filter strings es wholes block count needed (lines, rest, free, none, is, counted) = λ whole all.
     (lines, rest, free, λ i d below some. none i d below (needed (get_or lines i d) whole some), is, counted)

@@ -24,7 +24,7 @@ leads_rest s sets line i j l =
           subst (λ n. (b : ℕ) × (slice_get line n ≡ Some b) × IsTrue (set_at sets k b)) place (l.takes (suc k) (omega (arith, below)));
     }
 
--- marks that are sets, and others behind them, fit where the sets lead
+-- marks that are sets, and others after them, fit where the sets lead
 fits_lead : (line : Text) (sets : List Bytes) (rest : List (Option Bytes)) (i j : ℕ) → Fits line (map Some sets ++ rest) i j → Leads sets line i j
 fits_lead line [] rest i j f = let on = fits_le line rest i j f in record { within = omega (arith, on); takes = λ k below. absurd (omega (arith, below)) }
 fits_lead line (s ∷ sets) rest i j (k, (b, at, has, next), later) =

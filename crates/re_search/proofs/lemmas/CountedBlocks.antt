@@ -1,4 +1,4 @@
--- How many lines of a block a text stands in.
+-- How many lines of a block have a text.
 use Rattle.std.specs.Prelude.{IfSome}
 use Rattle.std.proofs.Common.{◌≡◌, ◌≢◌, ℕ, ◌+◌, ◌-◌, ◌<◌, ◌≤◌, Bool, false, inl, inr, List, [], ◌∷◌, ◌++◌, All, Option, Some, None, length, map, drop, get_or, refl, sym, ap, ◌∙◌, subst, arith, length-append, length-drop, append_assoc}
 use Rattle.std.proofs.Math.Decide.{dec_le}
@@ -22,14 +22,14 @@ use Rattle.re_search.proofs.lemmas.NeededLaws.{sequence_needed}
 use Rattle.re_search.proofs.lemmas.Occurrences.{occurs-stands}
 use Rattle.re_search.proofs.lemmas.RunLaws.{text_run, run_text}
 
--- ---- where a newline stands
+-- ---- where a newline is
 
--- a text that has one is not without
+-- a text with a newline is not without one
 has_one : (xs ys : Text) → HasNoNewline (xs ++ newline ∷ ys) → ⊥
 has_one [] ys free = All-head (λ b. b ≢ newline) newline ys free refl
 has_one (x ∷ xs) ys free = has_one xs ys (rest_has_none x (xs ++ newline ∷ ys) free)
 
--- behind the first newline the same is left
+-- after the first newline the same is left
 same_rest : (xs ys rest more : Text) → HasNoNewline xs → HasNoNewline ys → xs ++ newline ∷ rest ≡ ys ++ newline ∷ more → rest ≡ more
 same_rest [] [] rest more free too e = ap (drop 1) e
 same_rest [] (y ∷ ys) rest more free too e = absurd (All-head (λ b. b ≢ newline) y ys too (sym (ap (λ l. get_or l 0 0) e)))
@@ -77,7 +77,8 @@ module _ (text : Text) where
 
   -- ---- the next line with the text
 
-  -- from its first line with the text on, behind its newline, some lines are left, and there is one more than the text stands in of these
+  -- from its first line with the text on, after its newline, some lines are left, and there is one
+  -- more than those of these that have the text
   record GoesOn (lines : List Text) (rest : Text) : Type 0 where
     pub left : List Text
     pub are_left : All HasNoNewline left
@@ -161,7 +162,7 @@ module _ (text : Text) where
   all_left block is = record { is_block = is; few = omega arith; counts = λ n h. let same : n ≡ 0 + n = omega arith in subst (HoldsOfMany (StandsIn text) (lines_of block)) same h }
 
   module _ (block rest : Text) (count k : ℕ) (free : HasNoNewline text) (some : 1 ≤ length text) (is : IsLeftOf block rest count) (finds : FindsNeedle rest text 0 (Some k)) where
-    -- there is a newline behind the text
+    -- there is a newline after the text
     pub ends_there : HasNoNewline (drop k rest) → ⊥
     ends_there none =
         let (lines, all, same) = is.is_block in
@@ -192,7 +193,7 @@ module _ (text : Text) where
       let whole : count + 0 ≡ count = omega arith in
       subst (HoldsOfMany (StandsIn text) (lines_of block)) whole (is.counts 0 (subst (λ ls. HoldsOfMany (StandsIn text) ls 0) (sym are) (none_stands text lines [] nowhere)))
 
--- ---- the same lines, said otherwise
+-- ---- the same lines in another form
 
 pub counts_same : (P Q : Text → Type 0) → ((line : Text) → P line → Q line) → ((line : Text) → Q line → P line) → (lines : List Text) (n : ℕ) → HoldsOfMany P lines n → HoldsOfMany Q lines n
 counts_same P Q to from [] n h = h
@@ -201,7 +202,7 @@ counts_same P Q to from (line ∷ lines) n (m, h, inr (not, is)) = (m, counts_sa
 
 -- ---- matched lines
 
--- a string matches the lines that it stands in
+-- a string matches the lines that have it
 pub counts_literal : (text : Text) (lines : List Text) (n : ℕ) → HoldsOfMany (StandsIn text) lines n → CountsMatched (sequence (map byte text)) false lines n
 counts_literal text lines n h = counts_same (StandsIn text) (λ line. Matches (sequence (map byte text)) line false) to from lines n h
   where
@@ -211,7 +212,7 @@ counts_literal text lines n h = counts_same (StandsIn text) (λ line. Matches (s
     from : (line : Text) → Matches (sequence (map byte text)) line false → StandsIn text line
     from line (i, j, within, holds) = let there = sequence_needed text line i j within holds in (there.0, there.3)
 
--- so does an expression that holds just where a string stands
+-- so does an expression that holds exactly where a string is
 pub counts_just : (e : Expression) (text : Text) (run : List Bytes) → run ≡ map only text → IsJustRun run e → (lines : List Text) (n : ℕ) → HoldsOfMany (StandsIn text) lines n → CountsMatched e false lines n
 counts_just e text run is just lines n h = counts_same (StandsIn text) (λ line. Matches e line false) to from lines n h
   where
@@ -234,7 +235,7 @@ counts_of_one es wholes e whole one alike lines n h = λ asked all.
     (λ line m. subst (λ xs. SomeMatches xs line asked) (sym one) (Any-first (λ x. Matches x line asked) e [] (subst (Matches e line) same m)))
     (λ line m. subst (Matches e line) (sym same) (Any-single (λ x. Matches x line asked) e (subst (λ xs. SomeMatches xs line asked) one m))) lines n h
 
--- ---- what is told, where something is
+-- ---- counts that may be unknown
 
 pub told_literal : (text : Text) (lines : List Text) (r : Option ℕ) → IfSome r (λ n. HoldsOfMany (StandsIn text) lines n) → IfSome r (λ n. CountsMatched (sequence (map byte text)) false lines n)
 told_literal text lines None h = h

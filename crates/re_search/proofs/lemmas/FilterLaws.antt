@@ -38,7 +38,7 @@ needed_more strings t matchers place m lt at needed before_it k d k_lt =
           Any-right (λ s. IsNeeded s (matched_expression (get_or matchers k d))) strings (t ∷ []) (Any-first (λ s. IsNeeded s (matched_expression (get_or matchers k d))) t [] (subst (λ x. IsNeeded t (matched_expression x)) same needed))
     ]
 
--- a string that is needed stands where the expression matches
+-- a string that is needed is where the expression matches
 stands_matched : (line s : Text) (e : Expression) (texts : List Text) → IsNeeded s e → Any (λ t. t ≡ s) texts → (i j : ℕ) → j ≤ length line → Holds line e i j → Matches (any_literal (record { texts = texts; fold = false; whole = false })) line false
 stands_matched line s e texts needed is_text i j within h =
     let (k, low, high, o) : StandsBetween line s i j = needed line i j within h in

@@ -2,7 +2,7 @@
 use Rattle.std.proofs.Common.{◌≡◌, ℕ, ◌+◌, ◌<◌, ◌≤◌, ◌⊎◌, inl, inr, Bool, true, false, ◌||◌, ◌&&◌, refl, sym, subst, arith}
 use Rattle.std.proofs.lemmas.Bool.{false≢true}
 
--- up to the place behind one there are those before it and itself
+-- up to the place after one there are those before it and itself
 pub up_to : (k n : ℕ) → k < n + 1 → (k < n) ⊎ (k ≡ n)
 up_to k n lt = search (arith, lt)
 
@@ -15,7 +15,7 @@ neither false false is = (refl, refl)
 neither false true is = absurd (false≢true (sym is))
 neither true b is = absurd (false≢true (sym is))
 
--- the flag tells of the places before one, and the test of that one
+-- the flag is for the places before one, and the test for that one
 pub none_more : (P : ℕ → Type 0) (some test : Bool) (from place : ℕ) → (some ≡ false → (k : ℕ) → from ≤ k → k < place → ¬ P k) → (test ≡ false → ¬ P place)
     → (some || test) ≡ false → (k : ℕ) → from ≤ k → k < place + 1 → ¬ P k
 none_more P some test from place before here is =

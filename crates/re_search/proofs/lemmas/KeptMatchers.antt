@@ -14,6 +14,6 @@ module _ {M : Type 0} {expression : M → Expression} {whole : M → Bool} where
   pub same_over : {old middle new : List M} → SameMatchers expression whole middle new → SameMatchers expression whole old middle → SameMatchers expression whole old new
   same_over later first = record { same_expressions = later.same_expressions ∙ first.same_expressions; same_wholes = later.same_wholes ∙ first.same_wholes }
 
-  -- they are so still where the matcher at place i gives way to one that stands for the same
+  -- they are so still where the matcher at place i is replaced by one with the same expression
   pub one_asked : {old now : List M} → SameMatchers expression whole old now → (i : ℕ) (d n : M) → expression n ≡ expression (get_or now i d) → whole n ≡ whole (get_or now i d) → SameMatchers expression whole old (set now i n)
   one_asked same i d n e w = record { same_expressions = same_after expression _ _ same.same_expressions i d n e; same_wholes = same_after whole _ _ same.same_wholes i d n w }

@@ -19,7 +19,7 @@ cat_length : (line text : Text) (i j : ℕ) → Holds line (cat (map byte text))
 cat_length line [] i j same = omega (arith, same)
 cat_length line (b ∷ text) i j (k, (c, at, is, next), later) = omega (arith, next, cat_length line text k j later)
 
--- a text whose bytes are the first members stands where the stretch begins
+-- a text whose bytes are the first members is where the stretch begins
 leads : (line text : Text) (rest : List Expression) (i j : ℕ) → j ≤ length line → Holds line (cat (map byte text ++ rest)) i j → StandsBetween line text i j
 leads line text rest i j within h =
     let cut = cat_cut line (map byte text) rest i j h in

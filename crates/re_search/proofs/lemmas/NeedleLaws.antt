@@ -1,4 +1,4 @@
--- Needles, and what their places tell of a line.
+-- Needles, and what their places say of a line.
 use Rattle.std.proofs.Common.{◌≡◌, ℕ, ◌+◌, ◌-◌, ◌≤◌, inl, inr, Bool, true, false, IsTrue, List, [], ◌∷◌, ◌++◌, length, map, drop, Option, Some, None, refl, sym, subst, arith}
 use Rattle.std.specs.Option.{is_some}
 use Rattle.std.proofs.lemmas.Bool.{false≢true}
@@ -19,7 +19,7 @@ use Rattle.re_search.proofs.lemmas.SomeOfJoined.{Any-single}
 use Rattle.re_search.proofs.lemmas.OutlineLaws.{run_needed, run_begins, just_run}
 use Rattle.re_search.proofs.lemmas.RunLaws.{run_rest, run_whole, run_text, nowhere}
 
--- sets side by side in an outline are a needle
+-- sets that are neighbours in an outline are a needle
 pub run_is_needle : (marks : List (Option Bytes)) (finder : RunFinder) (is_first is_all is_common : Bool) (rest : List (Option Bytes)) (start : ℕ) → drop start marks ≡ map Some (run_of finder) ++ rest → 1 ≤ length (run_of finder)
     → (IsTrue is_first → start ≡ 0) → (IsTrue is_all → length (run_of finder) ≡ length marks) → (e : Expression) → IsOutline marks e
     → IsNeedleOf e (record { finder = finder; is_first = is_first; is_all = is_all; is_common = is_common })
@@ -76,7 +76,7 @@ module _ (e : Expression) (needle : Needle) (of : IsNeedleOf e needle) (line : T
             | no h ↦ absurd (first.before (i - from) (omega arith) (omega (arith, h)) (run_rest (run_of needle.finder) line from i begins stands.0))
           ]
 
-  -- a needle that the line lacks, or does not begin with, or that is all and stands on it
+  -- a needle that the line lacks, or does not begin with, or that is all and is in the line
   module _ (whole : Bool) where
     pub settled_lacks : (found : Option ℕ) → FindsRun line (run_of needle.finder) found → is_some found ≡ false → IsSettled e whole line false
     settled_lacks (Some k) finds lacks = absurd (false≢true (sym lacks))

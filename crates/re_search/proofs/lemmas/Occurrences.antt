@@ -1,4 +1,4 @@
--- Where a text stands in a line, as a search for it tells.
+-- Where a text is in a line, by a search for it.
 use Rattle.std.proofs.Common.{◌≡◌, ℕ, suc, ◌+◌, ◌-◌, ◌<◌, ◌≤◌, [], ◌∷◌, ◌++◌, length, drop, get_or, refl, sym, ap, ◌∙◌, arith, length-append, length-drop}
 use Rattle.std.proofs.lemmas.List.{get_or-drop, get_or_append_left}
 use Rattle.re_syntax.specs.Bytes.{Text}
@@ -13,13 +13,13 @@ begins (c ∷ line) (b ∷ text) fits reads =
     let rest : line ≡ text ++ drop (length text) line = begins line text (omega (arith, fits)) (λ j h. reads (suc j) (omega (arith, h))) in
     ap (λ x. x ∷ line) first ∙ ap (λ xs. b ∷ xs) rest
 
--- a text that occurs at a place stands there
+-- the line from a place where a text occurs begins with the text
 pub occurs-stands : (line text : Text) (k : ℕ) → OccursAt line text k → drop k line ≡ text ++ drop (length text) (drop k line)
 occurs-stands line text k o =
     let long : length text ≤ length (drop k line) = let h = o.fits in omega (arith, length-drop k line, h) in
     begins (drop k line) text long (λ j h. get_or-drop k line j 0 ∙ o.reads j h)
 
--- a text that stands at a place of the line occurs there
+-- a text occurs at a place if the line from there on begins with it
 pub stands-occurs : (line text rest : Text) (k : ℕ) → k ≤ length line → drop k line ≡ text ++ rest → OccursAt line text k
 stands-occurs line text rest k h e =
     let lengths : length (drop k line) ≡ length text + length rest = ap length e ∙ length-append text rest in

@@ -14,7 +14,7 @@ use Rattle.re_search.proofs.lemmas.SomeOfJoined.{Any-append-cases, Any-single}
 
 -- two lists whose elements look the same to f one by one, and the element of the second at place i
 module _ {A B : Type 0} (f : A → B) (old now : List A) (same : map f now ≡ map f old) (i : ℕ) (d : A) where
-  -- they do so still where that element gives way to one that looks the same
+  -- they do so still where that element is replaced by one that looks the same
   pub same_after : (n : A) → f n ≡ f (get_or now i d) → map f (set now i n) ≡ map f old
   same_after n e = map-set_same f now i n d e ∙ same
 

@@ -18,7 +18,7 @@ use Rattle.memchr.specs.Find.{OccursAt, FindsNeedle}
 use Rattle.re_search.proofs.lemmas.SomeOfJoined.{Any-single}
 use Rattle.re_search.proofs.lemmas.Occurrences.{occurs-stands, stands-occurs}
 
--- the place behind a text that stands at a place
+-- the place after a text at a place
 place_behind : (line text : Text) (i j : ℕ) → i < j → j ≤ length line → drop i line ≡ text ++ drop j line → j ≡ i + length text
 place_behind line text i j h on_line e =
     let lengths : length (drop i line) ≡ length text + length (drop j line) = ap length e ∙ length-append text (drop j line) in
@@ -52,7 +52,7 @@ module _ (text line : Text) where
         holds = Any-first (λ e. Holds line e (from + k) (from + k + length text)) _ [] holds;
       }
 
-  -- where a search from a place on tells that the text does not occur there is no part
+  -- where a search from a place on finds no occurrence of the text, there is no part
   pub no_part : (from : ℕ) → FindsNeedle (drop from line) text 0 None → (i j : ℕ) → IsFound (sequence (map byte text) ∷ []) line false from i j → ⊥
   no_part from none i j f =
       let o = found-occurs from i j f in

@@ -42,7 +42,7 @@ all_sets : (run : List Bytes) → AreSetMarks (map Some run)
 all_sets [] = tt
 all_sets (s ∷ run) = (tt, all_sets run)
 
--- ---- a run of sets, and where it stands
+-- ---- a run of sets, and where it is
 
 one_more : (s : Bytes) (run : List Bytes) (line : Text) (i : ℕ) → IsTrue (s (slice_index line i)) → RunStandsAt line run (i + 1) → RunStandsAt line (s ∷ run) i
 one_more s run line i has o =
@@ -122,7 +122,7 @@ outline_repeat xs e least most some part = record {
 
 -- ---- a set that is repeated
 
--- so many turns of a set are its bytes one after another
+-- n turns of a set are its bytes one after another
 turns_fit : (line : Text) (s : Bytes) (n i j : ℕ) → Turns (Holds line (one_of s)) n i j → Fits line (map Some (replicate n s)) i j
 turns_fit line s zero i j same = same
 turns_fit line s (suc n) i j (k, first, later) = (k, first, turns_fit line s n k j later)
@@ -165,7 +165,7 @@ adds_repeat old middle new part e least most is some (more, same, outline) added
   subst (λ x. IsOutline x e) (sym (map-append shown more (m.Stretch ∷ []))) (subst (λ x. IsOutline (map shown more ++ None ∷ []) x) (sym is) (outline_repeat (map shown more) part least most some outline)),
 )
 
--- marks of a set that is repeated so often at least, and a stretch
+-- n marks of a set that is repeated at least n times, and a stretch
 pub adds_least : (old middle new : List Mark) (s : Bytes) (n least : ℕ) (most : Option ℕ) → n ≤ least → AddsTurns old s n middle → new ≡ middle ++ m.Stretch ∷ [] → AddsOutline old (repeat (one_of s) least most) new
 adds_least old middle new s n least most few (more, same, sets) added = (
   more ++ m.Stretch ∷ [],
@@ -173,7 +173,7 @@ adds_least old middle new s n least most few (more, same, sets) added = (
   subst (λ l. IsOutline l (repeat (one_of s) least most)) (sym (map-append shown more (m.Stretch ∷ []) ∙ ap (λ l. l ++ None ∷ []) sets)) (outline_turns s n least most few),
 )
 
--- marks of a set that is repeated just so often
+-- n marks of a set that is repeated exactly n times
 pub adds_just : (old new : List Mark) (s : Bytes) (n least : ℕ) (most : Option ℕ) → n ≡ least → most ≡ Some least → AddsTurns old s n new → AddsOutline old (repeat (one_of s) least most) new
 adds_just old new s n least most same just (more, is, sets) = (
   more,
@@ -215,7 +215,7 @@ module _ (marks : List (Option Bytes)) (e : Expression) (outline : IsOutline mar
   cut : marks ≡ take start marks ++ (map Some run ++ rest)
   cut = sym (take-append-drop start marks) ∙ ap (λ l. take start marks ++ l) stands
 
-  -- sets that stand side by side in the outline are needed
+  -- sets that are neighbours in the outline are needed
   pub run_needed : RunIsNeeded run e
   run_needed line i j within h =
       let (k, before, later) = fits_cut line (take start marks) (map Some run ++ rest) i j (subst (λ l. Fits line l i j) cut (outline.fits line i j h)) in
@@ -236,7 +236,7 @@ module _ (marks : List (Option Bytes)) (e : Expression) (outline : IsOutline mar
   lengths : length marks - start ≡ length run + length rest
   lengths = sym (length-drop start marks) ∙ ap length stands ∙ length-append (map Some run) rest ∙ ap (λ n. n + length rest) (length-map run Some)
 
-  -- where they are all of it the expression holds just where they stand
+  -- where they are all of it, the expression holds exactly where they are
   pub just_run : 1 ≤ length run → length run ≡ length marks → IsJustRun run e
   just_run some all = record {
     stands = λ line i j within h. sets_stand line run i j within (subst (λ l. Fits line l i j) is (outline.fits line i j h));

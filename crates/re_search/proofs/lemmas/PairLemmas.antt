@@ -143,7 +143,7 @@ module _ (c : LruCache ℕ ℕ) (valid : IsValid nat_eq c) (cells : List ℕ) (m
             (omega (arith, was.0, length-set cells at cell), was.1)
       ]
 
--- cells that are added behind the others, at which nothing is held
+-- cells that are added after the others, at which nothing is held
 pub mirrors_longer : (entries : List (ℕ × ℕ)) (cells : List ℕ) (n : ℕ) → Mirrors entries cells → Mirrors entries (cells ++ replicate n unknown)
 mirrors_longer entries cells n m = record {
   shows = λ k lt. elim (before k) [

@@ -1,4 +1,5 @@
--- Matchers that are asked in two parts: what is known of all of them, from what is known of each part.
+-- Matchers that are asked in two parts: what is known of all of them, from what is known of each
+-- part.
 use Rattle.std.proofs.Common.{◌≡◌, ℕ, ◌+◌, ◌*◌, Bool, true, false, inl, inr, List, [], ◌∷◌, ◌++◌, map, refl, sym, ap, ◌∙◌, subst, arith}
 use Rattle.std.proofs.lemmas.Bool.{false≢true}
 use Rattle.std.proofs.lemmas.List.{map-append}
@@ -41,7 +42,7 @@ module _ (es fs gs : List Expression) (wholes us vs : List Bool) (e : es ≡ fs 
         ],
       )
 
--- what a function tells of both parts joined
+-- what a function says of both parts joined
 joined : {M N : Type 0} (f : M → N) (all before rest front back : List M) → all ≡ before ++ rest → map f front ≡ map f before → map f back ≡ map f rest → map f (front ++ back) ≡ map f all
 joined f all before rest front back is one other =
     map-append f front back ∙ ap (λ l. l ++ map f back) one ∙ ap (λ l. map f before ++ l) other ∙ sym (map-append f before rest) ∙ sym (ap (map f) is)

@@ -37,7 +37,7 @@ module _ (e : Expression) (line : Text) where
   unfolding NoneEndsBefore
   none_at_first k lt = absurd (omega arith)
 
-  -- a set that no stretch ends at, and that stands at each place passed
+  -- a set that no stretch ends at, and that the search has at each place passed
   pub none_passed : (set : StateSet) (place next : ℕ) → NoneEndsBefore e line place → next ≤ length line
       → ((line : Text) (j : ℕ) → StandsAt e Search line j set → false ≡ is_end line j → IsTrue false ↔ EndsAt e Search line j)
       → ((k : ℕ) → place ≤ k → k < next → StandsAt e Search line k set) → NoneEndsBefore e line next

@@ -30,7 +30,7 @@ means_none Basic fold text fault e refused m = refused.none m.0 m.1
 means_none Extended fold text fault e refused m = refused.none m.0 m.1
 means_none Fixed fold text fault e refused m = refused
 
--- letters in either case are as many positions
+-- folding does not change the number of positions
 folded_positions : (e : Expression) → positions (folded e) ≡ positions e
 folded_positions empty = refl
 folded_positions (one_of s) = refl
@@ -43,12 +43,12 @@ folded_positions alt_none = refl
 folded_positions (alt_more e rest) = omega (arith, folded_positions e, folded_positions rest)
 folded_positions (repeat e least most) = ap (λ n. copies least most * n) (folded_positions e)
 
--- what a text means has as many as what it spells
+-- what a text means has the same number as what it spells
 meant_positions : (fold : Bool) (s : Expression) → positions (if fold then folded s else s) ≡ positions s
 meant_positions true s = folded_positions s
 meant_positions false s = refl
 
--- a text of too many positions is refused for that
+-- a text with too many positions is refused for that
 pub too_many : (syntax : Syntax) (fold : Bool) (text : Text) (count : ℕ) (fault : PatternFault) → IsTrue (has_limit syntax fold) → HasPositions syntax text count →
     most_positions < count → ◌≡◌ {A = PatternFault} fault (record { kind = TooLarge; at = 0 }) → IsRefusedFor syntax fold text fault
 too_many syntax fold text count fault limited has many e =

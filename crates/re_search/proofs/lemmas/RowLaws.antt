@@ -52,7 +52,7 @@ unfolding IsNextSet
 next_alike e mode from into b c alike next = (next.0, λ q. (λ h. let w = (next.1 q).0 h in ((alike q).0 w.0, w.1), λ w. (next.1 q).1 ((alike q).1 w.0, w.1)))
 
 module _ (e : Expression) (mode : Mode) (sets : List StateSet) (stride : ℕ) where
-  -- of what isn't held a cell says nothing
+  -- a cell says nothing of what isn't held
   pub tells_unknown : (from : StateSet) (byte : ℕ) → TellsNext e mode sets stride from byte unknown
   tells_unknown from byte = record { plain = λ low. absurd (omega (arith, low)); special = λ high low. absurd (omega (arith, low)) }
 
@@ -95,7 +95,7 @@ module _ (e : Expression) (mode : Mode) (sets : List StateSet) (stride : ℕ) wh
     },
   )
 
--- with sets added behind
+-- with sets added after the others
 pub row_longer : (sets more : List StateSet) (stride r : ℕ) (set : StateSet) → IsRowOf sets stride r set → IsRowOf (sets ++ more) stride r set
 row_longer sets more stride r set row = record { number = row.number; row = row.row; is = get_left sets more row.number set row.is }
 
@@ -244,7 +244,7 @@ module _ (e : Expression) (mode : Mode) (classes : List ℕ) (stride : ℕ) (set
       let zero : 0 ≡ 0 * stride = omega arith in
       (same_place 0 0 0 0 set first row (record { number = 0; row = zero; is = is }) some_class some_class refl).1
 
-  -- rows lie below the limit
+  -- rows are below the limit
   pub row_small : (number : ℕ) (set : StateSet) → slice_get sets number ≡ Some set → number * stride < limit
   row_small number set is =
       let fits = row_within number (length sets) stride (slice_get_within sets number set is) in

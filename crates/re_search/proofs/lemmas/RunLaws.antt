@@ -1,4 +1,4 @@
--- Where a run of sets stands in a line, and what the tests of its probes tell.
+-- Where a run of sets is in a line, and what the tests of its probes say.
 use Rattle.std.proofs.Common.{◌≡◌, ℕ, ◌+◌, ◌-◌, ◌<◌, ◌≤◌, ◌↔◌, ◌⊎◌, inl, inr, Bool, IsTrue, List, ◌++◌, length, map, drop, get_or, slice_index, Option, None, Some, sym, ap, ◌∙◌, subst, arith, nat_eq, eq-eqb, length-append, length-drop}
 use Rattle.std.specs.List.{starts_with}
 use Rattle.std.proofs.lemmas.Bool.{eqb-true}
@@ -86,7 +86,7 @@ begins_text line text r is =
       λ o. told.1 (drop (length text) line) (occurs-stands line text 0 (run_text line text 0 o)),
     )
 
--- ---- where a search tells that the run stands nowhere
+-- ---- where a search says that the run is nowhere
 
 pub nowhere : (line : Text) (run : List Bytes) → FindsRun line run None → (k : ℕ) → ¬ RunStandsAt line run k
 nowhere line run none k o = let fits : k + length run ≤ length line = o.fits in none k (omega arith) (omega (arith, fits)) o
@@ -125,7 +125,7 @@ passed_over run line at before none k lt o = elim (either k at lt) [ inl e ↦ b
     either : (k j : ℕ) → k < j + 1 → (k < j) ⊎ (k ≡ j)
     either k j lt = search (arith, lt)
 
--- a run that is not empty stands nowhere from the line's end on
+-- a run that is not empty is nowhere from the line's end on
 pub none_left : (run : List Bytes) (line : Text) (start : ℕ) → 1 ≤ length run → length line ≤ start → ((k : ℕ) → k < start → ¬ RunStandsAt line run k) → (k : ℕ) → ¬ RunStandsAt line run k
 none_left run line start some end before k o = let fits : k + length run ≤ length line = o.fits in before k (omega (arith, some, end, fits)) o
 
@@ -135,7 +135,7 @@ found_at run line at within before stands = (record { low = omega arith; high = 
 
 -- ---- by the tests of its probes
 
--- where the run stands the test of a probe for it is passed
+-- where the run is, the test of a probe for it is passed
 passes : (run : List Bytes) (line : Text) (probe : Probe) (k : ℕ) → ((x : ℕ) → slice_index line x < 256) → IsProbeOf probe run → RunStandsAt line run k → PassesAt probe line k
 passes run line probe k small (within, covers) o = covers (slice_index line (k + probe.at)) (small (k + probe.at)) (o.takes probe.at within)
 
@@ -148,7 +148,7 @@ all_pass run line probes k small are o = record {
   fourth = passes run line probes.fourth k small are.fourth o;
 }
 
--- before places behind which the run has room the probes have
+-- the probes have room where the run has room
 pub have_room : (run : List Bytes) (line : Text) (probes : Probes) (past : ℕ) → AreProbesOf probes run → past + length run ≤ length line + 1 → HaveRoom probes line past
 have_room run line probes past are fits = record {
   first = omega (arith, fits, are.first.0);
@@ -157,6 +157,6 @@ have_room run line probes past are fits = record {
   fourth = omega (arith, fits, are.fourth.0);
 }
 
--- a run has no room from the last place on behind which it has
+-- a run is nowhere where it has no room
 pub no_room : (run : List Bytes) (line : Text) (k : ℕ) → length line + 1 ≤ k + length run → ¬ RunStandsAt line run k
 no_room run line k short o = let fits : k + length run ≤ length line = o.fits in absurd (omega (arith, short, fits))

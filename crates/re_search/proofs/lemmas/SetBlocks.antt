@@ -1,4 +1,4 @@
--- Lines of a block on which none of many strings stands.
+-- Lines of a block that have none of many strings.
 use Rattle.std.proofs.Common.{◌≡◌, ℕ, suc, ◌+◌, ◌≤◌, Bool, false, List, [], ◌∷◌, ◌++◌, length, map, take, drop, Some, None, sym, ap, ◌∙◌, subst, arith, length-append}
 use Rattle.std.specs.Prelude.{⊤}
 use Rattle.std.proofs.lemmas.Bool.{false≢true}
@@ -82,7 +82,7 @@ module _ (l : Literals) (none_empty : IsString (map (keys l.fold) l.texts) [] �
   unmatched line free m =
       false≢true ((occurs_decides l line false none_empty ((λ h. absurd (false≢true h)), (λ (i, j, o). absurd (free i (j, o))))).1 m)
 
-  -- where none stands in the block it is passed as a whole
+  -- where none is in the block, it is passed as a whole
   pub passes_set_block : (block : Text) → IsBlock block → IsBestOccurrence strings 0 (keys l.fold block) (length block) None → PassesUnmatched (any_literal l) false block (length block)
   unfolding IsBestOccurrence
   passes_set_block block whole none =
@@ -91,7 +91,7 @@ module _ (l : Literals) (none_empty : IsString (map (keys l.fold) l.texts) [] �
       (λ k below (j, o). none k j (let inside = o.2 in omega (arith, inside, length-map block (key l.fold))) o) in
       (lines, rest, free, λ i d below. unmatched _ (all i d below), is, counted)
 
-  -- where one stands the lines before the one in which the first begins are passed
+  -- where one is, the lines before the one in which the first begins are passed
   pub passes_set_front : (block : Text) (span : Span) (count : ℕ) → IsBestOccurrence strings 0 (keys l.fold block) (length block) (Some span)
       → (span.start ≤ length block) × (PassesAll (λ _. ⊤) (take span.start block) count → PassesUnmatched (any_literal l) false block count)
   unfolding IsBestOccurrence

@@ -27,11 +27,11 @@ byte_behind (d ∷ w) c rest = byte_behind w c rest
 one_group : (w : Text) (c : ℕ) (rest : Text) → w ++ c ∷ [] ++ rest ≡ w ++ c ∷ rest
 one_group w c rest = append_assoc w (c ∷ []) rest
 
--- the byte behind a front
+-- the byte after a front
 pub next_byte : (w t : Text) (c : ℕ) → Begins (w ++ c ∷ []) t → slice_get t (length w) ≡ Some c
 next_byte w t c b = ap (λ s. slice_get s (length w)) (b.1 ∙ one_group w c b.0) ∙ byte_behind w c b.0
 
--- a front with the byte behind it is one
+-- a front with the byte after it is one
 pub longer_front : (w t : Text) (c : ℕ) → Begins w t → slice_get t (length w) ≡ Some c → Begins (w ++ c ∷ []) t
 longer_front w t c (rest, is) at = go rest is (sym (ap (λ s. slice_get s (length w)) is) ∙ at)
   where
@@ -118,7 +118,7 @@ module _ (texts : List Text) (ascends : AreAscending texts) (br : Branch) (is : 
         let long : length (branch_text texts br ++ c ∷ []) ≡ br.depth + 1 = length-append (branch_text texts br) (c ∷ []) ∙ ap (λ n. n + 1) is.deep in
         ap (λ n. take n (text_at texts at)) (sym long) ∙ front_is (branch_text texts br ++ c ∷ []) (text_at texts at) (run_shares at (omega arith) lt)
 
-    -- and no other strings go on so
+    -- and no other strings go on with it
     run_exact : (i : ℕ) → i < length texts → Begins (branch_text texts br ++ c ∷ []) (text_at texts i) → (at ≤ i) × (i < end)
     run_exact i in_texts front =
         let own = is.exact i in_texts (shorter_front (branch_text texts br) (text_at texts i) c front) in
@@ -184,7 +184,7 @@ run_found texts depth at end c here same i b from to is =
     some_same : (a b : ℕ) → Some a ≡ Some b → a ≡ b
     some_same a b e = cc
 
--- all runs were passed: the branches behind `start` are a row
+-- all runs were passed: the branches after `start` are a row
 pub row_done : (texts : List Text) (br : Branch) (is : IsBranch texts br) (bs : List Branch) (start at : ℕ) → br.high ≤ at
     → ((m : ℕ) → start ≤ m → m < length bs → branch_text texts (branch_at bs m) ≡ branch_text texts br ++ (branch_at bs m).byte ∷ [])
     → ((i b : ℕ) → br.low ≤ i → i < at → slice_get (text_at texts i) br.depth ≡ Some b → (m : ℕ) × (start ≤ m) × (m < length bs) × ((branch_at bs m).byte ≡ b))

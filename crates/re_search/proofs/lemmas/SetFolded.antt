@@ -49,7 +49,7 @@ key_cases b =
       | inr from ↦ elim (cases_lt 90 b) [ inl late ↦ inr (inr late, key_above b late) | inr to ↦ inl (from, to, key_upper b from to) ]
     ]
 
--- the other case, by where the byte lies
+-- the other case, by the range of the byte
 other_upper : (b : ℕ) → 65 ≤ b → b ≤ 90 → other_case b ≡ b + 32
 other_upper b from to = cond-true _ _ _ (inside 65 90 b from to)
 

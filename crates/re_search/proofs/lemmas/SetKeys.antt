@@ -84,7 +84,7 @@ none_first p (x ∷ xs) none = by (p x) refl (none_first p xs (λ t y at. none (
     by true is later = absurd (none 0 x refl is)
     by false is later = let next : 1 + position_or_len p xs ≡ suc (length xs) = omega (arith, later) in rw is next
 
--- a new set goes behind the others
+-- a new set is added after the others
 module _ (sets : List StateSet) (set : StateSet) (fresh : (t : ℕ) (other : StateSet) → slice_get sets t ≡ Some other → IsSame other set → ⊥) where
   no_equal : (t : ℕ) (other : StateSet) → slice_get sets t ≡ Some other → equal set other ≡ true → ⊥
   no_equal t other is told = let same = equal_same set other told in fresh t other is (sym same.0, sym same.1)

@@ -64,7 +64,7 @@ module _ (strings : List Text) (line : Text) where
 -- ---- at the root
 
 module _ (all : Labels) (from : ℕ) (line : Text) (root : all.label 0 ≡ []) (place node : ℕ) (zero : node ≡ 0) (g : StandsSince all from line place node) (within : place ≤ length line) where
-  -- a string that ends at a place where the root stands, or later, begins there or later
+  -- a string that ends at a place where the search is at the root, or later, begins there or later
   begins_behind : (i j : ℕ) → place ≤ j → Occurs all.strings from line i j → place ≤ i
   begins_behind i j le o =
       elim (split i place) [
@@ -86,7 +86,7 @@ module _ (all : Labels) (from : ℕ) (line : Text) (root : all.label 0 ≡ []) (
   none_over : (next : ℕ) → NoneBegins all.strings line place next → (i j : ℕ) → place ≤ j → i < next → ¬ Occurs all.strings from line i j
   none_over next none i j le lt o = none i j lt (begins_behind i j le o, o.1, o.2, o.3)
 
-  -- the root stands there too
+  -- the search is at the root there too
   pub leap_stands : (next : ℕ) → from ≤ place → place ≤ next → next ≤ length line → NoneBegins all.strings line place next → StandsSince all from line next node
   leap_stands next low le high none = record {
     since = next;

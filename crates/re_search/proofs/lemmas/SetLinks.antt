@@ -1,4 +1,4 @@
--- Fallbacks, and the longest string with which a node ends.
+-- Fallbacks, and the longest string that a node ends with.
 use Rattle.std.proofs.Common.{◌≡◌, ℕ, ◌+◌, ◌-◌, ◌<◌, ◌≤◌, ◌⊎◌, inl, inr, Bool, true, false, List, [], ◌∷◌, ◌++◌, length, drop, slice_index, nat_lt, refl, sym, ap, subst, ◌∙◌, arith, length-append, length-drop, if◌then◌else◌, ltb-true, ltb-false}
 use Rattle.std.proofs.lemmas.List.{drop-drop, get_or_append_left, get_or_push}
 use Rattle.re_syntax.specs.Bytes.{Text}
@@ -9,7 +9,7 @@ use Rattle.re_search.proofs.lemmas.SetSteps.{string_front}
 split : (m n : ℕ) → (m < n) ⊎ (n ≤ m)
 split m n = search arith
 
--- the longest string with which a node ends: its own where it is one, else that of its fallback
+-- the longest string that a node ends with: its own if it is one, else that of its fallback
 pub ends_with : (strings : List Text) (label shorter : Text) (own end : ℕ) → StandsFor strings shorter label 1 → EndsIn strings shorter end
     → (0 < own → (own ≡ length label) × IsString strings label) → (IsString strings label → own ≡ length label) → EndsIn strings label (longer_ending own end)
 ends_with strings label shorter own end s e is_own own_is = go (nat_lt 0 own) refl

@@ -1,4 +1,4 @@
--- What is matched by a choice of fixed strings: where one of them stands, as strings are compared.
+-- What a choice of fixed strings matches: the lines that have one of them, as strings are compared.
 use Rattle.std.proofs.Common.{◌≡◌, ◌↔◌, ℕ, ◌+◌, ◌-◌, ◌<◌, ◌≤◌, ◌⊎◌, inl, inr, Bool, true, false, IsTrue, List, [], ◌∷◌, ◌++◌, length, map, take, drop, Option, Some, None, refl, sym, ap, subst, ◌∙◌, arith, length-append, length-drop}
 use Rattle.std.proofs.lemmas.List.{drop-append-le, take-append-drop, length-take-le, length-map}
 use Rattle.std.proofs.Math.ListN.{drop_of_length-le}
@@ -22,7 +22,7 @@ use Rattle.re_search.proofs.lemmas.SetSearch.{all_read}
 split : (m n : ℕ) → (m < n) ⊎ (n ≤ m)
 split m n = search arith
 
--- what stands between two places is what follows the first, up to what follows the second
+-- the bytes between two places are what follows the first, up to what follows the second
 stretch : (line : Text) (i j : ℕ) → i ≤ j → j ≤ length line → drop i line ≡ drop i (take j line) ++ drop j line
 stretch line i j le within =
     let read : length (take j line) ≡ j = length-take-le j line within in
@@ -31,7 +31,7 @@ stretch line i j le within =
 stretch_length : (line : Text) (i j : ℕ) → j ≤ length line → length (drop i (take j line)) ≡ j - i
 stretch_length line i j within = length-drop i (take j line) ∙ ap (λ n. n - i) (length-take-le j line within)
 
--- a text that stands from i to j is what stands there
+-- a text from i to j is the bytes between them
 pub text_between : (line t : Text) (i j : ℕ) → i ≤ j → j ≤ length line → drop i line ≡ t ++ drop j line → t ≡ drop i (take j line)
 text_between line t i j le within e =
     let lengths : length (drop i line) ≡ length t + length (drop j line) = ap length e ∙ length-append t (drop j line) in
@@ -39,13 +39,13 @@ text_between line t i j le within e =
     sym (begins_take t (drop j line)) ∙ ap (take (length t)) (sym e ∙ stretch line i j le within) ∙ ap (λ n. take n (drop i (take j line) ++ drop j line)) size ∙ begins_take (drop i (take j line)) (drop j line)
 
 module _ (line : Text) (i j : ℕ) where
-  -- where the choice holds a string stands
+  -- where the choice holds there is a string
   pub choice_stands : (texts : List Text) → i ≤ j → j ≤ length line → Holds line (alt (map (λ text. sequence (map byte text)) texts)) i j → IsString texts (drop i (take j line))
   choice_stands [] le within h = absurd h
   choice_stands (t ∷ texts) le within (inl h) = Any-first (λ s. s ≡ drop i (take j line)) t texts (text_between line t i j le within (holds-stands line t i j h))
   choice_stands (t ∷ texts) le within (inr h) = Any-later (λ s. s ≡ drop i (take j line)) t texts (choice_stands texts le within h)
 
-  -- and where a string stands it holds
+  -- and where there is a string it holds
   pub stands_choice : (texts : List Text) → i ≤ j → j ≤ length line → IsString texts (drop i (take j line)) → Holds line (alt (map (λ text. sequence (map byte text)) texts)) i j
   stands_choice [] le within s = absurd (Any-none (λ s. s ≡ drop i (take j line)) s)
   stands_choice (t ∷ texts) le within s =
@@ -57,7 +57,7 @@ module _ (line : Text) (i j : ℕ) where
         | inr rest ↦ inr (later rest)
       ]
 
--- nothing stands between a place and itself
+-- there is nothing between a place and itself
 nothing_between : (line : Text) (i j : ℕ) → j ≤ i → j ≤ length line → drop i (take j line) ≡ []
 nothing_between line i j le within = drop_of_length-le (take j line) (let r = length-take-le j line within in omega (arith, r, le))
 
@@ -66,7 +66,7 @@ module _ (l : Literals) (line : Text) where
   size : length (keys l.fold line) ≡ length line
   size = length-map line (key l.fold)
 
-  -- where the choice holds a string stands on the line as it is compared
+  -- where the choice holds there is a string in the line as it is compared
   any_stands : (i j : ℕ) → i ≤ j → j ≤ length line → Holds line (any_literal l) i j → IsString (map (keys l.fold) l.texts) (drop i (take j (keys l.fold line)))
   any_stands i j le within h = choice_stands (keys l.fold line) i j (map (keys l.fold) l.texts) le (omega (arith, within, size)) ((choice_keys line l.fold l.texts i j).0 h)
 
@@ -77,7 +77,7 @@ module _ (l : Literals) (line : Text) where
   pub empty_matches : IsString (map (keys l.fold) l.texts) [] → Matches (any_literal l) line false
   empty_matches s = (0, 0, omega arith, stands_any 0 0 (omega arith) (omega arith) (subst (IsString (map (keys l.fold) l.texts)) (sym (nothing_between (keys l.fold line) 0 0 (omega arith) (omega arith))) s))
 
-  -- where it is not the line is matched where a string stands on it
+  -- where it is not, the line is matched if it has a string
   pub occurs_decides : (r : Bool) → (IsString (map (keys l.fold) l.texts) [] → ⊥) → IsTrue r ↔ ((i j : ℕ) × Occurs (map (keys l.fold) l.texts) 0 (keys l.fold line) i j) → IsTrue r ↔ Matches (any_literal l) line false
   occurs_decides r none told = ((λ h. matched (told.0 h)), (λ m. told.1 (stands m)))
     where
@@ -104,7 +104,7 @@ module _ (l : Literals) (line : Text) where
         (λ m. told.1 (subst (IsString (map (keys l.fold) l.texts)) whole (any_stands 0 (length line) (omega arith) (omega arith) m))),
       )
 
-  -- the best of the strings that stand on the line is the part
+  -- the best of the strings in the line is the part
   pub best_is_part : (from : ℕ) (best : Option Span) → IsBestOccurrence (map (keys l.fold) l.texts) from (keys l.fold line) (length line) best → FindsPart (any_literal l ∷ []) line false from best
   unfolding IsBestOccurrence
   best_is_part from best b = go best b

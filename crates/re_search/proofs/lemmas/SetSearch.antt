@@ -104,7 +104,7 @@ module _ (all : Labels) (from : ℕ) (line : Text) where
       let at : s.start + (i - s.start) ≡ i = omega (arith, le) in
       ap (drop (i - s.start)) s.is ∙ drop-drop (i - s.start) s.start (take place line) ∙ ap (λ k. drop k (take place line)) at
 
-  -- a string that ends here is no longer than the longest with which the node ends
+  -- a string that ends here is no longer than the longest that the node ends with
   no_longer : (place n e : ℕ) → place ≤ length line → StandsAtNode all from line place n → EndsIn all.strings (all.label n) e → (i : ℕ) → Occurs all.strings from line i place → place - i ≤ e
   no_longer place n e within s ends i o =
       let le = begins_with_node place n s i o.0 (string_front all.strings (drop i (take place line)) o.3) in
@@ -128,7 +128,7 @@ module _ (all : Labels) (from : ℕ) (line : Text) where
       )
 
 module _ (all : Labels) (from : ℕ) (line : Text) where
-  -- a string that ends here or later begins no earlier than what the node stands for may
+  -- a string that ends here or later begins no earlier than the node's end may
   pub from_since : (place n : ℕ) (g : StandsSince all from line place n) → (i j : ℕ) → place ≤ j → Occurs all.strings from line i j → Occurs all.strings g.since line i j
   from_since place n g i j le o = elim (split i g.since) [ inl early ↦ absurd (g.none i j le early o) | inr late ↦ (late, o.1, o.2, o.3) ]
 
@@ -150,7 +150,7 @@ module _ (all : Labels) (from : ℕ) (line : Text) where
     stands = byte_read all g.since line place n m lt g.stands step;
   }
 
-  -- a string that ends here is no longer than the longest with which the node ends
+  -- a string that ends here is no longer than the longest that the node ends with
   no_longer_since : (place n e : ℕ) → place ≤ length line → StandsSince all from line place n → EndsIn all.strings (all.label n) e → (i : ℕ) → Occurs all.strings from line i place → place - i ≤ e
   no_longer_since place n e within g ends i o = no_longer all g.since line place n e within g.stands ends i (from_since place n g i place (omega arith) o)
 
@@ -162,7 +162,7 @@ module _ (all : Labels) (from : ℕ) (line : Text) where
       let late = o.0 in
       (omega (arith, low, late), o.1, o.2, o.3)
 
-  -- where the node ends with no string none ends here
+  -- where the node ends with no string, none ends here
   pub none_ends : (place n e : ℕ) → place ≤ length line → StandsSince all from line place n → EndsIn all.strings (all.label n) e → e ≡ 0 → (i : ℕ) → ¬ Occurs all.strings from line i place
   none_ends place n e within s ends nil i o = let most = no_longer_since place n e within s ends i o in omega (arith, nil, most, o.1)
 
@@ -254,7 +254,7 @@ ending_places best end n = go (nat_eq n 0)
     go false = better_places best (end - n) end
 
 module _ (all : Labels) (from : ℕ) (line : Text) where
-  -- no string stood on the line yet
+  -- there was no string in the line yet
   pub best_at_first : IsBestOccurrence all.strings from line from None
   unfolding IsBestOccurrence
   best_at_first i j le o = omega (arith, le, o.0, o.1)
@@ -270,7 +270,7 @@ module _ (all : Labels) (from : ℕ) (line : Text) where
       (best_through all from line place (suc to) to (places best) (omega (arith, lt)) (omega arith) between old)
       (least_ending all from line (suc to) n e within s ends)))
 
-  -- once the node begins behind the best so far, that is the best of the line
+  -- once the node begins after the best so far, that is the best of the line
   pub best_settled : (place next n depth : ℕ) (best : Option Span) → place < next → next ≤ length line → IsBestOccurrence all.strings from line place best → NoneBetween all.strings from line place next
       → StandsSince all from line next n → depth ≡ length (all.label n) → (known : Span) × (best ≡ Some known) × (known.start < next - depth) → IsBestOccurrence all.strings from line (length line) best
   unfolding IsBestOccurrence
@@ -313,7 +313,7 @@ goes_on_in_line strings line label place lt is none whole =
     let front : IsFront strings (take (place + 1) line ++ drop (place + 1) line) = subst (IsFront strings) (sym (take-append-drop (place + 1) line)) (string_front strings line whole) in
     none (subst (IsFront strings) read (front_shorter strings (take (place + 1) line) (drop (place + 1) line) front))
 
--- the node that is the line ends with a string that long where the line is one
+-- if the line is a string, the node that is the line ends with a string of that length
 pub ends_whole : (strings : List Text) (line label : Text) (e : ℕ) → 0 < length line → label ≡ line → EndsIn strings label e → IsTrue (nat_eq e (length line)) ↔ IsString strings line
 ends_whole strings line label e some is ends = (
   (λ h.

@@ -31,7 +31,7 @@ comes_chain (x ∷ s) (y ∷ t) (z ∷ u) (inl a) (inr b) = let e = b.0 in inl (
 comes_chain (x ∷ s) (y ∷ t) (z ∷ u) (inr a) (inl b) = let e = a.0 in inl (omega (arith, e, b))
 comes_chain (x ∷ s) (y ∷ t) (z ∷ u) (inr a) (inr b) = inr (a.0 ∙ b.0, comes_chain s t u a.1 b.1)
 
--- what a sort tells of two neighbours
+-- what a sort says of two neighbours
 not_less : (s t : Text) → is_lt (slice_cmp nat_cmp t s) ≡ false → Comes s t
 not_less [] t h = tt
 not_less (x ∷ s) [] h = absurd (false≢true (sym h))
@@ -43,7 +43,7 @@ not_less (x ∷ s) (y ∷ t) h =
       | Greater ↦ λ r e. inl r
     ] (ranks y x) h
 
--- behind the same front the first byte is no greater
+-- after the same front the first byte is no greater
 behind_front : (w r q : Text) → Comes (w ++ r) (w ++ q) → Comes r q
 behind_front [] r q c = c
 behind_front (x ∷ w) r q (inl lt) = absurd (omega (arith, lt))

@@ -17,7 +17,7 @@ front_shorter strings w more = any_map (λ s. Begins (w ++ more) s) (λ s. Begin
 pub string_front : (strings : List Text) (w : Text) → IsString strings w → IsFront strings w
 string_front strings w = any_map (λ s. s ≡ w) (λ s. Begins w s) (λ s e. ([], e ∙ sym (append-nil w))) strings
 
--- an empty end begins behind the text
+-- an empty end begins after the text
 pub empty_end : (w : Text) (k : ℕ) → k ≤ length w → [] ≡ drop k w → k ≡ length w
 empty_end w k le e = let none : 0 ≡ length (drop k w) = ap length e in omega (arith, length-drop k w, none)
 
@@ -46,7 +46,7 @@ module _ (strings : List Text) (b : ℕ) where
     none = λ j low lt front. s.none j low lt (subst (IsFront strings) (drop-append-le j w (b ∷ []) (let h = s.high in omega (arith, h))) front);
   }
 
-  -- the empty label can't go on with it: the end behind the byte is left
+  -- the empty label can't go on with it: the end after the byte is left
   pub nothing_left : (w : Text) (from : ℕ) → MayStandFor strings [] w b from → (IsFront strings (b ∷ []) → ⊥) → StandsFor strings [] (w ++ b ∷ []) from
   nothing_left w from s none = record {
     start = length w + 1;

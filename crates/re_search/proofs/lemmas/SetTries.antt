@@ -5,7 +5,7 @@ use Rattle.std.proofs.lemmas.List.{get_or-drop, get_or-take, length-take-le}
 use Rattle.re_search.specs.Working.FixedSets.{IsTrie}
 use Rattle.memchr.specs.Find.{Nowhere, Passes, is_byte}
 
--- a byte that a search of a part doesn't find stands at no place of it
+-- a byte that a search of a part doesn't find is at no place of it
 pub not_between : (bytes : List ℕ) (i j b : ℕ) → i ≤ j → j ≤ length bytes → Nowhere (Passes (is_byte b) (take (j - i) (drop i bytes))) 0 (length (take (j - i) (drop i bytes)))
     → (m : ℕ) → i ≤ m → m < j → slice_index bytes m ≡ b → ⊥
 not_between bytes i j b low high none m le lt is =
@@ -28,7 +28,7 @@ ascends first bytes t i j le lt =
     let at : i + (j - i) ≡ j = omega (arith, le) in
     subst (λ n. slice_index first (i + 1) ≤ slice_index first (n + 1)) at (ascends_by first bytes t i (j - i) (omega (arith, at, lt)))
 
--- a byte that a search of a part finds stands at its place
+-- a byte that a search of a part finds is at its place
 pub found_between : (bytes : List ℕ) (i j b k : ℕ) → i ≤ j → j ≤ length bytes → k < length (take (j - i) (drop i bytes)) → Passes (is_byte b) (take (j - i) (drop i bytes)) k
     → (i + k < j) × (slice_index bytes (i + k) ≡ b)
 found_between bytes i j b k low high below passes =

@@ -1,4 +1,4 @@
--- What a search tells that went over a line stage by stage, and how many steps it counted.
+-- What a search that went over a line stage by stage says, and how many steps it counted.
 use Rattle.std.proofs.Common.{◌≡◌, ℕ, zero, suc, ◌+◌, ◌-◌, ◌*◌, ◌<◌, ◌≤◌, Bool, true, false, IsTrue, ◌⊎◌, inl, inr, [], length, nat_eq, slice_index, refl, sym, ap, ◌∙◌, subst, arith, eq-eqb}
 use Rattle.std.specs.Prelude.{◌↔◌, IsSome}
 use Rattle.std.specs.Map.{lookup}
@@ -143,7 +143,7 @@ module _ (e : Expression) (mode : Mode) (line : Text) where
       record { built = a.built; reused = a.reused; sum = omega (arith, a.sum, f.within) }
 
 module _ (e : Expression) (line : Text) where
-  -- where a set stands that is gone over, no matched stretch ends
+  -- no matched stretch ends at a place with a set that is gone over
   none_here : (j : ℕ) (set : StateSet) → j < length line → IsPlain e Search set → StandsAt e Search line j set → ¬ EndsAt e Search line j
   none_here j set lt plain stands ends =
       let told : IsTrue false ↔ IsAccepting e Search set false = (λ no. absurd (false≢true no), λ accepts. absurd (plain refl accepts)) in
@@ -185,7 +185,7 @@ module _ (e : Expression) (line : Text) where
       let sum : n - j + j ≡ n = omega arith in
       subst (λ k. Goes e Search line k first stage) sum (goes_past first stage j (n - j) nowhere plain (λ k low high. never k low (omega (arith, high))) goes)
 
-  -- what a search for some matched stretch tells
+  -- what a search for some matched stretch says
   told_search : (first : Stage) (cache : Cache) (steps : Steps) (answer : Bool) → StandsAt e Search line 0 first.set → Finishes e Search line first cache steps answer → IsTrue answer ↔ Matches e line false
   told_search first cache steps answer stands f =
       let last : Stage = record { set = f.set; cache = cache; steps = steps } in
@@ -234,7 +234,7 @@ module _ (e : Expression) (line : Text) where
   finishes_told false = told_search
   finishes_told true = told_whole
 
-  -- what is told without a step
+  -- what is said without a step
   pub settled_told : (whole : Bool) (answer : Bool) → IsSettled e whole line answer → IsTrue answer ↔ Matches e line whole
   settled_told whole answer (inl lacks) = (λ yes. absurd (false≢true (sym lacks.no ∙ yes)), λ m. absurd (none whole lacks m))
     where

@@ -1,4 +1,4 @@
--- Searches that go on by what is held, and what they come to.
+-- Searches that go on by what is held, and where they get.
 use Rattle.std.proofs.Common.{◌≡◌, ℕ, zero, suc, ◌+◌, ◌-◌, ◌*◌, ◌<◌, ◌≤◌, Bool, true, false, ◌⊎◌, inl, inr, List, Option, Some, None, length, nat_eq, nat_lt, get_or, slice_get, slice_index, refl, sym, ap, ◌∙◌, subst, arith}
 use Rattle.std.specs.Prelude.{IsSome}
 use Rattle.std.specs.Map.{lookup}
@@ -108,7 +108,7 @@ module _ (e : Expression) (mode : Mode) (classes : List ℕ) (stride : ℕ) (set
             (record { plain = came.plain lt; over = inl (record { held = cell_held r c came.set came.row small (omega (arith, low)); next = on.next; cache = refl; steps = refl }) });
       }
 
-  -- what a search lands at by a cell
+  -- where a search is after a cell
   pub lands_at : (line : Text) (first : Stage) (from : StateSet) (now : Cache) (before after : Steps) (j byte cell : ℕ) → slice_get line j ≡ Some byte
       → TellsNext e mode now.sets now.stride from byte cell → cell < unknown → Goes e mode line j first (record { set = from; cache = cache; steps = before })
       → ((into : StateSet) → IsNextSet e mode from byte into → GoesOver e mode byte (record { set = from; cache = cache; steps = before }) (record { set = into; cache = now; steps = after }))
@@ -228,7 +228,7 @@ module _ (e : Expression) (mode : Mode) (line : Text) (old : Table) (before : St
   arrives_on place cell j (w.Alone k) leads right on is lands = absurd leads
 
 module _ (e : Expression) (mode : Mode) (line : Text) (t : Table) (right : IsRight e mode t) (steps : Steps) where
-  -- what stands at the first place of a line
+  -- the stage at the first place of a line
   abbrev pub first_stage : Stage
   first_stage = record { set = right.rows.start; cache = cache_of t; steps = steps }
 

@@ -1,4 +1,4 @@
--- The beginnings of strings that stand in order.
+-- The beginnings of strings in order.
 use Rattle.std.specs.Prelude.{◌≡◌, ℕ, ◌+◌, ◌<◌, ◌≤◌, List, [], ◌∷◌, ◌++◌, length, take, get_or}
 use Rattle.std.specs.Prelude.{slice_get, slice_index, All, nat_eq, ◌↔◌, if◌then◌else◌, Option, Some}
 use Rattle.std.specs.Prelude.{None}
@@ -10,7 +10,7 @@ use Rattle.re_search.specs.Working.FixedSets.{IsFront, IsString}
 abbrev pub text_at : List Text → ℕ → Text
 text_at texts i = get_or texts i []
 
--- a byte behind the end comes before each other
+-- the end of a text comes before each byte
 abbrev pub rank : Option ℕ → ℕ
 rank None = 0
 rank (Some b) = b + 1
@@ -40,7 +40,7 @@ no_branch = record { byte = 0; depth = 0; low = 0; high = 0 }
 abbrev pub branch_at : List Branch → ℕ → Branch
 branch_at branches m = get_or branches m no_branch
 
--- the branches from one place to another are those of one byte more than this one
+-- the branches from one place to another are those with one byte more than this one
 pub record IsRow (texts : List Text) (branches : List Branch) (b : Branch)
     (from to : ℕ) : Type 0 where
   pub child : (m : ℕ) → from ≤ m → m < to →
@@ -49,8 +49,8 @@ pub record IsRow (texts : List Text) (branches : List Branch) (b : Branch)
   pub complete : (c : ℕ) → IsFront texts (branch_text texts b ++ c ∷ []) →
       (m : ℕ) × (from ≤ m) × (m < to) × ((branch_at branches m).byte ≡ c)
 
--- the branches of one byte more than each of those before `done` stand together, from its entry on
--- up to the next
+-- the branches with one byte more than each of those before `done` are next to each other, from its
+-- entry up to the next
 pub record AreRows (texts : List Text) (branches : List Branch) (first : List ℕ)
     (done : ℕ) : Type 0 where
   pub few : done ≤ length branches
@@ -66,7 +66,7 @@ pub record AreRows (texts : List Text) (branches : List Branch) (first : List �
   pub rows : (n : ℕ) → n < done →
       IsRow texts branches (branch_at branches n) (slice_index first n) (slice_index first (n + 1))
 
--- the length of a beginning that is a string, 0 of another
+-- the length of a beginning that is a string, 0 for another
 abbrev pub own_length : List Text → Branch → ℕ
 own_length texts b = if nat_eq (length (text_at texts b.low)) b.depth then b.depth else 0
 

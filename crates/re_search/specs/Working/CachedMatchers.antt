@@ -1,4 +1,4 @@
--- Matchers that keep what sets of positions become over bytes.
+-- Matchers that keep the steps between sets of positions.
 use Rattle.std.specs.Prelude.{ℕ, ◌⊎◌, Bool}
 use Rattle.re_syntax.specs.Expression.{Expression}
 use Rattle.re_syntax.specs.declared.tree.Tree.{Tree}
@@ -7,8 +7,8 @@ use Rattle.re_search.specs.declared.cached.table.Table.{Table}
 use Rattle.re_search.specs.Working.Rows.{IsRight, IsBlank}
 use Rattle.re_search.specs.Working.Stages.{Cache}
 
--- the expression's tree, whether the whole line has to be matched (XCU grep, option -x), what the
--- cache holds, and how many entries it may have
+-- the expression's tree, whether the whole line has to be matched (XCU grep, option -x), the cache,
+-- and how many entries it may have
 pub record CachedMatcher : Type 0 where
   pub tree : Tree
   pub whole : Bool

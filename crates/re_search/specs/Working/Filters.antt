@@ -1,4 +1,4 @@
--- Strings of which a line has one wherever some expression matches it.
+-- Strings of which each line that some expression matches has one.
 use Rattle.std.specs.Prelude.{Bool, false, List, Any}
 use Rattle.re_syntax.specs.Bytes.{Text}
 use Rattle.re_syntax.specs.Expression.{Expression}
@@ -7,7 +7,7 @@ use Rattle.re_search.specs.Working.Literals.{Literals, any_literal}
 use Rattle.re_search.specs.Working.Needles.{IsNeeded}
 use Rattle.re_search.specs.Searching.{SomeMatches}
 
--- some of the strings stands on each line that some of the expressions matches
+-- each line that some of the expressions matches has one of the strings
 abbrev pub AreNeeded : Literals → List Expression → Type 0
 AreNeeded strings es =
     (line : Text) (whole : Bool) → SomeMatches es line whole →

@@ -18,8 +18,8 @@ IsFront strings w = Any (λ s. Begins w s) strings
 abbrev pub IsString : List Text → Text → Type 0
 IsString strings w = Any (λ s. s ≡ w) strings
 
--- the label is the longest end of the text, no longer than that from place `from` on, with which
--- some string begins
+-- the label is the longest end of the text that begins at place `from` or later and that some
+-- string begins with
 pub record StandsFor (strings : List Text) (label w : Text) (from : ℕ) : Type 0 where
   pub start : ℕ
   pub low : from ≤ start
@@ -27,7 +27,7 @@ pub record StandsFor (strings : List Text) (label w : Text) (from : ℕ) : Type 
   pub is : label ≡ drop start w
   pub none : (j : ℕ) → from ≤ j → j < start → IsFront strings (drop j w) → ⊥
 
--- the same, so far as the next byte leaves it open: no longer end may go on with that byte
+-- the same as far as it is known before the next byte: no longer end may go on with that byte
 pub record MayStandFor (strings : List Text) (label w : Text) (b from : ℕ) : Type 0 where
   pub start : ℕ
   pub low : from ≤ start
@@ -35,8 +35,8 @@ pub record MayStandFor (strings : List Text) (label w : Text) (b from : ℕ) : T
   pub is : label ≡ drop start w
   pub none : (j : ℕ) → from ≤ j → j < start → IsFront strings (drop j w ++ b ∷ []) → ⊥
 
--- n is the length of the longest string, not the empty one, with which the label ends; 0 where
--- there is none
+-- n is the length of the longest string, not the empty one, that the label ends with; 0 if there is
+-- none
 pub record EndsIn (strings : List Text) (label : Text) (n : ℕ) : Type 0 where
   pub within : n ≤ length label
   pub ends : 0 < n → IsString strings (drop (length label - n) label)
@@ -47,8 +47,8 @@ pub record Labels : Type 0 where
   pub strings : List Text
   pub label : ℕ → Text
 
--- The children of node n are those from `first n` on and before `first (n + 1)`; all of them come
--- behind it.
+-- The children of node n are those from `first n` on and before `first (n + 1)`. All of them come
+-- after it.
 pub record IsTrie (first bytes : List ℕ) : Type 0 where
   pub rows : length first ≡ length bytes + 1
   pub some : 0 < length bytes
@@ -62,8 +62,8 @@ pub record IsTrie (first bytes : List ℕ) : Type 0 where
 abbrev pub IsChild : List ℕ → ℕ → ℕ → Type 0
 IsChild first n m = (slice_index first n ≤ m) × (m < slice_index first (n + 1))
 
--- each child has its byte behind the label of its parent, and there is one for each byte with which
--- a string goes on
+-- each child is its parent's label with one byte more, and there is one for each byte that a string
+-- goes on with
 pub record IsTrieOf (all : Labels) (first bytes : List ℕ) : Type 0 where
   pub root : all.label 0 ≡ []
   pub child : (n m : ℕ) → n < length bytes → IsChild first n m →
@@ -71,29 +71,30 @@ pub record IsTrieOf (all : Labels) (first bytes : List ℕ) : Type 0 where
   pub complete : (n b : ℕ) → n < length bytes → IsFront all.strings (all.label n ++ b ∷ []) →
       (m : ℕ) × IsChild first n m × (slice_index bytes m ≡ b)
 
--- behind the root the fallback of each node comes before it
+-- the fallback of each node after the root comes before it
 abbrev pub AreFallbacks : List ℕ → Type 0
 AreFallbacks fails = (n : ℕ) → 0 < n → n < length fails → slice_index fails n < n
 
--- its label is the longest end of the node's own, but for all of it, with which some string begins
+-- its label is the longest end of the node's own label, shorter than that, that some string begins
+-- with
 abbrev pub AreFallbacksOf : Labels → List ℕ → Type 0
 AreFallbacksOf all fails =
     (n : ℕ) → 0 < n → n < length fails →
     StandsFor all.strings (all.label (slice_index fails n)) (all.label n) 1
 
--- what a step over a byte does to a node
+-- the node after a step over a byte
 abbrev pub Steps : Labels → ℕ → ℕ → ℕ → Type 0
 Steps all n b m =
     (w : Text) (from : ℕ) → StandsFor all.strings (all.label n) w from →
     StandsFor all.strings (all.label m) (w ++ b ∷ []) from
 
--- the same where shorter ends were tried before
+-- the same after longer ends were tried
 abbrev pub StepsOn : Labels → ℕ → ℕ → ℕ → Type 0
 StepsOn all n b m =
     (w : Text) (from : ℕ) → MayStandFor all.strings (all.label n) w b from →
     StandsFor all.strings (all.label m) (w ++ b ∷ []) from
 
--- the children of the root by their bytes, 0 where there is none
+-- the children of the root by their bytes, 0 if there is none
 pub record AreStarts (first starts : List ℕ) : Type 0 where
   pub full : length starts ≡ 256
   pub nodes : (b : ℕ) → b < 256 → slice_index starts b < slice_index first 1
@@ -102,7 +103,7 @@ pub record AreStarts (first starts : List ℕ) : Type 0 where
 abbrev pub AreStartsOf : Bool → Labels → List ℕ → Type 0
 AreStartsOf fold all starts = (b : ℕ) → b < 256 → StepsOn all 0 (key fold b) (slice_index starts b)
 
--- a string, not the empty one, stands from place i, `from` or later, to place j
+-- a string, not the empty one, is in the text from place i, `from` or later, to place j
 abbrev pub Occurs : List Text → ℕ → Text → ℕ → ℕ → Type 0
 Occurs strings from line i j =
     (from ≤ i) × (i < j) × (j ≤ length line) × IsString strings (drop i (take j line))
@@ -125,8 +126,8 @@ pub record IsLeaps (l : Leaps) : Type 0 where
   pub full : length l.shifts.items ≡ 32896
   pub short : 0 < l.window → (n : ℕ) → n < 32896 → slice_index l.shifts.items n < l.window
 
--- The window is no longer than any string. Where a string has a pair of bytes behind j others, a
--- leap from a window that ends with the pair comes no further than the string's first byte.
+-- The window is no longer than any string. If a string has a pair of bytes after j others, a leap
+-- from a window that ends with the pair does not pass the string's first byte.
 pub record AreLeapsOf (strings : List Text) (l : Leaps) : Type 0 where
   pub long : (s : Text) → IsString strings s → l.window ≤ length s
   pub right : (s : Text) → IsString strings s → (j : ℕ) → j + 2 ≤ l.window →
@@ -158,26 +159,25 @@ abbrev pub StandsAtNode : Labels → ℕ → Text → ℕ → ℕ → Type 0
 StandsAtNode all from line place node =
     StandsFor all.strings (all.label node) (take place line) from
 
--- the same from a later place on, before which no string begins that ends here or later
+-- the same from a later place on; no string that begins before it ends here or later
 pub record StandsSince (all : Labels) (from : ℕ) (line : Text) (place node : ℕ) : Type 0 where
   pub since : ℕ
   pub low : from ≤ since
   pub none : (i j : ℕ) → place ≤ j → i < since → ¬ Occurs all.strings from line i j
   pub stands : StandsAtNode all since line place node
 
--- the best so far, where the longest string that ends at this place has this length, or there is
--- none where that is 0
+-- the best so far, if the longest string that ends at this place has this length; there is none if
+-- it is 0
 abbrev pub better_ending : Option Span → ℕ → ℕ → Option Span
 better_ending best end n =
     if nat_eq n 0 then best else better_span best (record { start = end - n; end = end })
 
--- of the strings that stand on the line up to a place the span is the one that begins earliest, and
--- then the longest
+-- of the strings in the line up to a place the span is the one that begins earliest, and then the
+-- longest
 unfoldable pub IsBestOccurrence : List Text → ℕ → Text → ℕ → Option Span → Type 0
 IsBestOccurrence strings from line to best = IsBest (Occurs strings from line) to (places best)
 
--- the strings in their order, and what each node has to end with: its own length where it is a
--- string, else 0
+-- each node has its own length if it is a string, else 0
 abbrev pub AreOwn : Labels → List ℕ → Type 0
 AreOwn all owns =
     (n : ℕ) → n < length owns →
@@ -185,7 +185,7 @@ AreOwn all owns =
     (slice_index owns n ≡ length (all.label n)) × IsString all.strings (all.label n))
     × (IsString all.strings (all.label n) → slice_index owns n ≡ length (all.label n))
 
--- so many nodes have their rows
+-- `count` nodes have their rows
 pub record AreLinked (count : ℕ) (fails ends : List ℕ) : Type 0 where
   pub fallbacks : AreFallbacks fails
   pub all_fails : length fails ≡ count

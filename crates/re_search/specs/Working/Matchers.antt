@@ -1,4 +1,4 @@
--- What a matcher of either kind stands for, what its cache has, and how its steps are counted.
+-- The expression of a matcher of any kind, the entries of its cache, and how its steps are counted.
 use Rattle.std.specs.Prelude.{◌≡◌, ℕ, ◌<◌, ◌≤◌, Bool, true, false, List, [], ◌⊎◌, ⊤}
 use Rattle.re_syntax.specs.declared.fault.FaultKind.TheVariants.{TooLarge}
 use Rattle.re_syntax.specs.declared.fault.PatternFault.{PatternFault}
@@ -12,14 +12,14 @@ use Rattle.re_search.specs.Reading.{IsOutOfMemory}
 use Rattle.re_search.specs.Working.Literals.{literal_expression, any_literal}
 use Rattle.re_search.specs.Working.Stages.{AnswersLine}
 
--- the expression that a matcher stands for
+-- the expression that a matcher looks for
 abbrev pub matched_expression : Matcher → Expression
 matched_expression (m.Fixed literal) = literal_expression literal
 matched_expression (m.FixedSet literals) = any_literal literals.value
 matched_expression (m.Simulated matcher) = expression_of matcher.value.tree
 matched_expression (m.Cached matcher) = expression_of matcher.value.tree
 
--- whether it wants the whole line
+-- whether the whole line has to be matched
 abbrev pub wants_whole : Matcher → Bool
 wants_whole (m.Fixed literal) = literal.whole
 wants_whole (m.FixedSet literals) = literals.value.whole
@@ -33,7 +33,7 @@ is_fixed (m.FixedSet literals) = true
 is_fixed (m.Simulated matcher) = false
 is_fixed (m.Cached matcher) = false
 
--- the entries that its cache has, and how many it may have (none without a cache)
+-- the entries of its cache, and how many it may have (none without a cache)
 abbrev pub entries_of : Matcher → List (ℕ × ℕ)
 entries_of (m.Fixed literal) = []
 entries_of (m.FixedSet literals) = []
@@ -57,8 +57,8 @@ CountsSteps line (m.Cached old) before (m.Fixed new) after answer = ⊥
 CountsSteps line (m.Cached old) before (m.FixedSet new) after answer = ⊥
 CountsSteps line (m.Cached old) before (m.Simulated new) after answer = ⊥
 
--- why no automaton is made for an expression of so many positions, told at the text's first place:
--- it has too many, or memory ran out
+-- why no automaton is made for an expression with this number of positions, reported at the text's
+-- first place: it has too many, or the matcher is out of memory
 abbrev pub IsBuildFault : ℕ → PatternFault → Type 0
 IsBuildFault count fault =
     ((fault ≡ record { kind = TooLarge; at = 0 }) × (most_positions < count)) ⊎

@@ -1,4 +1,4 @@
--- Strings, and runs of sets of bytes, that every stretch has in it on which an expression holds.
+-- Strings, and runs of sets of bytes, that each stretch on which an expression holds contains.
 use Rattle.std.specs.Prelude.{◌≡◌, ℕ, ◌+◌, ◌≤◌, IsTrue, IfSome, List, Option, length, map}
 use Rattle.re_syntax.specs.Bytes.{Bytes, Text, only}
 use Rattle.re_syntax.specs.Expression.{Expression}
@@ -10,16 +10,16 @@ use Rattle.re_search.specs.declared.needle.run_finder.RunFinder.{RunFinder}
 use Rattle.re_search.specs.declared.needle.run_finder.RunFinder.TheVariants as r
 use Rattle.re_search.specs.Working.Runs.{RunStandsAt}
 
--- the text stands in the line between the places i and j
+-- the text is in the line between the places i and j
 abbrev pub StandsBetween : Text → Text → ℕ → ℕ → Type 0
 StandsBetween line text i j = (k : ℕ) × (i ≤ k) × (k + length text ≤ j) × OccursAt line text k
 
--- it does so wherever the expression holds from i to j
+-- it is there wherever the expression holds from i to j
 abbrev pub IsNeeded : Text → Expression → Type 0
 IsNeeded text e =
     (line : Text) (i j : ℕ) → j ≤ length line → Holds line e i j → StandsBetween line text i j
 
--- the same of a run of sets
+-- the same for a run of sets
 abbrev pub RunStandsBetween : Text → List Bytes → ℕ → ℕ → Type 0
 RunStandsBetween line run i j = (k : ℕ) × (i ≤ k) × (k + length run ≤ j) × RunStandsAt line run k
 
@@ -27,7 +27,7 @@ abbrev pub RunIsNeeded : List Bytes → Expression → Type 0
 RunIsNeeded run e =
     (line : Text) (i j : ℕ) → j ≤ length line → Holds line e i j → RunStandsBetween line run i j
 
--- the expression holds just where the run stands
+-- the expression holds exactly where the run is
 pub record IsJustRun (run : List Bytes) (e : Expression) : Type 0 where
   pub stands : (line : Text) (i j : ℕ) → j ≤ length line → Holds line e i j →
       RunStandsAt line run i × (j ≡ i + length run)
@@ -38,19 +38,19 @@ abbrev pub RunBegins : List Bytes → Expression → Type 0
 RunBegins run e =
     (line : Text) (i j : ℕ) → j ≤ length line → Holds line e i j → RunStandsAt line run i
 
--- the run that is looked for: of a string the sets of its bytes alone
+-- the run that is looked for: for a string the sets of its single bytes
 abbrev pub run_of : RunFinder → List Bytes
 run_of (r.Text text) = map only text
 run_of (r.Sets sets) = map members sets
 
--- The run is needed by the expression; where it is told to be first, each match begins with it, and
--- where it is told to be all, the expression holds just where it stands.
+-- The expression needs the run. If the needle says that it is first, each match begins with it. If
+-- the needle says that it is all, the expression holds exactly where it is.
 pub record IsNeedleOf (e : Expression) (needle : Needle) : Type 0 where
   pub needed : RunIsNeeded (run_of needle.finder) e
   pub some : 1 ≤ length (run_of needle.finder)
   pub first : IsTrue needle.is_first → RunBegins (run_of needle.finder) e
   pub all : IsTrue needle.is_all → IsJustRun (run_of needle.finder) e
 
--- so is the needle, where there is one
+-- the same for a needle, if there is one
 abbrev pub IsNeedleFor : Expression → Option Needle → Type 0
 IsNeedleFor e needle = IfSome needle (λ n. IsNeedleOf e n)

@@ -1,5 +1,5 @@
--- Outlines of expressions: sets of bytes one after another, with stretches between of which nothing
--- is told.
+-- Outlines of expressions: sets of bytes one after another, with stretches between them that may be
+-- anything.
 use Rattle.std.specs.Prelude.{◌≡◌, ℕ, ◌+◌, ◌<◌, ◌≤◌, ⊤, IsTrue, List, [], ◌∷◌, ◌++◌, length, map, replicate}
 use Rattle.std.specs.Prelude.{slice_get, Option, None, Some}
 use Rattle.re_syntax.specs.Bytes.{Bytes, Text}
@@ -15,12 +15,12 @@ abbrev pub shown : Mark → Option Bytes
 shown (m.Set set) = Some (members set)
 shown m.Stretch = None
 
--- what a mark stands for on the line from place i to place j
+-- a mark fits the line from place i to place j
 abbrev pub MarkFits : Text → Option Bytes → ℕ → ℕ → Type 0
 MarkFits line (Some set) i j = Holds line (one_of set) i j
 MarkFits line None i j = i ≤ j
 
--- the marks stand for the stretch from i to j, one after another
+-- the marks fit the stretch from i to j, one after another
 abbrev pub Fits : Text → List (Option Bytes) → ℕ → ℕ → Type 0
 Fits line [] i j = i ≡ j
 Fits line (mark ∷ marks) i j = (k : ℕ) × MarkFits line mark i k × Fits line marks k j
@@ -34,26 +34,25 @@ abbrev pub AreSetMarks : List (Option Bytes) → Type 0
 AreSetMarks [] = ⊤
 AreSetMarks (mark ∷ marks) = IsSetMark mark × AreSetMarks marks
 
--- The marks fit each stretch on which the expression holds; where all of them are sets, it holds on
+-- The marks fit each stretch on which the expression holds. If all of them are sets, it holds on
 -- all that they fit.
 pub record IsOutline (marks : List (Option Bytes)) (e : Expression) : Type 0 where
   pub fits : (line : Text) (i j : ℕ) → Holds line e i j → Fits line marks i j
   pub holds : AreSetMarks marks → (line : Text) (i j : ℕ) → Fits line marks i j → Holds line e i j
 
--- behind the old marks stand those that are an outline of the expression
+-- the marks are the old ones and then those that are an outline of the expression
 abbrev pub AddsOutline : List Mark → Expression → List Mark → Type 0
 AddsOutline old e new = (more : List Mark) × (new ≡ old ++ more) × IsOutline (map shown more) e
 
--- behind the old marks stand those of these sets
+-- the marks are the old ones and then those of these sets
 abbrev pub AddsSets : List Mark → List Bytes → List Mark → Type 0
 AddsSets old sets new = (more : List Mark) × (new ≡ old ++ more) × (map shown more ≡ map Some sets)
 
--- behind the old marks stand so many of this set
+-- the marks are the old ones and then n for this set
 abbrev pub AddsTurns : List Mark → Bytes → ℕ → List Mark → Type 0
 AddsTurns old set n new = AddsSets old (replicate n set) new
 
--- the sets begin each stretch from i to j on the line on which the expression holds: a byte of each
--- stands there in turn
+-- the stretch of the line from i to j begins with a byte of each set in turn
 pub record Leads (sets : List Bytes) (line : Text) (i j : ℕ) : Type 0 where
   pub within : i + length sets ≤ j
   pub takes : (k : ℕ) → k < length sets →

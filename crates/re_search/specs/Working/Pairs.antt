@@ -3,7 +3,7 @@ use Rattle.std.specs.Prelude.{◌≡◌, ℕ, ◌-◌, ◌^◌, ◌<◌, ◌⊎�
 use Rattle.std.specs.Prelude.{Some, None}
 use Rattle.std.specs.Map.{lookup}
 
--- the cells, the entries of the cache, and how many these may be
+-- the cells, the entries of the cache, and how many there may be
 pub record Held : Type 0 where
   pub cells : List ℕ
   pub entries : List (ℕ × ℕ)
@@ -25,6 +25,6 @@ pub record Mirrors (entries : List (ℕ × ℕ)) (cells : List ℕ) : Type 0 whe
   pub within : (at cell : ℕ) → lookup (nat_eq at) entries ≡ Some cell →
       (at < length cells) × (cell < unknown)
 
--- a cell is as it was, or nothing is held any more at its place
+-- a cell is as it was, or nothing is held at its place any more
 abbrev pub IsKeptOrLost : ℕ → ℕ → Type 0
 IsKeptOrLost old new = (new ≡ old) ⊎ (new ≡ unknown)

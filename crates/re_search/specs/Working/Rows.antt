@@ -1,5 +1,5 @@
--- Sets of positions by number, and for each a row of cells that tell what it becomes over bytes, as
--- far as that is held.
+-- Numbered sets of positions, and for each a row of cells with the set after each byte, as far as
+-- that is held.
 use Rattle.std.specs.Prelude.{◌≡◌, ℕ, zero, suc, ◌+◌, ◌-◌, ◌*◌, ◌^◌, ◌<◌, ◌≤◌, ◌↔◌, ◌⊎◌, List, Some}
 use Rattle.std.specs.Prelude.{[], true, false, IsTrue, length, nat_lt, if◌then◌else◌, slice_get}
 use Rattle.std.specs.Prelude.{slice_index}
@@ -16,12 +16,12 @@ use Rattle.re_search.specs.declared.cached.table.Table.{Table}
 use Rattle.re_search.specs.Working.Pairs.{unknown, Mirrors}
 use Rattle.re_search.specs.Working.Stages.{Cache, Stage, IsPlain, Goes}
 
--- Cells below this are rows of sets at which a search goes on. Others, but for `unknown`, are this
--- much above the row of a set at which a matched stretch ends.
+-- Cells below this are rows of sets where a search goes on. Others, but for `unknown`, are the row
+-- of a set at which a matched stretch ends, plus this number.
 abbrev pub limit : ℕ
 limit = 2 ^ 30
 
--- row r, of rows of so many cells, is that of this set
+-- row r, of rows of `stride` cells, is that of this set
 pub record IsRowOf (sets : List StateSet) (stride r : ℕ) (set : StateSet) : Type 0 where
   pub number : ℕ
   pub row : r ≡ number * stride
@@ -31,7 +31,7 @@ pub record IsRowOf (sets : List StateSet) (stride r : ℕ) (set : StateSet) : Ty
 abbrev pub IsRow : Table → ℕ → Type 0
 IsRow t r = (set : StateSet) × IsRowOf t.sets.keys t.stride r set
 
--- row r is that of the set after this byte, at which a search goes on
+-- row r is that of the set after this byte, where a search goes on
 pub record GoesOnTo (e : Expression) (mode : Mode) (sets : List StateSet) (stride : ℕ)
     (from : StateSet) (byte r : ℕ) : Type 0 where
   pub into : StateSet
@@ -58,7 +58,7 @@ pub record TellsNext (e : Expression) (mode : Mode) (sets : List StateSet) (stri
 abbrev pub cell_at : List ℕ → List ℕ → ℕ → ℕ → ℕ
 cell_at classes cells r byte = slice_index cells (r + slice_index classes byte)
 
--- the mark tells at which places of a line a matched stretch ends where the set stands
+-- the mark says at which places of a line a matched stretch ends if the search has this set
 pub record IsMarkOf (e : Expression) (mode : Mode) (set : StateSet) (mark : Mark) : Type 0 where
   pub inside : IsTrue mark.inside ↔ IsAccepting e mode set false
   pub at_end : IsTrue mark.at_end ↔ IsAccepting e mode set true
@@ -69,7 +69,7 @@ IsCellOf mode mark row cell =
     ((cell ≡ row) × (mode ≡ Search → mark.inside ≡ false)) ⊎
     ((cell ≡ row + limit) × (mode ≡ Search) × (mark.inside ≡ true))
 
--- the mark by this number is the set's
+-- the mark of this number is the set's
 pub record HasMark (e : Expression) (mode : Mode) (marks : List Mark) (number : ℕ)
     (set : StateSet) : Type 0 where
   pub mark : Mark
@@ -120,7 +120,7 @@ pub record IsBlank (t : Table) : Type 0 where
   pub cells : t.pairs.cells ≡ []
   pub entries : t.pairs.entries ≡ []
 
--- what contracts see of it
+-- what contracts see of the table
 abbrev pub cache_of : Table → Cache
 cache_of t =
     record {
@@ -131,8 +131,7 @@ cache_of t =
           t.pairs.entries;
     }
 
--- a search that came from a first stage stands at place j in this row, with such a cache and such
--- steps
+-- a search that came from a first stage is at place j in this row, with this cache and these steps
 pub record ComesTo (e : Expression) (mode : Mode) (line : Text) (first : Stage) (cache : Cache)
     (steps : Steps) (j r : ℕ) : Type 0 where
   pub set : StateSet
@@ -140,7 +139,7 @@ pub record ComesTo (e : Expression) (mode : Mode) (line : Text) (first : Stage) 
   pub plain : j < length line → IsPlain e mode set
   pub goes : Goes e mode line j first (record { set = set; cache = cache; steps = steps })
 
--- the steps after so many more that were reused
+-- the steps after n more that were reused
 abbrev pub walked : ℕ → Steps → Steps
 walked zero steps = steps
 walked (suc n) steps = many_reused (suc n) steps
@@ -150,7 +149,7 @@ abbrev pub row_under : ℕ → ℕ
 row_under cell = if nat_lt cell limit then cell else cell - limit
 
 -- a search that came from a first stage to place j goes over the byte there by this cell, and then
--- it has such a cache and such steps
+-- it has this cache and these steps
 pub record Lands (e : Expression) (mode : Mode) (line : Text) (first : Stage) (cache : Cache)
     (steps : Steps) (j cell : ℕ) : Type 0 where
   pub set : StateSet
@@ -159,13 +158,13 @@ pub record Lands (e : Expression) (mode : Mode) (line : Text) (first : Stage) (c
   pub special : limit ≤ cell → (mode ≡ Search) × IsAccepting e Search set false
   pub goes : Goes e mode line (suc j) first (record { set = set; cache = cache; steps = steps })
 
--- the same where only this set is known, and nothing is held any more
+-- the same if only this set is known, and nothing is held any more
 abbrev pub LandsAlone : Expression → Mode → Text → Stage → StateSet → Steps → ℕ → Type 0
 LandsAlone e mode line first set steps j =
     (cache : Cache) → cache.entries ≡ [] →
     Goes e mode line (suc j) first (record { set = set; cache = cache; steps = steps })
 
--- what was known still is, with sets added behind
+-- what was known still is, and sets were added after the others
 pub record Extends (old new : Table) : Type 0 where
   pub classes : new.classes.items ≡ old.classes.items
   pub stride : new.stride ≡ old.stride

@@ -1,4 +1,4 @@
--- Runs of sets of bytes: where one stands in a line, and tests that its bytes pass.
+-- Runs of sets of bytes: where a run is in a line, and tests that its bytes pass.
 use Rattle.std.specs.Prelude.{◌≡◌, ℕ, ◌+◌, ◌-◌, ◌%◌, ◌<◌, ◌≤◌, ◌⊎◌, IsTrue, List, Option, length}
 use Rattle.std.specs.Prelude.{bit_and, get_or, slice_index}
 use Rattle.re_syntax.specs.Bytes.{Bytes, Text, nothing}
@@ -11,16 +11,16 @@ use Rattle.re_search.specs.declared.needle.probes.Probes.{Probes}
 abbrev pub set_at : List Bytes → ℕ → Bytes
 set_at run j = get_or run j nothing
 
--- a byte of each set of the run, in their order, stands in the line from place k on
+-- from place k on the line has a byte of each set of the run, in their order
 pub record RunStandsAt (line : Text) (run : List Bytes) (k : ℕ) : Type 0 where
   pub fits : k + length run ≤ length line
   pub takes : (j : ℕ) → j < length run → IsTrue (set_at run j (slice_index line (k + j)))
 
--- r is the first place at which the run stands in the line
+-- r is the first place of the run in the line
 abbrev pub FindsRun : Text → List Bytes → Option ℕ → Type 0
 FindsRun line run r = IsFirst (λ k. RunStandsAt line run k) 0 (length line + 1) r
 
--- the run stands nowhere in the line
+-- the run is nowhere in the line
 abbrev pub LacksRun : List Bytes → Text → Type 0
 LacksRun run line = (k : ℕ) → ¬ RunStandsAt line run k
 
@@ -32,7 +32,7 @@ BeginsWithout run line = ¬ RunStandsAt line run 0
 abbrev pub IsWithin : Cover → ℕ → Type 0
 IsWithin cover x = ((x + (256 - cover.low)) % 256 ≤ cover.width) ⊎ (x ≡ cover.one) ⊎ (x ≡ cover.other)
 
--- the bits that the cover asks about are what they have to be
+-- the bits that the cover tests have their values
 abbrev pub HasBits : Cover → ℕ → Type 0
 HasBits cover x = bit_and x cover.asked ≡ cover.bits
 
@@ -44,7 +44,7 @@ IsCovered cover x = IsWithin cover x × HasBits cover x
 abbrev pub Covers : Cover → Bytes → Type 0
 Covers cover set = (x : ℕ) → x < 256 → IsTrue (set x) → IsCovered cover x
 
--- the byte that stands as far behind place k as the probe asks passes its test
+-- the byte at the probe's distance after place k passes its test
 abbrev pub PassesAt : Probe → Text → ℕ → Type 0
 PassesAt probe line k = IsCovered probe.cover (slice_index line (k + probe.at))
 
@@ -55,7 +55,7 @@ pub record AllPass (probes : Probes) (line : Text) (k : ℕ) : Type 0 where
   pub third : PassesAt probes.third line k
   pub fourth : PassesAt probes.fourth line k
 
--- as far behind each place before this one as the probes ask there is a byte
+-- there is a byte at each probe's distance after each place before this one
 pub record HaveRoom (probes : Probes) (line : Text) (past : ℕ) : Type 0 where
   pub first : past + probes.first.at ≤ length line
   pub second : past + probes.second.at ≤ length line

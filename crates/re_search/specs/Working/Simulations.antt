@@ -36,7 +36,7 @@ abbrev pub places : Option Span → Option (ℕ × ℕ)
 places None = None
 places (Some span) = Some (span.start, span.end)
 
--- the better of the best stretch so far and one that ends behind it
+-- the better of the best stretch so far and one that ends after it
 abbrev pub better_span : Option Span → Span → Option Span
 better_span None found = Some found
 better_span (Some known) found = if nat_lt known.start found.start then Some known else Some found
@@ -47,7 +47,7 @@ unfoldable pub IsBestSpan : Expression → ℕ → Text → ℕ → Option Span 
 IsBestSpan e from line to best = IsBest (IsMatched e Search from line) to (places best)
 
 -- The starts are right at place j, and the span is the best so far. No matched stretch begins
--- before `floor`, so that none is carried from there.
+-- before `floor`, so none is carried from there.
 pub record Carries (e : Expression) (from : ℕ) (line : Text) (j : ℕ) (starts : Starts)
     (span : Option Span) : Type 0 where
   pub floor : ℕ

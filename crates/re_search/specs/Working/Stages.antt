@@ -17,8 +17,8 @@ use Rattle.re_auto.specs.Working.Tables.{CanBegin}
 use Rattle.re_search.specs.Working.Needles.{RunIsNeeded, RunBegins, IsJustRun}
 use Rattle.re_search.specs.Working.Runs.{RunStandsAt, LacksRun, BeginsWithout}
 
--- What a cache holds: a class for each byte, sets of positions by number, and entries. The entry
--- for a set and a byte stands at the set's number times `stride`, plus the byte's class.
+-- A cache: a class for each byte, numbered sets of positions, and entries. The entry for a set and
+-- a byte is at the set's number times `stride`, plus the byte's class.
 pub record Cache : Type 0 where
   pub classes : List ℕ
   pub stride : ℕ
@@ -41,8 +41,7 @@ HoldsNoOther e old set c new =
     (other : StateSet) (b : ℕ) → b < 256 → IsHeld new other b →
     IsHeld old other b ⊎ (IsSame other set × TakenAlike e b c)
 
--- what a search has come to at some place: the set of positions that stands there, what the cache
--- holds, and the steps counted
+-- what a search has at some place: the set of positions, the cache, and the steps counted
 pub record Stage : Type 0 where
   pub set : StateSet
   pub cache : Cache
@@ -61,7 +60,8 @@ pub record IsReused (e : Expression) (mode : Mode) (c : ℕ) (old new : Stage) :
   pub cache : new.cache ≡ old.cache
   pub steps : new.steps ≡ many_reused 1 old.steps
 
--- it is not: the step counts as built, and no other pair is held afterwards that wasn't
+-- it is not: the step counts as built, and no other pair is held afterwards that was not held
+-- before
 pub record IsBuilt (e : Expression) (mode : Mode) (c : ℕ) (old new : Stage) : Type 0 where
   pub not_held : ¬ IsHeld old.cache old.set c
   pub next : IsNextSet e mode old.set c new.set
@@ -84,7 +84,7 @@ pub record GoesOver (e : Expression) (mode : Mode) (c : ℕ) (old new : Stage) :
   pub plain : IsPlain e mode old.set
   pub over : IsReused e mode c old new ⊎ (IsBuilt e mode c old new ⊎ IsPassed e mode c old new)
 
--- it goes over the first so many bytes of the line, one after the other
+-- it goes over the first n bytes of the line, one after the other
 unfoldable pub Goes : Expression → Mode → Text → ℕ → Stage → Stage → Type 0
 Goes e mode line zero first last = AreAlike last first
 Goes e mode line (suc j) first last =
@@ -114,19 +114,19 @@ pub record IsLost (mode : Mode) (set : StateSet) (answer : Bool) : Type 0 where
   pub nowhere : IsNowhere set
   pub no : answer ≡ false
 
--- the place is the line's end, and the set tells
+-- the place is the line's end, and the set decides
 pub record EndsLine (e : Expression) (mode : Mode) (line : Text) (place : ℕ) (set : StateSet)
     (answer : Bool) : Type 0 where
   pub last : place ≡ length line
   pub told : IsTrue answer ↔ IsAccepting e mode set true
 
--- why a search ends where this set stands, with this answer
+-- why a search ends with this answer at a place with this set
 abbrev pub Decides : Expression → Mode → Text → ℕ → StateSet → Bool → Type 0
 Decides e mode line place set answer =
     EndsInside e mode line place set answer ⊎
     (IsLost mode set answer ⊎ EndsLine e mode line place set answer)
 
--- the search went as far as it takes to answer, with such a cache and such steps at its end
+-- the search went on until it had an answer, with this cache and these steps at its end
 pub record Finishes (e : Expression) (mode : Mode) (line : Text) (first : Stage) (cache : Cache)
     (steps : Steps) (answer : Bool) : Type 0 where
   pub place : ℕ
@@ -135,8 +135,8 @@ pub record Finishes (e : Expression) (mode : Mode) (line : Text) (first : Stage)
   pub goes : Goes e mode line place first (record { set = set; cache = cache; steps = steps })
   pub decides : Decides e mode line place set answer
 
--- it does so from a place at which this set stands and on the way to which none of its answers
--- came, with a cache that holds nothing
+-- it does so from a place with this set, with a cache that holds nothing; it had no answer before
+-- that place
 abbrev pub FinishesFrom : Expression → Mode → Text → ℕ → StateSet → Steps → Steps → Bool → Type 0
 FinishesFrom e mode line from set old new answer =
     (first : Stage) (cache : Cache) → cache.entries ≡ [] →
@@ -156,9 +156,9 @@ pub record Searches (e : Expression) (mode : Mode) (line : Text) (old new : Cach
   pub steps : first.steps ≡ before
   pub finishes : Finishes e mode line first new after answer
 
--- what a search tells without a step: the line lacks a run of sets that every match has in it, or,
--- where it has to be matched as a whole, does not begin with one that every match begins with, or
--- has the run that is all that matches
+-- a search has its answer without a step: the line lacks a run of sets that every match has in it;
+-- or it has to be matched as a whole, and does not begin with a run that every match begins with;
+-- or it has the run that is all that matches
 pub record Lacks (e : Expression) (line : Text) (answer : Bool) : Type 0 where
   pub run : List Bytes
   pub needed : RunIsNeeded run e
@@ -188,7 +188,7 @@ IsSettled e whole line answer =
 abbrev pub mode_for : Bool → Mode
 mode_for whole = if whole then Whole else Search
 
--- the answer was known without a step, or it came of a search
+-- the answer was known without a step, or a search found it
 pub record TellsAtOnce (e : Expression) (whole : Bool) (line : Text) (old new : Cache)
     (before after : Steps) (answer : Bool) : Type 0 where
   pub settled : IsSettled e whole line answer

@@ -1,4 +1,4 @@
--- What going on over a line by what is held comes to.
+-- Where a search gets that goes on over a line by held pairs.
 use Rattle.std.specs.Prelude.{◌≡◌, ℕ, suc, ◌<◌, ◌≤◌, Bool, [], length}
 use Rattle.re_syntax.specs.Bytes.{Text}
 use Rattle.re_syntax.specs.Expression.{Expression}
@@ -15,7 +15,7 @@ use Rattle.re_search.specs.declared.cached.walking.Outcome.TheVariants as o
 use Rattle.re_search.specs.Working.Rows.{IsRight, IsRow, ComesTo, Lands, cache_of}
 use Rattle.re_search.specs.Working.Stages.{Cache, Stage, Goes, Finishes, Searches}
 
--- from the cell by which a search came over the byte before this place
+-- where a search goes on after the cell that led over the byte before this place
 abbrev pub LeadsOn : Expression → Mode → Text → Table → ℕ → ℕ → Went → Type 0
 LeadsOn e mode line t place cell (w.To spot) =
     (place ≤ spot.place) × (spot.place ≤ length line) × IsRow t spot.row
@@ -39,7 +39,7 @@ pub record ArrivesAt (e : Expression) (mode : Mode) (line : Text) (old : Table) 
       ComesTo e mode line first (cache_of old) before spot.place spot.row →
       ComesTo e mode line first (cache_of new) after next.place next.row
 
--- it came to know the answer
+-- its answer is known
 pub record ComesToTell (e : Expression) (mode : Mode) (line : Text) (old : Table) (before : Steps)
     (spot : Spot) (new : Table) (after : Steps) (answer : Bool) : Type 0 where
   pub right : IsRight e mode new
@@ -47,7 +47,7 @@ pub record ComesToTell (e : Expression) (mode : Mode) (line : Text) (old : Table
       ComesTo e mode line first (cache_of old) before spot.place spot.row →
       Finishes e mode line first (cache_of new) after answer
 
--- it came to place k, where this set stands, and nothing is held any more
+-- it is at place k with this set, and nothing is held any more
 pub record ComesAlone (e : Expression) (mode : Mode) (line : Text) (old : Table) (before : Steps)
     (spot : Spot) (set : StateSet) (after : Steps) (k : ℕ) : Type 0 where
   pub within : k ≤ length line
@@ -64,8 +64,8 @@ Arrives e mode line old before spot new set after (w.Told answer) =
 Arrives e mode line old before spot new set after (w.Alone k) =
     ComesAlone e mode line old before spot set after k
 
--- a search from the first place of the line came to place k, where this set stands, and nothing is
--- held any more
+-- a search from the first place of the line is at place k with this set, and nothing is held any
+-- more
 pub record IsLeftAt (e : Expression) (mode : Mode) (line : Text) (old : Cache) (before : Steps)
     (set : StateSet) (after : Steps) (k : ℕ) : Type 0 where
   pub within : k ≤ length line
@@ -76,7 +76,7 @@ pub record IsLeftAt (e : Expression) (mode : Mode) (line : Text) (old : Cache) (
   pub goes : (cache : Cache) → cache.entries ≡ [] →
       Goes e mode line k first (record { set = set; cache = cache; steps = after })
 
--- a search told its answer, or it left the rest of the line
+-- a search has its answer, or it left the rest of the line
 abbrev pub Gives : Expression → Mode → Text → Table → Steps → Table → StateSet → Steps → Outcome →
     Type 0
 Gives e mode line old before new set after (o.Told answer) =

@@ -1,25 +1,25 @@
-//! When it is worth while to keep pairs, and to pass bytes without a step. Nothing that a contract
-//! says rests on it.
+//! When it is worth while to keep pairs, and to pass bytes without a step. No contract depends on
+//! it.
 
 use re_auto::StateSet;
 
-// How many bytes are stepped over before pairs are kept: what is made ready for them has to pay.
+// How many bytes are stepped over before pairs are kept, so that making the table pays.
 const WARM: usize = 256;
 
-// How many lines are searched without keeping anything after the first search that gave up; after
-// each later one twice as many.
+// How many lines are searched without keeping anything after the first search that gave up. The
+// number doubles after each later one.
 const REST: u32 = 1024;
 
-// How many bytes a miss has to be made up for by.
+// How many reused steps make up for one miss.
 const BYTES_A_MISS: usize = 32;
 
-// After so many passes their mean length decides whether passing goes on.
+// After this number of passes their mean length decides whether passing goes on.
 const PASSES: u32 = 64;
 
 // From this mean length on, passing bytes is quicker than reading their cells.
 const WORTH_PASSING: usize = 8;
 
-/// What was seen of searches so far.
+/// What is known of the searches so far.
 #[derive(Drop)]
 pub struct Pace {
     warm: usize,
@@ -33,7 +33,7 @@ pub struct Pace {
 }
 
 impl Pace {
-    /// Nothing was seen.
+    /// Nothing is known yet.
     pub fn new() -> Pace {
         Pace {
             warm: 0,
@@ -57,15 +57,15 @@ impl Pace {
         self.warm >= WARM
     }
 
-    /// So many bytes were gone over whose pairs are held.
+    /// Notes that the steps over this number of bytes were held.
     #[inline(always)]
     pub fn note_reused(&mut self, bytes: usize) {
         self.reused = self.reused.saturating_add(bytes);
     }
 
-    /// One more pair was not held, where so many may be; it led to this set. Whether keeping pairs
-    /// goes on: it has to save enough steps, or the set is large, so that a step costs more than to
-    /// keep it.
+    /// Notes that one more pair was not held; it led to this set, and `most` pairs may be held.
+    /// Returns whether keeping pairs goes on: it has to save enough steps, or the set has to be so
+    /// large that a step costs more than keeping it.
     pub fn affords_miss(&mut self, most: usize, set: &StateSet) -> bool {
         self.misses = self.misses.saturating_add(1);
         if self.misses / 2 <= most {
@@ -78,8 +78,8 @@ impl Pace {
         true
     }
 
-    /// There is no room for this set. Whether all that is held gives way to it: a step from it has to
-    /// cost more than to keep it, or what is held has saved enough.
+    /// Whether all that is held is removed to make room for this set. A step from the set has to
+    /// cost more than keeping it, or what is held has saved enough.
     pub fn affords_anew(&self, set: &StateSet) -> bool {
         if set.is_large() {
             return true;
@@ -87,7 +87,8 @@ impl Pace {
         self.pays()
     }
 
-    /// A search gave up. Where keeping pairs didn't pay, the next lines are searched without.
+    /// Notes that a search gave up. If keeping pairs didn't pay, the next lines are searched
+    /// without it.
     pub fn give_up(&mut self) {
         if !self.pays() {
             self.rest = self.next_rest;
@@ -96,12 +97,12 @@ impl Pace {
         self.count_anew();
     }
 
-    // Whether so many steps were reused that they make up for the misses.
+    // Whether the reused steps make up for the misses.
     fn pays(&self) -> bool {
         self.reused / BYTES_A_MISS >= self.misses
     }
 
-    // Begins to count misses and reused steps at nothing.
+    // Resets the counts of misses and reused steps.
     fn count_anew(&mut self) {
         self.misses = 0;
         self.reused = 0;
@@ -112,7 +113,7 @@ impl Pace {
         self.passing
     }
 
-    /// So many bytes were passed.
+    /// Notes that this number of bytes was passed.
     pub fn note_pass(&mut self, bytes: usize) {
         self.passes = self.passes.saturating_add(1);
         self.passed = self.passed.saturating_add(bytes);

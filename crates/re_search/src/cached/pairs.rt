@@ -12,8 +12,8 @@ use std::num::NonZeroUsize;
 /// The cell of what is not held.
 pub const UNKNOWN: u32 = u32::MAX;
 
-/// A bounded cache from the places of cells to what stands in them, and the cells, so that what is
-/// held can be read without a look-up. Contracts see the cells, and the entries of the cache.
+/// A bounded cache from the places of cells to their contents, and the cells, so that what is held
+/// can be read without a look-up. Contracts see the cells, and the entries of the cache.
 #[derive(Drop)]
 pub struct Pairs {
     cells: Vec<u32>,
@@ -32,7 +32,7 @@ impl Model for Pairs {
 }
 
 impl Pairs {
-    /// No cell, and a cache for at most so many.
+    /// No cells, and a cache for at most `most` of them.
     pub fn new(alloc: Global, most: NonZeroUsize) -> Result<Pairs, AllocError>
         ensures { IfOk result
             (λ p. p ≡ record { cells = []; entries = []; most = non_zero_usize_get most }) }
@@ -68,7 +68,7 @@ impl Pairs {
         self.entries.cap().get()
     }
 
-    /// Takes all cells away.
+    /// Removes all cells.
     pub fn clear(&mut self)
         ensures { self.new ≡ record { cells = []; entries = []; most = self.old.most } }
     {
@@ -76,7 +76,7 @@ impl Pairs {
         self.cells.clear();
     }
 
-    /// Adds so many cells behind the others, at which nothing is held.
+    /// Adds `width` cells after the others; none of them is held.
     pub fn add_row(&mut self, width: usize) -> Result<(), AllocError>
         requires { width ≤ 256 }
         ensures added { OnOk result (self.new.cells ≡ self.old.cells ++ replicate width unknown) }
@@ -89,8 +89,8 @@ impl Pairs {
         Ok(())
     }
 
-    /// Holds a cell at its place, where nothing is held. The one that was held longest may go for
-    /// it, and where memory is refused nothing changes.
+    /// Holds a cell at its place, where nothing is held. The cell that was held longest may be
+    /// removed for it. If memory is refused, nothing changes.
     pub fn put(&mut self, at: u32, cell: u32)
         requires within { at < length self.old.cells }
         requires known { cell < unknown }

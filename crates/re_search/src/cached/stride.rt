@@ -3,8 +3,8 @@ ghost use Rattle.std.specs.Prelude.{◌≡◌, ℕ, ◌*◌, ◌/◌, ◌^◌, �
 
 use std::marker::Model;
 
-/// How far apart rows lie: a power of two up to 256, so that no division is needed to tell a row's
-/// number. Contracts see it as that power.
+/// How far apart rows lie: a power of two up to 256, so that a row's number is found without a
+/// division. Contracts see it as that power.
 #[derive(Drop)]
 pub struct Stride {
     shift: u32,
@@ -21,7 +21,7 @@ impl Model for Stride {
 }
 
 impl Stride {
-    /// The smallest for rows of so many cells.
+    /// The smallest stride for rows of `width` cells.
     pub fn for_width(width: usize) -> Stride
         requires { width ≤ 256 }
         ensures wide { width ≤ result }

@@ -1,4 +1,4 @@
-//! Sets of positions by number, and what each becomes over a byte, as far as that is held.
+//! Numbered sets of positions, and the set that each becomes over a byte, as far as that is held.
 ghost use Rattle.std.specs.Prelude.{◌≡◌, ℕ, ◌+◌, ◌-◌, ◌*◌, ◌<◌, ◌≤◌, ◌↔◌, [], ◌∷◌, ◌++◌, false};
 ghost use Rattle.std.specs.Prelude.{Some, IsTrue, IfOk, OnOk, IfSome, length, slice_get};
 ghost use Rattle.std.specs.Prelude.{slice_index};
@@ -20,10 +20,10 @@ use re_auto::{Automaton, Mode, StateSet};
 use std::alloc::{AllocError, Global};
 use std::num::NonZeroUsize;
 
-/// What stands above the row of a set at which a matched stretch ends.
+/// The bit that the cell of a set has, on top of its row, if a matched stretch ends there.
 pub const LIMIT: u32 = 1 << 30;
 
-/// Where on a line a matched stretch ends when a set stands there.
+/// Where on a line a matched stretch ends when the search is at a set.
 #[derive(Clone, Copy, Drop)]
 pub struct Mark {
     /// Before the line's end.
@@ -32,9 +32,9 @@ pub struct Mark {
     pub at_end: bool,
 }
 
-/// Sets of positions by number, and for each set a row of cells, one for each class of bytes: where
-/// it is held, the row of the set after such a byte. Row 0 is that of the set without positions,
-/// the next that of a line's first place.
+/// Numbered sets of positions, and for each set a row of cells, one for each class of bytes. A cell
+/// that is held has the row of the set after such a byte. Row 0 is that of the set without
+/// positions, the next that of a line's first place.
 #[derive(Drop)]
 pub struct Table {
     /// The class of each byte.
@@ -43,14 +43,14 @@ pub struct Table {
     pub stride: Stride,
     /// The sets.
     pub sets: IndexSet<StateSet>,
-    /// Where stretches end, by the sets' numbers.
+    /// Where matched stretches end, by the number of the set.
     pub marks: Vec<Mark>,
     /// The cells.
     pub pairs: Pairs,
 }
 
 impl Table {
-    /// A table without rows, for at most so many pairs.
+    /// A table without rows, for at most `most` pairs.
     pub fn new(alloc: Global, most: NonZeroUsize) -> Result<Table, AllocError>
         ensures blank { IfOk result IsBlank }
         ensures most { IfOk result (λ table. table.pairs.most ≡ non_zero_usize_get most) }
@@ -73,7 +73,7 @@ impl Table {
         self.marks.is_empty()
     }
 
-    /// Takes all rows away.
+    /// Removes all rows.
     pub fn clear(&mut self)
         ensures blank { IsBlank self.new }
         ensures most { self.new.pairs.most ≡ self.old.pairs.most }
@@ -83,7 +83,7 @@ impl Table {
         self.pairs.clear();
     }
 
-    /// Makes the first two rows, at which nothing is held; where memory is refused there are none.
+    /// Makes the first two rows, in which nothing is held. If memory is refused, there are none.
     pub fn begin(&mut self, alloc: Global, automaton: &Automaton, mode: Mode) -> bool
         requires blank { IsBlank self.old }
         ensures right { IsTrue result → IsRight (expression_of automaton.now) mode self.new }
@@ -122,9 +122,9 @@ impl Table {
         Ok(())
     }
 
-    /// Takes all rows away, and makes the first two anew and one for the set, at which nothing is
-    /// held. Gives the cell by which a search comes to the set; `None` where that does not pay, and
-    /// where memory is refused: then the table is of no use any more.
+    /// Removes all rows, then makes the first two and one for the set, in which nothing is held.
+    /// Returns the cell that leads to the set. `None` if that does not pay or memory is refused:
+    /// then the table must not be used any more.
     #[inline(never)]
     pub fn begin_anew(
         &mut self,
@@ -155,8 +155,8 @@ impl Table {
         Some(self.cell_of(mode, number))
     }
 
-    /// The number of a set that is the same as this one, which may be a new one. `None` where
-    /// memory or room for it is wanting: then the table is of no use any more.
+    /// The number of a set that is the same as this one; it is added if there is none. `None` if
+    /// there is no memory or room for it: then the table must not be used any more.
     pub fn number_of(
         &mut self,
         alloc: Global,
@@ -182,7 +182,7 @@ impl Table {
         }
     }
 
-    // Adds a set behind the others, and gives its number.
+    // Adds a set after the others, and returns its number.
     fn add(
         &mut self,
         alloc: Global,
@@ -217,7 +217,7 @@ impl Table {
         Ok(number)
     }
 
-    // Whether there is room for one row more: a few more sets than there may be pairs.
+    // Whether there is room for one more row. There may be a few more sets than pairs.
     fn has_room(&self) -> bool
         ensures { IsTrue result → length self.now.pairs.cells + self.now.stride ≤ limit }
     {
@@ -260,7 +260,7 @@ fn mark_of(automaton: &Automaton, mode: Mode, set: &StateSet) -> Mark
     }
 }
 
-// How many classes there are: all are below it.
+// The number of classes: all are below it.
 fn count_of(classes: &[u8]) -> usize
     ensures few { result ≤ 256 }
     ensures above { (c : ℕ) → c < length classes.now → slice_index classes.now c < result }

@@ -1,4 +1,4 @@
-//! Searches by what is held.
+//! Searches by the pairs that are held.
 ghost use Rattle.std.specs.Prelude.{◌≡◌, ℕ, suc, ◌+◌, ◌-◌, ◌*◌, ◌<◌, ◌≤◌, false, Some, IsTrue};
 ghost use Rattle.std.specs.Prelude.{IfSome, IfNone, length, slice_get, slice_index};
 ghost use Rattle.re_syntax.specs.Bytes.{Text};
@@ -20,7 +20,7 @@ use crate::cached::table::{LIMIT, Table};
 use re_auto::{Automaton, Meter, Mode, StateSet};
 use std::alloc::Global;
 
-/// A place on a line, and the row of the set that stands there.
+/// A place on a line, and the row of the set there.
 #[derive(Clone, Copy, Drop)]
 pub struct Spot {
     /// The place.
@@ -34,24 +34,24 @@ pub struct Spot {
 pub struct Walk {
     /// The place.
     pub place: usize,
-    /// The row of the set that stands there.
+    /// The row of the set there.
     pub row: usize,
-    /// The cell for the byte there; any at the line's end.
+    /// The cell for the byte there; unknown at the line's end.
     pub cell: u32,
 }
 
-/// What came of going on.
+/// The result of going on.
 #[derive(Drop)]
 pub enum Went {
-    /// It came to this spot.
+    /// The search is at this spot.
     To(Spot),
-    /// It came to know the answer.
+    /// The answer is known.
     Told(bool),
-    /// It came to this place, and what stands there is not in the table.
+    /// The search is at this place, and the set there is not in the table.
     Alone(usize),
 }
 
-/// What came of a search: its answer, or the place where it gave up.
+/// The result of a search: its answer, or the place where it gave up.
 #[derive(Drop)]
 pub enum Outcome {
     /// The answer.
@@ -61,9 +61,8 @@ pub enum Outcome {
 }
 
 impl Table {
-    /// Searches the line. Where memory or room runs out on the way, or keeping pairs doesn't pay,
-    /// it gives up behind some byte: then only `into` has the set that stands there, and the table
-    /// is of no use any more.
+    /// Searches the line. It gives up after some byte if memory or room runs out, or keeping pairs
+    /// doesn't pay. Then only `into` has the set there, and the table must not be used any more.
     pub fn search(
         &mut self,
         alloc: Global,
@@ -152,7 +151,7 @@ impl Table {
         }
     }
 
-    // Goes over bytes whose pairs are held, as long as their cells are rows from `floor` on.
+    // Goes over bytes whose pairs are held, while their cells are rows from `floor` on.
     #[inline(never)]
     fn walk(&self, automaton: &Automaton, mode: Mode, line: &[u8], from: Spot, floor: u32) -> Walk
         requires right { IsRight (expression_of automaton.now) mode self.now }
@@ -189,8 +188,8 @@ impl Table {
         }
     }
 
-    // Goes over one byte: what is held is taken, and anything else is worked out. Gives the cell
-    // for it; `None` where only `into` has the set behind it.
+    // Goes over one byte. The step is taken from the table if it is held, and worked out if not.
+    // Returns the cell for it; `None` if only `into` has the next set.
     #[inline(always)]
     fn step(
         &mut self,
@@ -237,8 +236,8 @@ impl Table {
         None
     }
 
-    // Works out the set after one more byte, which counts as one step, and keeps what came of it.
-    // `None` where that can't be.
+    // Works out the set after one more byte, which counts as one step, and keeps the result. `None`
+    // if it can't be kept.
     #[inline(never)]
     fn learn(
         &mut self,
@@ -280,7 +279,7 @@ impl Table {
         Some(cell)
     }
 
-    // What a search comes to at this place, to which it came by this cell.
+    // Where the search goes on after this cell led to this place.
     #[inline(always)]
     fn arrive(
         &self,

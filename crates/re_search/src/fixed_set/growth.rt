@@ -1,4 +1,4 @@
-//! The tree of the beginnings of strings in order.
+//! The tree of the beginnings of sorted strings.
 ghost use Rattle.std.specs.Prelude.{◌≡◌, ℕ, ◌+◌, ◌^◌, ◌<◌, ◌≤◌, ◌++◌, [], ◌∷◌, List, All, IfOk};
 ghost use Rattle.std.specs.Prelude.{IfSome, length, map, slice_get};
 ghost use Rattle.re_search.specs.declared.fixed_set.growth.Branch.{Branch};
@@ -7,30 +7,30 @@ ghost use Rattle.re_search.specs.Working.Branches.{branch_at, text_at};
 
 use std::alloc::{AllocError, Global};
 
-/// A beginning of some strings, which stand together where the strings are in order.
+/// A beginning of some strings, which are next to each other, since the strings are in order.
 #[derive(Clone, Copy, Drop)]
 pub struct Branch {
-    /// Its last byte; any where it is empty.
+    /// Its last byte; any value if it is empty.
     pub byte: u8,
     /// How many bytes it has.
     pub depth: u32,
     /// The first string that begins with it.
     pub low: u32,
-    /// The place behind the last.
+    /// The place after the last.
     pub high: u32,
 }
 
-/// All beginnings of strings in order, shorter ones first.
+/// All beginnings of sorted strings, shorter ones first.
 #[derive(Drop)]
 pub struct Growth {
     /// The beginnings.
     pub branches: Vec<Branch>,
-    /// Where those of one byte more begin for each, and one entry more.
+    /// For each the place of the first that has one byte more, and one entry more.
     pub first: Vec<u32>,
 }
 
-/// The beginnings of these strings, which are in order. The one error is that memory was refused,
-/// or that more than 2^32 - 1 beginnings would be needed.
+/// The beginnings of these strings, which are in order. The errors are that memory was refused, or
+/// that there are more than 2^32 - 1 beginnings.
 pub fn grow(alloc: Global, strings: &[&[u8]]) -> Result<Growth, AllocError>
     requires { AreAscending (map (λ s. s.now) strings.now) }
     ensures rows { IfOk result
@@ -54,7 +54,7 @@ pub fn grow(alloc: Global, strings: &[&[u8]]) -> Result<Growth, AllocError>
 }
 
 // How many beginnings the strings have, which are in order. It says how much room to make at once,
-// and nothing rests on it.
+// and no contract depends on it.
 fn count_of(strings: &[&[u8]]) -> usize {
     let mut count = 1_usize;
     'places: for place in 0..strings.len() {
@@ -63,7 +63,7 @@ fn count_of(strings: &[&[u8]]) -> usize {
     count
 }
 
-// How many bytes of a string stand behind those with which the one before it begins too.
+// How many bytes of a string follow those that it shares with the string before it.
 fn added_by(strings: &[&[u8]], place: usize) -> usize
     requires { place < length strings.now }
 {
@@ -74,7 +74,7 @@ fn added_by(strings: &[&[u8]], place: usize) -> usize
     string.len() - shared(strings[place - 1], string)
 }
 
-// With how many bytes both texts begin.
+// How many bytes both texts begin with.
 fn shared(before: &[u8], text: &[u8]) -> usize
     ensures { result ≤ length text.now }
 {
@@ -87,7 +87,6 @@ fn shared(before: &[u8], text: &[u8]) -> usize
     end
 }
 
-// Adds an entry.
 fn add_entry(first: &mut Vec<u32>, place: usize) -> Result<(), AllocError>
     ensures added { IfOk result (λ _. first.new.items ≡ first.old.items ++ place ∷ []) }
     ensures few { IfOk result (λ _. place < 2 ^ 32) }
@@ -126,7 +125,6 @@ fn expand(strings: &[&[u8]], branches: &mut Vec<Branch>, node: usize) -> Result<
     Ok(())
 }
 
-// Adds a beginning.
 fn add_branch(
     branches: &mut Vec<Branch>,
     byte: u8,
@@ -150,7 +148,7 @@ fn add_branch(
     Ok(())
 }
 
-// The byte at a place of a string, none at its end.
+// The byte at a place of a string; none at its end.
 fn key_at(strings: &[&[u8]], place: usize, depth: usize) -> Option<u8>
     requires { place < length strings.now }
     ensures told { result ≡ slice_get (text_at (map (λ s. s.now) strings.now) place) depth }
@@ -164,7 +162,7 @@ fn key_at(strings: &[&[u8]], place: usize, depth: usize) -> Option<u8>
     None
 }
 
-// The place behind the strings that have this byte there.
+// The place after the strings that have this byte there.
 fn run_end(strings: &[&[u8]], at: usize, high: usize, depth: usize, key: Option<u8>) -> usize
     requires within { at < high }
     requires in_strings { high ≤ length strings.now }

@@ -1,4 +1,4 @@
-//! How far a search for many strings may leap where none of them is on its way.
+//! How far a search for many strings may leap while none of them has begun.
 ghost use Rattle.std.specs.Prelude.{◌≡◌, ℕ, ◌+◌, ◌^◌, ◌<◌, ◌≤◌, List, IfOk, length, map, slice_index};
 ghost use Rattle.re_syntax.specs.Bytes.{Text};
 ghost use Rattle.re_search.specs.Working.Branches.{text_at};
@@ -8,24 +8,24 @@ ghost use Rattle.re_search.specs.Working.Literals.{keys};
 use crate::fixed_set::keys::key_of;
 use std::alloc::{AllocError, Global};
 
-// A window has no more bytes than this, also where all strings are longer.
+// The longest window, even if all strings are longer.
 const MOST_WINDOW: usize = 16;
 
-/// What is known of pairs of bytes. The window at a place of a line is as long as no string is
-/// shorter; where its last two bytes stand together early in a string or in none, no string begins
-/// at its first places.
+/// What is known of pairs of bytes. The window at a place of a line is as long as the shortest
+/// string. If the strings have its last two bytes only near their beginning, or not at all, then no
+/// string begins at its first places.
 #[derive(Drop)]
 pub struct Leaps {
     /// The length of the window.
     pub window: usize,
-    /// For the last two bytes of a window at how many of its first places no string begins. Pairs
+    /// By the last two bytes of a window, at how many of its first places no string begins. Pairs
     /// of bytes may share a row, but no two pairs of ASCII bytes do.
     pub shifts: Vec<u8>,
 }
 
 impl Leaps {
-    /// The first place, `place` or later, at which a string may begin; the line's end where there
-    /// is none.
+    /// The first place, `place` or later, where a string may begin; the line's end if there is
+    /// none.
     #[inline(always)]
     pub fn leap(&self, line: &[u8], place: usize, fold: bool) -> usize
         requires leaps { IsLeaps self.now }
@@ -46,8 +46,8 @@ impl Leaps {
         line.len()
     }
 
-    // At how many places from this one on no string begins, for the window there and the next that
-    // a longest leap reaches: both are read at once, so that the second need not wait for the first.
+    // At how many places from this one on no string begins, by the window there and the one after
+    // the longest leap. Both are read at once, so that the second need not wait for the first.
     #[inline(always)]
     fn far_shift(&self, line: &[u8], at: usize, fold: bool) -> usize
         requires leaps { IsLeaps self.now }
@@ -66,7 +66,7 @@ impl Leaps {
         both_shifts(first, second, longest)
     }
 
-    // At how many places from this one on no string begins, for the window there.
+    // At how many places from this one on no string begins, by the window there.
     #[inline(always)]
     fn shift(&self, line: &[u8], at: usize, fold: bool) -> usize
         requires leaps { IsLeaps self.now }
@@ -83,7 +83,7 @@ impl Leaps {
     }
 }
 
-// A leap, and the one behind it where it is a longest one.
+// The leap, and if it is a longest one, the next leap too.
 #[inline(always)]
 fn both_shifts(first: usize, second: usize, longest: usize) -> usize
     requires few { first + second < 2 ^ 64 }
@@ -111,7 +111,7 @@ pub fn leaps_of(alloc: Global, strings: &[&[u8]]) -> Result<Leaps, AllocError>
     Ok(Leaps { window, shifts })
 }
 
-// So many leaps, each of this length.
+// `rows` leaps, each of this length.
 fn all_alike(alloc: Global, shift: u8, rows: usize) -> Result<Vec<u8>, AllocError>
     ensures all { IfOk result (λ shifts. length shifts.items ≡ rows) }
     ensures alike { IfOk result
@@ -120,7 +120,7 @@ fn all_alike(alloc: Global, shift: u8, rows: usize) -> Result<Vec<u8>, AllocErro
     vec![in alloc; shift; rows]
 }
 
-// The length of the shortest string, or `MOST_WINDOW` where that is less.
+// The length of the shortest string, at most `MOST_WINDOW`.
 fn window_of(strings: &[&[u8]]) -> usize
     ensures few { result ≤ 16 }
     ensures long { (i : ℕ) → i < length strings.now →

@@ -11,16 +11,16 @@ use crate::fixed_set::table::step;
 use crate::fixed_set::trie::Trie;
 use std::alloc::{AllocError, Global};
 
-/// For each node its fallback and the length of the longest string with which it ends.
+/// For each node its fallback, and the length of the longest string that it ends with.
 #[derive(Drop)]
 pub struct Links {
-    /// For each node the longest other one that it ends with; any for the root.
+    /// For each node the longest other one that it ends with; any value for the root.
     pub fails: Vec<u32>,
-    /// The length of the longest string that each node ends with, 0 where there is none.
+    /// The length of the longest string that each node ends with, 0 if there is none.
     pub ends: Vec<u32>,
 }
 
-/// The child of the root for each byte as strings are compared, the root where there is none.
+/// The child of the root for each byte as strings are compared, the root if there is none.
 pub fn starts_of(alloc: Global, trie: &Trie, fold: bool) -> Result<Vec<u32>, AllocError>
     requires trie { IsTrie trie.now.first.items trie.now.bytes.items }
     requires few { length trie.now.bytes.items < 2 ^ 32 }
@@ -37,7 +37,7 @@ pub fn starts_of(alloc: Global, trie: &Trie, fold: bool) -> Result<Vec<u32>, All
     Ok(starts)
 }
 
-/// The child of the root for each byte of a line; `plain` has that for each byte as it is.
+/// The child of the root for each byte of a line. `plain` has that for each byte as it is.
 pub fn line_starts(
     alloc: Global,
     trie: &Trie,
@@ -59,7 +59,7 @@ pub fn line_starts(
     Ok(plain)
 }
 
-// The child of the root for this byte, the root where there is none.
+// The child of the root for this byte, the root if there is none.
 fn start_of(trie: &Trie, byte: u8) -> usize
     requires trie { IsTrie trie.now.first.items trie.now.bytes.items }
     ensures near { result < slice_index trie.now.first.items 1 }
@@ -72,7 +72,7 @@ fn start_of(trie: &Trie, byte: u8) -> usize
     }
 }
 
-/// The links of all nodes; `owns` has the length of each node that is a string, and 0 for others.
+/// The links of all nodes. `owns` has the length of each node that is a string, and 0 for others.
 pub fn links_of(
     alloc: Global,
     trie: &Trie,
@@ -155,14 +155,14 @@ fn fallback(trie: &Trie, starts: &[u32], fails: &[u32], node: usize, byte: u8) -
     step(trie, starts, fails, fails[node] as usize, byte)
 }
 
-// The length of a node that is a string, else what its fallback ends with.
+// The length of a node that is a string; for other nodes that of the string that its fallback ends
+// with.
 fn longer_end(own: u32, end: u32) -> u32
     ensures { result ≡ longer_ending own end }
 {
     if own > 0 { own } else { end }
 }
 
-// Adds the links of a node.
 fn add_link(links: &mut Links, fail: usize, end: u32) -> Result<(), AllocError>
     ensures { IfOk result
         (λ _. (links.new.fails.items ≡ links.old.fails.items ++ fail ∷ []) ×
@@ -173,7 +173,6 @@ fn add_link(links: &mut Links, fail: usize, end: u32) -> Result<(), AllocError>
     Ok(())
 }
 
-// Adds a number.
 fn push_number(numbers: &mut Vec<u32>, n: usize) -> Result<(), AllocError>
     ensures { IfOk result (λ _. numbers.new.items ≡ numbers.old.items ++ n ∷ []) }
 {

@@ -19,9 +19,9 @@ struct Nodes {
     owns: Vec<u32>,
 }
 
-/// The table for these strings, which are in order, for lines whose letters are alike in both
-/// cases where `fold` is set. The one error is that memory was refused, or that the strings have
-/// 2^32 beginnings or more.
+/// The table for these strings, which are in order. With `fold`, both cases of each letter of a
+/// line are alike. The errors are that memory was refused, or that the strings have 2^32 beginnings
+/// or more.
 pub fn table_of(alloc: Global, strings: &[&[u8]], fold: bool) -> Result<Table, AllocError>
     requires { AreAscending (map (λ s. s.now) strings.now) }
     ensures table { IfOk result IsTable }
@@ -50,8 +50,8 @@ pub fn table_of(alloc: Global, strings: &[&[u8]], fold: bool) -> Result<Table, A
     })
 }
 
-// The nodes for these strings, which are in order. What they were made of takes more room than they
-// do, and is given back before the table's other columns are made.
+// The nodes for these strings, which are in order. The beginnings that they are made from take more
+// room than they do, and are freed before the table's other columns are made.
 fn nodes_of(alloc: Global, strings: &[&[u8]]) -> Result<Nodes, AllocError>
     requires { AreAscending (map (λ s. s.now) strings.now) }
     ensures trie { IfOk result (λ nodes. IsTrie nodes.trie.first.items nodes.trie.bytes.items) }
@@ -72,7 +72,7 @@ fn nodes_of(alloc: Global, strings: &[&[u8]]) -> Result<Nodes, AllocError>
     Ok(Nodes { trie, owns })
 }
 
-// The last byte of each.
+// The last byte of each branch.
 fn bytes_of(alloc: Global, branches: &[Branch]) -> Result<Vec<u8>, AllocError>
     ensures all { IfOk result (λ bytes. length bytes.items ≡ length branches.now) }
     ensures each { IfOk result
@@ -86,7 +86,7 @@ fn bytes_of(alloc: Global, branches: &[Branch]) -> Result<Vec<u8>, AllocError>
     Ok(bytes)
 }
 
-// The length of each that is a string, 0 for others.
+// The length of each branch that is a string, 0 for others.
 fn owns_of(alloc: Global, strings: &[&[u8]], branches: &[Branch]) -> Result<Vec<u32>, AllocError>
     ensures all { IfOk result (λ owns. length owns.items ≡ length branches.now) }
     ensures each { IfOk result
@@ -101,7 +101,7 @@ fn owns_of(alloc: Global, strings: &[&[u8]], branches: &[Branch]) -> Result<Vec<
     Ok(owns)
 }
 
-// The length of a beginning that is a string, 0 of another.
+// The length of a branch that is a string, 0 for another.
 fn own_of(strings: &[&[u8]], branch: Branch) -> u32
     ensures { result ≡ own_length (map (λ s. s.now) strings.now) branch }
 {

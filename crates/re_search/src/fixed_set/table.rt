@@ -19,13 +19,13 @@ use crate::span::Span;
 pub struct Table {
     /// The nodes.
     pub trie: Trie,
-    /// The child of the root for each byte, the root where there is none.
+    /// The child of the root for each byte, the root if there is none.
     pub starts: Vec<u32>,
-    /// For each node the longest other one that it ends with; any for the root.
+    /// For each node the longest other one that it ends with; any value for the root.
     pub fails: Vec<u32>,
     /// The length of each node.
     pub depths: Vec<u32>,
-    /// The length of the longest string that each node ends with, 0 where there is none.
+    /// The length of the longest string that each node ends with, 0 if there is none.
     pub ends: Vec<u32>,
     /// How far a search may leap at the root.
     pub leaps: Leaps,
@@ -34,7 +34,7 @@ pub struct Table {
 }
 
 impl Table {
-    /// Whether some string stands on the line.
+    /// Whether some string occurs in the line.
     pub fn stands_in(&self, line: &[u8]) -> bool
         requires { IsTable self.now }
         ensures { (all : Labels) → IsTableOf all self.now →
@@ -46,8 +46,7 @@ impl Table {
         self.stands_by(line, false)
     }
 
-    // The same, with the table's `fold` given apart: where it is constant the loop is compiled for
-    // it alone.
+    // The same with a `fold` that the compiler knows, so that there is a loop for each case.
     #[inline(always)]
     fn stands_by(&self, line: &[u8], fold: bool) -> bool
         requires table { IsTable self.now }
@@ -68,7 +67,7 @@ impl Table {
         false
     }
 
-    /// Of the strings that stand on the line, from `from` on, the one that begins earliest, and of
+    /// Of the strings in the line that begin at `from` or later, the one that begins first, and of
     /// those that begin there the longest.
     pub fn find(&self, line: &[u8], from: usize) -> Option<Span>
         requires table { IsTable self.now }
@@ -83,7 +82,7 @@ impl Table {
         self.find_by(line, from, false)
     }
 
-    // The same, with the table's `fold` given apart.
+    // The same with a `fold` that the compiler knows.
     #[inline(always)]
     fn find_by(&self, line: &[u8], from: usize, fold: bool) -> Option<Span>
         requires table { IsTable self.now }
@@ -125,8 +124,8 @@ impl Table {
         self.ends[node] as usize == line.len()
     }
 
-    // Goes over the byte at `place`, or, where no string is on its way, over those at which none
-    // begins, and one more; gives the place behind and the node there.
+    // Goes over the byte at `place`. If no string has begun, it first passes the bytes where none
+    // begins. Returns the place after the byte, and the node there.
     #[inline(always)]
     fn pass(&self, line: &[u8], place: usize, node: usize, fold: bool) -> (usize, usize)
         requires table { IsTable self.now }
@@ -151,8 +150,8 @@ impl Table {
         (start + 1, into)
     }
 
-    // The place, or, where no string is on its way, the first one from there on at which a string
-    // may begin; the line's end where there is none.
+    // The place itself if a string has begun; else the first place from there on where one may
+    // begin, or the line's end if there is none.
     #[inline(always)]
     fn next_start(&self, line: &[u8], place: usize, node: usize, fold: bool) -> usize
         requires table { IsTable self.now }
@@ -176,7 +175,7 @@ impl Table {
     }
 }
 
-// The node that the longest end of what was read is, with this byte behind it.
+// The node for the longest end of the bytes so far, after this byte.
 #[inline]
 pub fn step(trie: &Trie, starts: &[u32], fails: &[u32], node: usize, byte: u8) -> usize
     requires trie { IsTrie trie.now.first.items trie.now.bytes.items }
@@ -200,8 +199,8 @@ pub fn step(trie: &Trie, starts: &[u32], fails: &[u32], node: usize, byte: u8) -
     starts[byte as usize] as usize
 }
 
-// The first place, `place` or later, whose byte a string begins with; the line's end where there
-// is none.
+// The first place, `place` or later, whose byte a string begins with; the line's end if there is
+// none.
 fn first_start(starts: &[u32], line: &[u8], place: usize) -> usize
     requires full { length starts.now ≡ 256 }
     requires within { place ≤ length line.now }
@@ -227,8 +226,8 @@ fn begins_before(best: Option<Span>, place: usize) -> bool
     }
 }
 
-// The best so far, where a string of this length ends at a place behind it, or none where the
-// length is 0.
+// The better of the best so far and a string of this length that ends at `end`. There is no such
+// string if the length is 0.
 fn better(best: Option<Span>, end: usize, length: usize) -> Option<Span>
     ensures { result ≡ better_ending best end length }
 {

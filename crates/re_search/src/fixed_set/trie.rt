@@ -5,19 +5,19 @@ ghost use Rattle.re_search.specs.Working.FixedSets.{IsTrie, IsTrieOf, IsFront, L
 
 use memchr::memchr;
 
-/// A tree whose nodes are the beginnings of some strings, shorter ones first, each with the byte
-/// that it has more than its parent.
+/// A tree whose nodes are the beginnings of some strings, shorter ones first. Each has the byte
+/// that it adds to its parent.
 #[derive(Drop)]
 pub struct Trie {
-    /// The first child of each node; the children of a node stand one behind another. One entry
-    /// more ends those of the last node.
+    /// The first child of each node; the children of a node are next to each other. One more entry
+    /// ends those of the last node.
     pub first: Vec<u32>,
-    /// The last byte of each node; any for the root.
+    /// The last byte of each node; any value for the root.
     pub bytes: Vec<u8>,
 }
 
 impl Trie {
-    /// The child of the node that goes on with this byte.
+    /// The child of the node for this byte.
     #[inline]
     pub fn child(&self, node: usize, byte: u8) -> Option<usize>
         requires trie { IsTrie self.now.first.items self.now.bytes.items }

@@ -1,20 +1,21 @@
-//! Which run of an outline is looked for. No contract rests on the choice.
+//! Which run of an outline is looked for. No contract depends on the choice.
 ghost use Rattle.std.specs.Prelude.{◌≡◌, ◌≤◌, length};
 
 use crate::needle::outline::Mark;
 use crate::needle::survey::{Survey, rank_of};
 
-// From how many bytes on a run is long: of long runs the longest is taken, of others one that is
-// much rarer before a longer one.
+// From how many bytes on a run is long. If one of two runs is long, the longer one is taken; else
+// one that is much rarer takes precedence over a longer one.
 const LONG: usize = 4;
 
 // By how many ranks a byte is much rarer than another.
 const MUCH: u8 = 32;
 
-// A set is small that about so many of 65,536 bytes of most texts are in, or fewer.
+// A set is small if at most about this number of 65,536 bytes of most texts are in it.
 const SMALL: u32 = 24_576;
 
-// So many are in a set at most that is one of a run: letters and digits are.
+// A set may be in a run of sets if at most about this number are in it, like the set of letters and
+// digits.
 const LARGE: u32 = 65_536;
 
 /// What the marks of a run are.
@@ -48,7 +49,7 @@ impl Run {
         }
     }
 
-    // The run with a mark more.
+    // The run with one more mark.
     fn with(self, rank: u8) -> Run
         ensures { result.start ≡ self.start }
     {
@@ -59,8 +60,8 @@ impl Run {
         }
     }
 
-    // Whether it is looked for rather than the other, which begins before it or where it does. A
-    // single byte never is rather than a single byte.
+    // Whether it takes precedence over the other, which begins at the same place or before. A
+    // single byte never takes precedence over a single byte.
     fn beats(self, other: Run) -> bool {
         if self.length >= LONG || other.length >= LONG || self.length < 2 || other.length < 2 {
             return self.length > other.length;
@@ -72,7 +73,7 @@ impl Run {
     }
 }
 
-/// Where the run of such marks begins that is looked for.
+/// Where the run of such marks that is looked for begins.
 pub fn run_start(marks: &[Mark], of: RunOf) -> usize
     ensures { result ≤ length marks.now }
 {
@@ -90,7 +91,7 @@ pub fn run_start(marks: &[Mark], of: RunOf) -> usize
     best.start
 }
 
-/// How common the bytes of the mark are, where it may be one of such a run.
+/// How common the bytes of the mark are, if it may be one of such a run.
 pub fn mark_rank(mark: &Mark, of: RunOf) -> Option<u8> {
     let Mark::Set(set) = mark else {
         return None;
@@ -102,7 +103,7 @@ pub fn mark_rank(mark: &Mark, of: RunOf) -> Option<u8> {
     }
 }
 
-// How common the set's bytes are, where no more than so many are in it.
+// How common the set's bytes are, if at most `most` are in it.
 fn rank_within(survey: &Survey, most: u32) -> Option<u8> {
     if survey.share > most {
         return None;

@@ -1,5 +1,5 @@
-//! Tests of two forms for sets of bytes, each the same for all sets, so that many bytes are tested at
-//! once.
+//! Tests of two forms for sets of bytes. They are the same for all sets, so that many bytes are
+//! tested at once.
 ghost use Rattle.std.specs.Prelude.{◌≡◌, ◌↔◌, IfSome, IsTrue};
 ghost use Rattle.re_syntax.specs.Sets.{members};
 ghost use Rattle.re_search.specs.Working.Runs.{Covers, HasBits, IsCovered, IsWithin};
@@ -7,27 +7,27 @@ ghost use Rattle.re_search.specs.Working.Runs.{Covers, HasBits, IsCovered, IsWit
 use crate::needle::survey::Survey;
 use re_syntax::ByteSet;
 
-/// Two tests that each byte of a set passes, and perhaps others: that it is in a range or one of two
-/// bytes, and that it has the bits in which all bytes of the set are alike.
+/// Two tests that each byte of a set passes, and perhaps other bytes too: that it is in a range or
+/// one of two bytes, and that it has the bits that all bytes of the set share.
 #[derive(Clone, Copy, Drop)]
 pub struct Cover {
     /// The first byte of the range.
     pub low: u8,
-    /// How far behind it the last one is.
+    /// How far after it the last one is.
     pub width: u8,
-    /// One byte more.
+    /// One more byte.
     pub one: u8,
     /// Another.
     pub other: u8,
-    /// The bits that are asked about.
+    /// The bits that are tested.
     pub asked: u8,
-    /// What they have to be.
+    /// Their values.
     pub bits: u8,
 }
 
 impl Cover {
     /// Tests for the set, of those that leave two of its outermost bytes out of the range the ones
-    /// with the narrowest. `None` where the set has no byte.
+    /// with the narrowest range. `None` if the set has no byte.
     pub fn of(set: &ByteSet) -> Option<Cover>
         ensures { IfSome result (λ cover. Covers cover (members set.now)) }
     {
@@ -64,13 +64,13 @@ impl Cover {
         byte & self.asked == self.bits
     }
 
-    /// Whether all bits but one at most are asked about, so that two bytes at most have them.
+    /// Whether all bits but at most one are tested, so that at most two bytes have them.
     pub fn is_told_by_bits(self) -> bool {
         let open = !self.asked;
         open & open.wrapping_sub(1) == 0
     }
 
-    // The one of two whose range is narrower.
+    // The tests with the narrower range.
     fn or_narrower(self, other: Cover) -> Cover {
         if other.width < self.width {
             return other;

@@ -9,14 +9,15 @@ use crate::needle::outline::Mark;
 use re_syntax::ByteSet;
 use std::alloc::{AllocError, Global};
 
-// How many small sets are looked for at most: so many may be compared at a place.
+// How many small sets are looked for at most. All of them may be compared at a place.
 const MOST_SMALL_SETS: usize = 32;
 
-// How many sets of any size are: more of them may be compared before one doesn't fit.
+// How many sets of any size are looked for at most. More of them may be compared before one doesn't
+// fit.
 const MOST_SETS: usize = 12;
 
-/// The sets of the marks before the first that isn't a set of such a run, or so many as are looked
-/// for.
+/// The sets of the marks before the first that isn't a set of such a run, at most as many as are
+/// looked for.
 pub fn leading_sets(alloc: Global, marks: &[Mark], of: RunOf) -> Result<Vec<ByteSet>, AllocError>
     ensures { IfOk result
         (λ sets. (rest : List (Option Bytes)) ×
@@ -32,7 +33,7 @@ pub fn leading_sets(alloc: Global, marks: &[Mark], of: RunOf) -> Result<Vec<Byte
     Ok(sets)
 }
 
-// The set of the mark, where it is one of such a run and there are not yet so many as are looked for.
+// The set of the mark, if it is one of such a run and fewer than the most are there already.
 fn set_of(mark: &Mark, before: usize, of: RunOf) -> Option<ByteSet>
     ensures { IfSome result (λ set. shown mark.now ≡ Some (members set)) }
 {

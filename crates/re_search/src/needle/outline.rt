@@ -1,4 +1,4 @@
-//! Outlines of expressions: the sets of bytes that stand one after another in every match.
+//! Outlines of expressions: the sets of bytes that every match has one after another.
 ghost use Rattle.std.specs.Prelude.{◌≡◌, ◌++◌, ◌∷◌, [], IfOk, IfSome, IsTrue, Some, map};
 ghost use Rattle.re_syntax.specs.Expression.{alt, cat, expression_of, one_of, repeat};
 ghost use Rattle.re_syntax.specs.Sets.{members};
@@ -9,7 +9,7 @@ use crate::needle::leading::leading_sets;
 use re_syntax::{ByteSet, Tree};
 use std::alloc::{AllocError, Global};
 
-// A set that is repeated more often is so many times in an outline.
+// How many times a repeated set is in an outline at most.
 const MOST_TURNS: u16 = 32;
 
 /// A mark of an outline.
@@ -21,9 +21,9 @@ pub enum Mark {
     Stretch,
 }
 
-/// Adds the outline of the expression: through groups, into what is repeated once or more, with a
-/// mark for each time that a set is repeated at least, and over what the branches of a choice begin
-/// with. The one error is that memory was refused.
+/// Adds the outline of the expression. It goes through groups and into what is repeated once or
+/// more. It has a mark for each time that a set is repeated at least, and the sets that the
+/// branches of a choice begin with. The one error is that memory was refused.
 #[cycle(outline)]
 pub fn add_outline(alloc: Global, tree: &Tree, marks: &mut Vec<Mark>) -> Result<(), AllocError>
     ensures { IfOk result
@@ -47,7 +47,7 @@ pub fn add_outline(alloc: Global, tree: &Tree, marks: &mut Vec<Mark>) -> Result<
     }
 }
 
-/// Adds the outlines of parts that stand one after another.
+/// Adds the outlines of parts that follow one another.
 #[cycle(outline)]
 fn add_all(alloc: Global, parts: &[Tree], marks: &mut Vec<Mark>) -> Result<(), AllocError>
     ensures { IfOk result
@@ -59,8 +59,8 @@ fn add_all(alloc: Global, parts: &[Tree], marks: &mut Vec<Mark>) -> Result<(), A
     Ok(())
 }
 
-/// Adds the outline of a choice: the sets that its branches begin with, joined place by place as far
-/// as each branch has one, and a stretch.
+/// Adds the outline of a choice: the sets that its branches begin with, joined place by place as
+/// far as each branch has one, and a stretch.
 #[cycle(outline)]
 fn add_choice(alloc: Global, parts: &[Tree], marks: &mut Vec<Mark>) -> Result<(), AllocError>
     ensures { IfOk result
@@ -81,7 +81,7 @@ fn add_choice(alloc: Global, parts: &[Tree], marks: &mut Vec<Mark>) -> Result<()
     add_mark(marks, Mark::Stretch)
 }
 
-// The set of the expression, where it is a set alone.
+// The set of the expression, if it is a set alone.
 fn one_set(tree: &Tree) -> Option<ByteSet>
     ensures { IfSome result (λ set. expression_of tree.now ≡ one_of (members set)) }
 {
@@ -91,8 +91,8 @@ fn one_set(tree: &Tree) -> Option<ByteSet>
     }
 }
 
-// Adds the outline of a set that is repeated: the set so many times as it is at least, and a stretch
-// where it may be more often.
+// Adds the outline of a repeated set: one mark for each time that it is repeated at least, and a
+// stretch if it may be repeated more often.
 fn add_repeated(
     marks: &mut Vec<Mark>,
     set: ByteSet,
@@ -110,7 +110,7 @@ fn add_repeated(
     add_mark(marks, Mark::Stretch)
 }
 
-// Whether the most there may be is this.
+// Whether there is a most, and it is `least`.
 fn is_just(most: Option<u16>, least: u16) -> bool
     ensures { IsTrue result → most ≡ Some least }
 {
@@ -120,7 +120,7 @@ fn is_just(most: Option<u16>, least: u16) -> bool
     }
 }
 
-// Adds a mark for the set so many times.
+// Adds `turns` marks for the set.
 fn add_turns(marks: &mut Vec<Mark>, set: ByteSet, turns: u16) -> Result<(), AllocError>
     ensures { IfOk result
         (λ _. AddsTurns marks.old.items (members set) turns marks.new.items) }
@@ -153,7 +153,6 @@ fn add_sets(marks: &mut Vec<Mark>, sets: &[ByteSet]) -> Result<(), AllocError>
     Ok(())
 }
 
-// Adds a mark.
 fn add_mark(marks: &mut Vec<Mark>, mark: Mark) -> Result<(), AllocError>
     ensures { IfOk result (λ _. marks.new.items ≡ marks.old.items ++ mark ∷ []) }
 {

@@ -1,21 +1,21 @@
-//! Search for a place behind which a byte of each of four sets stands, by tests that are the same for
-//! all sets.
+//! Search for a place that is followed by a byte of each of four sets, by tests that are the same
+//! for all sets.
 ghost use Rattle.std.specs.Prelude.{◌≡◌, ◌+◌, ◌<◌, ◌≤◌, ℕ, false, MatchOption, length};
 ghost use Rattle.re_search.specs.Working.Runs.{AllPass, HaveRoom, PassesAt};
 
 use crate::needle::cover::Cover;
 
-/// A test for the byte that stands so many bytes behind a place.
+/// A test for the byte at this distance after a place.
 #[derive(Clone, Copy, Drop)]
 pub struct Probe {
-    /// How far behind.
+    /// The distance.
     pub at: usize,
     /// The test.
     pub cover: Cover,
 }
 
 impl Probe {
-    // Whether the byte behind the place is in the range, or one of the two.
+    // Whether the byte after the place is in the range, or one of the two.
     #[inline(always)]
     fn passes_at(self, line: &[u8], place: usize) -> bool
         requires { place + self.at < length line.now }
@@ -24,7 +24,7 @@ impl Probe {
         self.cover.is_within(line[place + self.at])
     }
 
-    // Whether the byte behind the place has the bits.
+    // Whether the byte after the place has the bits.
     #[inline(always)]
     fn has_bits_at(self, line: &[u8], place: usize) -> bool
         requires { place + self.at < length line.now }
@@ -34,10 +34,11 @@ impl Probe {
     }
 }
 
-// So many places at least are tried at once, before they are tried one by one.
+// From this number of places on, all are tried at once before they are tried one by one.
 const MANY: usize = 32;
 
-// Of more places than these, where some may pass, so many are tried at once anew.
+// More places than this are all tried at once; if some may pass, they are tried again in pieces of
+// this size.
 const PIECE: usize = 64;
 
 /// Which of four tests are tried at many places at once, and how.
@@ -66,12 +67,12 @@ pub struct Probes {
     pub third: Probe,
     /// The fourth.
     pub fourth: Probe,
-    /// Which of them are tried before the others are asked.
+    /// Which of them are tried at many places at once.
     pub tried: Tried,
 }
 
 impl Probes {
-    /// The first place from one on and before another where all tests are passed.
+    /// The first place from `from` on and before `past` where all tests are passed.
     #[inline(always)]
     pub fn first_between(&self, line: &[u8], from: usize, past: usize) -> Option<usize>
         requires ordered { from ≤ past }
@@ -95,7 +96,7 @@ impl Probes {
         None
     }
 
-    // The same of few places: all are tried at once, and where some may pass, one by one.
+    // The same for few places: all are tried at once, and if some may pass, one by one.
     #[inline(always)]
     fn first_of_piece(&self, line: &[u8], from: usize, past: usize) -> Option<usize>
         requires ordered { from ≤ past }
@@ -132,7 +133,7 @@ impl Probes {
         }
     }
 
-    // Whether the first two bytes behind some of the places have their bits: without a branch for
+    // Whether the first two tests are passed by their bits at some place. There is no branch for
     // each, so that many are tried at once.
     #[inline(never)]
     fn two_bits_between(&self, line: &[u8], from: usize, past: usize) -> bool
@@ -149,7 +150,7 @@ impl Probes {
         some
     }
 
-    // Whether all bytes behind some of the places have their bits, in the same way.
+    // Whether all tests are passed by their bits at some place, in the same way.
     #[inline(never)]
     fn all_bits_between(&self, line: &[u8], from: usize, past: usize) -> bool
         requires ordered { from ≤ past }
@@ -173,8 +174,7 @@ impl Probes {
         some
     }
 
-    // Whether the bytes that the first two tell of are in their ranges at some of the places, in the
-    // same way.
+    // Whether the first two tests are passed by their ranges at some place, in the same way.
     #[inline(never)]
     fn two_pass_between(&self, line: &[u8], from: usize, past: usize) -> bool
         requires ordered { from ≤ past }
@@ -190,7 +190,7 @@ impl Probes {
         some
     }
 
-    // Whether those that the first three tell of are, in the same way.
+    // Whether the first three tests are passed at some place, in the same way.
     #[inline(never)]
     fn three_pass_between(&self, line: &[u8], from: usize, past: usize) -> bool
         requires ordered { from ≤ past }
@@ -209,7 +209,7 @@ impl Probes {
         some
     }
 
-    // Whether those that all tell of are, in the same way.
+    // Whether all tests are passed at some place, in the same way.
     #[inline(never)]
     fn all_pass_between(&self, line: &[u8], from: usize, past: usize) -> bool
         requires ordered { from ≤ past }

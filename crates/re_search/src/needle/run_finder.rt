@@ -1,4 +1,4 @@
-//! Search for what every match has in it.
+//! Search for a run that every match contains.
 ghost use Rattle.std.specs.Prelude.{◌≡◌, ◌↔◌, IsTrue, IfSome, length, map};
 ghost use Rattle.re_syntax.specs.Bytes.{only};
 ghost use Rattle.re_search.specs.Working.Needles.{run_of};
@@ -12,12 +12,12 @@ use memchr::memmem::Finder;
 pub enum RunFinder {
     /// Looks for this string.
     Text(Finder<'static>),
-    /// Looks for one byte of each set in turn.
+    /// Looks for one byte of each set, one after another.
     Sets(SetFinder),
 }
 
 impl RunFinder {
-    /// The first place of the line at which what is looked for stands.
+    /// The first place of the line where the run is.
     #[inline]
     pub fn find(&self, line: &[u8]) -> Option<usize>
         ensures { FindsRun line.now (run_of self.now) result }
@@ -28,7 +28,7 @@ impl RunFinder {
         }
     }
 
-    /// Whether the line begins with it.
+    /// Whether the line begins with the run.
     #[inline]
     pub fn begins(&self, line: &[u8]) -> bool
         ensures { IsTrue result ↔ RunStandsAt line.now (run_of self.now) 0 }
@@ -39,7 +39,7 @@ impl RunFinder {
         }
     }
 
-    /// How many bytes it has.
+    /// How many bytes the run has.
     pub fn len(&self) -> usize
         ensures { result ≡ length (run_of self.now) }
     {

@@ -10,28 +10,28 @@ use crate::needle::survey::Survey;
 use re_syntax::ByteSet;
 use std::marker::Model;
 
-// How many places are tried at a time at first, and behind a place where the probes are passed and
-// the run does not stand; so that near misses side by side cost little.
+// How many places are tried at a time at first, and after a place that the probes pass without the
+// run; so that near misses side by side cost little.
 const FIRST_PORTION: usize = 16;
 
-// By what they grow.
+// The factor by which they grow.
 const GROWTH: usize = 4;
 
 // How many places are tried at a time at most.
 const PORTION: usize = 256;
 
-// At about so many places in 65,536 bytes of most texts probes that are passed seldom are passed at
-// most.
+// Probes are passed rarely if they are passed at no more than about this number of places in 65,536
+// bytes of most texts.
 const MOST_STOPS: u64 = 256;
 
-// And three of them where a fourth doesn't pay.
+// The same for three probes: then a fourth doesn't pay.
 const MOST_STOPS_OF_THREE: u64 = 1_024;
 
-// The place of a set that there is not.
+// The place of no set.
 const NOWHERE: usize = usize::MAX;
 
-/// Looks for a run of sets, one byte of each in turn: for a byte of each of the four rarest at once,
-/// around which the others are compared. Contracts see it as the sets.
+/// Looks for a run of sets, one byte of each in turn: for bytes of the four rarest sets at once,
+/// and there it compares the others. Contracts see it as the sets.
 #[derive(Drop)]
 pub struct SetFinder {
     sets: Vec<ByteSet>,
@@ -52,7 +52,7 @@ impl Model for SetFinder {
 }
 
 impl SetFinder {
-    /// The search for these sets; `None` where there are fewer than two.
+    /// The search for these sets; `None` if there are fewer than two.
     pub fn new(sets: Vec<ByteSet>) -> Option<SetFinder>
         ensures { IfSome result (λ f. f ≡ sets.items) }
     {
@@ -77,8 +77,7 @@ impl SetFinder {
         Some(SetFinder { sets, probes })
     }
 
-    /// Whether such runs stand in most texts so seldom that it is worth while to look for them before
-    /// something else.
+    /// Whether such runs are so rare in most texts that it is worth while to look for them first.
     pub fn is_selective(&self) -> bool {
         let Probes {
             first,
@@ -104,7 +103,7 @@ impl SetFinder {
         self.sets.len()
     }
 
-    /// The first place of the line at which the run stands.
+    /// The first place of the line where the run is.
     pub fn find(&self, line: &[u8]) -> Option<usize>
         ensures { FindsRun line.now (map members self.now) result }
     {
@@ -128,7 +127,7 @@ impl SetFinder {
         stands_at(&self.sets, line, 0)
     }
 
-    // The first place from one on at which the run may stand, by the probes.
+    // The first place from `from` on where the run may be, by the probes.
     fn candidate(&self, line: &[u8], from: usize) -> Option<usize>
         requires { from < length line.now }
         ensures { MatchOption result
@@ -154,7 +153,7 @@ impl SetFinder {
     }
 }
 
-// Whether the run of these sets stands in the line at the place.
+// Whether the run of these sets is in the line at the place.
 #[inline(always)]
 fn stands_at(sets: &[ByteSet], line: &[u8], place: usize) -> bool
     requires { place ≤ length line.now }
@@ -180,7 +179,7 @@ fn takes(sets: &[ByteSet], j: usize, byte: u8) -> bool
     sets[j].has(byte)
 }
 
-// The test for the rarest set that is not at one of these places; `None` where there is none.
+// The test for the rarest set that is not at one of these places; `None` if there is none.
 fn rarest_probe(sets: &[ByteSet], first: usize, second: usize, third: usize) -> Option<Probe>
     ensures { IfSome result (λ probe. IsProbeOf probe (map members sets.now)) }
 {
@@ -192,8 +191,9 @@ fn rarest_probe(sets: &[ByteSet], first: usize, second: usize, third: usize) -> 
     Some(Probe { at, cover })
 }
 
-// The place of the set that is rarest in most texts, of those that are not at one of these; of sets
-// that are as rare as each other, the one that is farthest from those of these that are, too.
+// The place of the set that is rarest in most texts, of those that are not at one of these places.
+// Of sets that are as rare as each other it is the one farthest from the taken ones that are as
+// rare.
 fn rarest_but(sets: &[ByteSet], first: usize, second: usize, third: usize) -> usize {
     let first = Taken::at(sets, first);
     let second = Taken::at(sets, second);
@@ -216,7 +216,7 @@ fn rarest_but(sets: &[ByteSet], first: usize, second: usize, third: usize) -> us
     rare
 }
 
-// A place whose set is tried already, and how common that set is.
+// A place whose set is taken already, and how common that set is.
 #[derive(Clone, Copy, Drop)]
 struct Taken {
     place: usize,
@@ -231,7 +231,7 @@ impl Taken {
         }
     }
 
-    // How far another place is from this one, where its set is as rare; else as far as can be.
+    // How far another place is from this one, if its set is as rare; else the greatest distance.
     fn distance(self, place: usize, share: u64) -> usize {
         if self.share != share {
             return usize::MAX;
@@ -256,8 +256,8 @@ fn share_at(sets: &[ByteSet], place: usize) -> u64 {
     }
 }
 
-// Which of the probes are tried at many places at once: so many of those there are that few places
-// of most texts pass.
+// Which of the probes are tried at many places at once: enough of them that few places of most
+// texts pass.
 fn tried_of(
     sets: &[ByteSet],
     first: &Probe,
@@ -280,7 +280,7 @@ fn tried_of(
     Tried::All
 }
 
-// Whether two probes are told by their bits.
+// Whether both probes test all bits but at most one.
 fn are_told_by_bits(one: &Probe, other: &Probe) -> bool {
     one.cover.is_told_by_bits() && other.cover.is_told_by_bits()
 }

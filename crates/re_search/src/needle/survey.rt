@@ -1,15 +1,16 @@
-//! How common bytes and sets of bytes are. No contract rests on it.
+//! How common bytes and sets of bytes are. No contract depends on it.
 
 use memchr::arch::all::packedpair::{DefaultFrequencyRank, HeuristicFrequencyRank};
 use re_syntax::ByteSet;
 
-// How many of 65,536 bytes of most texts are the commonest byte, about.
+// About how many of 65,536 bytes of most texts are the commonest byte.
 const COMMONEST: u32 = 8_192;
 
-// Behind so many ranks a byte is half as common.
+// A byte that is this number of ranks lower is half as common.
 const HALVED: u8 = 10;
 
-/// The outermost bytes of a set, in a small set some of them the same, and how common its bytes are.
+/// The outermost bytes of a set, of which some are the same in a small set, and how common its
+/// bytes are.
 #[derive(Clone, Copy, Drop)]
 pub struct Survey {
     /// The first byte.
@@ -24,7 +25,7 @@ pub struct Survey {
     pub last_but_one: u8,
     /// The last.
     pub last: u8,
-    /// The bits in which all bytes are alike.
+    /// The bits that all bytes share.
     pub alike: u8,
     /// How common the commonest is, from 0 for the rarest to 255.
     pub rank: u8,
@@ -34,7 +35,7 @@ pub struct Survey {
 }
 
 impl Survey {
-    /// What is to be seen of a set; `None` where it has no byte.
+    /// The survey of a set; `None` if it has no byte.
     pub fn of(set: &ByteSet) -> Option<Survey> {
         if let Some(byte) = set.one_byte() {
             return Some(Survey::of_byte(byte));
@@ -51,7 +52,7 @@ impl Survey {
         survey
     }
 
-    // What is to be seen of one byte.
+    // The survey of one byte.
     fn of_byte(byte: u8) -> Survey {
         Survey {
             first: byte,
@@ -68,7 +69,7 @@ impl Survey {
     }
 }
 
-// What is to be seen with one byte more, which is behind the others.
+// The survey with one more byte, which is after the others.
 fn with(before: Survey, byte: u8) -> Survey {
     Survey {
         first: before.first,

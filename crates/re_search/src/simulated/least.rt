@@ -16,7 +16,7 @@ use re_auto::{Automaton, BuildFault, Meter, Mode, Starts};
 use std::alloc::Global;
 use std::mem;
 
-/// Least starts on their way over a line, and spare ones in which the next are made.
+/// Least starts on their way over a line, and spare ones for the next step.
 #[derive(Drop)]
 pub struct StartPair {
     current: Starts,
@@ -34,7 +34,7 @@ impl StartPair {
         Ok(StartPair { current, spare })
     }
 
-    /// The next part where any stretch may be one, in one pass from `from` on. It ends once nothing
+    /// The next part if any stretch may be one, in one pass from `from` on. It ends once nothing
     /// that is carried can begin where the best stretch so far does, or before.
     pub fn find(
         &mut self,
@@ -62,7 +62,7 @@ impl StartPair {
         best
     }
 
-    // Whether the best stretch so far is the part: all that is carried begins behind it.
+    // Whether the best stretch so far is the part: all that is carried begins after it.
     fn is_settled(&self, best: Option<Span>) -> bool
         ensures { IsTrue result → (e : Expression) (from : ℕ) (line : Text) (j : ℕ) →
             Carries e from line j self.now.current best
@@ -74,7 +74,7 @@ impl StartPair {
         }
     }
 
-    // Steps over the byte at `place`, and gives the best stretch that ends behind it or before.
+    // Steps over the byte at `place`, and returns the best stretch that ends after it or before.
     fn step(
         &mut self,
         automaton: &Automaton,
@@ -103,8 +103,8 @@ impl StartPair {
         }
     }
 
-    // Where nothing is carried and no stretch was found, passes the bytes from `place` on that none
-    // can begin with; gives the place behind.
+    // If nothing is carried and no stretch was found, passes the bytes from `place` on that none
+    // can begin with. Returns the place after them.
     fn skip(
         &mut self,
         automaton: &Automaton,
@@ -132,7 +132,8 @@ impl StartPair {
     }
 }
 
-// The best stretch, where one more ends behind the best so far: it is better if it begins no later.
+// The better of the best stretch so far and one that ends later. The later one is better if it
+// begins no later.
 fn better(best: Option<Span>, found: Span) -> Span
     ensures { Some result ≡ better_span best found }
 {

@@ -12,7 +12,7 @@ use re_auto::{Automaton, BuildFault, Meter, Mode, StateSet};
 use std::alloc::Global;
 use std::mem;
 
-/// A set of positions on its way over a line, and a spare one in which the next is made.
+/// A set of positions on its way over a line, and a spare one for the next step.
 #[derive(Drop)]
 pub struct SetPair {
     current: StateSet,
@@ -30,7 +30,7 @@ impl SetPair {
         Ok(SetPair { current, spare })
     }
 
-    /// Whether some stretch of the line is matched. It ends at the first place where one ends, and
+    /// Whether some stretch of the line is matched. It ends at the first place where one ends. It
     /// takes no step over bytes that no stretch can begin with while none is on its way.
     pub fn stands_in(&mut self, automaton: &Automaton, line: &[u8], meter: &mut Meter) -> bool
         requires made { AreSetsFor (expression_of automaton.now) self.old }
@@ -43,7 +43,7 @@ impl SetPair {
         self.rest_stands(automaton, line, 0, meter)
     }
 
-    /// The same from a set on that stands at some place.
+    /// The same from a place where the search has this set.
     pub fn stands_from(
         &mut self,
         automaton: &Automaton,
@@ -63,8 +63,8 @@ impl SetPair {
         self.rest_stands(automaton, line, from, meter)
     }
 
-    /// Whether the whole line is matched. It ends where no stretch from the line's first place is
-    /// on its way any more.
+    /// Whether the whole line is matched. It ends once no stretch from the line's first place is on
+    /// its way any more.
     pub fn is_line(&mut self, automaton: &Automaton, line: &[u8], meter: &mut Meter) -> bool
         requires made { AreSetsFor (expression_of automaton.now) self.old }
         ensures made { AreSetsFor (expression_of automaton.now) self.new }
@@ -76,7 +76,7 @@ impl SetPair {
         self.rest_is_line(automaton, line, 0, meter)
     }
 
-    /// The same from a set on that stands at some place.
+    /// The same from a place where the search has this set.
     pub fn is_line_from(
         &mut self,
         automaton: &Automaton,
@@ -143,8 +143,8 @@ impl SetPair {
         automaton.accepts(Mode::Whole, &self.current, true)
     }
 
-    // Goes over the byte at `place`, or, where no stretch is on its way, over those from there on
-    // that none can begin with, and gives the place behind.
+    // Goes over the byte at `place`, or, if no stretch is on its way, over the bytes from there on
+    // that none can begin with. Returns the place after them.
     fn pass(&mut self, automaton: &Automaton, line: &[u8], place: usize, meter: &mut Meter) -> usize
         requires made { AreSetsFor (expression_of automaton.now) self.old }
         requires within { place < length line.now }
@@ -163,7 +163,7 @@ impl SetPair {
         place + 1
     }
 
-    // Sets the set to what it becomes by one more byte, which counts as one step.
+    // Replaces the set by the one after one more byte, which counts as one step.
     #[inline(always)]
     fn advance(&mut self, automaton: &Automaton, mode: Mode, byte: u8, meter: &mut Meter)
         requires made { AreSetsFor (expression_of automaton.now) self.old }
@@ -179,7 +179,8 @@ impl SetPair {
         self.advance_in_spare(automaton, mode, byte, meter);
     }
 
-    // The same by way of the spare set. It stands apart, since it would cost the loops registers.
+    // The same by way of the spare set. It is a function of its own, since it would cost the loops
+    // registers.
     #[inline(never)]
     fn advance_in_spare(&mut self, automaton: &Automaton, mode: Mode, byte: u8, meter: &mut Meter)
         requires made { AreSetsFor (expression_of automaton.now) self.old }

@@ -13,7 +13,7 @@ use Rattle.re_syntax.proofs.lemmas.BasicUnique.{whole-branches}
 itself : {p : ItemPlace} {t : Text} (b : ℕ) → IsTrue (is_ordinary p b) → nat_eq b 36 ≡ false → Item p 0 (b ∷ t) t (byte b)
 itself b h n = atom (ordinary b h (λ e. absurd (apart b 36 e n)))
 
--- a text that begins with no backslash is at no end
+-- a text that does not begin with a backslash is at no end
 not_end : {t u : Text} (c : ℕ) → IsAtEnd t → t ≡ c ∷ u → nat_eq c 92 ≡ false → ⊥
 not_end c of_text e n = cc
 not_end c of_group e n = apart c 92 (let same : c ≡ 92 = cc in same) n
@@ -23,7 +23,7 @@ not_end c of_branch e n = apart c 92 (let same : c ≡ 92 = cc in same) n
 dollar : {p : ItemPlace} {t : Text} (c : ℕ) → IsTrue (is_ordinary p 36) → nat_eq c 92 ≡ false → Item p 0 (36 ∷ c ∷ t) (c ∷ t) (byte 36)
 dollar c h n = atom (ordinary 36 h (λ e at_end. not_end c at_end refl n))
 
--- `^*a` and `\(^*\)`: the star is the first item behind the anchor
+-- `^*a` and `\(^*\)`: the star is the first item after the anchor
 star_after_anchor : IsSpelled Basic (codes "^*a") (cat (begin ∷ byte 42 ∷ byte 97 ∷ []))
 star_after_anchor = as_basic (last (leading (item (itself 42 refl refl) (item (itself 97 refl refl) none)))) (omega arith)
 
@@ -35,7 +35,7 @@ star_in_group = as_basic (last (item (atom (group (last (leading (item (itself 4
 two_stars : IsSpelled Basic (codes "**") (repeat (byte 42) 0 None)
 two_stars = as_basic (last (item (repeated (itself 42 refl refl) star) none)) (omega arith)
 
--- the same behind an anchor
+-- the same after an anchor
 stars_after_anchor : IsSpelled Basic (codes "^**") (cat (begin ∷ repeat (byte 42) 0 None ∷ []))
 stars_after_anchor = as_basic (last (leading (item (repeated (itself 42 refl refl) star) none))) (omega arith)
 
@@ -61,7 +61,7 @@ repeated_dollar = as_basic (last (item (repeated (dollar 42 refl refl) star) non
 two_carets : IsSpelled Basic (codes "^^") (cat (begin ∷ byte 94 ∷ []))
 two_carets = as_basic (last (leading (item (itself 94 refl refl) none))) (omega arith)
 
--- the last of two
+-- the dollar that is last
 two_dollars : IsSpelled Basic (codes "$$") (cat (byte 36 ∷ end ∷ []))
 two_dollars = as_basic (last (item (dollar 36 refl refl) (trailing of_text))) (omega arith)
 
@@ -69,7 +69,7 @@ two_dollars = as_basic (last (item (dollar 36 refl refl) (trailing of_text))) (o
 begin_in_group : IsSpelled Basic (codes "\\(^a\\)") (cat (begin ∷ byte 97 ∷ []))
 begin_in_group = as_basic (last (item (atom (group (last (leading (item (itself 97 refl refl) none))))) none)) (omega arith)
 
--- the other one
+-- the anchor at the end of a group
 end_in_group : IsSpelled Basic (codes "a\\(b$\\)") (cat (byte 97 ∷ cat (byte 98 ∷ end ∷ []) ∷ []))
 end_in_group = as_basic (last (item (itself 97 refl refl) (item (atom (group (last (item (itself 98 refl refl) (trailing of_group))))) none))) (omega arith)
 
@@ -117,11 +117,11 @@ no_least = as_basic (last (item (repeated (itself 97 refl refl) (interval (up_to
     allowed : IsAllowed 0 (Some 2)
     allowed = record { least_fits = omega arith; most_fits = omega arith; ordered = omega arith }
 
--- `*\+` and `a\?`: the star is a byte, and repeated
+-- `*\+` and `a\?`: the star is a byte, and is repeated
 one_or_more : IsSpelled Basic (codes "*\\+") (repeat (byte 42) 1 None)
 one_or_more = as_basic (last (item (repeated (itself 42 refl refl) plus) none)) (omega arith)
 
--- the other sign
+-- the item once or not at all
 none_or_one : IsSpelled Basic (codes "a\\?") (repeat (byte 97) 0 (Some 1))
 none_or_one = as_basic (last (item (repeated (itself 97 refl refl) question) none)) (omega arith)
 
@@ -129,7 +129,7 @@ none_or_one = as_basic (last (item (repeated (itself 97 refl refl) question) non
 empty_branches : IsSpelled Basic (codes "\\|") (alt (empty ∷ empty ∷ []))
 empty_branches = as_basic (more none (last none)) (omega arith)
 
--- in a group
+-- an empty branch in a group
 empty_in_group : IsSpelled Basic (codes "\\(a\\|\\)") (alt (byte 97 ∷ empty ∷ []))
 empty_in_group = as_basic (last (item (atom (group (more (item (itself 97 refl refl) none) (last none)))) none)) (omega arith)
 
@@ -137,7 +137,7 @@ empty_in_group = as_basic (last (item (atom (group (more (item (itself 97 refl r
 star_in_branch : IsSpelled Basic (codes "a\\|*b") (alt (byte 97 ∷ cat (byte 42 ∷ byte 98 ∷ []) ∷ []))
 star_in_branch = as_basic (more (item (itself 97 refl refl) none) (last (item (itself 42 refl refl) (item (itself 98 refl refl) none)))) (omega arith)
 
--- the anchor
+-- after the anchor
 begin_in_branch : IsSpelled Basic (codes "a\\|^*b") (alt (byte 97 ∷ cat (begin ∷ byte 42 ∷ byte 98 ∷ []) ∷ []))
 begin_in_branch =
     as_basic (more (item (itself 97 refl refl) none) (last (leading (item (itself 42 refl refl) (item (itself 98 refl refl) none))))) (omega arith)
@@ -146,14 +146,14 @@ begin_in_branch =
 end_in_branch : IsSpelled Basic (codes "a$\\|b") (alt (cat (byte 97 ∷ end ∷ []) ∷ byte 98 ∷ []))
 end_in_branch = as_basic (more (item (itself 97 refl refl) (trailing of_branch)) (last (item (itself 98 refl refl) none))) (omega arith)
 
--- so many groups in one another
+-- n groups, each in the one before
 
--- openings before a text
+-- n openings before a text
 abbrev opened : ℕ → Text → Text
 opened zero t = t
 opened (suc n) t = codes "\\(" ++ opened n t
 
--- closings before a text
+-- n closings before a text
 abbrev closed_after : ℕ → Text → Text
 closed_after zero t = t
 closed_after (suc n) t = closed_after n (codes "\\)" ++ t)
@@ -163,7 +163,7 @@ abbrev nested : ℕ → List Expression
 nested zero = []
 nested (suc n) = empty ∷ []
 
--- the greater of a height and none
+-- the greater of a height and 0 is the height
 max_zero : (n : ℕ) → max n 0 ≡ n
 max_zero n = omega arith
 
@@ -177,43 +177,43 @@ nested_items zero t = none
 nested_items (suc zero) t = at_height (max_zero 1) (item (atom (group (last (nested_items zero (codes "\\)" ++ t))))) none)
 nested_items (suc (suc n)) t = at_height (max_zero (suc (suc n))) (item (atom (group (last (nested_items (suc n) (codes "\\)" ++ t))))) none)
 
--- groups in one another up to the deepest that is read
+-- groups nested up to the greatest depth are read
 pub nested_groups : (n : ℕ) → suc n ≤ 256 → IsSpelled Basic (opened (suc n) (closed_after (suc n) [])) empty
 nested_groups n h = as_basic (last (nested_items (suc n) [])) h
 
--- so many stars after one another
+-- n stars, one after another
 
--- stars before a text
+-- n stars before a text
 abbrev starred : ℕ → Text → Text
 starred zero t = t
 starred (suc n) t = starred n (codes "*" ++ t)
 
--- a star for each
+-- an expression with a star n times
 abbrev often : ℕ → Expression → Expression
 often zero e = e
 often (suc n) e = repeat (often n e) 0 None
 
--- the stars are of one item
+-- a byte and its stars are one item
 star_item : (n : ℕ) (t : Text) → Item First n (97 ∷ starred n t) t (often n (byte 97))
 star_item zero t = itself 97 refl refl
 star_item (suc n) t = repeated (star_item n (codes "*" ++ t)) star
 
--- which is the only one
+-- that item is the only one
 star_items : (n : ℕ) → Items First n (97 ∷ starred n []) [] (often n (byte 97) ∷ [])
 star_items n = at_height (max_zero n) (item (star_item n []) none)
 
--- stars after one another up to the most that are read, and one more than that is not read
+-- stars, one after another, are read up to the greatest depth
 pub starred_often : (n : ℕ) → n ≤ 256 → IsSpelled Basic (97 ∷ starred n []) (often n (byte 97))
 starred_often n h = as_basic (last (star_items n)) h
 
--- what is read one way only and too high is not read
+-- a text whose items are too high spells nothing, since it is read in one way
 too_high : {n : ℕ} {t : Text} {e : Expression} {es : List Expression} → Items First n t [] es → ¬ (n ≤ 256) → IsSpelled Basic t e → ⊥
 too_high is h (as_basic bs k) = h (omega (arith, (whole-branches (last is) bs).heights))
 
--- one star too many
+-- with one star too many the text spells nothing
 pub too_many_stars : (n : ℕ) (e : Expression) → 256 < n → ¬ IsSpelled Basic (97 ∷ starred n []) e
 too_many_stars n e h spelled = too_high (star_items n) (λ k. absurd (omega arith)) spelled
 
--- one group too many
+-- with one group too many the text spells nothing
 pub too_many_groups : (n : ℕ) (e : Expression) → 256 < n → ¬ IsSpelled Basic (opened n (closed_after n [])) e
 too_many_groups n e h spelled = too_high (nested_items n []) (λ k. absurd (omega arith)) spelled

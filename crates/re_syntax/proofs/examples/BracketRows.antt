@@ -8,7 +8,7 @@ use Rattle.re_syntax.specs.Expression.{one_of, none_of}
 use Rattle.re_syntax.specs.Brackets.{Point, bare, symbol, Element, class, equivalence, alone, span, Rest, closing, more, IsBracket, matching, non_matching}
 use Rattle.re_syntax.proofs.lemmas.BracketsUnique.{heads, apart}
 
--- a text does not begin with a byte that a test tells apart from its first
+-- a text does not begin with a byte that a test finds different from its first
 not_begins : (c b : ℕ) {t : Text} → nat_eq c b ≡ false → ¬ Begins (b ∷ []) (c ∷ t)
 not_begins c b h (rest, e) = apart c b (heads e) h
 
@@ -108,7 +108,7 @@ hyphen_between_letters =
     matching (not_begins 97 94 refl) (more (bytes_span 97 109 refl refl refl refl refl (omega arith))
     (more (hyphen_after_range 111 refl) (more (ordinary 111 93 refl refl refl refl) (done (λ e. cc)))))
 
--- `[:space:]`: no class, its bytes stand for themselves
+-- `[:space:]`: no class, so its bytes stand for themselves
 no_class : IsBracket (codes "[:space:]") []
     (one_of (union (only 58) (union (only 115) (union (only 112) (union (only 97) (union (only 99) (union (only 101) (union (only 58) nothing))))))))
 no_class =
@@ -127,7 +127,7 @@ backslash = matching (not_begins 92 94 refl) (more (ordinary 92 93 refl refl ref
 later_caret : IsBracket (codes "[a^]") [] (one_of (union (only 97) (union (only 94) nothing)))
 later_caret = matching (not_begins 97 94 refl) (more (ordinary 97 94 refl refl refl refl) (more (ordinary 94 93 refl refl refl refl) (done (λ e. cc))))
 
--- `[a-[.c.]]` with an `x` behind it: a collating symbol ends a range
+-- `[a-[.c.]]` with an `x` after it: a collating symbol ends a range
 symbol_end : IsBracket (codes "[a-[.c.]]x") (codes "x") (one_of (union (range 97 99) nothing))
 symbol_end =
     matching (not_begins 97 94 refl) (more (span (plain 97 refl) no_byte (symbol 99) (not_begins 91 93 refl) (omega arith)) (done (λ e. cc)))

@@ -1,4 +1,5 @@
--- How deep groups and duplications of an extended expression may stand in one another: worked examples up to the limit and beyond it.
+-- How deep groups and duplications of an extended expression may be nested: worked examples up to
+-- the limit and beyond it.
 use Rattle.std.proofs.Common.{◌≡◌, ◌≢◌, ℕ, zero, suc, ◌<◌, ◌≤◌, max, Bool, true, false, List, [], ◌∷◌, ◌++◌, None, codes, refl, sym, ◌∙◌, arith}
 use Rattle.re_syntax.specs.declared.syntax.Syntax.TheVariants.{Extended}
 use Rattle.re_syntax.specs.Bytes.{Text}
@@ -14,62 +15,62 @@ use Rattle.re_syntax.proofs.lemmas.ExtendedReading.{items-after}
 use Rattle.re_syntax.proofs.lemmas.ExtendedBranches.{at_height}
 use Rattle.re_syntax.proofs.lemmas.ExtendedRefusals.{Inside, items_inside, branches_inside}
 
--- nothing is higher than no height
+-- the greater of a height and 0 is the height
 max_zero : (n : ℕ) → max n 0 ≡ n
 max_zero n = omega arith
 
--- the height of a text's branches is one, so a text of higher ones spells nothing
+-- the branches of a text have one height, so a text with higher ones spells nothing
 pub too_high : {h : ℕ} {t : Text} {e : Expression} {es : List Expression} → Branches false h t [] es → ¬ (h ≤ 256) → IsSpelled Extended t e → ⊥
 too_high bs n (as_extended cs k) = n (omega (arith, (whole-branches bs cs).heights))
 
--- so many groups in one another
+-- n groups, each in the one before
 
--- so many openings before a text
+-- n openings before a text
 abbrev opened : ℕ → Text → Text
 opened zero t = t
 opened (suc n) t = codes "(" ++ opened n t
 
--- and so many closings
+-- n closings before a text
 abbrev closed_after : ℕ → Text → Text
 closed_after zero t = t
 closed_after (suc n) t = closed_after n (codes ")" ++ t)
 
--- empty groups in one another are as high as there are groups
+-- nested empty groups are as high as their number
 nested : (g : Bool) (n : ℕ) (t : Text) → Branches g n (opened n (closed_after n t)) t (empty ∷ [])
 nested g zero t = last none
 nested g (suc n) t = at_height (max_zero (suc n)) (last (item (atom (group (nested true n (codes ")" ++ t)))) none))
 
--- up to the deepest that is read, and deeper
+-- groups nested up to the greatest depth are read
 pub nested_groups : (n : ℕ) → n ≤ 256 → IsSpelled Extended (opened n (closed_after n [])) empty
 nested_groups n h = as_extended (nested false n []) h
 
--- one more than the most, and any number beyond
+-- groups nested any deeper spell nothing
 pub too_many_groups : (n : ℕ) (e : Expression) → 256 < n → ¬ IsSpelled Extended (opened n (closed_after n [])) e
 too_many_groups n e h spelled = too_high (nested false n []) (λ k. absurd (omega arith)) spelled
 
--- groups that nothing closes, however many
+-- any number of groups that nothing closes
 
--- where no text is left no items take any
+-- no items take a byte of an empty text
 empty_items : {g : Bool} {h : ℕ} {t u : Text} {es : List Expression} → Items g h t u es → t ≡ [] → u ≡ []
 empty_items none e = e
 empty_items (anchor is) e = cc
 empty_items (item i is) e = let (b, w, f, clear) = item_front i in let same : b ∷ w ≡ [] = sym f ∙ e in cc
 
--- nor do branches
+-- no branches take a byte of an empty text
 empty_branches : {g : Bool} {h : ℕ} {t u : Text} {es : List Expression} → Branches g h t u es → t ≡ [] → (b : ℕ) (w : Text) → u ≡ b ∷ w → ⊥
 empty_branches (last is) e b w f = let same : b ∷ w ≡ [] = sym f ∙ empty_items is e in cc
 empty_branches (more {u = v} is bs) e b w f = let same : 124 ∷ v ≡ [] = empty_items is e in cc
 
--- so nothing closes the innermost group
+-- nothing closes the innermost group
 unclosed : (n : ℕ) → ¬ Inside (opened n [])
 unclosed zero inside = empty_branches inside.branches refl 41 inside.behind refl
 unclosed (suc n) inside = unclosed n (branches_inside inside.branches (opened n []) refl refl)
 
--- and such a text spells nothing
+-- a text of openings alone spells nothing
 pub only_opened : (n : ℕ) (e : Expression) → ¬ IsSpelled Extended (opened (suc n) []) e
 only_opened n e (as_extended bs h) = unclosed n (branches_inside bs (opened n []) refl refl)
 
--- the first branch, where a text follows the last
+-- the first branch, where text follows the branches
 record FirstBranch (g : Bool) (t : Text) : Type 0 where
   height : ℕ
   behind : Text
@@ -78,14 +79,14 @@ record FirstBranch (g : Bool) (t : Text) : Type 0 where
   at_end : stops g behind ≡ true
   not_last : behind ≢ []
 
--- there is such a one where what follows the branches is no end of the text
+-- branches have a first one, where what follows them is not the text's end
 first_branch : {g : Bool} {h : ℕ} {t u : Text} {es : List Expression} → Branches g h t u es → ends g u ≡ true → u ≢ [] → FirstBranch g t
 first_branch {g} {h} {u = u} (last {es = es} is) p n =
     record { height = h; behind = u; expressions = es; items = is; at_end = ends-stops g u p; not_last = n }
 first_branch (more {h = h} {u = u} {es = es} is bs) p n =
     record { height = h; behind = 124 ∷ u; expressions = es; items = is; at_end = refl; not_last = λ e. cc }
 
--- `(a(b`
+-- `(a(b`: nothing closes the groups
 unclosed_within : (e : Expression) → ¬ IsSpelled Extended (codes "(a(b") e
 unclosed_within e (as_extended bs h) =
     let outer = first_branch (branches_inside bs (codes "a(b") refl refl).branches refl (λ k. cc) in
@@ -95,32 +96,32 @@ unclosed_within e (as_extended bs h) =
     let others = items-after inner.items (atom (ordinary 98 refl (λ k. absurd (omega arith)))) refl inner.at_end (stop_no_duplication true [] refl) in
     inner.not_last (empty_items others.items refl)
 
--- so many stars after one another
+-- n stars, one after another
 
--- so many stars before a text
+-- n stars before a text
 abbrev starred : ℕ → Text → Text
 starred zero t = t
 starred (suc n) t = starred n (codes "*" ++ t)
 
--- an expression so repeated
+-- an expression with a star n times
 abbrev often : ℕ → Expression → Expression
 often zero e = e
 often (suc n) e = repeat (often n e) 0 None
 
--- a letter and its stars are as high as there are stars
+-- a letter and its stars are as high as the number of stars
 star_item : (g : Bool) (n : ℕ) (t : Text) → Item g n (97 ∷ starred n t) t (often n (byte 97))
 star_item false zero t = atom (ordinary 97 refl (λ e. absurd (omega arith)))
 star_item true zero t = atom (ordinary 97 refl (λ e. absurd (omega arith)))
 star_item g (suc n) t = repeated (star_item g n (codes "*" ++ t)) star
 
--- and so is the whole
+-- the whole expression is as high
 star_branches : (n : ℕ) → Branches false n (97 ∷ starred n []) [] (often n (byte 97) ∷ [])
 star_branches n = at_height (max_zero n) (last (item (star_item false n []) none))
 
--- up to the most that are read, and more
+-- stars are read up to the greatest depth
 pub starred_often : (n : ℕ) → n ≤ 256 → IsSpelled Extended (97 ∷ starred n []) (often n (byte 97))
 starred_often n h = as_extended (star_branches n) h
 
--- one more than the most, and any number beyond
+-- more stars spell nothing
 pub too_many_stars : (n : ℕ) (e : Expression) → 256 < n → ¬ IsSpelled Extended (97 ∷ starred n []) e
 too_many_stars n e h spelled = too_high (star_branches n) (λ k. absurd (omega arith)) spelled

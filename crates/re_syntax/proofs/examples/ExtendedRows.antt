@@ -65,7 +65,7 @@ repeated_end = as_extended (last (item (repeated (atom dollar) star) none)) (ome
 repeated_group : IsSpelled Extended (codes "()*") (repeat empty 0 None)
 repeated_group = as_extended (last (item (repeated (atom (group (last none))) star) none)) (omega arith)
 
--- `a^b`, `^^a`, `a|^`, `(^a|b)*` and `(a$|b)c`: anchors wherever they stand
+-- `a^b`, `^^a`, `a|^`, `(^a|b)*` and `(a$|b)c`: anchors at any place
 begin_between : IsSpelled Extended (codes "a^b") (cat (byte 97 ∷ begin ∷ byte 98 ∷ []))
 begin_between = as_extended (last (item (itself 97 refl refl) (anchor (alone 98 refl refl)))) (omega arith)
 
@@ -158,7 +158,7 @@ no_least = as_extended (last (item (repeated (itself 97 refl refl) (interval (up
     allowed : IsAllowed 0 (Some 2)
     allowed = record { least_fits = omega arith; most_fits = omega arith; ordered = omega arith }
 
--- `(a{255}){16}` and `(a{255}){17}`: how often the whole is repeated is no matter of reading
+-- `(a{255}){16}` and `(a{255}){17}`: reading sets no limit to how often the whole is repeated
 many_times : IsNumber (codes "255")
 many_times = record { not_empty = λ e. cc; digits = refl }
 

@@ -1,8 +1,8 @@
--- Where bytes stand in a text.
+-- Bytes at a place of a text.
 use Rattle.std.proofs.Common.{◌≡◌, ℕ, ◌+◌, ◌≤◌, ◌++◌, length, drop, refl, ap, arith, length-append, length-drop}
 use Rattle.re_syntax.specs.Bytes.{Text}
 use Rattle.re_syntax.specs.Working.Ahead.{IsAfter}
 
--- they are within the text
+-- bytes that come next at a place are within the text
 pub is_after : (text bytes : Text) (at : ℕ) → at ≤ length text → drop at text ≡ bytes ++ drop (at + length bytes) text → IsAfter bytes text at (at + length bytes)
 is_after text bytes at h e = record { within = omega (arith, simp (length-append, length-drop) at (ap length e)); front = e; place = refl }

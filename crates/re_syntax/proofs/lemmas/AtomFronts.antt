@@ -1,4 +1,5 @@
--- What an atom of a basic expression begins with: a byte that has no other meaning there, and which tells the kind of atom.
+-- What an atom of a basic expression begins with: a byte that has no other meaning there, and that
+-- determines the kind of atom.
 use Rattle.std.proofs.Common.{◌≡◌, ◌≢◌, ℕ, Bool, true, false, nat_eq, [], ◌∷◌, IsTrue, codes, if◌then◌else◌, refl, sym, ap, ◌∙◌, arith}
 use Rattle.std.proofs.lemmas.Bool.{ne_eqb, cond-false}
 use Rattle.re_syntax.specs.Bytes.{Text}
@@ -13,12 +14,12 @@ abbrev pub is_opening : Text → Bool
 is_opening [] = false
 is_opening (b ∷ t) = nat_eq b 40
 
--- the kind of atom that begins so
+-- the kind of atom that begins like this
 abbrev pub kind_of : Text → ℕ
 kind_of [] = 9
 kind_of (b ∷ w) = if nat_eq b 91 then 0 else if nat_eq b 46 then 1 else if nat_eq b 92 then (if is_opening w then 3 else 2) else 4
 
--- the bytes behind a backslash that make it an end
+-- the bytes that make an end after a backslash
 abbrev pub is_ending : ℕ → Bool
 is_ending b = is_in (codes ")|") b
 
@@ -37,23 +38,23 @@ pub record Front (p : ItemPlace) (t : Text) (kind : ℕ) : Type 0 where
   pub is_kind : kind_of (front ∷ rest) ≡ kind
   pub clear : IsFront p front rest
 
--- a byte that stands for itself is none that does not
+-- a byte that stands for itself is not one that does not
 pub not_ordinary : (p : ItemPlace) (b c : ℕ) → IsTrue (is_ordinary p b) → is_ordinary p c ≡ false → b ≢ c
 not_ordinary p b c h k e = let f : is_ordinary p b ≡ false = rw e k in cc
 
--- a backslash, a bracket and a period never do
+-- a backslash never stands for itself
 pub never_backslash : (p : ItemPlace) → is_ordinary p 92 ≡ false
 never_backslash First = refl
 never_backslash AfterAnchor = refl
 never_backslash Later = refl
 
--- a bracket
+-- a bracket never does
 pub never_bracket : (p : ItemPlace) → is_ordinary p 91 ≡ false
 never_bracket First = refl
 never_bracket AfterAnchor = refl
 never_bracket Later = refl
 
--- a period
+-- a period never does
 pub never_period : (p : ItemPlace) → is_ordinary p 46 ≡ false
 never_period First = refl
 never_period AfterAnchor = refl
@@ -65,13 +66,13 @@ ordinary_kind p b w h =
     cond-false _ _ _ (ne_eqb b 91 (not_ordinary p b 91 h (never_bracket p))) ∙ cond-false _ _ _ (ne_eqb b 46 (not_ordinary p b 46 h (never_period p)))
     ∙ cond-false _ _ _ (ne_eqb b 92 (not_ordinary p b 92 h (never_backslash p)))
 
--- it is no caret that is first
+-- a caret that is first does not stand for itself
 first_caret : (p : ItemPlace) (b : ℕ) → IsTrue (is_ordinary p b) → p ≡ First → b ≢ 94
 first_caret First b h e = not_ordinary First b 94 h refl
 first_caret AfterAnchor b h e = cc
 first_caret Later b h e = cc
 
--- it is no star behind another item
+-- a star after another item does not stand for itself
 later_star : (p : ItemPlace) (b : ℕ) → IsTrue (is_ordinary p b) → p ≡ Later → b ≢ 42
 later_star First b h e = cc
 later_star AfterAnchor b h e = cc
@@ -87,7 +88,7 @@ fixed_front p b w caret st tail back = record {
   no_end = λ e. absurd (back e);
 }
 
--- a byte that a test fails for is none that it holds for
+-- a byte that fails a test is not one that passes it
 tested_apart : (test : ℕ → Bool) (b c : ℕ) → test b ≡ false → b ≡ c → ¬ IsTrue (test c)
 tested_apart test b c n e h = let f : test b ≡ true = ap test e ∙ h in let g : false ≡ true = sym n ∙ f in cc
 
@@ -101,11 +102,11 @@ backslash_front p c w n m = record {
   no_end = λ e d v f. tested_apart is_ending c d m (heads f);
 }
 
--- a byte that may be escaped is none that may not
+-- a byte that may be escaped is not one that may not
 pub undefined_apart : (b c : ℕ) → ¬ IsTrue (is_undefined (codes "(){+?|<>`'") b) → is_undefined (codes "(){+?|<>`'") c ≡ true → b ≢ c
 undefined_apart b c h k e = h (rw e k)
 
--- a byte that may be escaped makes neither a duplication nor an end of the backslash
+-- a byte that may be escaped makes neither a duplication nor an end after the backslash
 escaped_sign : (b : ℕ) → ¬ IsTrue (is_undefined (codes "(){+?|<>`'") b) → is_sign b ≡ false
 escaped_sign b h =
     let brace : b ≢ 123 = undefined_apart b 123 h refl in
@@ -119,7 +120,7 @@ escaped_ending b h =
     let bar : b ≢ 124 = undefined_apart b 124 h refl in
     rw (ne_eqb 41 b (λ e. closing (sym e)), ne_eqb 124 b (λ e. bar (sym e))) refl
 
--- the number that tells the kind of atom
+-- the number of the kind of atom
 abbrev pub atom_code : {p : ItemPlace} {n : ℕ} {t u : Text} {e : Expression} → Atom p n t u e → ℕ
 atom_code (bracket b) = 0
 atom_code period = 1

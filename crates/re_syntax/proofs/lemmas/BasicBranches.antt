@@ -1,4 +1,4 @@
--- Branches of basic expressions, from the items that stand there.
+-- Branches of basic expressions, by the items at their places.
 use Rattle.std.proofs.Common.{◌≡◌, ℕ, ◌≤◌, inr, max, List, [], ◌∷◌, ◌++◌, length, take, drop, codes, refl, sym, ap, ◌∙◌, subst, arith, append_assoc, Option, Global}
 use Rattle.re_syntax.specs.declared.pieces.Piece.{Piece}
 use Rattle.re_syntax.specs.declared.pieces.Pieces.{Pieces}
@@ -17,14 +17,14 @@ use Rattle.re_syntax.proofs.lemmas.Places.{take-after, regrouped}
 pub at_height : {h k : ℕ} {t u : Text} {es : List Expression} → h ≡ k → Branches h t u es → Branches k t u es
 at_height {t = t} {u = u} {es = es} e bs = subst (λ n. Branches n t u es) e bs
 
--- the branches behind a bar that the first branch of some is followed by
+-- the branches after the bar that follows the first branch
 record Behind (m : ℕ) (u v : Text) : Type 0 where
   height : ℕ
   below : height ≤ m
   others : List Expression
   branches : Branches height u v others
 
--- which are so since the first branch is one
+-- branches with a bar after their first branch have such branches
 behind_bar : {h m : ℕ} {t r u v : Text} {ds es : List Expression} → Branches m t v es → Items First h t r ds → IsAtEnd r → r ≡ 92 ∷ 124 ∷ u →
     IsAtLast v → Behind m u v
 behind_bar {u = u} {v = v} (last is) js s e p =
@@ -34,7 +34,8 @@ behind_bar {u = u} {v = v} (more {k = k} {fs = fs} is bs) js s e p =
     let same = items-unique is js refl of_branch s in
     record { height = k; below = omega arith; others = fs; branches = subst (λ x. Branches k x v fs) (tails (tails (same.rests ∙ e))) bs }
 
--- the branches that were read from one place on, up to the end of one of them, and what they say of all branches
+-- the branches that were read from one place on, up to the end of one of them, and what they say of
+-- all branches
 pub record BranchesSoFar (alloc : Option Global) (levels : ℕ) (text : Text) (from : ℕ) (branches : Pieces) : Type 0 where
   pub forward : from ≤ branches.behind
   pub within : branches.behind ≤ length text
@@ -47,7 +48,7 @@ pub record BranchesSoFar (alloc : Option Global) (levels : ℕ) (text : Text) (f
       Branches (max branches.height k) (drop from text) v (members ++ fs)
   pub back : (u : Text) → drop branches.behind text ≡ codes "\\|" ++ u → HasNoBranches levels u → HasNoBranches levels (drop from text)
 
--- the first
+-- the first branch was read
 pub first_branch : {alloc : Option Global} (levels : ℕ) (text : Text) (from : ℕ) (old new : Pieces) (piece : Piece) → BranchStands alloc levels text from piece → AreTold alloc old [] →
     old.height ≡ 0 → IsJoined old piece new → BranchesSoFar alloc levels text from new
 first_branch {alloc} levels text from old new piece b e f j =
@@ -72,7 +73,7 @@ first_branch {alloc} levels text from old new piece b e f j =
       };
     }
 
--- one more behind a bar
+-- one more branch was read, after a bar
 pub next_branch : {alloc : Option Global} (levels : ℕ) (text : Text) (from : ℕ) (old new : Pieces) (place : ℕ) (piece : Piece) → BranchesSoFar alloc levels text from old →
     IsAfter (codes "\\|") text old.behind place → BranchStands alloc levels text place piece → IsJoined old piece new → BranchesSoFar alloc levels text from new
 next_branch {alloc} levels text from old new place piece s bar b j =
@@ -99,7 +100,7 @@ next_branch {alloc} levels text from old new place piece s bar b j =
       });
     }
 
--- where no items stand no branches do
+-- where there are no items there are no branches
 pub no_branches : {levels : ℕ} {t : Text} → HasNoItems First levels t → HasNoBranches levels t
 no_branches {levels} {t} h = record { none = λ n v es bs p le. go bs p le }
   where
@@ -107,17 +108,17 @@ no_branches {levels} {t} h = record { none = λ n v es bs p le. go bs p le }
     go {n} {v} (last {es = es} is) p le = h.none n v es is (last_ends p) le
     go (more {h = n} {k = k} {u = u} {es = es} is bs) p le = h.none n (92 ∷ 124 ∷ u) es is of_branch (omega arith)
 
--- behind a bar a branch starts
+-- after a bar a branch starts
 pub bar_starts : {text : Text} {at behind : ℕ} → IsAfter (codes "\\|") text at behind → IsStart (take behind text)
 bar_starts {text} {at} {behind} s = inr (inr (take at text, ap (λ n. take n text) s.place ∙ take-after text at (codes "\\|") (drop behind text) s.front))
 
--- a branch that no bar ends is the last
+-- where a branch ends without a bar, the last branch ends
 last_here : {t : Text} → IsAtEnd t → ¬ Begins (codes "\\|") t → IsAtLast t
 last_here of_text n = text_ends
 last_here of_group n = group_ends
 last_here (of_branch {t = u}) n = absurd (n (u, refl))
 
--- all branches
+-- all branches were read
 pub branches_read : {alloc : Option Global} {levels : ℕ} {text : Text} {from : ℕ} {branches : Pieces} → BranchesSoFar alloc levels text from branches →
     ¬ Begins (codes "\\|") (drop branches.behind text) → BranchesStand alloc levels text from branches
 branches_read {text = text} {branches = branches} s n =

@@ -11,19 +11,19 @@ use Rattle.re_syntax.specs.Basic.{IsAtEnd, of_text, of_group, of_branch, Items, 
 use Rattle.re_syntax.specs.Working.BasicSteps.{HasItem, HasNoItem, at_end, at_tail, HasNoTail, IsBehindTail, IsEnded}
 use Rattle.re_syntax.specs.Working.PieceSteps.{IsTold, IsJoined}
 
--- the end of the text
+-- the end of the text is an end
 pub at_text_end : (text : Text) (at : ℕ) → at ≡ length text → IsAtEnd (drop at text)
 at_text_end text at e = subst IsAtEnd (sym (ap (λ n. drop n text) e ∙ drop-length text)) of_text
 
--- the end of a group
+-- the end of a group is an end
 pub at_group_end : (text : Text) (at behind : ℕ) → IsAfter (codes "\\)") text at behind → IsAtEnd (drop at text)
 at_group_end text at behind s = subst IsAtEnd (sym s.front) of_group
 
--- the end of a branch that another follows
+-- the end of a branch that another follows is an end
 pub at_branch_end : (text : Text) (at behind : ℕ) → IsAfter (codes "\\|") text at behind → IsAtEnd (drop at text)
 at_branch_end text at behind s = subst IsAtEnd (sym s.front) of_branch
 
--- no end
+-- any other place is no end
 pub not_at_end : (text : Text) (at : ℕ) → at ≤ length text → (at ≡ length text → ⊥) → ¬ Begins (codes "\\|") (drop at text) → ¬ Begins (codes "\\)") (drop at text) →
     ¬ IsAtEnd (drop at text)
 not_at_end text at h n m k e = go e refl
@@ -33,20 +33,20 @@ not_at_end text at h n m k e = go e refl
     go (of_group {t = u}) f = k (u, f)
     go (of_branch {t = u}) f = m (u, f)
 
--- neither an end nor an anchor before one
+-- an item is where neither an end is, nor an anchor before one
 pub item_here : {t : Text} → ¬ IsAtEnd t → HasNoTail t → HasItem t
 item_here h k = record { not_end = h; no_tail = k.none }
 
--- an anchor before an end
+-- no item is at an anchor before an end
 pub tail_here : (text : Text) (at behind : ℕ) → IsBehindTail text at behind → HasNoItem (drop at text)
 tail_here text at behind h = at_tail h.stands.front h.last
 
--- where no item stands and no `$` that is last, the expression ends
+-- where neither an item nor a last `$` is, the branch ends
 pub end_here : {t : Text} → HasNoItem t → HasNoTail t → IsAtEnd t
 end_here (at_end h) k = h
 end_here (at_tail e h) k = absurd (k.none _ e h)
 
--- an end and no anchor before it
+-- the items end without an anchor
 pub ended_without_tail : {alloc : Option Global} (text : Text) (items : Pieces) → items.behind ≤ length text → HasNoItem (drop items.behind text) → HasNoTail (drop items.behind text) → IsEnded alloc text items items
 ended_without_tail text items h n k = record {
   forward = omega arith;
@@ -58,7 +58,7 @@ ended_without_tail text items h n k = record {
   means = λ es are. rw (append-nil es) are;
 }
 
--- an anchor and the end behind it
+-- the items end with an anchor
 pub ended_with_tail : {alloc : Option Global} (text : Text) (old new : Pieces) (piece : Piece) → IsBehindTail text old.behind piece.behind → IsTold alloc piece end → piece.height ≡ 0 → IsJoined old piece new → IsEnded alloc text old new
 ended_with_tail {alloc} text old new piece t e f j = record {
   forward = omega (arith, j.place, t.stands.place);
@@ -70,7 +70,7 @@ ended_with_tail {alloc} text old new piece t e f j = record {
   means = λ es are. j.means alloc es end are e;
 }
 
--- where an item has to stand the text has a byte
+-- where an item is, the text has a byte
 pub item_within : (text : Text) (at : ℕ) → at ≤ length text → HasItem (drop at text) → at < length text
 item_within text at h i = go (cases_lt at (length text))
   where

@@ -1,4 +1,4 @@
--- Groups of basic expressions, and a whole expression, from the branches that stand there.
+-- Groups of basic expressions, and a whole expression, by the branches at their places.
 use Rattle.std.proofs.Common.{◌≡◌, ◌≢◌, ℕ, suc, ◌+◌, ◌-◌, ◌<◌, ◌≤◌, ◌⊎◌, inl, inr, List, [], ◌∷◌, ◌++◌, length, take, drop, codes, refl, sym, ap, ◌∙◌, subst, arith, length-drop, Option, Global}
 use Rattle.std.proofs.lemmas.List.{nil_from_length, take-append-drop}
 use Rattle.re_syntax.specs.declared.pieces.Piece.{Piece}
@@ -20,7 +20,7 @@ use Rattle.re_syntax.proofs.lemmas.AtomFronts.{not_ordinary, never_backslash, un
 use Rattle.re_syntax.proofs.lemmas.BasicUnique.{branches-unique}
 use Rattle.re_syntax.proofs.lemmas.Places.{behind_first, take-after}
 
--- what is behind a group's opening
+-- what follows a group's opening
 pub behind_opening : (text : Text) (at : ℕ) → Begins (codes "\\(") (drop at text) → drop at text ≡ codes "\\(" ++ drop (at + 2) text
 behind_opening text at (rest, e) =
     let one : 40 ∷ rest ≡ drop (at + 1) text = behind_first text at 92 (40 ∷ rest) e in
@@ -28,15 +28,15 @@ behind_opening text at (rest, e) =
     let there : at + 1 + 1 ≡ at + 2 = omega arith in
     e ∙ ap (λ x. 92 ∷ 40 ∷ x) (two ∙ ap (λ n. drop n text) there)
 
--- it is within the text
+-- a group's opening is within the text
 pub opening_within : (text : Text) (at : ℕ) → Begins (codes "\\(") (drop at text) → at + 2 ≤ length text
 opening_within text at (rest, e) = omega (arith, simp length-drop at (ap length e))
 
--- and an expression starts there
+-- an expression starts after a group's opening
 pub opening_starts : (text : Text) (at : ℕ) → Begins (codes "\\(") (drop at text) → IsStart (take (at + 2) text)
 opening_starts text at b = inr (inl (take at text, take-after text at (codes "\\(") (drop (at + 2) text) (behind_opening text at b)))
 
--- a group whose branches were read
+-- a group whose branches were read is an atom
 pub group_stands : {alloc : Option Global} (levels : ℕ) (text : Text) (at : ℕ) (branches : Pieces) (piece : Piece) → Begins (codes "\\(") (drop at text) → levels ≢ 0 →
     BranchesStand alloc (levels - 1) text (at + 2) branches → IsAfter (codes "\\)") text branches.behind piece.behind → piece.height ≡ branches.height + 1 →
     ((es : List Expression) → AreTold alloc branches es → IsTold alloc piece (choice es)) → (p : ItemPlace) → AtomStands alloc p levels text at piece
@@ -59,14 +59,14 @@ group_stands levels text at branches piece b n s c e f p =
       stands = three;
     }
 
--- an atom that begins as a group is one
+-- the branches of an atom that begins as a group
 record IsGroup (h : ℕ) (w u : Text) : Type 0 where
   inner_height : ℕ
   height : h ≡ suc inner_height
   members : List Expression
   inside : Branches inner_height w (codes "\\)" ++ u) members
 
--- which is so since nothing else begins with a backslash and a parenthesis
+-- an atom that begins with a backslash and a parenthesis is a group
 is_group : {p : ItemPlace} {h : ℕ} {t u w : Text} {e : Expression} → Atom p h t u e → t ≡ codes "\\(" ++ w → IsGroup h w u
 is_group (bracket h) e = let (w, f) = bracket_front h in absurd (apart 91 92 (heads (sym f ∙ e)) refl)
 is_group period e = absurd (apart 46 92 (heads e) refl)
@@ -75,11 +75,11 @@ is_group {p} (ordinary b h l) e = absurd (not_ordinary p b 92 h (never_backslash
 is_group (group {h = k} {u = u} {es = es} is) e =
     record { inner_height = k; height = refl; members = es; inside = subst (λ x. Branches k x (codes "\\)" ++ u) es) (tails (tails e)) is }
 
--- no level is left
+-- where no level is left there is no group
 pub no_group_left : (levels : ℕ) (text : Text) (at : ℕ) → Begins (codes "\\(") (drop at text) → levels ≡ 0 → (p : ItemPlace) → HasNoAtom p levels (drop at text)
 no_group_left levels text at (w, e) n p = record { none = λ h u x a le. let g = is_group a e in absurd (omega (arith, g.height)) }
 
--- no branches stand inside
+-- where no branches are inside there is no group
 pub no_group_inside : (levels : ℕ) (text : Text) (at : ℕ) → Begins (codes "\\(") (drop at text) → HasNoBranches (levels - 1) (drop (at + 2) text) →
     (p : ItemPlace) → HasNoAtom p levels (drop at text)
 no_group_inside levels text at b k p = record {
@@ -88,7 +88,7 @@ no_group_inside levels text at b k p = record {
       k.none g.inner_height (codes "\\)" ++ u) g.members g.inside group_ends (omega (arith, g.height));
 }
 
--- no end of the group follows the branches
+-- where no end of the group follows the branches there is no group
 pub no_group_end : {alloc : Option Global} (levels : ℕ) (text : Text) (at : ℕ) (branches : Pieces) → Begins (codes "\\(") (drop at text) → BranchesStand alloc (levels - 1) text (at + 2) branches →
     ¬ Begins (codes "\\)") (drop branches.behind text) → (p : ItemPlace) → HasNoAtom p levels (drop at text)
 no_group_end levels text at branches b s k p = record {
@@ -98,12 +98,12 @@ no_group_end levels text at branches b s k p = record {
       k (u, sym same.rests);
 }
 
--- the two ends
+-- the last branch ends at the text's end or at a closing
 last_cases : {t : Text} → IsAtLast t → (t ≡ []) ⊎ Begins (codes "\\)") t
 last_cases text_ends = inl refl
 last_cases (group_ends {t = u}) = inr (u, refl)
 
--- behind the opening of such a group branches go on up to the text's end
+-- after the opening of an unclosed group, branches go on up to the text's end
 pub opens_unclosed : {alloc : Option Global} (levels : ℕ) (text : Text) (at : ℕ) (branches : Pieces) → Begins (codes "\\(") (drop at text) → BranchesStand alloc levels text (at + 2) branches →
     ¬ Begins (codes "\\)") (drop branches.behind text) → OpensUnclosed (drop at text)
 opens_unclosed levels text at branches b s k = record {
@@ -120,7 +120,7 @@ opens_unclosed levels text at branches b s k = record {
 
 -- A whole expression.
 
--- branches up to the text's end
+-- branches up to the text's end are spelled
 pub whole_read : {alloc : Option Global} (text : Text) (branches : Pieces) (piece : Piece) → BranchesStand alloc most_levels text 0 branches → length text ≤ branches.behind →
     ((es : List Expression) → AreTold alloc branches es → IsTold alloc piece (choice es)) → (e : Expression) × IsSpelled Basic text e × IsTold alloc piece e
 whole_read text branches piece s h f =
@@ -133,7 +133,7 @@ whole_read text branches piece s h f =
 spelled_branches : {text : Text} {e : Expression} → IsSpelled Basic text e → (h : ℕ) × (es : List Expression) × Branches h text [] es × (h ≤ most_levels)
 spelled_branches (as_basic {h = h} {es = es} bs le) = (h, es, bs, le)
 
--- branches up to a closing that no group has
+-- branches up to a closing outside groups spell nothing
 pub not_whole : {alloc : Option Global} (text : Text) (branches : Pieces) → BranchesStand alloc most_levels text 0 branches → branches.behind < length text → IsNoBasic text (record { kind = UnopenedGroup; at = branches.behind })
 not_whole text branches s h = record {
   none = λ e spelled. let (k, es, bs, le) = spelled_branches spelled in
@@ -151,7 +151,7 @@ not_whole text branches s h = record {
     closing (inl e) = absurd (omega (arith, simp length-drop at (ap length e)))
     closing (inr b) = b
 
--- where no branches stand nothing is spelled
+-- where there are no branches nothing is spelled
 nothing_spelled : (text : Text) (fault : PatternFault) → HasNoBranches most_levels text → IsShownIn text fault → IsNoBasic text fault
 nothing_spelled text fault k shown = record { none = λ e spelled. let (h, es, bs, le) = spelled_branches spelled in k.none h [] es bs text_ends le; shown = shown }
 

@@ -1,4 +1,4 @@
--- Duplications at a place of the text: what a reader has found when it stops.
+-- Duplications at a place of the text: what a reader knows when it stops.
 use Rattle.std.proofs.Common.{◌≡◌, ℕ, inl, inr, ◌∷◌, ◌++◌, take, drop, Option, Some, None, IsTrue, codes, refl, sym, ap, ◌∙◌, subst, append_assoc}
 use Rattle.re_syntax.specs.declared.class.Class.TheVariants.{Digit}
 use Rattle.re_syntax.specs.declared.fault.FaultKind.{FaultKind}
@@ -24,19 +24,19 @@ closing_no_part = record {
   no_comma = λ h. apart 92 44 (heads h.1) refl;
 }
 
--- a star
+-- a star is a duplication
 pub star_stands : {text : Text} {at behind : ℕ} → IsAfter (codes "*") text at behind → DuplicationStands text at (record { least = 0; most = None }) behind
 star_stands s = record { within = s.within; bytes = codes "*"; duplication = star; front = s.front }
 
--- a `\+`
+-- a `\+` is a duplication
 pub plus_stands : {text : Text} {at behind : ℕ} → IsAfter (codes "\\+") text at behind → DuplicationStands text at (record { least = 1; most = None }) behind
 plus_stands s = record { within = s.within; bytes = codes "\\+"; duplication = plus; front = s.front }
 
--- a `\?`
+-- a `\?` is a duplication
 pub question_stands : {text : Text} {at behind : ℕ} → IsAfter (codes "\\?") text at behind → DuplicationStands text at (record { least = 0; most = Some 1 }) behind
 question_stands s = record { within = s.within; bytes = codes "\\?"; duplication = question; front = s.front }
 
--- an interval whose counts are allowed
+-- an interval whose counts are allowed is a duplication
 pub interval_stands : {text : Text} {at inside behind : ℕ} {counts : Counts} → IsAfter (codes "\\{") text at inside → IntervalStands (codes "\\}") text inside counts behind →
     IsAllowed counts.least counts.most → DuplicationStands text at counts behind
 interval_stands {text} {at} {inside} {behind} {counts} s i h =
@@ -49,7 +49,7 @@ interval_stands {text} {at} {inside} {behind} {counts} s i h =
       front = s.front ∙ ap (λ t. 92 ∷ 123 ∷ t) (i.stands.whole ∙ sym (append_assoc i.stands.inside (codes "\\}") (drop behind text)));
     }
 
--- where none opens, no duplication stands
+-- where nothing opens a duplication, there is none
 pub opens_none : {t : Text} → OpensNoDuplication t → NoDuplication t
 opens_none {t} h = record { none = λ d least most u p e. go d least most u p e }
   where
@@ -59,7 +59,7 @@ opens_none {t} h = record { none = λ d least most u p e. go d least most u p e 
     go d least most u question e = h.escaped (subst NeedsItem (sym e) needs_question)
     go d least most u (interval {t = inside} form allowed) e = h.escaped (subst NeedsItem (sym e) needs_interval)
 
--- each of the three that need an item, and none of them
+-- each of the three that need an item, and no other
 pub interval_needs : {text : Text} {at behind : ℕ} → IsAfter (codes "\\{") text at behind → NeedsItem (drop at text)
 interval_needs s = subst NeedsItem (sym s.front) needs_interval
 
@@ -77,11 +77,11 @@ needs_no_item {t} k m n h = go h refl
     go (needs_plus {u = u}) e = m (u, e)
     go (needs_question {u = u}) e = n (u, e)
 
--- which is so where none of the four openings stands
+-- none of the four openings opens no duplication
 pub no_duplication_opens : {t : Text} → HasNoSign t → ¬ Begins (codes "\\{") t → OpensNoDuplication t
 no_duplication_opens n k = record { star = n.star; escaped = needs_no_item k n.plus n.question }
 
--- an interval's opening where no interval stands
+-- an opening without an interval is a bad interval
 pub no_interval : {text : Text} {at inside : ℕ} → IsAfter (codes "\\{") text at inside → HasNoInterval (codes "\\}") (drop inside text) →
     HasBadInterval text at (record { kind = BadInterval; at = at })
 no_interval {text} {at} {inside} s no_form = record {
@@ -97,13 +97,13 @@ no_interval {text} {at} {inside} s no_form = record {
     go d least most u (interval {t = inner} form allowed) e =
         no_form.none u least most (record { inside = inner; form = form; whole = tails (tails e) ∙ append_assoc inner (codes "\\}") u })
 
--- how counts that are refused show
+-- the bytes of an interval whose counts are refused show the fault
 shown_disallowed : (before : Text) {kind : FaultKind} {t : Text} {least : ℕ} {most : Option ℕ} → OpensDisallowed (codes "\\{") (codes "\\}") kind t → IsDisallowed kind least most → ShowsBasicFault kind before t
 shown_disallowed before o (least_too_large h) = o
 shown_disallowed before o (most_too_large h) = o
 shown_disallowed before o (descending h small) = inr o
 
--- one where the interval's counts are refused
+-- an interval whose counts are refused is a bad interval
 pub bad_interval : {text : Text} {at inside behind : ℕ} {counts : Counts} {kind : FaultKind} → IsAfter (codes "\\{") text at inside →
     IntervalStands (codes "\\}") text inside counts behind → IsDisallowed kind counts.least counts.most → HasBadInterval text at (record { kind = kind; at = at })
 bad_interval {text} {at} {inside} {behind} {counts} {kind} s i bad =

@@ -1,4 +1,4 @@
--- Items of basic expressions, from their atoms and what follows them.
+-- Items of basic expressions, by their atoms and what follows them.
 use Rattle.std.proofs.Common.{◌≡◌, ◌≢◌, ℕ, suc, ◌<◌, ◌≤◌, inr, max, List, ◌∷◌, ◌++◌, length, drop, Option, IsTrue, true, false, refl, sym, ap, ◌∙◌, subst, arith, append_assoc, length-append, length-drop, Global, []}
 use Rattle.re_syntax.specs.declared.pieces.Piece.{Piece}
 use Rattle.re_syntax.specs.declared.pieces.Pieces.{Pieces}
@@ -19,11 +19,11 @@ use Rattle.re_syntax.proofs.lemmas.Places.{regrouped}
 use Rattle.re_syntax.proofs.lemmas.BasicLeads.{at_height}
 use Rattle.re_syntax.proofs.lemmas.AtomFronts.{is_ending}
 
--- behind the anchor anything else may begin
+-- after the anchor an item may begin with any byte
 pub behind_anchor : (t : Text) → MayBegin AfterAnchor t
 behind_anchor t = record { no_lead = λ e. cc; no_duplication = λ e. cc }
 
--- where an item has to begin and no atom stands, no items do
+-- where an item has to begin and there is no atom, there are no items
 pub no_items_without_atom : {p : ItemPlace} {levels : ℕ} {t : Text} → HasItem t → MayBegin p t → HasNoAtom p levels t → HasNoItems p levels t
 no_items_without_atom {p} {levels} {t} i b h = record { none = λ n u es is end' le. go is refl refl end' le }
   where
@@ -37,7 +37,7 @@ no_items_without_atom {p} {levels} {t} i b h = record { none = λ n u es is end'
         let there : Atom p parts.level t parts.rest parts.start = subst (λ x. Atom x parts.level t parts.rest parts.start) f here in
         h.none parts.level parts.rest parts.start there (omega (arith, parts.height))
 
--- the piece is an item, which may stand at this place of its branch
+-- the piece is an item that may be at this place of its branch
 pub record MeansItem (alloc : Option Global) (p : ItemPlace) (text : Text) (at : ℕ) (piece : Piece) : Type 0 where
   pub meaning : Expression
   pub is : IsTold alloc piece meaning
@@ -56,14 +56,14 @@ item_of_atom levels text at piece h =
     let a = h AfterAnchor (behind_anchor (drop at text)) in
     record { forward = a.forward; within = a.within; height = a.height; stands = λ p b. record { meaning = (h p b).meaning; is = (h p b).is; stands = atom (h p b).stands } }
 
--- where no duplication follows, it is read
+-- where no duplication follows, the item is complete
 pub item_read : {alloc : Option Global} (levels : ℕ) (text : Text) (at : ℕ) (piece : Piece) → ItemSoFar alloc levels text at piece → OpensNoDuplication (drop piece.behind text) →
     (p : ItemPlace) → MayBegin p (drop at text) → ItemStands alloc p levels text at piece
 item_read levels text at piece h n p b =
     let m = h.stands p b in
     record { forward = h.forward; within = h.within; height = h.height; no_more = n; meaning = m.meaning; is = m.is; stands = m.stands }
 
--- a duplication takes some byte
+-- a duplication takes at least one byte
 pub duplication_takes : {text : Text} {at : ℕ} {counts : Counts} {behind : ℕ} → DuplicationStands text at counts behind → at < behind
 duplication_takes {text} {at} {counts} {behind} d = go d.duplication d.front
   where
@@ -73,7 +73,7 @@ duplication_takes {text} {at} {counts} {behind} d = go d.duplication d.front
     go question e = omega (arith, simp length-drop at (ap length e), d.within)
     go (interval {t = t} form allowed) e = omega (arith, simp (length-append, length-drop) at (ap length e), d.within)
 
--- with one duplication more
+-- the item with one more duplication
 pub item_repeated : {alloc : Option Global} (levels : ℕ) (text : Text) (at : ℕ) (old new : Piece) (counts : Counts) (behind : ℕ) → ItemSoFar alloc levels text at old → old.height ≢ levels →
     DuplicationStands text old.behind counts behind → IsRepeated alloc old counts behind new → ItemSoFar alloc levels text at new
 item_repeated levels text at old new counts behind h n d r =
@@ -92,29 +92,29 @@ item_repeated levels text at old new counts behind h n d r =
           record { meaning = repeat m.meaning counts.least counts.most; is = r.means m.meaning m.is; stands = rw r.place again };
     }
 
--- one more level than there are
+-- one more duplication than there are levels is too many
 pub too_deep : {alloc : Option Global} (levels : ℕ) (text : Text) (at : ℕ) (piece : Piece) (counts : Counts) (behind : ℕ) → ItemSoFar alloc levels text at piece → piece.height ≡ levels →
     DuplicationStands text piece.behind counts behind → (p : ItemPlace) → MayBegin p (drop at text) → HasNoItems p levels (drop at text)
 too_deep levels text at piece counts behind h e d p b = record {
   none = λ n u es is end' le. let higher = items-higher is (h.stands p b).stands refl end' (stands_some d) in absurd (omega arith);
 }
 
--- which shows at the duplication
+-- a duplication that is too many shows at its place
 pub shown_deep : (text : Text) (at : ℕ) (counts : Counts) (behind : ℕ) → DuplicationStands text at counts behind → IsShownIn text (record { kind = TooDeep; at = at })
 shown_deep text at counts behind d =
     inr (record { bytes = d.bytes; rest = drop behind text; least = counts.least; most = counts.most; duplication = d.duplication; whole = d.front })
 
--- a byte that makes no end
+-- a byte that makes no end is not one that makes one
 not_ending : (b c : ℕ) → is_ending b ≡ false → b ≡ c → ¬ IsTrue (is_ending c)
 not_ending b c n e h = let f : is_ending b ≡ true = ap is_ending e ∙ h in let g : false ≡ true = sym n ∙ f in cc
 
--- behind an item no items begin with an interval's opening
+-- the items after an item do not begin with an interval's opening
 later_not_interval : {h : ℕ} {t u : Text} {es : List Expression} → Items Later h t u es → (w : Text) → t ≡ 92 ∷ 123 ∷ w → IsAtEnd u → ⊥
 later_not_interval {t = t} none w e h = let (k, c, v, l, ending) = end_front t 92 (123 ∷ w) h e in not_ending 123 c refl (heads l) ending
 later_not_interval (trailing l) w e h = apart 36 92 (heads e) refl
 later_not_interval (item i is) w e h = let (b, v, f, clear) = item_front i in clear.no_duplication (heads (sym f ∙ e)) 123 w (tails (sym f ∙ e)) refl
 
--- so where an interval is refused behind an item no items stand
+-- so there are no items where an interval after an item is refused
 pub no_items_bad : {alloc : Option Global} (levels : ℕ) (text : Text) (at : ℕ) (piece : Piece) (fault : PatternFault) → ItemSoFar alloc levels text at piece → HasBadInterval text piece.behind fault →
     (p : ItemPlace) → MayBegin p (drop at text) → HasNoItems p levels (drop at text)
 no_items_bad levels text at piece fault h bad p b = record {
@@ -151,7 +151,7 @@ one_more {alloc} levels text from old new piece s h j =
       });
     }
 
--- and the end
+-- the end of the branch
 pub all_read : {alloc : Option Global} (levels : ℕ) (text : Text) (from : ℕ) (old new : Pieces) (piece : Piece) → SoFar alloc levels text from old → IsEnded alloc text old new →
     ((es : List Expression) → AreTold alloc new es → IsTold alloc piece (sequence es)) → piece.height ≡ new.height → piece.behind ≡ new.behind → BranchStands alloc levels text from piece
 all_read levels text from old new piece s e means h b = record {

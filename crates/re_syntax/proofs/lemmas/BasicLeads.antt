@@ -1,4 +1,4 @@
--- The anchor that a branch of a basic expression begins with, and what is said of the items behind it.
+-- The anchor that begins a branch of a basic expression, and what it says of the items after it.
 use Rattle.std.proofs.Common.{◌≡◌, ℕ, ◌+◌, ◌≤◌, inl, inr, List, [], ◌∷◌, ◌++◌, length, take, drop, codes, refl, sym, ap, ◌∙◌, subst, arith, Option, Global}
 use Rattle.re_syntax.specs.declared.pieces.Pieces.{Pieces}
 use Rattle.re_syntax.specs.declared.pieces.Piece.{Piece}
@@ -40,7 +40,7 @@ without_lead levels text from items h s n e f g = record {
   back = rw g (λ k. k);
 }
 
--- a branch with it
+-- a branch with the anchor
 pub with_lead : {alloc : Option Global} (levels : ℕ) (text : Text) (from : ℕ) (old new : Pieces) (piece : Piece) → from ≤ length text → IsAfter (codes "^") text from piece.behind →
     AreTold alloc old [] → old.height ≡ 0 → IsTold alloc piece begin → piece.height ≡ 0 → IsJoined old piece new → SoFar alloc levels text from new
 with_lead {alloc} levels text from old new piece h s e f g k j =

@@ -9,7 +9,7 @@ use Rattle.re_syntax.proofs.lemmas.Chains.{SameItem, Chain, done, chain_snoc, ch
 use Rattle.re_syntax.proofs.lemmas.Duplications.{is_sign, dup_front, unique}
 use Rattle.re_syntax.proofs.lemmas.AtomFronts.{kind_of, is_ending, IsFront, atom_code, atom_front}
 
--- the same of the items of an expression
+-- the items are the same, with the same height and the same text after them
 pub record SameItems (h k : ℕ) (ds es : List Expression) (u v : Text) : Type 0 where
   pub heights : h ≡ k
   pub expressions : ds ≡ es
@@ -25,7 +25,7 @@ pub record Parts (p : ItemPlace) (h : ℕ) (t u : Text) (e : Expression) : Type 
   pub atom_first : Atom p level t rest start
   pub others : Chain Duplication count rest u start e
 
--- each item is such
+-- each item has these two parts
 pub item_parts : {p : ItemPlace} {h : ℕ} {t u : Text} {e : Expression} → Item p h t u e → Parts p h t u e
 item_parts {h = h} {u = u} {e = e} (atom a) = record { level = h; count = 0; height = omega arith; rest = u; start = e; atom_first = a; others = done }
 item_parts (repeated {d = d} {u = u} {least = least} {most = most} i q) =
@@ -51,9 +51,9 @@ same_kind a b e =
 pub item_front : {p : ItemPlace} {h : ℕ} {t u : Text} {e : Expression} → Item p h t u e → (b : ℕ) × (w : Text) × (t ≡ b ∷ w) × IsFront p b w
 item_front i = let a = item_parts i in let f = atom_front a.atom_first in (f.front, f.rest, f.whole, f.clear)
 
--- No duplication stands where a later item, a last `$` or an end does.
+-- No duplication is where a later item, a last `$` or an end is.
 
--- at a byte that opens no duplication there is none
+-- a byte that opens no duplication begins none
 pub no_duplication_at : (t : Text) (b : ℕ) (w : Text) → t ≡ b ∷ w → b ≢ 42 → (b ≡ 92 → (c : ℕ) (v : Text) → w ≡ c ∷ v → ¬ IsTrue (is_sign c)) → NoDuplication t
 no_duplication_at t b w e st other = record { none = λ d least most u p h. go d u h (dup_front p u) }
   where
@@ -67,11 +67,11 @@ end_front t b w of_text e = cc
 end_front t b w (of_group {t = v}) e = (sym (heads e), 41, v, sym (tails e), refl)
 end_front t b w (of_branch {t = v}) e = (sym (heads e), 124, v, sym (tails e), refl)
 
--- what begins otherwise is no duplication
+-- a byte that is no duplication's sign is not one that is
 not_sign : (b c : ℕ) → is_sign b ≡ false → b ≡ c → ¬ IsTrue (is_sign c)
 not_sign b c n e h = let f : is_sign b ≡ true = ap is_sign e ∙ h in let g : false ≡ true = sym n ∙ f in cc
 
--- nor is there one at an end
+-- no duplication begins at an end
 pub end_no_duplication : (t : Text) → IsAtEnd t → NoDuplication t
 end_no_duplication t of_text = record { none = λ d least most u p e. let front = dup_front p u in let same : [] ≡ front.0 ∷ front.1 = e ∙ front.2 in cc }
 end_no_duplication t (of_group {t = w}) =
@@ -79,26 +79,26 @@ end_no_duplication t (of_group {t = w}) =
 end_no_duplication t (of_branch {t = w}) =
     no_duplication_at (92 ∷ 124 ∷ w) 92 (124 ∷ w) refl (λ k. absurd (omega arith)) (λ k c v e. not_sign 124 c refl (heads e))
 
--- nor where the items behind another one begin
+-- no duplication begins where the items after another item do
 pub later_no_duplication : {h : ℕ} {t u : Text} {es : List Expression} → Items Later h t u es → IsAtEnd u → NoDuplication t
 later_no_duplication {t = t} none s = end_no_duplication t s
 later_no_duplication (trailing {t = w} h) s = no_duplication_at (36 ∷ w) 36 w refl (λ k. absurd (omega arith)) (λ k. absurd (omega arith))
 later_no_duplication {t = t} (item i is) s = let (b, w, e, clear) = item_front i in no_duplication_at t b w e (clear.not_star refl) clear.no_duplication
 
--- an end is no item's front, no anchor's and no last `$`'s
+-- an end is not what an item, an anchor or a last `$` begins with
 pub end_item : (p : ItemPlace) (t : Text) (b : ℕ) (w : Text) → IsAtEnd t → t ≡ b ∷ w → IsFront p b w → ⊥
 end_item p t b w h e clear = let (k, c, v, l, ending) = end_front t b w h e in clear.no_end k c v l ending
 
--- an end does not begin with another byte than a backslash
+-- an end begins with a backslash
 pub end_byte : (t : Text) (b : ℕ) (w : Text) → IsAtEnd t → t ≡ b ∷ w → nat_eq b 92 ≡ false → ⊥
 end_byte t b w h e n = let (k, c, v, l, ending) = end_front t b w h e in apart b 92 k n
 
--- where the last branch ends, a branch does
+-- where the last branch ends, a branch ends
 pub last_ends : {t : Text} → IsAtLast t → IsAtEnd t
 last_ends text_ends = of_text
 last_ends group_ends = of_group
 
--- and no branch follows
+-- no branch follows the last one
 pub last_bar : (t w : Text) → IsAtLast t → t ≡ 92 ∷ 124 ∷ w → ⊥
 last_bar t w text_ends e = cc
 last_bar t w group_ends e = apart 41 124 (heads (tails e)) refl
@@ -171,7 +171,8 @@ mutual
 pub whole-branches : {h k : ℕ} {t : Text} {ds es : List Expression} → Branches h t [] ds → Branches k t [] es → SameItems h k ds es [] []
 whole-branches bs cs = branches-unique bs cs refl text_ends text_ends
 
--- Where an item stands at the front, the items of a branch begin with it, or with it and more duplications.
+-- Where an item begins the text, the items of a branch begin with it, or with it and more
+-- duplications.
 pub record BeginsWith (h m : ℕ) (u v : Text) (e : Expression) (es : List Expression) : Type 0 where
   pub height_first : ℕ
   pub height_others : ℕ
@@ -183,7 +184,7 @@ pub record BeginsWith (h m : ℕ) (u v : Text) (e : Expression) (es : List Expre
   pub items : Items Later height_others behind v others
   pub whole : es ≡ start ∷ others
 
--- which is so of all items that an item stands before
+-- so do the items of any text that begins with an item
 pub items-begin : {p : ItemPlace} {h m : ℕ} {t s u v : Text} {e : Expression} {es : List Expression} → Items p m t v es → Item p h s u e → s ≡ t →
     IsAtEnd v → BeginsWith h m u v e es
 items-begin {p} (none {t = t}) i e h = let (b, w, f, clear) = item_front i in absurd (end_item p t b w h (sym e ∙ f) clear)
@@ -204,14 +205,14 @@ items-begin (item {h = h} {k = k} {u = w} {e = g} {es = fs} j js) i e end' =
       whole = refl;
     }
 
--- where no duplication follows the item, they are it and the items of what follows
+-- where no duplication follows the item, the items are it and those of the text after it
 pub record After (m : ℕ) (u v : Text) (es : List Expression) : Type 0 where
   pub height : ℕ
   pub below : height ≤ m
   pub others : List Expression
   pub items : Items Later height u v others
 
--- what is behind the item
+-- so the text after the item has such items
 pub items-after : {p : ItemPlace} {h m : ℕ} {t s u v : Text} {e : Expression} {es : List Expression} → Items p m t v es → Item p h s u e → s ≡ t →
     IsAtEnd v → NoDuplication u → After m u v es
 items-after {v = v} is i e end' q =
@@ -224,7 +225,7 @@ items-after {v = v} is i e end' q =
       items = subst (λ w. Items Later first.height_others w v first.others) same.rests first.items;
     }
 
--- where one follows, they are higher than it
+-- where a duplication follows the item, the items are higher than it
 pub items-higher : {p : ItemPlace} {h m : ℕ} {t s u v : Text} {e : Expression} {es : List Expression} → Items p m t v es → Item p h s u e → s ≡ t →
     IsAtEnd v → ¬ NoDuplication u → h < m
 items-higher is i e end' q =

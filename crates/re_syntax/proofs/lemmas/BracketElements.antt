@@ -1,4 +1,4 @@
--- Which element stands where a point stands, and where none does.
+-- Which element is where a point is, and where there is none.
 use Rattle.std.proofs.Common.{◌≡◌, ◌≢◌, ℕ, ◌≤◌, ◌⊎◌, inl, inr, ◌∷◌, ◌++◌, codes, drop, refl, sym, ap, ◌∙◌, subst}
 use Rattle.re_syntax.specs.declared.bracket.ListPlace.{ListPlace}
 use Rattle.re_syntax.specs.declared.bracket.ListPlace.TheVariants.{First, AfterPoint, AfterRange}
@@ -21,7 +21,7 @@ record SpanFrom (p : ListPlace) (t v : Text) (b : ℕ) : Type 0 where
   last_point : Point behind after last
   ascends : b ≤ last
 
--- where a point stands, the element is that point alone or a range from it
+-- where a point is, the element is that point alone or a range from it
 from_point : {p q : ListPlace} {t v w : Text} {a : Bytes} {b : ℕ} → Point t v b → Element p t w a q → MayBeAlone p t v ⊎ SpanFrom p t v b
 from_point x (class c) = absurd (class_point x refl)
 from_point x (equivalence c) = absurd (equivalence_point x refl)
@@ -30,14 +30,15 @@ from_point x (span {v = u} {w = w} {b = d} y start z open' le) =
     let same = point-unique y x refl in
     inr (record { start = start; behind = u; hyphen = sym same.rests; after = w; last = d; last_point = z; ascends = rw (← same.values) le })
 
--- where neither a class nor a point stands, no element does
+-- where there is neither a class nor a point, there is no element
 pub no_element_at_all : {p q : ListPlace} {t w : Text} {a : Bytes} → OpensNoClass t → ((v : Text) (b : ℕ) → ¬ Point t v b) → ¬ Element p t w a q
 no_element_at_all never h (class c) = never.class (_, refl)
 no_element_at_all never h (equivalence b) = never.equivalence (_, refl)
 no_element_at_all never h (alone x may) = h _ _ x
 no_element_at_all never h (span x start y open' le) = h _ _ x
 
--- a hyphen that is not the first begins no range, and may not stand before another that is not the last
+-- a hyphen that is not the first begins no range, and may not come before another that is not the
+-- last
 pub no_stray_hyphen : {p q : ListPlace} {t v w : Text} {a : Bytes} {b : ℕ} → Point t v b → Begins (codes "-") v → ¬ Begins (codes "-]") v →
     Begins (codes "-") t → p ≢ First → ¬ Element p t w a q
 no_stray_hyphen {p} {t = t} {v = v} {b = b} x h never k n e = go (from_point x e)
@@ -55,7 +56,7 @@ no_range {p} {t = t} {v = v} {b = b} x f never h e = go (from_point x e)
     go (inl may) = never (may.before_hyphen (_, f))
     go (inr s) = h _ _ (point_along (tails (sym f ∙ s.hyphen)) s.last_point) s.ascends
 
--- a point that no range can begin at stands alone
+-- a point that no range can begin at is alone
 pub alone_stands : {p : ListPlace} {t v : Text} {b : ℕ} → MayGoOn p t → Point t v b → (Begins (codes "-") v → Begins (codes "-]") v) → Element p t v (only b) AfterPoint
 alone_stands {p} {t} {v} on x f = alone x (record { bracket = on.bracket; hyphen = λ h. hyphen (on.hyphen h); before_hyphen = f })
   where
@@ -72,6 +73,6 @@ range_stands {p} {t = t} {b = b} on first x e never y le = span (subst (λ r. Po
     start (inl h) = on.bracket h
     start (inr h) = first h
 
--- a fault that shows in a text shows in that text, wherever the cursor stands
+-- a fault that shows in a text shows there wherever the cursor is
 pub shown_along : (opening : ℕ) (c d : Cursor) (fault : PatternFault) → c.text ≡ d.text → IsShown opening c fault → IsShown opening d fault
 shown_along opening c d fault e h = record { shows = subst (λ t. ShowsBracketFault fault.kind (drop fault.at t.now)) e h.shows; unclosed = h.unclosed }

@@ -4,14 +4,14 @@ use Rattle.re_syntax.specs.declared.fault.FaultKind.TheVariants.{UnclosedBracket
 use Rattle.re_syntax.specs.Bytes.{Text}
 use Rattle.re_syntax.specs.Faults.{ShowsBracketFault}
 
--- one of four
+-- the four kinds
 pub data IsBracketKind : FaultKind → Type 0 where
   is_unclosed : IsBracketKind UnclosedBracket
   is_class : IsBracketKind BadClass
   is_symbol : IsBracketKind BadCollatingSymbol
   is_range : IsBracketKind BadRange
 
--- since no other shows in one
+-- a fault that a bracket expression shows is of these kinds
 pub bracket_kind : (kind : FaultKind) (t : Text) → ShowsBracketFault kind t → IsBracketKind kind
 bracket_kind UnclosedBracket t h = is_unclosed
 bracket_kind BadClass t h = is_class

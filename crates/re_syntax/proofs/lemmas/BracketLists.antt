@@ -1,4 +1,5 @@
--- Reading a list of elements one by one: what was read and what is left make up the whole list.
+-- Reading a list of elements one by one: what was read and what is left are together the whole
+-- list.
 use Rattle.std.proofs.Common.{◌≡◌, ◌≢◌, ℕ, ◌<◌, ◌⊎◌, inl, inr, ◌++◌, codes, length, length-append, refl, sym, subst, arith}
 use Rattle.re_syntax.specs.declared.bracket.ListPlace.{ListPlace}
 use Rattle.re_syntax.specs.declared.bracket.ListPlace.TheVariants.{First, AfterPoint}
@@ -9,18 +10,19 @@ use Rattle.re_syntax.specs.Working.BracketSteps.{MayGoOn}
 use Rattle.re_syntax.proofs.lemmas.BracketsUnique.{element-unique}
 use Rattle.re_syntax.proofs.lemmas.UnionsLaws.{union-assoc, union-nothing}
 
--- of the list that begins with the first text, elements that add these bytes were read, and the second text with this place is left
+-- of the list at the front of the first text, elements that add these bytes were read; the second
+-- text is left, at this place of the list
 pub record GoesOn (t v : Text) (p : ListPlace) (done : Bytes) : Type 0 where
   pub not_first : p ≢ First
   pub hyphen : Begins (codes "-") v → (p ≢ AfterPoint) ⊎ Begins (codes "-]") v
   pub whole : (u : Text) (s : Bytes) → Rest p v u s → Rest First t u (union done s)
   pub rest : (u : Text) (x : Bytes) → Rest First t u x → (s : Bytes) × Rest p v u s
 
--- the same list adds the same bytes under another name
+-- a list adds equal bytes
 rest_along : {p : ListPlace} {t u : Text} {x y : Bytes} → x ≡ y → Rest p t u x → Rest p t u y
 rest_along {p} {t} {u} e r = subst (λ s. Rest p t u s) e r
 
--- an element is followed by no first place, and after a point a hyphen is the last
+-- no place after an element is the first, and after a point a hyphen is the last
 behind_element : {p q : ListPlace} {t v : Text} {a : Bytes} → Element p t v a q → (q ≢ First) × (Begins (codes "-") v → (q ≢ AfterPoint) ⊎ Begins (codes "-]") v)
 behind_element (class c) = (λ e. cc, λ h. inl (λ e. cc))
 behind_element (equivalence b) = (λ e. cc, λ h. inl (λ e. cc))
@@ -58,38 +60,38 @@ pub goes_on-last : {p : ListPlace} {t v w : Text} {done : Bytes} → GoesOn t v 
 goes_on-last {p} {w = w} {done = done} g e =
     rest_along (union-nothing done) (g.whole w nothing (subst (λ y. Rest p y w nothing) (sym e) (closing g.not_first)))
 
--- where neither the closing bracket nor an element stands, no rest of a list does
+-- where there is neither the closing bracket nor an element, there is no rest of a list
 none_behind : {p : ListPlace} {v u : Text} {s : Bytes} → ¬ Begins (codes "]") v → ((w : Text) (a : Bytes) (q : ListPlace) → ¬ Element p v w a q) → ¬ Rest p v u s
 none_behind h none (closing n) = h (_, refl)
 none_behind h none (more e r) = none _ _ _ e
 
--- where no element stands there is no list
+-- where there is no element there is no list
 pub goes_on-none : {p : ListPlace} {t v u : Text} {done x : Bytes} → GoesOn t v p done → ¬ Begins (codes "]") v →
     ((w : Text) (a : Bytes) (q : ListPlace) → ¬ Element p v w a q) → ¬ Rest First t u x
 goes_on-none {u = u} {x = x} g h none r = none_behind h none (g.rest u x r).1
 
--- anything may stand first in a list
+-- anything may be first in a list
 pub may_begin : (t : Text) → MayGoOn First t
 may_begin t = record { bracket = λ k. refl; hyphen = λ k. inl (λ e. cc) }
 
--- a point takes some byte of the text
+-- a point takes at least one byte of the text
 point-shortens : {t v : Text} {b : ℕ} → Point t v b → length v < length t
 point-shortens (bare b h) = omega arith
 point-shortens (symbol b) = omega arith
 
--- an element takes some byte of the text
+-- an element takes at least one byte of the text
 pub element-shortens : {p q : ListPlace} {t v : Text} {a : Bytes} → Element p t v a q → length v < length t
 element-shortens (class {t = t} c) = omega (arith, length-append (class_name c ++ codes ":]") t)
 element-shortens (equivalence b) = omega arith
 element-shortens (alone x may) = point-shortens x
 element-shortens (span x start y open' le) = omega (arith, point-shortens x, point-shortens y)
 
--- a list of a bracket expression takes some byte
+-- the rest of a list takes at least one byte of the text
 rest-shortens : {q : ListPlace} {t u : Text} {s : Bytes} → Rest q t u s → length u < length t
 rest-shortens (closing n) = omega arith
 rest-shortens (more x r) = omega (arith, element-shortens x, rest-shortens r)
 
--- and so does the whole
+-- a bracket expression takes at least one byte of the text
 pub bracket-shortens : {t u : Text} {e : Expression} → IsBracket t u e → length u < length t
 bracket-shortens (matching n r) = omega (arith, rest-shortens r)
 bracket-shortens (non_matching r) = omega (arith, rest-shortens r)

@@ -1,4 +1,4 @@
--- Classes and equivalence classes of bracket expressions: what a cursor passes or finds tells which of them stands there.
+-- Classes and equivalence classes of bracket expressions, by what a cursor passes or finds.
 use Rattle.std.proofs.Common.{◌≡◌, ℕ, ◌∷◌, ◌++◌, codes, drop, refl, sym, ap, ◌∙◌, subst}
 use Rattle.re_syntax.specs.declared.bracket.ListPlace.{ListPlace}
 use Rattle.re_syntax.specs.declared.bracket.ListPlace.TheVariants.{AfterRange}
@@ -9,7 +9,7 @@ use Rattle.re_syntax.specs.Brackets.{Element, class, equivalence, alone, span}
 use Rattle.re_syntax.specs.Working.Cursors.{left, Passes}
 use Rattle.re_syntax.proofs.lemmas.BracketsUnique.{heads, tails, apart, class_point, equivalence_point}
 
--- the same element stands in the same text under another name
+-- an element of a text is one of an equal text
 element_along : {p q : ListPlace} {t u v : Text} {a : Bytes} → t ≡ u → Element p u v a q → Element p t v a q
 element_along {p} {q} {v = v} {a = a} e h = subst (λ x. Element p x v a q) (sym e) h
 

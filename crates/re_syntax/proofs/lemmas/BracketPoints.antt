@@ -1,4 +1,4 @@
--- What a cursor passes or finds tells which point of a bracket expression stands there.
+-- The points of bracket expressions, by what a cursor passes or finds.
 use Rattle.std.proofs.Common.{◌≡◌, ℕ, ◌<◌, ◌≤◌, arith, inl, inr, [], ◌∷◌, ◌++◌, codes, drop, sym, ap, ◌∙◌, subst}
 use Rattle.re_syntax.specs.declared.cursor.Cursor.{Cursor}
 use Rattle.re_syntax.specs.Bytes.{Text, Begins}
@@ -7,11 +7,11 @@ use Rattle.re_syntax.specs.Working.BracketSteps.{OpensNoClass}
 use Rattle.re_syntax.specs.Working.Cursors.{left, Passes}
 use Rattle.re_syntax.proofs.lemmas.BracketsUnique.{heads, tails, point-unique}
 
--- what does not come next does not come next under another name
+-- what does not begin a text does not begin an equal one
 pub not_begins_along : {f g t u : Text} → ¬ Begins f t → f ≡ g → t ≡ u → ¬ Begins g u
 not_begins_along h e k (rest, q) = h (rest, k ∙ q ∙ ap (λ x. x ++ rest) (sym e))
 
--- the same point stands in the same text under another name
+-- a point of a text is one of an equal text
 pub point_along : {t u v : Text} {b : ℕ} → t ≡ u → Point u v b → Point t v b
 point_along {v = v} {b = b} e h = subst (λ x. Point x v b) (sym e) h
 
@@ -33,7 +33,7 @@ pub no_symbol : {t u v : Text} {b : ℕ} → t ≡ codes "[." ++ u → ((c : ℕ
 no_symbol e h (bare b opens) = opens (heads e) (inl (_, tails e))
 no_symbol e h (symbol {t = t} b) = h b (t, sym (tails (tails e)))
 
--- nor does it begin as one
+-- a `[.` without one byte and `.]` does not begin as one with them
 no_symbol_shown : {t u : Text} → t ≡ codes "[." ++ u → ((c : ℕ) → ¬ Begins (c ∷ codes ".]") u) → (b : ℕ) → ¬ Begins (codes "[." ++ b ∷ codes ".]") t
 no_symbol_shown e h b (rest, f) = h b (rest, tails (tails (sym e ∙ f)))
 

@@ -1,18 +1,18 @@
--- What follows a bracket expression, or a part of one, is the rest of the text behind some bytes.
+-- What follows a bracket expression, or a part of one, is the rest of the text after some bytes.
 use Rattle.std.proofs.Common.{◌≡◌, ℕ, [], ◌∷◌, ◌++◌, codes, refl, sym, ap, ◌∙◌, append_assoc}
 use Rattle.re_syntax.specs.declared.bracket.ListPlace.{ListPlace}
 use Rattle.re_syntax.specs.Bytes.{Text, Bytes, class_name}
 use Rattle.re_syntax.specs.Expression.{Expression}
 use Rattle.re_syntax.specs.Brackets.{Point, bare, symbol, Element, class, equivalence, alone, span, Rest, closing, more, IsBracket, matching, non_matching}
 
--- the second text is the first behind some bytes
+-- the second text is what follows some bytes of the first
 abbrev pub IsBehind : Text → Text → Type 0
 IsBehind t u = (w : Text) × (t ≡ w ++ u)
 
 pub behind_both : {t u v : Text} → IsBehind t u → IsBehind u v → IsBehind t v
 behind_both {v = v} (w, e) (x, f) = (w ++ x, e ∙ ap (λ y. w ++ y) f ∙ sym (append_assoc w x v))
 
--- behind one byte more
+-- the same with one byte more in front
 pub behind_byte : {t u : Text} (b : ℕ) → IsBehind t u → IsBehind (b ∷ t) u
 behind_byte b (w, e) = (b ∷ w, ap (λ y. b ∷ y) e)
 

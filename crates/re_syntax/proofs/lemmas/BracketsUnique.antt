@@ -18,7 +18,7 @@ heads e = cc
 pub tails : {a b : ℕ} {t u : Text} → a ∷ t ≡ b ∷ u → t ≡ u
 tails e = cc
 
--- two numbers that a test tells apart are not one
+-- two numbers that a test finds different are not equal
 pub apart : (x y : ℕ) → x ≡ y → nat_eq x y ≡ false → ⊥
 apart x y e h = let f : nat_eq x y ≡ true = eq-eqb x y e in cc
 
@@ -27,19 +27,19 @@ pub record SamePoint (a b : ℕ) (u v : Text) : Type 0 where
   pub values : a ≡ b
   pub rests : u ≡ v
 
--- one point stands at the front of a text
+-- at most one point begins a text
 pub point-unique : {t s u v : Text} {a b : ℕ} → Point t u a → Point s v b → t ≡ s → SamePoint a b u v
 point-unique (bare a h) (bare b k) e = record { values = heads e; rests = tails e }
 point-unique (bare a h) (symbol b) e = absurd (h (heads e) (inl (_, tails e)))
 point-unique (symbol a) (bare b k) e = absurd (k (sym (heads e)) (inl (_, sym (tails e))))
 point-unique (symbol a) (symbol b) e = record { values = heads (tails (tails e)); rests = tails (tails (tails (tails (tails e)))) }
 
--- what opens a class or an equivalence class is no point
+-- what opens a class is no point
 pub class_point : {t u w : Text} {a : ℕ} → Point t u a → t ≡ 91 ∷ 58 ∷ w → ⊥
 class_point (bare a h) e = h (heads e) (inr (inl (_, tails e)))
 class_point (symbol a) e = apart 46 58 (heads (tails e)) refl
 
--- the same for what opens an equivalence class
+-- what opens an equivalence class is no point
 pub equivalence_point : {t u w : Text} {a : ℕ} → Point t u a → t ≡ 91 ∷ 61 ∷ w → ⊥
 equivalence_point (bare a h) e = h (heads e) (inr (inr (_, tails e)))
 equivalence_point (symbol a) e = apart 46 61 (heads (tails e)) refl
@@ -57,7 +57,7 @@ alone_span x may y open' e =
     let (r, f) = may.before_hyphen (_, same.rests) in
     open' (r, tails (sym same.rests ∙ f))
 
--- one element stands at the front of a text
+-- at most one element begins a text
 pub element-unique : {p q r : ListPlace} {t s u v : Text} {a b : Bytes} → Element p t u a q → Element p s v b r → t ≡ s → SameElement a b q r u v
 element-unique (class {t = t} c) (class {t = s} d) e =
     let same = class_name-unique c d t s (tails (tails e)) in
@@ -94,7 +94,7 @@ pub record SameRest (s r : Bytes) (u v : Text) : Type 0 where
   pub bytes : s ≡ r
   pub rests : u ≡ v
 
--- one list of elements stands at the front of a text
+-- at most one list of elements begins a text
 pub rest-unique : {p q : ListPlace} {t s u v : Text} {x y : Bytes} → Rest p t u x → Rest q s v y → p ≡ q → t ≡ s → SameRest x y u v
 rest-unique (closing n) (closing m) f e = record { bytes = refl; rests = tails e }
 rest-unique (closing n) (more x r) f e = absurd (element-not_closing (rw f at n) x (sym e))
@@ -109,7 +109,7 @@ pub record SameBracket (d e : Expression) (u v : Text) : Type 0 where
   pub expressions : d ≡ e
   pub rests : u ≡ v
 
--- one bracket expression stands at the front of a text
+-- at most one bracket expression begins a text
 pub IsBracket-unique : {t s u v : Text} {d e : Expression} → IsBracket t u d → IsBracket s v e → t ≡ s → SameBracket d e u v
 IsBracket-unique (matching plain r) (matching plain' q) e =
     let same = rest-unique r q refl (tails e) in record { expressions = ap one_of same.bytes; rests = same.rests }

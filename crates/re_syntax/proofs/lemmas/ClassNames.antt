@@ -1,4 +1,4 @@
--- A class is known by its name.
+-- A class is determined by its name.
 use Rattle.std.proofs.Common.{◌≡◌, ℕ, ◌<◌, get_or, arith, nat_eq, List, [], ◌∷◌, ◌++◌, Option, Some, None, codes, if◌then◌else◌, refl, ap}
 use Rattle.re_syntax.specs.declared.class.Class.{Class}
 use Rattle.re_syntax.specs.declared.class.Class.TheVariants.{Upper, Lower, Digit, Alpha, Alnum, Blank, Space, Cntrl, Punct, Graph, Print, Xdigit}
@@ -10,12 +10,12 @@ strip [] t = Some t
 strip (a ∷ u) [] = None
 strip (a ∷ u) (b ∷ t) = if nat_eq a b then strip u t else None
 
--- the class where its name was found, and else what the other classes give
+-- the class whose name was found, or else what the other classes give
 abbrev or_next : Option Text → Class → Option (Class × Text) → Option (Class × Text)
 or_next (Some rest) c others = Some (c, rest)
 or_next None c others = others
 
--- the first of these classes whose name and `:]` stand at the front, and what follows
+-- the first of these classes whose name and `:]` begin the text, and what follows
 unfoldable class_rest : List Class → Text → Option (Class × Text)
 class_rest [] t = None
 class_rest (c ∷ cs) t = or_next (strip (class_name c ++ codes ":]") t) c (class_rest cs t)
@@ -40,12 +40,12 @@ class_rest-name Graph t = refl
 class_rest-name Print t = refl
 class_rest-name Xdigit t = refl
 
--- two classes are one, and so are the texts behind their names
+-- the two classes are equal, and so are the texts after their names
 pub record SameClass (c d : Class) (t u : Text) : Type 0 where
   pub classes_same : c ≡ d
   pub rests : t ≡ u
 
--- one text begins with the name of one class
+-- a text begins with the name of at most one class
 pub class_name-unique : (c d : Class) (t u : Text) → class_name c ++ codes ":]" ++ t ≡ class_name d ++ codes ":]" ++ u → SameClass c d t u
 class_name-unique c d t u e =
     let x : Class × Text = (c, t) in

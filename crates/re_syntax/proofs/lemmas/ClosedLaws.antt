@@ -5,7 +5,7 @@ use Rattle.std.proofs.lemmas.Bool.{eqb-true, and_parts, and_from, leb-true, le-l
 use Rattle.re_syntax.specs.Bytes.{Bytes, only, range, union, other_case, closed}
 use Rattle.re_syntax.proofs.lemmas.UnionsLaws.{from_below, from_below-none, from_below-more, range-from_below}
 
--- the set, and of the bytes from 65 on and below the last those whose other case is in it
+-- the set, and each byte from 65 up to the bound, without it, whose other case is in the set
 abbrev pub closed_below : Bytes → ℕ → Bytes
 closed_below s last b = s b || (from_below 65 last b && s (other_case b))
 
@@ -19,7 +19,7 @@ pub closed_below-none : (s : Bytes) → ◌≡◌ {A = Bytes} s (closed_below s 
 closed_below-none s =
     fun_ext (λ b. sym (or_nothing (s b) (s (other_case b))) ∙ ap (λ (f : Bytes). s b || (f b && s (other_case b))) (from_below-none 65 65 (omega arith)))
 
--- one byte more, where its other case is in the set
+-- one byte more, if its other case is in the set
 one_more : (s f e x y : Bool) → (e ≡ true → x ≡ y) → ((s || (f && x)) || (y && e)) ≡ (s || ((f || e) && x))
 one_more true f e x y h = refl
 one_more false true true true true h = refl
@@ -79,7 +79,7 @@ not_in low high b h k e = false_from_ne_true _ (λ f. let g = in_range low high 
 no_other : (b : ℕ) → range 65 122 b ≡ false → other_case b ≡ b
 no_other b e = cond-false _ _ _ (not_in 65 90 b (omega arith) (omega arith) e) ∙ cond-false _ _ _ (not_in 97 122 b (omega arith) (omega arith) e)
 
--- behind the last letter the closure is whole
+-- after the last letter the closure is complete
 pub closed_below-all : (s : Bytes) → ◌≡◌ {A = Bytes} (closed_below s 123) (closed s)
 closed_below-all s = fun_ext (λ b. ap (λ (f : Bytes). s b || (f b && s (other_case b))) (range-from_below 65 122) ∙ go b (either_way (range 65 122 b)))
   where

@@ -1,16 +1,17 @@
--- The counts of an interval as a reader keeps them: capped, and so allowed or refused like the numbers themselves.
+-- The counts of an interval as a reader keeps them: capped, and so allowed or refused like the
+-- numbers themselves.
 use Rattle.std.proofs.Common.{◌≡◌, ℕ, Option, Some, None, refl, ap, arith}
 use Rattle.std.specs.Option.{option_map}
 use Rattle.re_syntax.specs.declared.fault.FaultKind.{FaultKind}
 use Rattle.re_syntax.specs.Intervals.{IsAllowed, capped}
 use Rattle.re_syntax.specs.IntervalFaults.{IsDisallowed, least_too_large, most_too_large, descending}
 
--- counts that are allowed though capped are the counts themselves
+-- counts that are allowed though capped are the numbers themselves
 pub record AreCounts (a l : ℕ) (x m : Option ℕ) : Type 0 where
   pub least : a ≡ l
   pub most : x ≡ m
 
--- which is so since a capped count that is allowed is below the cap
+-- counts that are allowed are below the cap, so they are the numbers themselves
 pub are_counts : (a l : ℕ) (x m : Option ℕ) → a ≡ capped l → x ≡ option_map capped m → IsAllowed a x → AreCounts a l x m
 are_counts a l None None e f h = record { least = omega (arith, h.least_fits); most = refl }
 are_counts a l None (Some n) e f h = cc
@@ -19,7 +20,7 @@ are_counts a l (Some k) (Some n) e f h =
     let same : k ≡ capped n = cc in
     record { least = omega (arith, h.least_fits); most = ap Some (omega (arith, h.most_fits)) }
 
--- counts that are refused though capped are refused
+-- numbers whose capped counts are refused are refused
 pub disallowed_too : {kind : FaultKind} {a : ℕ} {x : Option ℕ} → IsDisallowed kind a x → (l : ℕ) (m : Option ℕ) → a ≡ capped l → x ≡ option_map capped m → IsDisallowed kind l m
 disallowed_too (least_too_large h) l m e f = least_too_large (omega arith)
 disallowed_too (most_too_large h) l None e f = cc

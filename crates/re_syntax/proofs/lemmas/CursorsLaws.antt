@@ -7,14 +7,14 @@ use Rattle.std.proofs.lemmas.Slice.Eq.{starts_is}
 use Rattle.std.specs.List.{starts_with}
 use Rattle.re_syntax.specs.Bytes.{Text, Begins}
 
--- the bytes come next, and what is left then
+-- bytes that come next, and what is left after them
 pub begins-drop : (text bytes : Text) (at : ℕ) (r : Bool) → r ≡ starts_with nat_eq (take (length text - at) (drop at text)) bytes → r ≡ true →
     drop at text ≡ bytes ++ drop (at + length bytes) text
 begins-drop text bytes at r e h =
     (starts_is Decides-eqb (drop at text) bytes r (e ∙ ap (λ t. starts_with nat_eq t bytes) (take_rest text at))).0 h
     ∙ ap (λ t. bytes ++ t) (drop-drop (length bytes) at text)
 
--- they do not come next
+-- bytes that do not come next
 pub begins_not : (text bytes : Text) (at : ℕ) (r : Bool) → r ≡ starts_with nat_eq (take (length text - at) (drop at text)) bytes → r ≡ false →
     ¬ Begins bytes (drop at text)
 begins_not text bytes at r e h (rest, f) =

@@ -1,4 +1,5 @@
--- Whether a fact holds is decided, where it is put together from decided ones: by connectives, over a list, or over the numbers below a bound.
+-- Whether a fact holds is decided, where it is made from decided facts: by connectives, over a
+-- list, or over the numbers below a bound.
 use Rattle.std.proofs.Common.{◌≡◌, ℕ, zero, suc, ◌<◌, ◌≤◌, ◌⊎◌, inl, inr, Bool, true, false, IsTrue, List, [], ◌∷◌, length, slice_index_or, Any, MatchBool, Option, Some, None, IfSome, refl, sym, subst, arith}
 use Rattle.std.proofs.Math.Decide.{dec_le, ℕ_discrete, map_dec}
 use Rattle.std.proofs.lemmas.Bool.{false≢true}
@@ -26,17 +27,17 @@ pub dec_IsTrue : (b : Bool) → Dec (IsTrue b)
 dec_IsTrue true = yes refl
 dec_IsTrue false = no false≢true
 
--- whether the one of two decided facts holds that a test picks is decided
+-- whether the one of two decided facts that a test picks holds is decided
 pub dec_MatchBool : {A B : Type 0} (b : Bool) → Dec A → Dec B → Dec (MatchBool b A B)
 dec_MatchBool true a b = a
 dec_MatchBool false a b = b
 
--- whether nothing stands in the option or P holds of it is decided
+-- whether the option is empty or P holds of its value is decided
 pub dec_IfSome : {A : Type 0} (P : A → Type 0) → ((x : A) → Dec (P x)) → (o : Option A) → Dec (IfSome o P)
 dec_IfSome P d None = yes tt
 dec_IfSome P d (Some x) = d x
 
--- whether something stands in the option and P holds of it is decided
+-- whether the option has a value and P holds of it is decided
 pub dec_holds_inside : {A : Type 0} (P : A → Type 0) → ((x : A) → Dec (P x)) → (o : Option A) → Dec ((x : A) × (o ≡ Some x) × P x)
 dec_holds_inside P d None = no (λ h. none-some h.0 h.1)
 dec_holds_inside P d (Some x) = map_dec (λ p. (x, refl, p)) (λ h. subst P (sym (same_Some x h.0 h.1)) h.2) (d x)
@@ -45,11 +46,11 @@ dec_holds_inside P d (Some x) = map_dec (λ p. (x, refl, p)) (λ h. subst P (sym
 pub Any-first : {A : Type 0} (P : A → Type 0) (x : A) (xs : List A) → P x → Any P (x ∷ xs)
 Any-first P x xs p = (0, x, omega arith, refl, p)
 
--- P holds of an element of a list where it holds of one behind the first
+-- P holds of an element of a list where it holds of one after the first
 pub Any-later : {A : Type 0} (P : A → Type 0) (x : A) (xs : List A) → Any P xs → Any P (x ∷ xs)
 Any-later P x xs h = let below : h.0 < length xs = h.2 in (suc h.0, h.1, omega arith, h.3, h.4)
 
--- where P holds of an element it is the first or one behind it
+-- an element of which P holds is the first or one after it
 pub Any-cases : {A : Type 0} (P : A → Type 0) (x : A) (xs : List A) → Any P (x ∷ xs) → P x ⊎ Any P xs
 Any-cases {A} P x xs h = at_place h.0 h.1 h.2 h.3 h.4
   where
@@ -77,11 +78,11 @@ dec_below P d (suc n) = join (d n) (dec_below P d n)
     join (no p) (yes l) = yes (l.0, (let below : l.0 < n = l.1 in omega arith), l.2)
     join (no p) (no l) = no (λ h. elim (ℕ_discrete h.0 n) [ yes e ↦ p (subst P e h.2) | no e ↦ l (h.0, (let below : h.0 < suc n = h.1 in omega arith), h.2) ])
 
--- whether P holds of some number is decided, where it holds below n alone
+-- whether P holds of some number is decided, where it can hold only below n
 pub dec_bounded : (P : ℕ → Type 0) → ((k : ℕ) → Dec (P k)) → (n : ℕ) → ((k : ℕ) → P k → k < n) → Dec ((k : ℕ) × P k)
 dec_bounded P d n bound = map_dec (λ h. (h.0, h.2)) (λ h. (h.0, bound h.0 h.1, h.1)) (dec_below P d n)
 
--- the least number of which P holds, or it holds of none below n
+-- the least number of which P holds, or none below n
 pub least_below : (P : ℕ → Type 0) → ((k : ℕ) → Dec (P k)) → (n : ℕ) → ((k : ℕ) × P k × ((l : ℕ) → P l → k ≤ l)) ⊎ ((k : ℕ) → k < n → P k → ⊥)
 least_below P d zero = inr (λ k below p. absurd (omega (arith, below)))
 least_below P d (suc n) =

@@ -1,4 +1,4 @@
--- Decimal digits: how many come first, and what they are worth.
+-- Decimal digits: how many come first, and their value.
 use Rattle.std.proofs.Common.{◌≡◌, ℕ, zero, suc, ◌+◌, ◌-◌, ◌*◌, ◌<◌, ◌≤◌, min, true, false, ◌||◌, ◌⊎◌, inl, inr, nat_le, nat_lt, [], ◌∷◌, ◌++◌, length, take, get_or, IsTrue, refl, ap, ◌∙◌, arith}
 use Rattle.std.proofs.lemmas.Bool.{and_parts, and_from, or_cases, or_parts, leb-true, le-leb, ltb-true, ltb-false}
 use Rattle.std.proofs.lemmas.List.{take_more}
@@ -11,15 +11,15 @@ use Rattle.re_syntax.specs.Working.IntervalSteps.{HasNoDigit, IsDigitCount}
 pub digit_low : (b : ℕ) → IsTrue (in_class Digit b) → 48 ≤ b
 digit_low b h = leb-true 48 b (and_parts (nat_le 48 b) (nat_le b 57) h).0
 
--- nor above `9`
+-- a digit is not above `9`
 pub digit_high : (b : ℕ) → IsTrue (in_class Digit b) → b ≤ 57
 digit_high b h = leb-true b 57 (and_parts (nat_le 48 b) (nat_le b 57) h).1
 
--- and any byte between is one
+-- any byte from `0` to `9` is a digit
 pub is_digit : (b : ℕ) → 48 ≤ b → b ≤ 57 → IsTrue (in_class Digit b)
 is_digit b h k = and_from _ _ (le-leb 48 b h) (le-leb b 57 k)
 
--- the test for any other byte
+-- a byte that fails the reader's test is a digit
 pub digit_from : (b : ℕ) → (nat_lt b 48 || nat_lt 57 b) ≡ false → IsTrue (in_class Digit b)
 digit_from b h = and_from _ _ (le-leb 48 b (ltb-false b 48 (or_parts _ _ h).0)) (le-leb b 57 (ltb-false 57 b (or_parts _ _ h).1))
 
@@ -40,15 +40,15 @@ value_after-snoc n (c ∷ t) b = value_after-snoc (10 * n + (c - 48)) t b
 pub value_after-take : (n : ℕ) (t : Text) (i : ℕ) → i < length t → value_after n (take (i + 1) t) ≡ 10 * value_after n (take i t) + (get_or t i 0 - 48)
 value_after-take n t i h = ap (value_after n) (take_more t i 0 h) ∙ value_after-snoc n (take i t) (get_or t i 0)
 
--- what is kept of a number is enough to go on
+-- the capped value is enough to go on with
 pub capped-step : (v w d : ℕ) → v ≡ capped w → min (10 * v + d) 256 ≡ capped (10 * w + d)
 capped-step v w d h = omega arith
 
--- where the first byte is no digit none comes first
+-- where the first byte is no digit, no digit comes first
 pub no_digit : (b : ℕ) (t : Text) → (IsTrue (in_class Digit b) → ⊥) → HasNoDigit (b ∷ t)
 no_digit b t h c u e k = h (let same : b ≡ c = cc in rw same k)
 
--- the first byte that is no digit ends them
+-- the digits end at the first byte that is none
 pub counted : (t : Text) (i : ℕ) → i < length t → ((k : ℕ) → k < i → IsTrue (in_class Digit (get_or t k 0))) → (IsTrue (in_class Digit (get_or t i 0)) → ⊥) → IsDigitCount t i
 counted [] i h f g = absurd (omega arith)
 counted (b ∷ t) zero h f g = record { within = omega arith; digits = refl; stops = no_digit b t g }

@@ -1,4 +1,4 @@
--- Duplications of basic expressions: at most one stands at the front of a text.
+-- Duplications of basic expressions: at most one begins a text.
 use Rattle.std.proofs.Common.{◌≡◌, ℕ, ◌⊎◌, inl, inr, Bool, nat_eq, if◌then◌else◌, [], ◌∷◌, ◌++◌, Option, IsTrue, codes, refl, sym, ap, ◌∙◌, append_assoc}
 use Rattle.re_syntax.specs.Bytes.{Text}
 use Rattle.re_syntax.specs.Basic.{Duplication, star, plus, question, interval}
@@ -7,7 +7,7 @@ use Rattle.re_syntax.proofs.lemmas.BracketsUnique.{tails, apart}
 use Rattle.re_syntax.proofs.lemmas.Chains.{SameDuplication, AreUnique}
 use Rattle.re_syntax.proofs.lemmas.IntervalLaws.{cut-unique, Interval-unique, interval_lacks}
 
--- the bytes behind a backslash that make it a duplication
+-- the bytes that make a duplication after a backslash
 abbrev pub is_sign : ℕ → Bool
 is_sign b = is_in (codes "{+?") b
 
@@ -19,7 +19,7 @@ dup_front plus u = (92, 43 ∷ u, refl, inr (refl, 43, u, refl, refl))
 dup_front question u = (92, 63 ∷ u, refl, inr (refl, 63, u, refl, refl))
 dup_front (interval {t} form allowed) u = (92, _, refl, inr (refl, 123, _, refl, refl))
 
--- the byte that tells the kind of duplication: the first, or the one behind a backslash
+-- the byte that determines the kind of duplication: the first, or the one after a backslash
 abbrev first_byte : Text → ℕ
 first_byte [] = 0
 first_byte (b ∷ t) = b
@@ -41,11 +41,11 @@ dup_mark plus u = refl
 dup_mark question u = refl
 dup_mark (interval form allowed) u = refl
 
--- so two duplications at the front of one text are of one kind
+-- so two duplications that begin one text are of one kind
 same_code : {c d : Text} {a b : ℕ} {x y : Option ℕ} (p : Duplication c a x) (q : Duplication d b y) (u v : Text) → c ++ u ≡ d ++ v → dup_code p ≡ dup_code q
 same_code p q u v e = sym (dup_mark p u) ∙ ap mark e ∙ dup_mark q v
 
--- two duplications at the front of one text are the same
+-- two duplications that begin one text are the same
 pub Duplication-unique : {c d : Text} {a b : ℕ} {x y : Option ℕ} → Duplication c a x → Duplication d b y → (u v : Text) → c ++ u ≡ d ++ v → SameDuplication a b x y u v
 unfolding dup_code
 Duplication-unique star star u v e = record { least = refl; most = refl; rests = tails e }
@@ -58,6 +58,6 @@ Duplication-unique (interval {t} {least = a} {most = x} form allowed) (interval 
     record { least = numbers.0; most = numbers.1; rests = tails same.1 }
 Duplication-unique p q u v e = absurd (apart (dup_code p) (dup_code q) (same_code p q u v e) refl)
 
--- which is what a chain of them needs
+-- a chain of duplications needs this
 pub unique : AreUnique Duplication
 unique = record { same = λ c d a b x y u v p q e. Duplication-unique p q u v e }

@@ -18,7 +18,8 @@ unfolding ended_lines_of
 ended_lines_of-last [] h = refl
 ended_lines_of-last (b ∷ t) h = cond-false _ _ _ (first_differs b t h) ∙ ap (put_before_first b) (ended_lines_of-last t (rest_has_none b t h))
 
--- the lines of texts that are each followed by a newline are those texts, whatever unfinished line follows
+-- the lines of texts that are each followed by a newline are those texts, with any unfinished line
+-- after them
 pub ended_lines_of-unfinished : (ts : List Text) (rest : Text) → All HasNoNewline ts → HasNoNewline rest → ended_lines_of (terminated ts ++ rest) ≡ ts
 ended_lines_of-unfinished [] rest h k = ended_lines_of-last rest k
 ended_lines_of-unfinished (t ∷ ts) rest h k =
@@ -36,7 +37,7 @@ ended_lines_of-terminated (t ∷ ts) h =
 pub ended_lines_of-unique : (bytes : Text) (ts : List Text) → AreEndedLines bytes ts → ts ≡ ended_lines_of bytes
 ended_lines_of-unique bytes ts (none, (rest, k, whole)) = sym (ap ended_lines_of whole ∙ ended_lines_of-unfinished ts rest none k)
 
--- and it has this one
+-- a newline in front adds an empty first line
 after_newline : (t : Text) (ts : List Text) → AreEndedLines t ts → AreEndedLines (newline ∷ t) ([] ∷ ts)
 after_newline t ts (none, (rest, k, whole)) = (all_cons [] ts none_in_empty none, (rest, k, ap (λ u. newline ∷ u) whole))
 

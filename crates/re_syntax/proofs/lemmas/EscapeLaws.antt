@@ -1,4 +1,4 @@
--- Escapes, from what stands behind the backslash.
+-- Escapes, by what follows the backslash.
 use Rattle.std.proofs.Common.{◌≡◌, ℕ, ◌+◌, ◌≤◌, nat_le, [], ◌∷◌, ◌++◌, length, drop, Some, IsTrue, slice_get, codes, refl, sym, ap, ◌∙◌, subst, arith, length-drop}
 use Rattle.std.proofs.lemmas.Bool.{and_parts, and_from, leb-true, le-leb, or_left, or_right}
 use Rattle.std.proofs.lemmas.List.{nil_from_length}
@@ -52,7 +52,7 @@ trailing_backslash others text at (rest, e) h =
     let nothing : rest ≡ [] = nil_from_length rest (omega (arith, simp length-drop at (ap length e))) in
     trailing refl (e ∙ ap (λ x. 92 ∷ x) nothing)
 
--- a byte that follows a backslash where no escape stands is one that may not
+-- a byte after a backslash where there is no escape is one that may not follow it
 pub no_escape : {others text : Text} {at : ℕ} {fault : PatternFault} → HasNoEscape others text at fault → (b : ℕ) (u : Text) → drop at text ≡ codes "\\" ++ b ∷ u →
     IsTrue (is_undefined others b)
 no_escape (trailing e front) b u k = let same : 92 ∷ [] ≡ 92 ∷ b ∷ u = sym front ∙ k in cc

@@ -1,4 +1,4 @@
--- Single atoms of extended expressions, from what stands at their place.
+-- Single atoms of extended expressions, by the bytes at their place.
 use Rattle.std.proofs.Common.{◌≡◌, ◌≢◌, ℕ, ◌+◌, ◌<◌, ◌⊎◌, inl, inr, Bool, true, false, ◌∷◌, ◌++◌, length, take, drop, Some, IsTrue, slice_get, codes, refl, sym, ap, ◌∙◌, subst, arith, length-drop, Option, Global}
 use Rattle.std.proofs.lemmas.Bool.{ne_eqb, cases_eq}
 use Rattle.re_syntax.specs.declared.pieces.Piece.{Piece}
@@ -27,17 +27,17 @@ use Rattle.re_syntax.proofs.lemmas.Places.{byte_at}
 
 -- Escapes.
 
--- where no escape stands, the fault shows
+-- a text that begins with a refused escape shows its fault
 shown_refused : (before t : Text) {kind : FaultKind} {b : ℕ} → IsRefusedEscape extended_refused kind b → BeginsRefusedEscape extended_refused kind t → ShowsExtendedFault kind before t
 shown_refused before t (undefined h k) r = r
 shown_refused before t (reference h) r = r
 
--- at its backslash
+-- a refused escape shows at its backslash
 pub shown_escape : (text : Text) (at : ℕ) (fault : PatternFault) → HasNoEscape extended_refused text at fault → IsShownIn text fault
 shown_escape text at fault (trailing e front) = subst (IsShownIn text) (sym e) front
 shown_escape text at fault (refused e r) = subst (IsShownIn text) (sym e) (shown_refused (take at text) (drop at text) r.refused r)
 
--- an escape stands up to the next place but one
+-- an escape goes up to the next place but one
 pub escaped_stands : {alloc : Option Global} (g : Bool) (levels : ℕ) (text : Text) (at b : ℕ) (piece : Piece) → EscapeStands extended_refused text at b → IsTold alloc piece (byte b) →
     piece.height ≡ 0 → piece.behind ≡ at + 2 → AtomStands alloc g levels text at piece
 escaped_stands g levels text at b piece s f h n =
@@ -45,7 +45,7 @@ escaped_stands g levels text at b piece s f h n =
     let one : Atom g 0 (92 ∷ b ∷ drop (at + 2) text) (drop (at + 2) text) (byte b) = escaped b s.allowed in
     record { forward = omega arith; within = omega arith; height = omega arith; meaning = byte b; is = f; stands = rw (h, n, s.front) one }
 
--- at a backslash nothing else stands
+-- at a backslash there is no atom but an escape
 atom_escape : {g : Bool} {h : ℕ} {t u w : Text} {e : Expression} → Atom g h t u e → t ≡ 92 ∷ w →
     ((b : ℕ) (v : Text) → t ≡ codes "\\" ++ b ∷ v → IsTrue (is_undefined extended_refused b)) → ⊥
 atom_escape (bracket h) e none = let (w, f) = bracket_front h in apart 91 92 (heads (sym f ∙ e)) refl
@@ -55,7 +55,7 @@ atom_escape (escaped {u = u} b h) e none = h (none b u refl)
 atom_escape {g} (ordinary b h l) e none = not_ordinary g b 92 h refl (heads e)
 atom_escape (group bs) e none = apart 40 92 (heads e) refl
 
--- so where an escape is refused no atom stands
+-- so there is no atom where an escape is refused
 pub no_escape_atom : (g : Bool) (levels : ℕ) {text : Text} {at : ℕ} {fault : PatternFault} → Begins (codes "\\") (drop at text) → HasNoEscape extended_refused text at fault →
     HasNoAtom g levels (drop at text)
 no_escape_atom g levels (w, e) h = record { none = λ n u x a le. atom_escape a e (no_escape h) }
@@ -75,7 +75,7 @@ bracket_atom g levels text at piece b =
       stands = rw b.height (bracket b.stands.stands);
     }
 
--- and at a bracket nothing else is
+-- an atom at a bracket is a bracket expression
 atom_bracket : {g : Bool} {h : ℕ} {t u : Text} {e : Expression} → Atom g h t u e → (w : Text) → t ≡ 91 ∷ w → IsBracket t u e
 atom_bracket (bracket h) w e = h
 atom_bracket period w e = absurd (apart 46 91 (heads e) refl)
@@ -84,12 +84,12 @@ atom_bracket (escaped b h) w e = absurd (apart 92 91 (heads e) refl)
 atom_bracket (group bs) w e = absurd (apart 40 91 (heads e) refl)
 atom_bracket {g} (ordinary b h k) w e = absurd (not_ordinary g b 91 h refl (heads e))
 
--- so where none stands no atom does
+-- where no bracket expression is at a bracket, no atom is
 pub no_bracket_atom : (g : Bool) (levels : ℕ) (text : Text) (at : ℕ) (fault : PatternFault) → slice_get text at ≡ Some 91 → IsNoBracket text at fault →
     HasNoAtom g levels (drop at text)
 no_bracket_atom g levels text at fault e h = record { none = λ n u x a le. h.none u x (atom_bracket a (drop (at + 1) text) (byte_at text at 91 e)) }
 
--- its faults show as in a bracket expression alone, where none stands at an opening that is told
+-- the faults of a bracket expression show as in one alone
 shown_bracket : {kind : FaultKind} (before t : Text) → IsBracketKind kind → ShowsBracketFault kind t → (kind ≡ UnclosedBracket → (rest : Text) (e : Expression) → ¬ IsBracket t rest e) →
     ShowsExtendedFault kind before t
 shown_bracket before t is_unclosed h n = record { opens = h; none = n refl }
@@ -97,7 +97,7 @@ shown_bracket before t is_class h n = h
 shown_bracket before t is_symbol h n = h
 shown_bracket before t is_range h n = h
 
--- at their places
+-- the fault of that bracket expression shows in the whole text
 pub shown_no_bracket : (text : Text) (at : ℕ) (fault : PatternFault) → IsNoBracket text at fault → IsShownIn text fault
 shown_no_bracket text at fault h =
     shown_bracket (take fault.at text) (drop fault.at text) (bracket_kind fault.kind (drop fault.at text) h.shown) h.shown
@@ -105,26 +105,26 @@ shown_no_bracket text at fault h =
 
 -- Other bytes.
 
--- an atom of one byte stands up to the next place
+-- an atom of one byte goes up to the next place
 one_byte : {alloc : Option Global} (g : Bool) (levels : ℕ) (text : Text) (at b : ℕ) (piece : Piece) (e : Expression) → at < length text → drop at text ≡ b ∷ drop (at + 1) text →
     Atom g 0 (b ∷ drop (at + 1) text) (drop (at + 1) text) e → IsTold alloc piece e → piece.height ≡ 0 → piece.behind ≡ at + 1 → AtomStands alloc g levels text at piece
 one_byte g levels text at b piece e h front a f k n =
     record { forward = omega arith; within = omega arith; height = omega arith; meaning = e; is = f; stands = rw (k, n, front) a }
 
--- a `$`
+-- a `$` is an atom
 pub dollar_stands : {alloc : Option Global} (g : Bool) (levels : ℕ) (text : Text) (at : ℕ) (piece : Piece) → at < length text → drop at text ≡ 36 ∷ drop (at + 1) text →
     IsTold alloc piece end → piece.height ≡ 0 → piece.behind ≡ at + 1 → AtomStands alloc g levels text at piece
 dollar_stands g levels text at piece h front f k n = one_byte g levels text at 36 piece end h front dollar f k n
 
--- a byte that ends no branch is none that would
+-- a byte that ends no branch is no bar
 goes_on_bar : (g : Bool) (b : ℕ) (u : Text) → stops g (b ∷ u) ≡ false → b ≢ 124
 goes_on_bar g b u h e = let k : stops g (124 ∷ u) ≡ false = rw e at h in let f : true ≡ false = k in cc
 
--- in a group no closing
+-- in a group such a byte is no closing
 goes_on_closing : (b : ℕ) (u : Text) → stops true (b ∷ u) ≡ false → b ≢ 41
 goes_on_closing b u h e = let k : stops true (41 ∷ u) ≡ false = rw e at h in let f : true ≡ false = k in cc
 
--- a byte that nothing else is stands for itself
+-- a byte that is nothing else stands for itself
 stands_for_itself : (g : Bool) (b : ℕ) (u : Text) → MayBegin g (b ∷ u) → b ≢ 91 → b ≢ 46 → b ≢ 92 → b ≢ 40 → b ≢ 36 → IsTrue (is_ordinary g b)
 stands_for_itself g b u m k d l o w = go g refl
   where
@@ -166,7 +166,7 @@ stands_for_itself g b u m k d l o w = go g refl
           ne_eqb 41 b (λ x. goes_on_closing b u on (sym x)),
         )
 
--- a period, or a byte that stands for itself
+-- an atom of one byte: a period, or a byte that stands for itself
 single_atom : (g : Bool) (b : ℕ) (u : Text) → MayBegin g (b ∷ u) → b ≢ 91 → b ≢ 92 → b ≢ 40 → b ≢ 36 → Atom g 0 (b ∷ u) u (one_of (meant_bytes b))
 single_atom g b u m k l o w = go (cases_eq b 46)
   where
@@ -177,7 +177,7 @@ single_atom g b u m k l o w = go (cases_eq b 46)
     go (inl e) = rw e period
     go (inr n) = rw (ne_eqb b 46 n) (ordinary b (stands_for_itself g b u m k n l o w) no_interval)
 
--- which stands up to the next place
+-- an atom of one byte goes up to the next place
 pub single_stands : {alloc : Option Global} (g : Bool) (levels : ℕ) (text : Text) (at b : ℕ) (piece : Piece) → at < length text → drop at text ≡ b ∷ drop (at + 1) text →
     MayBegin g (drop at text) → b ≢ 91 → b ≢ 92 → b ≢ 40 → b ≢ 36 → IsTold alloc piece (one_of (meant_bytes b)) → piece.height ≡ 0 → piece.behind ≡ at + 1 →
     AtomStands alloc g levels text at piece

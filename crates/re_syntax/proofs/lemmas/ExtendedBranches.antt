@@ -1,4 +1,5 @@
--- Branches and groups of extended expressions, and a whole expression, from the items that stand there.
+-- Branches and groups of extended expressions, and a whole expression, by the items at their
+-- places.
 use Rattle.std.proofs.Common.{◌≡◌, ◌≢◌, ℕ, suc, ◌+◌, ◌-◌, ◌≤◌, ◌⊎◌, inl, inr, max, Bool, true, false, ◌&&◌, nat_eq, List, [], ◌∷◌, ◌++◌, length, take, drop, codes, refl, sym, ap, ◌∙◌, subst, arith, append_assoc, length-drop, Option, Global}
 use Rattle.std.proofs.lemmas.Bool.{or_cases, eqb-true}
 use Rattle.re_syntax.specs.declared.pieces.Piece.{Piece}
@@ -24,14 +25,14 @@ use Rattle.re_syntax.proofs.lemmas.Places.{behind_first, take-after, regrouped}
 pub at_height : {g : Bool} {h k : ℕ} {t u : Text} {es : List Expression} → h ≡ k → Branches g h t u es → Branches g k t u es
 at_height {g} {t = t} {u = u} {es = es} e bs = subst (λ n. Branches g n t u es) e bs
 
--- the branches behind a bar that the first branch of some is followed by
+-- the branches after the bar that follows the first branch
 record Behind (g : Bool) (m : ℕ) (u v : Text) : Type 0 where
   height : ℕ
   below : height ≤ m
   others : List Expression
   branches : Branches g height u v others
 
--- which are so since the first branch is one
+-- branches with a bar after their first branch have such branches
 behind_bar : {g : Bool} {h m : ℕ} {t r u v : Text} {ds es : List Expression} → Branches g m t v es → Items g h t r ds → stops g r ≡ true → r ≡ 124 ∷ u →
     ends g v ≡ true → Behind g m u v
 behind_bar {g} {u = u} {v = v} (last is) js s e p =
@@ -41,7 +42,8 @@ behind_bar {g} {u = u} {v = v} (more {k = k} {fs = fs} is bs) js s e p =
     let same = items-unique is js refl refl s in
     record { height = k; below = omega arith; others = fs; branches = subst (λ x. Branches g k x v fs) (tails (same.rests ∙ e)) bs }
 
--- the branches that were read from one place on, up to the end of one of them, and what they say of all branches
+-- the branches that were read from one place on, up to the end of one of them, and what they say of
+-- all branches
 pub record BranchesSoFar (alloc : Option Global) (g : Bool) (levels : ℕ) (text : Text) (from : ℕ) (branches : Pieces) : Type 0 where
   pub forward : from ≤ branches.behind
   pub within : branches.behind ≤ length text
@@ -54,7 +56,7 @@ pub record BranchesSoFar (alloc : Option Global) (g : Bool) (levels : ℕ) (text
       Branches g (max branches.height k) (drop from text) v (members ++ fs)
   pub back : (u : Text) → drop branches.behind text ≡ codes "|" ++ u → HasNoBranches g levels u → HasNoBranches g levels (drop from text)
 
--- the first
+-- the first branch was read
 pub first_branch : {alloc : Option Global} (g : Bool) (levels : ℕ) (text : Text) (from : ℕ) (old new : Pieces) (piece : Piece) → BranchStands alloc g levels text from piece → AreTold alloc old [] →
     old.height ≡ 0 → IsJoined old piece new → BranchesSoFar alloc g levels text from new
 first_branch {alloc} g levels text from old new piece b e f j =
@@ -79,7 +81,7 @@ first_branch {alloc} g levels text from old new piece b e f j =
       };
     }
 
--- one more behind a bar
+-- one more branch was read, after a bar
 pub next_branch : {alloc : Option Global} (g : Bool) (levels : ℕ) (text : Text) (from : ℕ) (old new : Pieces) (place : ℕ) (piece : Piece) → BranchesSoFar alloc g levels text from old →
     IsAfter (codes "|") text old.behind place → BranchStands alloc g levels text place piece → IsJoined old piece new → BranchesSoFar alloc g levels text from new
 next_branch {alloc} g levels text from old new place piece s bar b j =
@@ -106,7 +108,7 @@ next_branch {alloc} g levels text from old new place piece s bar b j =
       });
     }
 
--- where no items stand no branches do
+-- where there are no items there are no branches
 pub no_branches : {g : Bool} {levels : ℕ} {t : Text} → HasNoItems g levels t → HasNoBranches g levels t
 no_branches {g} {levels} {t} h = record { none = λ n v es bs p le. go bs p le }
   where
@@ -114,11 +116,11 @@ no_branches {g} {levels} {t} h = record { none = λ n v es bs p le. go bs p le }
     go {n} {v} (last {es = es} is) p le = h.none n v es is (ends-stops g v p) le
     go (more {h = n} {k = k} {u = u} {es = es} is bs) p le = h.none n (124 ∷ u) es is refl (omega arith)
 
--- behind a bar a branch starts
+-- after a bar a branch starts
 pub bar_starts : {text : Text} {at behind : ℕ} → IsAfter (codes "|") text at behind → IsStart (take behind text)
 bar_starts {text} {at} {behind} s = inr (inr (take at text, ap (λ n. take n text) s.place ∙ take-after text at (codes "|") (drop behind text) s.front))
 
--- a branch that no bar ends is the last
+-- where a branch ends without a bar, the last branch ends
 last_ends : (g : Bool) (t : Text) → stops g t ≡ true → ¬ Begins (codes "|") t → ends g t ≡ true
 last_ends g [] h n = refl
 last_ends g (b ∷ t) h n = go (or_cases (nat_eq b 124) (g && nat_eq b 41) h)
@@ -127,7 +129,7 @@ last_ends g (b ∷ t) h n = go (or_cases (nat_eq b 124) (g && nat_eq b 41) h)
     go (inl e) = absurd (n (t, ap (λ x. x ∷ t) (eqb-true b 124 e)))
     go (inr e) = e
 
--- all branches
+-- all branches were read
 pub branches_read : {alloc : Option Global} {g : Bool} {levels : ℕ} {text : Text} {from : ℕ} {branches : Pieces} → BranchesSoFar alloc g levels text from branches →
     ¬ Begins (codes "|") (drop branches.behind text) → BranchesStand alloc g levels text from branches
 branches_read {g} {text = text} {branches = branches} s n =
@@ -135,19 +137,19 @@ branches_read {g} {text = text} {branches = branches} s n =
 
 -- Groups.
 
--- what is behind a group's opening
+-- what follows a group's opening
 pub behind_opening : (text : Text) (at : ℕ) → Begins (codes "(") (drop at text) → drop at text ≡ codes "(" ++ drop (at + 1) text
 behind_opening text at (rest, e) = e ∙ ap (λ x. 40 ∷ x) (behind_first text at 40 rest e)
 
--- it is within the text
+-- a group's opening is within the text
 pub opening_within : (text : Text) (at : ℕ) → Begins (codes "(") (drop at text) → at + 1 ≤ length text
 opening_within text at (rest, e) = omega (arith, simp length-drop at (ap length e))
 
--- and an expression starts there
+-- an expression starts after a group's opening
 pub opening_starts : (text : Text) (at : ℕ) → Begins (codes "(") (drop at text) → IsStart (take (at + 1) text)
 opening_starts text at b = inr (inl (take at text, take-after text at (codes "(") (drop (at + 1) text) (behind_opening text at b)))
 
--- a group whose branches were read
+-- a group whose branches were read is an atom
 pub group_stands : {alloc : Option Global} (g : Bool) (levels : ℕ) (text : Text) (at : ℕ) (branches : Pieces) (piece : Piece) → Begins (codes "(") (drop at text) → levels ≢ 0 →
     BranchesStand alloc true (levels - 1) text (at + 1) branches → IsAfter (codes ")") text branches.behind piece.behind → piece.height ≡ branches.height + 1 →
     ((es : List Expression) → AreTold alloc branches es → IsTold alloc piece (choice es)) → AtomStands alloc g levels text at piece
@@ -170,11 +172,11 @@ group_stands g levels text at branches piece b n s c e f =
       stands = three;
     }
 
--- no level is left
+-- where no level is left there is no group
 pub no_group_left : (g : Bool) (levels : ℕ) (text : Text) (at : ℕ) → Begins (codes "(") (drop at text) → levels ≡ 0 → HasNoAtom g levels (drop at text)
 no_group_left g levels text at (w, e) n = record { none = λ h u x a le. let inside = is_group a e in absurd (omega (arith, inside.height)) }
 
--- no branches stand inside
+-- where no branches are inside there is no group
 pub no_group_inside : (g : Bool) (levels : ℕ) (text : Text) (at : ℕ) → Begins (codes "(") (drop at text) → HasNoBranches true (levels - 1) (drop (at + 1) text) →
     HasNoAtom g levels (drop at text)
 no_group_inside g levels text at b k = record {
@@ -183,7 +185,7 @@ no_group_inside g levels text at b k = record {
       k.none inside.inner_height (codes ")" ++ u) inside.members inside.branches refl (omega (arith, inside.height));
 }
 
--- no end of the group follows the branches
+-- where no end of the group follows the branches there is no group
 pub no_group_end : {alloc : Option Global} (g : Bool) (levels : ℕ) (text : Text) (at : ℕ) (branches : Pieces) → Begins (codes "(") (drop at text) →
     BranchesStand alloc true (levels - 1) text (at + 1) branches → ¬ Begins (codes ")") (drop branches.behind text) → HasNoAtom g levels (drop at text)
 no_group_end g levels text at branches b s k = record {
@@ -198,7 +200,7 @@ left_open : (t : Text) → ends true t ≡ true → ¬ Begins (codes ")") t → 
 left_open [] h k = refl
 left_open (b ∷ t) h k = absurd (k (t, ap (λ x. x ∷ t) (eqb-true b 41 h)))
 
--- so they do behind the opening of a group that is not closed
+-- after the opening of an unclosed group, branches go on up to the text's end
 pub opens_unclosed : {alloc : Option Global} (levels : ℕ) (text : Text) (at : ℕ) (branches : Pieces) → Begins (codes "(") (drop at text) → BranchesStand alloc true levels text (at + 1) branches →
     ¬ Begins (codes ")") (drop branches.behind text) → OpensUnclosed (drop at text)
 opens_unclosed levels text at branches b s k = record {
@@ -211,12 +213,12 @@ opens_unclosed levels text at branches b s k = record {
 
 -- A whole expression.
 
--- outside groups only the text's end ends one
+-- outside groups only the text's end ends the branches
 nothing_left : (t : Text) → ends false t ≡ true → t ≡ []
 nothing_left [] h = refl
 nothing_left (b ∷ t) h = let k : false ≡ true = h in cc
 
--- branches up to the text's end
+-- branches up to the text's end are spelled
 pub whole_read : {alloc : Option Global} (text : Text) (branches : Pieces) (piece : Piece) → BranchesStand alloc false most_levels text 0 branches →
     ((es : List Expression) → AreTold alloc branches es → IsTold alloc piece (choice es)) → (e : Expression) × IsSpelled Extended text e × IsTold alloc piece e
 whole_read text branches piece s f =
@@ -225,7 +227,7 @@ whole_read text branches piece s f =
     let all : Branches false branches.height text [] es = subst (λ u. Branches false branches.height text u es) nothing s.stands in
     (choice es, as_extended all s.height, f es s.are)
 
--- where no branches stand nothing is spelled
+-- where there are no branches nothing is spelled
 nothing_spelled : (text : Text) → HasNoBranches false most_levels text → (e : Expression) → ¬ IsSpelled Extended text e
 nothing_spelled text k e (as_extended {h = h} {es = es} bs le) = k.none h [] es bs refl le
 

@@ -1,4 +1,4 @@
--- Duplications of extended expressions: at most one stands at the front of a text.
+-- Duplications of extended expressions: at most one begins a text.
 use Rattle.std.proofs.Common.{◌≡◌, ℕ, ◌∷◌, ◌++◌, Option, codes, refl, sym, ◌∙◌, append_assoc}
 use Rattle.re_syntax.specs.Bytes.{Text}
 use Rattle.re_syntax.specs.Intervals.{ClosedInterval, HasNoInterval}
@@ -25,18 +25,18 @@ dup_front (interval {t} {least} {most} form allowed) u =
     let it : ClosedInterval (codes "}") ((t ++ codes "}") ++ u) u least most = record { inside = t; form = form; whole = whole } in
     (123, (t ++ codes "}") ++ u, refl, by_brace (λ h. h.none u least most it))
 
--- where no duplication's bytes come first, none stands
+-- where no such byte comes first, there is no duplication
 pub opens_none : (t : Text) → ((b : ℕ) (w : Text) → t ≡ b ∷ w → ¬ IsOpening b w) → NoDuplication t
 opens_none t h = record { none = λ d least most u p e. let (b, w, f, opening) = dup_front p u in h b w (e ∙ f) opening }
 
--- the byte that tells the kind of duplication
+-- the byte that determines the kind of duplication
 dup_code : {d : Text} {least : ℕ} {most : Option ℕ} → Duplication d least most → ℕ
 dup_code star = 42
 dup_code plus = 43
 dup_code question = 63
 dup_code (interval form allowed) = 123
 
--- it comes first
+-- that byte is the first
 dup_first : {d : Text} {least : ℕ} {most : Option ℕ} → (p : Duplication d least most) → (u : Text) → (w : Text) × (d ++ u ≡ dup_code p ∷ w)
 unfolding dup_code
 dup_first star u = (_, refl)
@@ -44,11 +44,11 @@ dup_first plus u = (_, refl)
 dup_first question u = (_, refl)
 dup_first (interval form allowed) u = (_, refl)
 
--- so two duplications at the front of one text are of one kind
+-- so two duplications that begin one text are of one kind
 same_code : {c d : Text} {a b : ℕ} {x y : Option ℕ} (p : Duplication c a x) (q : Duplication d b y) (u v : Text) → c ++ u ≡ d ++ v → dup_code p ≡ dup_code q
 same_code p q u v e = heads (sym (dup_first p u).1 ∙ e ∙ (dup_first q v).1)
 
--- two duplications at the front of one text are the same
+-- two duplications that begin one text are the same
 pub Duplication-unique : {c d : Text} {a b : ℕ} {x y : Option ℕ} → Duplication c a x → Duplication d b y → (u v : Text) → c ++ u ≡ d ++ v → SameDuplication a b x y u v
 unfolding dup_code
 Duplication-unique star star u v e = record { least = refl; most = refl; rests = tails e }
@@ -61,6 +61,6 @@ Duplication-unique (interval {t} {least = a} {most = x} form allowed) (interval 
     record { least = numbers.0; most = numbers.1; rests = same.1 }
 Duplication-unique p q u v e = absurd (apart (dup_code p) (dup_code q) (same_code p q u v e) refl)
 
--- which is what a chain of them needs
+-- a chain of duplications needs this
 pub unique : AreUnique Duplication
 unique = record { same = λ c d a b x y u v p q e. Duplication-unique p q u v e }

@@ -1,4 +1,5 @@
--- Texts that spell no extended expression, since the numbers of an interval are too large or descend.
+-- Texts that spell no extended expression, since the numbers of an interval are too large or
+-- descend.
 use Rattle.std.proofs.Common.{◌≡◌, ℕ, Bool, true, false, List, [], ◌∷◌, ◌++◌, Option, Some, codes, refl, sym, ◌∙◌, subst, append_assoc, arith}
 use Rattle.re_syntax.specs.declared.syntax.Syntax.TheVariants.{Extended}
 use Rattle.re_syntax.specs.Bytes.{Text}
@@ -14,7 +15,7 @@ use Rattle.re_syntax.proofs.lemmas.ExtendedUnique.{ends-stops, item_front, stop_
 use Rattle.re_syntax.proofs.lemmas.ExtendedReading.{items-after}
 use Rattle.re_syntax.proofs.lemmas.ExtendedRefusals.{items_opening, branches_opening, branches_inside}
 
--- numbers that are the same are allowed alike
+-- equal numbers are allowed alike
 same_allowed : {a b : ℕ} {x y : Option ℕ} → a ≡ b → x ≡ y → IsAllowed a x → IsAllowed b y
 same_allowed {b = b} {x = x} h k allowed = subst (λ n. IsAllowed b n) k (subst (λ n. IsAllowed n x) h allowed)
 
@@ -32,18 +33,18 @@ refused_interval t r a x form refused = record { none = λ d least most u p e. g
         let numbers = Interval-unique t s a b x y form other same.0 in
         refused (same_allowed (sym numbers.0) (sym numbers.1) allowed)
 
--- though it opens one
+-- such an interval still opens one
 pub interval_opening : (t r : Text) (a : ℕ) (x : Option ℕ) → Interval t a x → IsOpening 123 (t ++ 125 ∷ r)
 interval_opening t r a x form = by_brace (λ h. h.none r a x (record { inside = t; form = form; whole = refl }))
 
--- so no branch has one behind its first item
+-- so no branch has such an interval after its first item
 pub items_refused : {g : Bool} {h k : ℕ} {s u v : Text} {e : Expression} {es : List Expression} (t r : Text) (a : ℕ) (x : Option ℕ) → Items g h s u es →
     Item g k v (123 ∷ t ++ 125 ∷ r) e → v ≡ s → stops g u ≡ true → Interval t a x → ¬ IsAllowed a x → ⊥
 items_refused t r a x is i e p form refused =
     let after = items-after is i e p (refused_interval t r a x form refused) in
     items_opening after.items 123 (t ++ 125 ∷ r) refl (interval_opening t r a x form) p
 
--- nor have branches
+-- no branches have such an interval after their first item
 pub branches_refused : {g : Bool} {h k : ℕ} {s u v : Text} {e : Expression} {es : List Expression} (t r : Text) (a : ℕ) (x : Option ℕ) → Branches g h s u es →
     Item g k v (123 ∷ t ++ 125 ∷ r) e → v ≡ s → ends g u ≡ true → Interval t a x → ¬ IsAllowed a x → ⊥
 branches_refused {g} {u = u} t r a x (last is) i e p form refused = items_refused t r a x is i e (ends-stops g u p) form refused
@@ -81,7 +82,7 @@ descending_in_group e (as_extended bs h) =
     branches_refused (codes "2,1") [] 2 (Some 1) (branches_inside bs (codes "a{2,1}") refl refl).branches (letter true (codes "{2,1}")) refl refl
     (between (codes "2") (codes "1") two one) (λ allowed. let it = allowed.ordered in absurd (omega (arith, it)))
 
--- where a branch ends stand no items
+-- where a branch ends there are no items
 stopped : {g : Bool} {h : ℕ} {t u : Text} {es : List Expression} → Items g h t u es → stops g t ≡ true → t ≡ u
 stopped none s = refl
 stopped {g} {t = t} (anchor {t = w} is) s = absurd (stop_caret g t w s refl)

@@ -1,4 +1,4 @@
--- Items of extended expressions, and branches of them, from their atoms and what follows them.
+-- Items of extended expressions, and branches of them, by their atoms and what follows them.
 use Rattle.std.proofs.Common.{◌≡◌, ◌≢◌, ℕ, suc, ◌<◌, ◌≤◌, inl, inr, max, Bool, true, false, List, [], ◌∷◌, ◌++◌, length, take, drop, Option, codes, refl, sym, ap, ◌∙◌, subst, arith, append_assoc, append-nil, length-append, length-drop, Global}
 use Rattle.re_syntax.specs.declared.pieces.Piece.{Piece}
 use Rattle.re_syntax.specs.declared.pieces.Pieces.{Pieces}
@@ -23,7 +23,7 @@ use Rattle.re_syntax.proofs.lemmas.Places.{take-after, regrouped}
 pub items_at_height : {g : Bool} {h k : ℕ} {t u : Text} {es : List Expression} → h ≡ k → Items g h t u es → Items g k t u es
 items_at_height {g} {t = t} {u = u} {es = es} e is = subst (λ n. Items g n t u es) e is
 
--- where an atom has to begin and none stands, no items do
+-- where an atom has to begin and there is none, there are no items
 pub no_items_without_atom : {g : Bool} {levels : ℕ} {t : Text} → MayBegin g t → HasNoAtom g levels t → HasNoItems g levels t
 no_items_without_atom {g} {levels} {t} m h = record { none = λ n u es is p le. go is refl p le }
   where
@@ -47,12 +47,12 @@ pub record ItemSoFar (alloc : Option Global) (g : Bool) (levels : ℕ) (text : T
 pub item_of_atom : {alloc : Option Global} {g : Bool} {levels : ℕ} {text : Text} {at : ℕ} {piece : Piece} → AtomStands alloc g levels text at piece → ItemSoFar alloc g levels text at piece
 item_of_atom a = record { forward = a.forward; within = a.within; height = a.height; meaning = a.meaning; is = a.is; stands = atom a.stands }
 
--- where no duplication follows, it is read
+-- where no duplication follows, the item is complete
 pub item_read : {alloc : Option Global} {g : Bool} {levels : ℕ} {text : Text} {at : ℕ} {piece : Piece} → ItemSoFar alloc g levels text at piece → ¬ OpensDuplication (drop piece.behind text) →
     ItemStands alloc g levels text at piece
 item_read h n = record { forward = h.forward; within = h.within; height = h.height; no_more = n; meaning = h.meaning; is = h.is; stands = h.stands }
 
--- a duplication takes some byte
+-- a duplication takes at least one byte
 pub duplication_takes : {text : Text} {at : ℕ} {counts : Counts} {behind : ℕ} → DuplicationStands text at counts behind → at < behind
 duplication_takes {text} {at} {counts} {behind} d = go d.duplication d.front
   where
@@ -62,7 +62,7 @@ duplication_takes {text} {at} {counts} {behind} d = go d.duplication d.front
     go question e = omega (arith, simp length-drop at (ap length e), d.within)
     go (interval {t = t} form allowed) e = omega (arith, simp (length-append, length-drop) at (ap length e), d.within)
 
--- with one duplication more
+-- the item with one more duplication
 pub item_repeated : {alloc : Option Global} (g : Bool) (levels : ℕ) (text : Text) (at : ℕ) (old new : Piece) (counts : Counts) (behind : ℕ) → ItemSoFar alloc g levels text at old → old.height ≢ levels →
     DuplicationStands text old.behind counts behind → IsRepeated alloc old counts behind new → ItemSoFar alloc g levels text at new
 item_repeated g levels text at old new counts behind h n d r =
@@ -81,13 +81,13 @@ item_repeated g levels text at old new counts behind h n d r =
       stands = rw r.place again;
     }
 
--- one more level than there are
+-- one more duplication than there are levels is too many
 pub too_deep : {alloc : Option Global} (g : Bool) (levels : ℕ) (text : Text) (at : ℕ) (piece : Piece) (counts : Counts) (behind : ℕ) → ItemSoFar alloc g levels text at piece → piece.height ≡ levels →
     DuplicationStands text piece.behind counts behind → HasNoItems g levels (drop at text)
 too_deep g levels text at piece counts behind h e d =
     record { none = λ n u es is p le. let higher = items-higher is h.stands refl p (stands_some d) in absurd (omega arith) }
 
--- which shows at the duplication
+-- a duplication that is too many shows at its place
 pub shown_deep : (text : Text) (at : ℕ) (counts : Counts) (behind : ℕ) → DuplicationStands text at counts behind → IsShownIn text (record { kind = TooDeep; at = at })
 shown_deep text at counts behind d =
     inr (record { bytes = d.bytes; rest = drop behind text; least = counts.least; most = counts.most; duplication = d.duplication; whole = d.front })
@@ -96,7 +96,7 @@ shown_deep text at counts behind d =
 pub no_items_opening : (g : Bool) (levels : ℕ) {t : Text} → OpensDuplication t → HasNoItems g levels t
 no_items_opening g levels o = record { none = λ n u es is p le. let (b, w, e, first) = opening o in items_opening is b w e first p }
 
--- so where an interval is refused behind an item no items stand
+-- so there are no items where an interval after an item is refused
 pub no_items_bad : {alloc : Option Global} (g : Bool) (levels : ℕ) (text : Text) (at : ℕ) (piece : Piece) (fault : PatternFault) → ItemSoFar alloc g levels text at piece →
     HasBadInterval text piece.behind fault → HasNoItems g levels (drop at text)
 no_items_bad g levels text at piece fault h bad = record {
@@ -154,7 +154,7 @@ pub record SoFar (alloc : Option Global) (g : Bool) (levels : ℕ) (text : Text)
       Items g (max items.height k) (drop from text) v (members ++ es)
   pub back : HasNoItems g levels (drop items.behind text) → HasNoItems g levels (drop from text)
 
--- none yet
+-- no items yet
 pub none_so_far : {alloc : Option Global} (g : Bool) (levels : ℕ) (text : Text) (from : ℕ) (items : Pieces) → from ≤ length text → IsStart (take from text) → AreTold alloc items [] →
     items.height ≡ 0 → items.behind ≡ from → SoFar alloc g levels text from items
 none_so_far g levels text from items h s e f n = record {
@@ -168,7 +168,7 @@ none_so_far g levels text from items h s e f n = record {
   back = rw n (λ k. k);
 }
 
--- one more
+-- one more item
 pub one_more : {alloc : Option Global} (g : Bool) (levels : ℕ) (text : Text) (from : ℕ) (old new : Pieces) (piece : Piece) → SoFar alloc g levels text from old →
     IsNext alloc g levels text old.behind piece → IsJoined old piece new → SoFar alloc g levels text from new
 one_more {alloc} g levels text from old new piece s i j = record {
@@ -185,7 +185,7 @@ one_more {alloc} g levels text from old new piece s i j = record {
   back = λ h. s.back (i.back (rw j.place at h));
 }
 
--- and the end of the branch
+-- the end of the branch
 pub branch_read : {alloc : Option Global} (g : Bool) (levels : ℕ) (text : Text) (from : ℕ) (items : Pieces) (piece : Piece) → SoFar alloc g levels text from items →
     stops g (drop items.behind text) ≡ true → ((es : List Expression) → AreTold alloc items es → IsTold alloc piece (sequence es)) → piece.height ≡ items.height →
     piece.behind ≡ items.behind → BranchStands alloc g levels text from piece

@@ -1,4 +1,4 @@
--- Duplications of extended expressions at a place of the text: what a reader has found when it stops.
+-- Duplications of extended expressions at a place of the text: what a reader knows when it stops.
 use Rattle.std.proofs.Common.{◌≡◌, ℕ, ◌+◌, ◌≤◌, Bool, true, [], ◌∷◌, ◌++◌, length, take, drop, Option, Some, None, MatchOption, MatchBool, is_some, IsTrue, slice_get, codes, refl, sym, ap, ◌∙◌, subst, arith, append_assoc, length-drop}
 use Rattle.std.proofs.lemmas.Option.{slice_get_within}
 use Rattle.re_syntax.specs.declared.class.Class.TheVariants.{Digit}
@@ -33,11 +33,11 @@ dup_opens plus u = opens_plus
 dup_opens question u = opens_question
 dup_opens (interval {t} {least} {most} form allowed) u = opens_interval (record { inside = t; form = form; whole = append_assoc t (codes "}") u })
 
--- also at a place of a text
+-- a duplication at a place of a text opens one
 pub stands_opens : {text : Text} {at : ℕ} {counts : Counts} {behind : ℕ} → DuplicationStands text at counts behind → OpensDuplication (drop at text)
 stands_opens {text} {at} {counts} {behind} d = subst OpensDuplication (sym d.front) (dup_opens d.duplication (drop behind text))
 
--- so where nothing opens one, none stands
+-- so where nothing opens a duplication, there is none
 pub no_duplication : {t : Text} → ¬ OpensDuplication t → NoDuplication t
 no_duplication h = record { none = λ d least most u p e. h (subst OpensDuplication (sym e) (dup_opens p u)) }
 
@@ -49,7 +49,7 @@ closing_no_part = record {
   no_comma = λ h. apart 125 44 (heads h.1) refl;
 }
 
--- a duplication of one byte
+-- a byte that is a duplication alone
 pub sign_stands : {text : Text} {at b : ℕ} {counts : Counts} → slice_get text at ≡ Some b → Duplication (b ∷ []) counts.least counts.most →
     DuplicationStands text at counts (at + 1)
 sign_stands {text} {at} {b} e d = record {
@@ -59,11 +59,11 @@ sign_stands {text} {at} {b} e d = record {
   front = byte_at text at b e;
 }
 
--- nothing stands at the text's end
+-- nothing opens a duplication at the text's end
 pub none_at_end : (text : Text) (at : ℕ) → length text ≤ at → ¬ OpensDuplication (drop at text)
 none_at_end text at h o = let (b, w, e, first) = opening o in absurd (omega (arith, simp length-drop at (ap length e)))
 
--- a byte that is neither a duplication alone nor a brace
+-- a byte that is neither a duplication alone nor a brace opens none
 pub none_without_brace : (text : Text) (at b : ℕ) → slice_get text at ≡ Some b → IsNoSign b → ¬ Begins (codes "{") (drop at text) → ¬ OpensDuplication (drop at text)
 none_without_brace text at b e n k o = go o refl
   where
@@ -76,7 +76,7 @@ none_without_brace text at b e n k o = go o refl
     go (opens_question {u = u}) f = sign 63 u (63 ∷ u) refl f refl
     go (opens_interval {t = t} c) f = k (t, sym f)
 
--- a brace that begins nothing of an interval's form
+-- a brace that begins nothing of an interval's form opens none
 pub none_without_interval : {text : Text} {at inside : ℕ} → IsAfter (codes "{") text at inside → HasNoInterval (codes "}") (drop inside text) → ¬ OpensDuplication (drop at text)
 none_without_interval {text} {at} {inside} s h o = go o refl
   where
@@ -87,7 +87,7 @@ none_without_interval {text} {at} {inside} s h o = go o refl
     go (opens_interval {t = t} {u = u} {least = least} {most = most} c) f =
         h.none u least most (subst (λ x. ClosedInterval (codes "}") x u least most) (tails (f ∙ s.front)) c)
 
--- an interval whose counts are allowed
+-- an interval whose counts are allowed is a duplication
 pub interval_stands : {text : Text} {at inside behind : ℕ} {counts : Counts} → IsAfter (codes "{") text at inside → IntervalStands (codes "}") text inside counts behind →
     IsAllowed counts.least counts.most → DuplicationStands text at counts behind
 interval_stands {text} {at} {inside} {behind} {counts} s i h =
@@ -100,14 +100,14 @@ interval_stands {text} {at} {inside} {behind} {counts} s i h =
       front = s.front ∙ ap (λ t. 123 ∷ t) (i.stands.whole ∙ sym (append_assoc i.stands.inside (codes "}") (drop behind text)));
     }
 
--- how counts that are refused show
+-- the bytes of an interval whose counts are refused show the fault
 shown_disallowed : (before : Text) {kind : FaultKind} {t : Text} {least : ℕ} {most : Option ℕ} → OpensDisallowed (codes "{") (codes "}") kind t →
     IsDisallowed kind least most → ShowsExtendedFault kind before t
 shown_disallowed before o (least_too_large h) = o
 shown_disallowed before o (most_too_large h) = o
 shown_disallowed before o (descending h small) = o
 
--- an interval whose counts are refused
+-- an interval whose counts are refused is a bad interval
 pub bad_interval : {text : Text} {at inside behind : ℕ} {counts : Counts} {kind : FaultKind} → IsAfter (codes "{") text at inside →
     IntervalStands (codes "}") text inside counts behind → IsDisallowed kind counts.least counts.most → HasBadInterval text at (record { kind = kind; at = at })
 bad_interval {text} {at} {inside} {behind} {counts} {kind} s i bad =
@@ -128,7 +128,7 @@ bad_interval {text} {at} {inside} {behind} {counts} {kind} s i bad =
       shown = shown_disallowed (take at text) shows refused;
     }
 
--- whether one was found
+-- whether a duplication was found
 pub found_opens : (text : Text) (at : ℕ) (found : Option (Counts × ℕ)) (b : Bool) → b ≡ is_some found →
     MatchOption found (¬ OpensDuplication (drop at text)) (λ d. DuplicationStands text at d.0 d.1) → MatchBool b (OpensDuplication (drop at text)) (¬ OpensDuplication (drop at text))
 found_opens text at None b e h = rw e h

@@ -1,4 +1,4 @@
--- What follows from an item at the front of a text for every reading of the text as a branch.
+-- What an item that begins a text says of every reading of the text as a branch.
 use Rattle.std.proofs.Common.{◌≡◌, ℕ, ◌<◌, ◌≤◌, max, Bool, true, List, ◌∷◌, refl, sym, ◌∙◌, subst, arith}
 use Rattle.re_syntax.specs.Bytes.{Text}
 use Rattle.re_syntax.specs.Expression.{Expression, begin}
@@ -21,7 +21,7 @@ pub record BeginsWith (g : Bool) (h m : ℕ) (u v : Text) (e : Expression) (es :
   pub items : Items g height_others behind v others
   pub whole : es ≡ start ∷ others
 
--- which is so of all items that an item stands before
+-- so do the items of any text that begins with an item
 pub items-begin : {g : Bool} {h m : ℕ} {t s u v : Text} {e : Expression} {es : List Expression} → Items g m t v es → Item g h s u e → s ≡ t →
     stops g v ≡ true → BeginsWith g h m u v e es
 items-begin {g} (none {t = t}) i e p = let (b, w, f, clear) = item_front i in absurd (stop_byte g t b w p (sym e ∙ f) clear.not_stop)
@@ -40,7 +40,7 @@ items-begin (item {h = h} {k = k} {u = w} {e = d} {es = fs} j js) i e p =
       whole = refl;
     }
 
--- where no duplication follows the item, they are it and the items of what follows
+-- where no duplication follows the item, the items are it and those of the text after it
 pub record After (g : Bool) (m : ℕ) (u v : Text) (e : Expression) (es : List Expression) : Type 0 where
   pub height : ℕ
   pub below : height ≤ m
@@ -48,7 +48,7 @@ pub record After (g : Bool) (m : ℕ) (u v : Text) (e : Expression) (es : List E
   pub items : Items g height u v others
   pub whole : es ≡ e ∷ others
 
--- what is behind the item
+-- so the text after the item has such items
 pub items-after : {g : Bool} {h m : ℕ} {t s u v : Text} {e : Expression} {es : List Expression} → Items g m t v es → Item g h s u e → s ≡ t →
     stops g v ≡ true → NoDuplication u → After g m u v e es
 items-after {g} {v = v} {es = fs} is i e p q =
@@ -62,14 +62,14 @@ items-after {g} {v = v} {es = fs} is i e p q =
       whole = subst (λ x. fs ≡ x ∷ first.others) same.expressions first.whole;
     }
 
--- behind an anchor they are the items of what follows
+-- the items of a text that begins with an anchor are it and those of the text after it
 pub items-after-anchor : {g : Bool} {m : ℕ} {t u v : Text} {es : List Expression} → Items g m t v es → t ≡ 94 ∷ u → stops g v ≡ true → After g m u v begin es
 items-after-anchor {g} {u = u} (none {t = t}) e p = absurd (stop_caret g t u p e)
 items-after-anchor {g} {v = v} (anchor {h = h} {es = fs} is) e p =
     record { height = h; below = omega arith; others = fs; items = subst (λ w. Items g h w v fs) (tails e) is; whole = refl }
 items-after-anchor (item i is) e p = let (b, w, f, clear) = item_front i in absurd (clear.not_caret (heads (sym f ∙ e)))
 
--- where a duplication follows the item, they are higher than it
+-- where a duplication follows the item, the items are higher than it
 pub items-higher : {g : Bool} {h m : ℕ} {t s u v : Text} {e : Expression} {es : List Expression} → Items g m t v es → Item g h s u e → s ≡ t →
     stops g v ≡ true → ¬ NoDuplication u → h < m
 items-higher is i e p q =

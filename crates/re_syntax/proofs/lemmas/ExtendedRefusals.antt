@@ -18,44 +18,44 @@ items_opening {g} {t = t} none b w e opening s = stop_byte g t b w s e (opening_
 items_opening (anchor is) b w e opening s = not_opening b 94 w (sym (heads e)) refl opening
 items_opening {t = t} (item i is) b w e opening s = let (c, v, f, clear) = item_front i in clear.not_opening (same_opening t c b v w f e opening)
 
--- nor has one behind an anchor
+-- no branch begins with an anchor and then a duplication's first byte
 pub items_caret_opening : {g : Bool} {h : ℕ} {t u : Text} {es : List Expression} → Items g h t u es → (b : ℕ) (w : Text) → t ≡ 94 ∷ b ∷ w → IsOpening b w →
     stops g u ≡ true → ⊥
 items_caret_opening {g} {t = t} none b w e opening s = stop_caret g t (b ∷ w) s e
 items_caret_opening (anchor is) b w e opening s = items_opening is b w (tails e) opening s
 items_caret_opening (item i is) b w e opening s = let (c, v, f, clear) = item_front i in clear.not_caret (heads (sym f ∙ e))
 
--- nor do branches begin so
+-- no branches begin with a duplication's first byte
 pub branches_opening : {g : Bool} {h : ℕ} {t u : Text} {es : List Expression} → Branches g h t u es → (b : ℕ) (w : Text) → t ≡ b ∷ w → IsOpening b w →
     ends g u ≡ true → ⊥
 branches_opening {g} {u = u} (last is) b w e opening s = items_opening is b w e opening (ends-stops g u s)
 branches_opening (more is bs) b w e opening s = items_opening is b w e opening refl
 
--- or have one behind an anchor
+-- no branches begin with an anchor and then a duplication's first byte
 pub branches_caret_opening : {g : Bool} {h : ℕ} {t u : Text} {es : List Expression} → Branches g h t u es → (b : ℕ) (w : Text) → t ≡ 94 ∷ b ∷ w → IsOpening b w →
     ends g u ≡ true → ⊥
 branches_caret_opening {g} {u = u} (last is) b w e opening s = items_caret_opening is b w e opening (ends-stops g u s)
 branches_caret_opening (more is bs) b w e opening s = items_caret_opening is b w e opening refl
 
--- what stands inside a group that comes first
+-- the branches inside a group that comes first
 pub record Inside (t : Text) : Type 0 where
   pub height : ℕ
   pub behind : Text
   pub expressions : List Expression
   pub branches : Branches true height t (codes ")" ++ behind) expressions
 
--- which stands behind its opening
+-- an atom that begins with a group's opening has branches inside
 atom_inside : {g : Bool} {h : ℕ} {t u : Text} {e : Expression} → Atom g h t u e → (w : Text) → t ≡ 40 ∷ w → Inside w
 atom_inside {u = u} a w e =
     let it = is_group a e in record { height = it.inner_height; behind = u; expressions = it.members; branches = it.branches }
 
--- so of the items of a branch that begins with a group
+-- so have the items of a branch that begins with a group
 pub items_inside : {g : Bool} {h : ℕ} {t u : Text} {es : List Expression} → Items g h t u es → (w : Text) → t ≡ 40 ∷ w → stops g u ≡ true → Inside w
 items_inside {g} {t = t} none w e s = absurd (stop_byte g t 40 w s e (never_stop g 40 refl refl))
 items_inside (anchor is) w e s = absurd (apart 94 40 (heads e) refl)
 items_inside (item i is) w e s = atom_inside (item_parts i).atom_first w e
 
--- and of branches that begin with one
+-- so have branches that begin with a group
 pub branches_inside : {g : Bool} {h : ℕ} {t u : Text} {es : List Expression} → Branches g h t u es → (w : Text) → t ≡ 40 ∷ w → ends g u ≡ true → Inside w
 branches_inside {g} {u = u} (last is) w e s = items_inside is w e (ends-stops g u s)
 branches_inside (more is bs) w e s = items_inside is w e refl

@@ -11,7 +11,7 @@ use Rattle.re_syntax.proofs.lemmas.ExtendedDuplications.{IsOpening, opens_none, 
 use Rattle.re_syntax.specs.Working.ExtendedSteps.{stops, ends, NoDuplication, is_stop}
 use Rattle.re_syntax.proofs.lemmas.ExtendedFronts.{never_stop, not_opening, opening_stop, kind_of, IsFront, atom_code, atom_front}
 
--- where the last branch ends, a branch does
+-- where the last branch ends, a branch ends
 pub ends-stops : (g : Bool) (t : Text) → ends g t ≡ true → stops g t ≡ true
 ends-stops g [] h = refl
 ends-stops g (b ∷ t) h = or_right (nat_eq b 124) (g && nat_eq b 41) h
@@ -26,7 +26,7 @@ pub record Parts (g : Bool) (h : ℕ) (t u : Text) (e : Expression) : Type 0 whe
   pub atom_first : Atom g level t rest start
   pub others : Chain Duplication count rest u start e
 
--- each item is such
+-- each item has these two parts
 pub item_parts : {g : Bool} {h : ℕ} {t u : Text} {e : Expression} → Item g h t u e → Parts g h t u e
 item_parts {h = h} {u = u} {e = e} (atom a) = record { level = h; count = 0; height = omega arith; rest = u; start = e; atom_first = a; others = done }
 item_parts (repeated {d = d} {u = u} {least = least} {most = most} i q) =
@@ -49,44 +49,44 @@ same_kind a b e =
     let bytes : p.front ≡ q.front = heads (sym p.whole ∙ e ∙ q.whole) in
     sym p.is_kind ∙ ap kind_of bytes ∙ q.is_kind
 
--- the front of an item is that of its atom
+-- an item begins with what its atom begins with
 pub item_front : {g : Bool} {h : ℕ} {t u : Text} {e : Expression} → Item g h t u e → (b : ℕ) × (w : Text) × (t ≡ b ∷ w) × IsFront g b w
 item_front i = let a = item_parts i in let f = atom_front a.atom_first in (f.front, f.rest, f.whole, f.clear)
 
--- No duplication stands where an item, an anchor or a branch's end does.
+-- No duplication is where an item, an anchor or a branch's end is.
 
--- a text has one first byte and one rest, so it opens a duplication however it is taken apart
+-- a text that opens a duplication begins with a duplication's byte
 pub same_opening : (t : Text) (b c : ℕ) (w v : Text) → t ≡ b ∷ w → t ≡ c ∷ v → IsOpening c v → IsOpening b w
 same_opening t b c w v e f opening =
     subst (λ x. IsOpening b x) (tails (sym f ∙ e)) (subst (λ x. IsOpening x v) (heads (sym f ∙ e)) opening)
 
--- where an item begins
+-- no duplication begins where an item does
 pub item_no_duplication : (g : Bool) (t : Text) (b : ℕ) (w : Text) → t ≡ b ∷ w → IsFront g b w → NoDuplication t
 item_no_duplication g t b w e clear = opens_none t (λ c v f opening. clear.not_opening (same_opening t b c w v e f opening))
 
--- where a branch ends comes no byte that ends none
+-- the byte at a branch's end is one that ends it
 pub stop_byte : (g : Bool) (t : Text) (b : ℕ) (w : Text) → stops g t ≡ true → t ≡ b ∷ w → is_stop g b ≡ false → ⊥
 stop_byte g t b w s e f = let k : stops g (b ∷ w) ≡ true = rw e at s in cc
 
--- where a branch ends
+-- no duplication begins where a branch ends
 pub stop_no_duplication : (g : Bool) (t : Text) → stops g t ≡ true → NoDuplication t
 stop_no_duplication g t s = opens_none t (λ b w e opening. stop_byte g t b w s e (opening_stop g opening))
 
--- where an anchor stands
+-- no duplication begins at an anchor
 pub caret_no_duplication : (t : Text) → NoDuplication (94 ∷ t)
 caret_no_duplication t = opens_none (94 ∷ t) (λ b w e opening. not_opening b 94 w (sym (heads e)) refl opening)
 
--- and so where the items of a branch begin
+-- so no duplication begins where the items of a branch do
 pub items_no_duplication : {g : Bool} {h : ℕ} {t u : Text} {es : List Expression} → Items g h t u es → stops g u ≡ true → NoDuplication t
 items_no_duplication {g} {t = t} none s = stop_no_duplication g t s
 items_no_duplication (anchor {t = t} is) s = caret_no_duplication t
 items_no_duplication {g} {t = t} (item i is) s = let (b, w, e, clear) = item_front i in item_no_duplication g t b w e clear
 
--- where a branch ends, no anchor comes first
+-- no anchor begins where a branch ends
 pub stop_caret : (g : Bool) (t w : Text) → stops g t ≡ true → t ≡ 94 ∷ w → ⊥
 stop_caret g t w s e = stop_byte g t 94 w s e (never_stop g 94 refl refl)
 
--- and where the last one does, no bar
+-- no bar is where the last branch ends
 pub ends_bar : (g : Bool) (t w : Text) → ends g t ≡ true → t ≡ 124 ∷ w → ⊥
 ends_bar g t w h e = let k : ends g (124 ∷ w) ≡ true = rw e at h in let f : (g && false) ≡ false = and_right g false refl in cc
 

@@ -1,4 +1,4 @@
--- Where the sequence of a text's bytes holds: where the text stands.
+-- The sequence of a text's bytes holds where the text occurs.
 use Rattle.std.proofs.Common.{◌≡◌, ℕ, zero, suc, ◌+◌, ◌≤◌, List, [], ◌∷◌, ◌++◌, length, map, Some, slice_get, drop, refl, ap, ◌∙◌, arith, eq-eqb, false, length-append, length-drop}
 use Rattle.std.proofs.lemmas.Bool.{eqb-true}
 use Rattle.re_syntax.specs.Bytes.{Text}
@@ -41,7 +41,7 @@ cat_stands line (b ∷ p) i rest e =
     let end : suc i + length p ≡ i + length (b ∷ p) = omega arith in
     (i + 1, one_byte line i b here.0, rw (← next, ← end) later)
 
--- where the text stands the sequence of its bytes holds
+-- where the text occurs the sequence of its bytes holds
 pub stands-holds : (line p : Text) (i : ℕ) (rest : Text) → drop i line ≡ p ++ rest → Holds line (sequence (map byte p)) i (i + length p)
 stands-holds line p i rest e = cat-sequence line (map byte p) i (i + length p) (cat_stands line p i rest e)
 
@@ -53,18 +53,18 @@ cat_holds line (b ∷ p) i j (k, (c, at, is, next), later) =
     let step : suc i ≡ k = omega arith in
     left ∙ ap (λ x. x ∷ drop (suc i) line) same ∙ ap (λ n. b ∷ drop n line) step ∙ ap (λ t. b ∷ t) (cat_holds line p k j later)
 
--- where the sequence of a text's bytes holds the text stands
+-- where the sequence of a text's bytes holds the text occurs
 pub holds-stands : (line p : Text) (i j : ℕ) → Holds line (sequence (map byte p)) i j → drop i line ≡ p ++ drop j line
 holds-stands line p i j h = cat_holds line p i j (sequence-cat line (map byte p) i j h)
 
--- a text that stands at some place of the line is matched by the sequence of its bytes
+-- a text that occurs at some place of the line is matched by the sequence of its bytes
 pub stands-matches : (line p : Text) (i : ℕ) (rest : Text) → i ≤ length line → drop i line ≡ p ++ rest → Matches (sequence (map byte p)) line false
 stands-matches line p i rest h e =
     let lengths : length (drop i line) ≡ length p + length rest = ap length e ∙ length-append p rest in
     let within : i + length p ≤ length line = omega (arith, length-drop i line, lengths) in
     (i, i + length p, within, stands-holds line p i rest e)
 
--- and a text whose bytes in sequence match the line stands at some place of it
+-- a text whose bytes in sequence match the line occurs at some place of it
 pub matches-stands : (line p : Text) → Matches (sequence (map byte p)) line false → (i : ℕ) × (i ≤ length line) × (rest : Text) × (drop i line ≡ p ++ rest)
 matches-stands line p (i, j, within, h) =
     let ordered : i ≤ j = Holds-le line (sequence (map byte p)) i j h in

@@ -1,4 +1,5 @@
--- Folding goes through sequences and choices, and a tree whose parts are folded is the folded tree.
+-- Folding folds each part of a sequence or a choice. A tree whose parts are folded is the folded
+-- tree.
 use Rattle.std.proofs.Common.{◌≡◌, ℕ, List, [], ◌∷◌, map, Option, Vec, Box, Global, refl, sym, ap, ◌∙◌}
 use Rattle.re_syntax.specs.Expression.{Expression, cat, alt, cat_more, alt_more, repeat, expression_of}
 use Rattle.re_syntax.specs.Holds.{folded}

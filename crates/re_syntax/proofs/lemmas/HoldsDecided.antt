@@ -6,9 +6,9 @@ use Rattle.re_syntax.specs.Expression.{Expression, empty, one_of, none_of, begin
 use Rattle.re_syntax.specs.Holds.{Turns, IsWithin, Holds, Matches}
 use Rattle.re_syntax.proofs.lemmas.Decisions.{dec_not, dec_both, dec_either, dec_IsTrue, dec_IfSome, dec_holds_inside, dec_bounded}
 
--- turns of a relation by which no stretch ends before it begins
+-- turns of a relation whose stretches do not end before they begin
 module _ (R : ℕ → ℕ → Type 0) (R-le : (i j : ℕ) → R i j → i ≤ j) where
-  -- some turns do not end before they begin
+  -- such turns do not end before they begin
   pub Turns-le : (n i j : ℕ) → Turns R n i j → i ≤ j
   Turns-le zero i j t = omega (arith, t)
   Turns-le (suc n) i j t = omega (arith, R-le i t.0 t.1, Turns-le n t.0 j t.2)
@@ -42,7 +42,7 @@ module _ (R : ℕ → ℕ → Type 0) (R-le : (i j : ℕ) → R i j → i ≤ j)
 pub dec_IsWithin : (least : ℕ) (most : Option ℕ) (n : ℕ) → Dec (IsWithin least most n)
 dec_IsWithin least most n = dec_both (dec_le least n) (dec_IfSome (λ top. n ≤ top) (λ top. dec_le n top) most)
 
--- fewer turns keep below what bounds more of them
+-- fewer turns, but enough, are within the bounds where more turns are
 IsWithin-less : (least m n : ℕ) (most : Option ℕ) → least ≤ m → m ≤ n → IsWithin least most n → IsWithin least most m
 IsWithin-less least m n None h up w = (h, tt)
 IsWithin-less least m n (Some top) h up w = (h, omega (arith, up, w.1))
@@ -61,7 +61,7 @@ Holds-le line (alt_more e rest) i j (inl h) = Holds-le line e i j h
 Holds-le line (alt_more e rest) i j (inr h) = Holds-le line rest i j h
 Holds-le line (repeat e least most) i j h = Turns-le (Holds line e) (Holds-le line e) h.0 i j h.2
 
--- whether one byte at place i passes a decided test, and the stretch ends behind it, is decided
+-- whether one byte at place i passes a decided test, and the stretch ends after it, is decided
 dec_one_byte : (P : ℕ → Type 0) → ((b : ℕ) → Dec (P b)) → (line : Text) (i j : ℕ) → Dec ((b : ℕ) × (slice_get line i ≡ Some b) × P b × (j ≡ i + 1))
 dec_one_byte P d line i j =
     map_dec (λ h. (h.0, h.1, h.2.0, h.2.1)) (λ h. (h.0, h.1, (h.2, h.3)))

@@ -1,4 +1,4 @@
--- What stands between an interval's braces is read in one way.
+-- The text between an interval's braces is read in one way.
 use Rattle.std.proofs.Common.{◌≡◌, ℕ, Bool, true, false, not, nat_eq, [], ◌∷◌, ◌++◌, Option, Some, codes, refl, sym, ap, ◌∙◌, append_assoc}
 use Rattle.std.proofs.lemmas.Bool.{and_parts, ne_eqb, and_from, not_from_false, eq-eqb}
 use Rattle.std.specs.List.{list_all}
@@ -10,7 +10,7 @@ use Rattle.re_syntax.specs.Intervals.{IsNumber, Interval, exactly, at_least, bet
 abbrev pub lacks : ℕ → Text → Bool
 lacks c t = list_all (λ b. not (nat_eq b c)) t
 
--- a byte is not told apart from itself
+-- a byte is not different from itself
 itself : (b c : ℕ) → b ≡ c → not (nat_eq b c) ≡ true → ⊥
 itself b c e h = let f : nat_eq b c ≡ true = eq-eqb b c e in let g : not true ≡ true = rw f at h in cc
 
@@ -18,7 +18,7 @@ itself b c e h = let f : nat_eq b c ≡ true = eq-eqb b c e in let g : not true 
 lacks_head : (c b : ℕ) (t : Text) → lacks c (b ∷ t) ≡ true → b ≡ c → ⊥
 lacks_head c b t h e = itself b c e (and_parts (not (nat_eq b c)) (lacks c t) h).0
 
--- nor does the rest have it
+-- the rest of a text that lacks a byte lacks it
 lacks_tail : (c b : ℕ) (t : Text) → lacks c (b ∷ t) ≡ true → lacks c t ≡ true
 lacks_tail c b t h = (and_parts (not (nat_eq b c)) (lacks c t) h).1
 
@@ -39,12 +39,12 @@ lacks-cut c [] (b ∷ u) r h e = cc
 lacks-cut c (a ∷ t) [] r h e = lacks_head c a t h (cc)
 lacks-cut c (a ∷ t) (b ∷ u) r h e = lacks-cut c t u r (lacks_tail c a t h) (cc)
 
--- two texts that lack a byte lack it together
+-- two texts that lack a byte lack it when joined
 pub lacks-append : (c : ℕ) (t u : Text) → lacks c t ≡ true → lacks c u ≡ true → lacks c (t ++ u) ≡ true
 lacks-append c [] u h k = k
 lacks-append c (b ∷ t) u h k = and_from (not (nat_eq b c)) (lacks c (t ++ u)) (and_parts (not (nat_eq b c)) (lacks c t) h).0 (lacks-append c t u (lacks_tail c b t h) k)
 
--- a digit is told apart from a byte that is none
+-- a digit is different from a byte that is none
 digit_is : (b c : ℕ) → in_class Digit b ≡ true → in_class Digit c ≡ false → not (nat_eq b c) ≡ true
 digit_is b c h k = not_from_false _ (ne_eqb b c (λ e. let f : in_class Digit b ≡ false = rw e k in cc))
 
@@ -55,7 +55,7 @@ digits_lack c (b ∷ t) n h =
     let parts = and_parts (in_class Digit b) (list_all (in_class Digit) t) h in
     and_from (not (nat_eq b c)) (lacks c t) (digit_is b c parts.0 n) (digits_lack c t n parts.1)
 
--- nothing that stands between the braces closes them
+-- nothing between the braces closes them
 pub interval_lacks : (c : ℕ) {t : Text} {least : ℕ} {most : Option ℕ} → in_class Digit c ≡ false → lacks c (codes ",") ≡ true → Interval t least most → lacks c t ≡ true
 interval_lacks c n k (exactly m h) = digits_lack c m n h.digits
 interval_lacks c n k (at_least m h) = lacks-append c m (codes ",") (digits_lack c m n h.digits) k
@@ -67,7 +67,7 @@ interval_lacks c n k (up_to m h) = lacks-append c (codes ",") m k (digits_lack c
 no_comma : (m : Text) → IsNumber m → lacks 44 m ≡ true
 no_comma m h = digits_lack 44 m refl h.digits
 
--- a comma joins what is before it and behind it
+-- a comma joins what is before it and after it
 comma : (m p : Text) → (m ++ codes ",") ++ p ≡ m ++ 44 ∷ p
 comma m p = append_assoc m (codes ",") p
 

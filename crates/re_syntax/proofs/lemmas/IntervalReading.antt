@@ -1,4 +1,5 @@
--- Reading an interval from the left: a number goes as far as there are digits, and what follows decides the form.
+-- Reading an interval from the left: a number ends where the digits end, and what follows
+-- determines the form.
 use Rattle.std.proofs.Common.{◌≡◌, ℕ, ◌+◌, ◌-◌, ◌<◌, ◌≤◌, [], ◌∷◌, ◌++◌, length, take, drop, Option, Some, None, MatchOption, IsTrue, codes, refl, sym, ap, ◌∙◌, arith, append_assoc, length-drop}
 use Rattle.std.proofs.lemmas.Bool.{and_parts}
 use Rattle.std.proofs.lemmas.List.{drop-drop, length-take, take-append-drop}
@@ -15,11 +16,11 @@ use Rattle.re_syntax.proofs.lemmas.BracketsUnique.{heads, tails}
 digit_first : (b : ℕ) (t : Text) → AreDigits (b ∷ t) → IsTrue (in_class Digit b)
 digit_first b t h = (and_parts (in_class Digit b) (list_all (in_class Digit) t) h).0
 
--- and so are the others
+-- the others are digits too
 digits_rest : (b : ℕ) (t : Text) → AreDigits (b ∷ t) → AreDigits t
 digits_rest b t h = (and_parts (in_class Digit b) (list_all (in_class Digit) t) h).1
 
--- a text is cut behind its first digits in one way
+-- a text is cut after its first digits in one way
 pub digits-cut : (m n r s : Text) → AreDigits m → AreDigits n → HasNoDigit r → HasNoDigit s → m ++ r ≡ n ++ s → r ≡ s
 digits-cut [] [] r s h k p q e = e
 digits-cut [] (b ∷ n) r s h k p q e = absurd (p b (n ++ s) e (digit_first b n k))
@@ -40,13 +41,13 @@ closing_no_digit (c ∷ close) u h b t e k = h.no_digit c close refl (rw (heads 
 comma_no_digit : (t : Text) → HasNoDigit (codes "," ++ t)
 comma_no_digit t b u e k = let same : 44 ≡ b = heads e in let digit : IsTrue (in_class Digit 44) = rw (sym same) at k in cc
 
--- what an interval's form can have behind its first number
+-- what may follow the first number of an interval's form
 pub data Goes (close u t : Text) : Type 0 where
   closes : t ≡ close ++ u → Goes close u t
   opens_end : t ≡ codes "," ++ (close ++ u) → Goes close u t
   goes_to : (n : Text) → IsNumber n → t ≡ codes "," ++ (n ++ (close ++ u)) → Goes close u t
 
--- which is so of every interval
+-- every interval has this after its first number
 pub goes : (close u t m r : Text) (least : ℕ) (most : Option ℕ) → IsNoPart close → ClosedInterval close t u least most → t ≡ m ++ r → AreDigits m → HasNoDigit r → Goes close u r
 goes close u t m r least most no_part c e digits stop = go c.inside least most c.form c.whole
   where
@@ -61,7 +62,7 @@ goes close u t m r least most no_part c e digits stop = go c.inside least most c
     go inside least most (up_to n h) w =
         goes_to n h (digits-cut m [] r (codes "," ++ (n ++ (close ++ u))) digits refl stop (comma_no_digit (n ++ (close ++ u))) (sym e ∙ w))
 
--- where neither a number stands nor a comma, no interval does
+-- where there is neither a number nor a comma, there is no interval
 pub none_without_number : (close t : Text) → HasNoDigit t → ¬ Begins (codes ",") t → HasNoInterval close t
 none_without_number close t stop comma = record { none = λ u least most c. go c.inside least most c.form u c.whole }
   where
@@ -74,7 +75,7 @@ none_without_number close t stop comma = record { none = λ u least most c. go c
     go inside least most (between n o h k) u w = starts n (codes "," ++ (o ++ (close ++ u))) h (w ∙ simp append_assoc)
     go inside least most (up_to n h) u w = comma (n ++ (close ++ u), w)
 
--- nor where a comma comes first, and then not a number and what closes it
+-- where a comma comes first, and then not a number and what closes it, there is no interval
 pub none_after_first : (close t w : Text) → t ≡ codes "," ++ w → HasNoGreatest close w → HasNoInterval close t
 none_after_first close t w e n = record { none = λ u least most c. go c.inside least most c.form u c.whole }
   where
@@ -87,11 +88,11 @@ none_after_first close t w e n = record { none = λ u least most c. go c.inside 
     go inside least most (between m o h k) u f = starts m (codes "," ++ (o ++ (close ++ u))) h (f ∙ simp append_assoc)
     go inside least most (up_to m h) u f = n.none m u h (tails (sym e ∙ f))
 
--- no number behind that comma
+-- no number follows the comma
 pub no_greatest : (close t : Text) → HasNoDigit t → HasNoGreatest close t
 no_greatest close t stop = record { none = λ n u h e. number_first n (close ++ u) h (rw e at stop) }
 
--- one that is not closed
+-- a number follows the comma, and nothing closes it
 pub no_greatest_end : {text : Text} {at count behind : ℕ} (close : Text) → IsNoPart close → NumberStands text at count behind → ¬ Begins close (drop behind text) →
     HasNoGreatest close (drop at text)
 no_greatest_end {text} {at} {count} {behind} close no_part s no_close = record {
@@ -99,7 +100,7 @@ no_greatest_end {text} {at} {count} {behind} close no_part s no_close = record {
       no_close (u, digits-cut s.digits n (drop behind text) (close ++ u) s.number.digits h.digits s.stops (closing_no_digit close u no_part) (sym s.front ∙ e));
 }
 
--- one that is closed
+-- a number follows the comma, and what closes it follows the number
 pub greatest_stands : {text : Text} {at count behind end' : ℕ} (close : Text) → NumberStands text at count behind → IsAfter close text behind end' →
     GreatestStands close text at (record { least = 0; most = Some count }) end'
 greatest_stands {text} {at} {count} {behind} {end'} close s c = record {
@@ -111,7 +112,7 @@ greatest_stands {text} {at} {count} {behind} {end'} close s c = record {
   most_is = ap Some s.count_is;
 }
 
--- which is an interval, behind its comma
+-- such a number is an interval, with the comma before it
 pub stands_up_to : {text : Text} {at comma behind : ℕ} {counts : Counts} (close : Text) → IsAfter (codes ",") text at comma → GreatestStands close text comma counts behind →
     IntervalStands close text at counts behind
 stands_up_to {text} {at} {comma} {behind} {counts} close c s = record {
@@ -123,14 +124,14 @@ stands_up_to {text} {at} {comma} {behind} {counts} close c s = record {
   most_is = s.most_is;
 }
 
--- so what is found behind a comma that comes first is the interval there
+-- what is found after a comma that comes first is the interval there
 pub up_to_found : {text : Text} {at comma : ℕ} (close : Text) → IsAfter (codes ",") text at comma → (found : Option (Counts × ℕ)) →
     MatchOption found (HasNoGreatest close (drop comma text)) (λ it. GreatestStands close text comma it.0 it.1) →
     MatchOption found (HasNoInterval close (drop at text)) (λ it. IntervalStands close text at it.0 it.1)
 up_to_found {text} {at} {comma} close c None h = none_after_first close (drop at text) (drop comma text) c.front h
 up_to_found close c (Some it) h = stands_up_to close c h
 
--- a number and neither what closes nor a comma
+-- a number, and then neither what closes it nor a comma
 pub none_after_number : {text : Text} {at count behind : ℕ} (close : Text) → IsNoPart close → NumberStands text at count behind → ¬ Begins close (drop behind text) →
     ¬ Begins (codes ",") (drop behind text) → HasNoInterval close (drop at text)
 none_after_number {text} {at} {count} {behind} close no_part s no_close no_comma =
@@ -152,7 +153,7 @@ none_after_comma {text} {at} {count} {behind} {comma} close no_part s no_close c
     go u (opens_end e) = no_end (u, tails (sym c.front ∙ e))
     go u (goes_to n h e) = number_first n (close ++ u) h (rw (tails (sym c.front ∙ e)) at no_digit)
 
--- two numbers, and what follows does not close
+-- two numbers, and what follows does not close them
 pub none_after_numbers : {text : Text} {at count behind comma other last : ℕ} (close : Text) → IsNoPart close → NumberStands text at count behind →
     ¬ Begins close (drop behind text) → IsAfter (codes ",") text behind comma → NumberStands text comma other last → ¬ Begins close (drop last text) →
     HasNoInterval close (drop at text)

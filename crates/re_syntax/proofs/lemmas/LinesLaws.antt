@@ -1,4 +1,5 @@
--- `lines_of` gives the one list of lines that an input has, and `list_of` the one list of texts that a pattern list has.
+-- `lines_of` is the one list of lines of an input, and `list_of` is the one list of texts of a
+-- pattern list.
 use Rattle.std.proofs.Common.{◌≡◌, ◌≢◌, ℕ, zero, suc, ◌⊎◌, inl, inr, false, nat_eq, List, [], ◌∷◌, ◌++◌, All, if◌then◌else◌, refl, sym, ap, ◌∙◌, arith, append_assoc}
 use Rattle.std.proofs.lemmas.Bool.{cond-false, ne_eqb, cases_eq}
 use Rattle.std.proofs.lemmas.List.Elements.{All-head, All-tail, All-nil, All-cons}
@@ -9,11 +10,11 @@ use Rattle.re_syntax.specs.Lines.{newline, put_before, lines_of, list_of, HasNoN
 pub first_differs : (b : ℕ) (t : Text) → HasNoNewline (b ∷ t) → nat_eq b newline ≡ false
 first_differs b t h = ne_eqb b newline (All-head (λ x. x ≢ newline) b t h)
 
--- nor is any later one
+-- the rest of a text without newline has none
 pub rest_has_none : (b : ℕ) (t : Text) → HasNoNewline (b ∷ t) → HasNoNewline t
 rest_has_none b t h = All-tail (λ x. x ≢ newline) b t h
 
--- another byte in front of a text without newline leaves it without
+-- another byte before a text without newline leaves it without
 pub none_before : (b : ℕ) (t : Text) → b ≢ newline → HasNoNewline t → HasNoNewline (b ∷ t)
 none_before b t n h = All-cons (λ x. x ≢ newline) b t n h
 
@@ -30,11 +31,11 @@ all_cons t ts h k (suc i) d below = k i d (omega arith)
 pub all_head : (t : Text) (ts : List Text) → All HasNoNewline (t ∷ ts) → HasNoNewline t
 all_head t ts h = h zero t (omega arith)
 
--- and of the rest
+-- what holds of all texts holds of the rest
 pub all_tail : (t : Text) (ts : List Text) → All HasNoNewline (t ∷ ts) → All HasNoNewline ts
 all_tail t ts h i d below = h (suc i) d (omega arith)
 
--- of no text everything holds
+-- everything holds of no text
 pub all_none : All HasNoNewline []
 all_none i d below = absurd (omega arith)
 
@@ -56,7 +57,7 @@ unfolding lines_of
 lines_of-terminated [] h = refl
 lines_of-terminated (t ∷ ts) h = lines_of-line t (terminated ts) (all_head t ts h) ∙ ap (λ us. t ∷ us) (lines_of-terminated ts (all_tail t ts h))
 
--- and a last text that is not empty needs no newline to be a line
+-- a last text that is not empty needs no newline to be a line
 pub lines_of-unfinished : (ts : List Text) (b : ℕ) (u : Text) → All HasNoNewline (ts ++ (b ∷ u) ∷ []) → lines_of (terminated ts ++ b ∷ u) ≡ ts ++ (b ∷ u) ∷ []
 lines_of-unfinished [] b u h = lines_of-last b u (all_head (b ∷ u) [] h)
 lines_of-unfinished (t ∷ ts) b u h =
@@ -70,7 +71,7 @@ lines_of-unique bytes ts (none, inr (front, [], parts, full, whole)) = absurd (f
 lines_of-unique bytes ts (none, inr (front, b ∷ u, parts, full, whole)) =
     parts ∙ sym (ap lines_of whole ∙ lines_of-unfinished front b u (rw parts at none))
 
--- and it has these
+-- a newline in front adds an empty first line
 after_newline : (rest : Text) → AreLines rest (lines_of rest) → AreLines (newline ∷ rest) ([] ∷ lines_of rest)
 after_newline rest (none, inl whole) = (all_cons [] _ none_in_empty none, inl (ap (λ t. newline ∷ t) whole))
 after_newline rest (none, inr (front, last, parts, full, whole)) =

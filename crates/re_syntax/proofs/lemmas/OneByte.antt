@@ -7,17 +7,17 @@ use Rattle.re_syntax.specs.Bytes.{only}
 use Rattle.re_syntax.specs.Sets.{members}
 use Rattle.re_syntax.specs.declared.bytes.ByteSet.{ByteSet}
 
--- a byte below 128 is told by the first word
+-- the first word decides whether a byte below 128 is in the set
 member_low : (s : ByteSet) (b : ℕ) → b < 128 → members s b ≡ nat_eq (bit_at s.low b) 1
 member_low s b h = cond-true _ _ _ (lt-ltb b 128 h)
 
--- one from there on by the second
+-- the second word decides it for a byte from 128 on
 member_high : (s : ByteSet) (i : ℕ) → members s (128 + i) ≡ nat_eq (bit_at s.high i) 1
 member_high s i =
     let less : 128 + i - 128 ≡ i = omega arith in
     cond-false _ _ _ (le-ltb (128 + i) 128 (omega arith)) ∙ ap (λ n. nat_eq (bit_at s.high n) 1) less
 
--- two bits that are 1 alike are the same
+-- two bits that are 1 in the same cases are equal
 same_bit : (m n : ℕ) → m < 2 → n < 2 → nat_eq m 1 ≡ nat_eq n 1 → m ≡ n
 same_bit m n h k e =
     elim (cases_eq m 1) [
@@ -31,7 +31,7 @@ same_low s t a b e =
     same_from_bits_below 128 s.low t.low a b
     (λ i h. same_bit _ _ (bit_at-lt s.low i) (bit_at-lt t.low i) (sym (member_low s i h) ∙ ap (λ f. f i) e ∙ member_low t i h))
 
--- and the same second word
+-- sets of the same bytes have the same second word
 pub same_high : (s t : ByteSet) → s.high < 2 ^ 128 → t.high < 2 ^ 128 → members s ≡ members t → s.high ≡ t.high
 same_high s t a b e =
     same_from_bits_below 128 s.high t.high a b
@@ -47,7 +47,7 @@ lowest_low s b some fits e =
     let found = bit_at-trailing_zeros w128 s.low some fits in
     its_byte s b (trailing_zeros w128 s.low) e (member_low s (trailing_zeros w128 s.low) found.0 ∙ eq-eqb _ 1 found.1)
 
--- and of the second, where the first is empty
+-- the lowest bit of the second word is that byte, where the first word is empty
 pub lowest_high : (s : ByteSet) (b : ℕ) → s.low ≡ 0 → s.high < 2 ^ 128 → members s ≡ only b → 128 + trailing_zeros w128 s.high ≡ b
 lowest_high s b none fits e =
     let found = bit_at-trailing_zeros w128 s.high some fits in

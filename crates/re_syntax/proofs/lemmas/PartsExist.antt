@@ -1,4 +1,4 @@
--- Each line has its list of parts.
+-- Each line has a list of its parts.
 use Rattle.std.proofs.Common.{ℕ, zero, suc, ◌+◌, ◌≤◌, ◌⊎◌, inl, inr, Bool, List, [], ◌∷◌, length, arith}
 use Rattle.std.proofs.Math.Decide.{dec_le, ℕ_discrete, map_dec}
 use Rattle.re_syntax.specs.Bytes.{Text}
@@ -32,7 +32,7 @@ module _ (expressions : List Expression) (line : Text) (whole : Bool) where
           let longest = greatest_below (λ j. IsFound expressions line whole from i j) (dec_IsFound from i) (suc (length line)) (λ j f. omega (arith, f.on_line)) found in
           (i, longest.0, record { found = longest.1; earliest = (λ k l f. earliest k (l, f)); longest = longest.2 })
 
-  -- the parts from a place on, which is so near to the line's end
+  -- the parts from a place on, by its distance from the line's end
   ArePartsFrom-exist : (left from : ℕ) → length line ≤ from + left → (ps : List (ℕ × ℕ)) × ArePartsFrom expressions line whole from ps
   ArePartsFrom-exist zero from near = ([], (λ i j f. absurd (omega (arith, f.begins, f.not_empty, f.on_line))))
   ArePartsFrom-exist (suc left) from near =
@@ -41,6 +41,6 @@ module _ (expressions : List Expression) (line : Text) (whole : Bool) where
         | inl p ↦ (let f = p.2.found in let rest = ArePartsFrom-exist left p.1 (omega (arith, f.begins, f.not_empty)) in ((p.0, p.1) ∷ rest.0, (p.2, rest.1)))
       ]
 
--- each line has its list of parts
+-- each line has a list of its parts
 pub AreParts-exist : (es : List Expression) (line : Text) (whole : Bool) → (ps : List (ℕ × ℕ)) × AreParts es line whole ps
 AreParts-exist es line whole = ArePartsFrom-exist es line whole (length line) 0 (omega arith)

@@ -1,4 +1,4 @@
--- Parts of expressions: how many positions they have together.
+-- The number of positions of several parts together.
 use Rattle.std.proofs.Common.{◌≡◌, ℕ, zero, suc, ◌+◌, ◌*◌, ◌-◌, ◌^◌, min, List, [], ◌∷◌, ◌++◌, map, Option, None, Some, Vec, Global, refl, sym, ap, ◌∙◌, arith}
 use Rattle.re_syntax.specs.Bytes.{Text}
 use Rattle.re_syntax.specs.Brackets.{IsBracket, matching, non_matching}
@@ -6,23 +6,23 @@ use Rattle.re_syntax.specs.Working.Counted.{up_to_word}
 use Rattle.re_syntax.specs.Expression.{Expression, cat, alt, sequence, choice}
 use Rattle.re_syntax.specs.Holds.{positions}
 
--- a choice has as many as the sequence of its branches
+-- a choice has as many positions as the sequence of its branches
 positions-alt : (es : List Expression) → positions (alt es) ≡ positions (cat es)
 positions-alt [] = refl
 positions-alt (e ∷ es) = ap (λ n. positions e + n) (positions-alt es)
 
--- one more member
+-- the positions with one more member
 positions-more : (es : List Expression) (e : Expression) → positions (cat (es ++ (e ∷ []))) ≡ positions (cat es) + positions e
 positions-more [] e = omega arith
 positions-more (f ∷ es) e = omega (arith, positions-more es e)
 
--- of branches as one expression
+-- the positions of branches as one expression
 pub positions-choice : (es : List Expression) → positions (choice es) ≡ positions (cat es)
 positions-choice [] = refl
 positions-choice (e ∷ []) = omega arith
 positions-choice (e ∷ f ∷ es) = positions-alt (e ∷ f ∷ es)
 
--- of items as one
+-- the positions of items as one expression
 pub positions-sequence : (es : List Expression) → positions (sequence es) ≡ positions (cat es)
 positions-sequence [] = refl
 positions-sequence (e ∷ []) = omega arith

@@ -1,4 +1,5 @@
--- What readers of expressions share: bytes at places of a text, what was found, and what is said in other words.
+-- What readers of expressions share: bytes at places of a text, what was found, and what follows
+-- from what is said.
 use Rattle.std.proofs.Common.{◌≡◌, ℕ, ◌+◌, ◌<◌, max, Bool, true, false, not, ◌∷◌, ◌++◌, length, take, drop, Option, Some, None, Result, Ok, Err, IfOk, IfErr, MatchOption, MatchBool, is_some, slice_get, get_or, sym, ap, ◌∙◌, arith, take-add}
 use Rattle.std.proofs.Math.Seq.{take-append_seam}
 use Rattle.std.proofs.lemmas.List.{drop-drop, drop_more}
@@ -27,12 +28,12 @@ none_found A B C P None false e h f g = cc
 none_found A B C P (Some x) true e h f g = cc
 none_found A B C P (Some x) false e h f g = g x h
 
--- what is said of a result may be said in other words
+-- what follows from what is said of a result holds of it too
 pub ok_as : {T E : Type 0} (P Q : T → Type 0) (r : Result T E) → IfOk r P → ((x : T) → P x → Q x) → IfOk r Q
 ok_as P Q (Ok x) h f = f x h
 ok_as P Q (Err e) h f = tt
 
--- and so what is said of an error
+-- what follows from what is said of an error holds of it too
 pub err_as : {T E : Type 0} (P Q : E → Type 0) (r : Result T E) → IfErr r P → ((e : E) → P e → Q e) → IfErr r Q
 err_as P Q (Ok x) h f = tt
 err_as P Q (Err e) h f = f e h
@@ -55,7 +56,7 @@ byte_here text at b h e = slice_get-get_or text at 0 h ∙ ap Some e
 pub front_here : (text : Text) (at b : ℕ) → at < length text → get_or text at 0 ≡ b → drop at text ≡ b ∷ drop (at + 1) text
 front_here text at b h e = byte_at text at b (byte_here text at b h e)
 
--- what stands before the place behind some bytes ends with them
+-- the text before the place after some bytes ends with them
 pub take-after : (t : Text) (at : ℕ) (bytes r : Text) → drop at t ≡ bytes ++ r → take (at + length bytes) t ≡ take at t ++ bytes
 take-after t at bytes r e = take-add at (length bytes) t ∙ ap (λ x. take at t ++ x) (ap (take (length bytes)) e ∙ take-append_seam bytes r)
 
@@ -63,7 +64,7 @@ take-after t at bytes r e = take-add at (length bytes) t ∙ ap (λ x. take at t
 pub regrouped : (h k n : ℕ) → max h (max k n) ≡ max (max h k) n
 regrouped h k n = omega arith
 
--- what is said where memory did not run out may be said in other words
+-- what follows from what a refusal says of the text is said by it too
 pub refused_as : {P Q S : Type 0} {fault : PatternFault} → IsRefused P S fault → (P → Q) → IsRefused Q S fault
 refused_as (memory e) f = memory e
 refused_as (told h s) f = told (f h) s

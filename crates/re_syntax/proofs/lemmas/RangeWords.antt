@@ -9,7 +9,7 @@ use Rattle.re_syntax.specs.Bytes.{range}
 use Rattle.re_syntax.specs.Sets.{members, lowest_bits}
 use Rattle.re_syntax.proofs.lemmas.UnionsLaws.{same_test}
 
--- a test that fails on its second half
+-- a test that fails its second half
 fails_second : (x y : Bool) → y ≡ false → false ≡ (x && y)
 fails_second true y e = sym e
 fails_second false y e = refl

@@ -1,4 +1,4 @@
--- Basic expressions of the standard alone are spelled as there.
+-- Basic expressions of the standard alone spell the same here.
 use Rattle.std.proofs.Common.{◌≡◌, ℕ, List, ◌∷◌, ◌++◌, Option, refl, sym, ◌∙◌}
 use Rattle.re_syntax.specs.declared.syntax.Syntax.TheVariants.{Basic}
 use Rattle.re_syntax.specs.Bytes.{Text}
@@ -10,7 +10,7 @@ use Rattle.re_syntax.proofs.lemmas.BracketsUnique.{heads, tails, apart, bracket_
 use Rattle.re_syntax.proofs.lemmas.AtomFronts.{not_ordinary, never_backslash, undefined_apart}
 use Rattle.re_syntax.proofs.lemmas.StandardIntervals.{interval-kept}
 
--- Where the standard has a part, no `\|` stands.
+-- Where the standard has a part, there is no `\|`.
 
 end_no_bar : {t : Text} → StandardEnd t → (w : Text) → t ≡ 92 ∷ 124 ∷ w → ⊥
 end_no_bar standard_of_text w e = cc
@@ -37,7 +37,7 @@ items_no_bar (standard_leading is) s w e = apart 94 92 (heads e) refl
 items_no_bar (standard_trailing l) s w e = apart 36 92 (heads e) refl
 items_no_bar (standard_item i is) s w e = item_no_bar i w e
 
--- So each part is one here.
+-- So each part of the standard is one here.
 
 end-kept : {t : Text} → StandardEnd t → IsAtEnd t
 end-kept standard_of_text = of_text

@@ -1,4 +1,4 @@
--- Extended expressions of the standard alone are spelled as there, where no `{,` stands in them.
+-- Extended expressions of the standard alone spell the same here, where they have no `{,`.
 use Rattle.std.proofs.Common.{ℕ, Bool, List, [], ◌∷◌, ◌++◌, Option, codes, refl, sym, ap, ◌∙◌, append_assoc}
 use Rattle.re_syntax.specs.declared.syntax.Syntax.TheVariants.{Extended}
 use Rattle.re_syntax.specs.Bytes.{Text}
@@ -10,7 +10,7 @@ use Rattle.re_syntax.specs.Working.StandardExtended.{Duplication as StandardDupl
 use Rattle.re_syntax.proofs.lemmas.BracketRests.{IsBehind, behind_both, behind_byte, bracket_behind}
 use Rattle.re_syntax.proofs.lemmas.StandardIntervals.{interval-kept, no_interval-kept}
 
--- what is behind some bytes of a text without `{,` has none either
+-- what follows some bytes of a text without `{,` has none either
 lacks_behind : {t u : Text} → HasNoOpenComma t → IsBehind t u → HasNoOpenComma u
 lacks_behind lacks (w, e) front back f = lacks (w ++ front) back (e ∙ ap (λ y. w ++ y) f ∙ sym (append_assoc w front (codes "{," ++ back)))
 
@@ -44,7 +44,7 @@ mutual
   atom_behind (standard_ordinary b h k) = (b ∷ [], refl)
   atom_behind (standard_group bs) = behind_byte 40 (behind_both (branches_behind bs) (41 ∷ [], refl))
 
--- So each part is one here.
+-- So each part of the standard is one here.
 
 mutual
   branches-kept : {g : Bool} {h : ℕ} {t u : Text} {es : List Expression} → StandardBranches g h t u es → HasNoOpenComma t → Branches g h t u es

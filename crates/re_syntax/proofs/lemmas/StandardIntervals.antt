@@ -11,7 +11,7 @@ interval-kept (standard_exactly m h) = exactly m h
 interval-kept (standard_at_least m h) = at_least m h
 interval-kept (standard_between m n h k) = between m n h k
 
--- where none of them stands, and no comma behind a brace, no interval does
+-- where neither a comma nor an interval of the standard follows the brace, no interval does
 pub no_interval-kept : {u : Text} (b : ℕ) → HasNoOpenComma (b ∷ u) → b ≡ 123 → HasNoStandard (codes "}") u → HasNoInterval (codes "}") u
 no_interval-kept {u} b lacks brace h = record { none = λ v least most c. go c.inside least most c.form v c.whole }
   where

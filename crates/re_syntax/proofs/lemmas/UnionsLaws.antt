@@ -51,7 +51,7 @@ either_bit (suc (suc p)) q h k = absurd (omega arith)
 either_words : (a b i : ℕ) → nat_eq (bit_at (bit_or a b) i) 1 ≡ (nat_eq (bit_at a i) 1 || nat_eq (bit_at b i) 1)
 either_words a b i = rw (bit_at_or a b i) (either_bit (bit_at a i) (bit_at b i) (bit_at-lt a i) (bit_at-lt b i))
 
--- what holds of each word holds of the one that a byte chooses
+-- what holds of each word holds of the one that a byte picks
 chosen : (low p q r p' q' r' : Bool) → p ≡ (q || r) → p' ≡ (q' || r') →
     (if low then p else p') ≡ ((if low then q else q') || (if low then r else r'))
 chosen true p q r p' q' r' e f = e
@@ -61,11 +61,11 @@ chosen false p q r p' q' r' e f = f
 pub members-union : (s t : ByteSet) → ◌≡◌ {A = Bytes} (members (record { low = bit_or s.low t.low; high = bit_or s.high t.high })) (union (members s) (members t))
 members-union s t = fun_ext (λ b. chosen (nat_lt b 128) _ _ _ _ _ _ (either_words s.low t.low b) (either_words s.high t.high (b - 128)))
 
--- the bytes from the first on and below the last
+-- the bytes from the first up to the last, without the last
 abbrev pub from_below : ℕ → ℕ → Bytes
 from_below first last b = nat_le first b && nat_lt b last
 
--- below its first byte there is none
+-- the range that ends at its first byte is empty
 pub from_below-none : (first last : ℕ) → last ≤ first → ◌≡◌ {A = Bytes} nothing (from_below first last)
 from_below-none first last h = fun_ext (λ b. same_test false (from_below first last b) (λ e. absurd (false≢true e)) (λ e. out b e))
   where
@@ -90,7 +90,7 @@ from_below-more first last h = fun_ext (λ b. same_test (union (from_below first
         let high = ltb-true b (last + 1) both.1 in
         or_left _ _ (and_from _ _ both.0 (lt-ltb b last (omega arith)))
 
--- the whole range, once its last byte is in
+-- the whole range, once its last byte is added
 pub range-from_below : (first last : ℕ) → ◌≡◌ {A = Bytes} (from_below first (last + 1)) (range first last)
 range-from_below first last = fun_ext (λ b. same_test (from_below first (last + 1) b) (range first last b) (λ e. up b e) (λ e. down b e))
   where

@@ -2,7 +2,7 @@
 use Rattle.std.specs.Prelude.{◌≡◌, ℕ, ◌+◌, ◌≤◌, ◌++◌, length, drop}
 use Rattle.re_syntax.specs.Bytes.{Text}
 
--- the bytes stand there, from one place up to another
+-- the text has these bytes from one place up to another
 pub record IsAfter (bytes text : Text) (at behind : ℕ) : Type 0 where
   pub within : behind ≤ length text
   pub front : drop at text ≡ bytes ++ drop behind text

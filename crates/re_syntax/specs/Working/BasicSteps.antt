@@ -1,5 +1,5 @@
--- What each step of reading a basic expression says: which part of the grammar stands at a place of
--- the text, or that none does and where that shows.
+-- What each step of reading a basic expression says: which part of the grammar is at a place of the
+-- text, or that there is none and where that shows.
 use Rattle.std.specs.Prelude.{◌≡◌, ℕ, ◌<◌, ◌≤◌, max, [], ◌++◌, List, length, take, drop, codes}
 use Rattle.std.specs.Prelude.{Option}
 use Rattle.std.specs.Global.{Global}
@@ -16,22 +16,22 @@ use Rattle.re_syntax.specs.Basic.{ItemPlace, First, Later, Duplication, IsAtEnd,
 use Rattle.re_syntax.specs.Basic.{Item, Atom}
 use Rattle.re_syntax.specs.BasicFaults.{NeedsItem, HasNothingToRepeat, IsShownIn}
 
--- no duplication stands at the front
+-- the text begins with no duplication
 abbrev pub NoDuplication : Text → Type 0
 NoDuplication = HasNone Duplication
 
--- nothing at the front opens a duplication
+-- the text begins with nothing that opens a duplication
 pub record OpensNoDuplication (t : Text) : Type 0 where
   pub star : ¬ Begins (codes "*") t
   pub escaped : ¬ NeedsItem t
 
--- no duplication without numbers comes first
+-- the text begins with no duplication without numbers
 pub record HasNoSign (t : Text) : Type 0 where
   pub star : ¬ Begins (codes "*") t
   pub plus : ¬ Begins (codes "\\+") t
   pub question : ¬ Begins (codes "\\?") t
 
--- a duplication stands from one place up to another
+-- a duplication goes from one place up to another
 abbrev pub DuplicationStands : Text → ℕ → Counts → ℕ → Type 0
 DuplicationStands = HasOne Duplication
 
@@ -41,12 +41,12 @@ pub record HasBadInterval (text : Text) (at : ℕ) (fault : PatternFault) : Type
   pub none : NoDuplication (drop at text)
   pub shown : IsShownIn text fault
 
--- the last branch ends here: the text does, or the group
+-- the last branch ends here: the text or the group ends
 pub data IsAtLast : Text → Type 0 where
   text_ends : IsAtLast []
   group_ends : {t : Text} → IsAtLast (codes "\\)" ++ t)
 
--- an item may stand there: no end, and no anchor before one
+-- an item may be here: no end, and no anchor before one
 pub record HasItem (t : Text) : Type 0 where
   pub not_end : ¬ IsAtEnd t
   pub no_tail : (u : Text) → t ≡ codes "$" ++ u → ¬ IsAtEnd u
@@ -56,13 +56,13 @@ pub data HasNoItem : Text → Type 0 where
   at_end : {t : Text} → IsAtEnd t → HasNoItem t
   at_tail : {t u : Text} → t ≡ codes "$" ++ u → IsAtEnd u → HasNoItem t
 
--- at this place of its branch nothing else comes first than an item: no anchor that is first, and
--- after another item no duplication
+-- only an item may begin at this place of its branch: there is no anchor that is first, and after
+-- another item no duplication
 pub record MayBegin (p : ItemPlace) (t : Text) : Type 0 where
   pub no_lead : p ≡ First → ¬ Begins (codes "^") t
   pub no_duplication : p ≡ Later → OpensNoDuplication t
 
--- an atom stands from one place up to another, at most so high
+-- an atom goes from one place up to another, at most `levels` high
 pub record AtomStands (alloc : Option Global) (p : ItemPlace) (levels : ℕ) (text : Text) (at : ℕ)
     (piece : Piece) : Type 0 where
   pub forward : at < piece.behind
@@ -72,11 +72,11 @@ pub record AtomStands (alloc : Option Global) (p : ItemPlace) (levels : ℕ) (te
   pub is : IsTold alloc piece meaning
   pub stands : Atom p piece.height (drop at text) (drop piece.behind text) meaning
 
--- no atom stands there, or only a higher one
+-- no atom begins the text, or only a higher one
 pub record HasNoAtom (p : ItemPlace) (levels : ℕ) (t : Text) : Type 0 where
   pub none : (h : ℕ) (u : Text) (e : Expression) → Atom p h t u e → h ≤ levels → ⊥
 
--- the same of an item, behind which no duplication stands
+-- an item goes from one place up to another, at most `levels` high, and no duplication follows it
 pub record ItemStands (alloc : Option Global) (p : ItemPlace) (levels : ℕ) (text : Text) (at : ℕ)
     (piece : Piece) : Type 0 where
   pub forward : at < piece.behind
@@ -87,17 +87,17 @@ pub record ItemStands (alloc : Option Global) (p : ItemPlace) (levels : ℕ) (te
   pub is : IsTold alloc piece meaning
   pub stands : Item p piece.height (drop at text) (drop piece.behind text) meaning
 
--- no items of a branch stand there, or only higher ones
+-- no items of a branch begin the text, or only higher ones
 pub record HasNoItems (p : ItemPlace) (levels : ℕ) (t : Text) : Type 0 where
   pub none : (h : ℕ) (u : Text) (es : List Expression) → Items p h t u es → IsAtEnd u → h ≤ levels →
       ⊥
 
--- a `$` that is last stands from one place up to another
+-- a `$` that is last in its branch goes from one place up to another
 pub record IsBehindTail (text : Text) (at behind : ℕ) : Type 0 where
   pub stands : IsAfter (codes "$") text at behind
   pub last : IsAtEnd (drop behind text)
 
--- no `$` that is last comes first
+-- the text begins with no `$` that is last
 pub record HasNoTail (t : Text) : Type 0 where
   pub none : (u : Text) → t ≡ codes "$" ++ u → ¬ IsAtEnd u
 
@@ -118,7 +118,7 @@ pub record SoFar (alloc : Option Global) (levels : ℕ) (text : Text) (from : �
   pub back : HasNoItems place levels (drop items.behind text) →
       HasNoItems First levels (drop from text)
 
--- the items, and behind them the end of their branch
+-- the items, and after them the end of their branch
 pub record IsEnded (alloc : Option Global) (text : Text) (old new : Pieces) : Type 0 where
   pub forward : old.behind ≤ new.behind
   pub within : new.behind ≤ length text
@@ -128,7 +128,7 @@ pub record IsEnded (alloc : Option Global) (text : Text) (old new : Pieces) : Ty
   pub stands : (p : ItemPlace) → Items p 0 (drop old.behind text) (drop new.behind text) last
   pub means : (es : List Expression) → AreTold alloc old es → AreTold alloc new (es ++ last)
 
--- the items of a branch stand from one place up to its end, at most so high
+-- the items of a branch go from one place up to the branch's end, at most `levels` high
 pub record BranchStands (alloc : Option Global) (levels : ℕ) (text : Text) (from : ℕ)
     (piece : Piece) : Type 0 where
   pub forward : from ≤ piece.behind
@@ -139,12 +139,12 @@ pub record BranchStands (alloc : Option Global) (levels : ℕ) (text : Text) (fr
   pub stands : Items First piece.height (drop from text) (drop piece.behind text) members
   pub is : IsTold alloc piece (sequence members)
 
--- no branches of an expression stand there, or only higher ones
+-- no branches of an expression begin the text, or only higher ones
 pub record HasNoBranches (levels : ℕ) (t : Text) : Type 0 where
   pub none : (h : ℕ) (u : Text) (es : List Expression) → Branches h t u es → IsAtLast u →
       h ≤ levels → ⊥
 
--- the branches of an expression stand from one place up to its end, at most so high
+-- the branches of an expression go from one place up to its end, at most `levels` high
 pub record BranchesStand (alloc : Option Global) (levels : ℕ) (text : Text) (from : ℕ)
     (branches : Pieces) : Type 0 where
   pub forward : from ≤ branches.behind

@@ -1,4 +1,4 @@
--- How many positions the expression of a text has, its intervals written out.
+-- The number of positions of a text's expression, its intervals written out.
 use Rattle.std.specs.Prelude.{◌≡◌, ℕ, ◌-◌, ◌^◌, min}
 use Rattle.re_syntax.specs.declared.syntax.Syntax.{Syntax}
 use Rattle.re_syntax.specs.Bytes.{Text}
@@ -6,11 +6,11 @@ use Rattle.re_syntax.specs.Expression.{Expression}
 use Rattle.re_syntax.specs.Holds.{positions}
 use Rattle.re_syntax.specs.Spelled.{IsSpelled}
 
--- a number as a word has it: the greatest word where it is greater
+-- a number as a machine word keeps it: the greatest word where the number is greater
 abbrev pub up_to_word : ℕ → ℕ
 up_to_word n = min n (2 ^ 64 - 1)
 
--- so many positions has the expression that the text spells
+-- the expression that the text spells has this number of positions
 pub record HasPositions (syntax : Syntax) (text : Text) (count : ℕ) : Type 0 where
   pub expression : Expression
   pub spelled : IsSpelled syntax text expression

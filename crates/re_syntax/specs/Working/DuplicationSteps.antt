@@ -1,14 +1,14 @@
--- Duplications at a place of a text; which texts are duplications is a syntax's own.
+-- Duplications at a place of a text. Each syntax says which texts are duplications.
 use Rattle.std.specs.Prelude.{◌≡◌, ℕ, ◌≤◌, ◌++◌, length, drop, Option}
 use Rattle.re_syntax.specs.declared.interval.Counts.{Counts}
 use Rattle.re_syntax.specs.Bytes.{Text}
 
--- no duplication stands at the front
+-- the text begins with no duplication
 pub record HasNone (IsDuplication : Text → ℕ → Option ℕ → Type 0) (t : Text) : Type 0 where
   pub none : (d : Text) (least : ℕ) (most : Option ℕ) (u : Text) → IsDuplication d least most →
       t ≡ d ++ u → ⊥
 
--- a duplication stands from one place up to another
+-- a duplication goes from one place up to another
 pub record HasOne (IsDuplication : Text → ℕ → Option ℕ → Type 0) (text : Text) (at : ℕ)
     (counts : Counts) (behind : ℕ) : Type 0 where
   pub within : behind ≤ length text

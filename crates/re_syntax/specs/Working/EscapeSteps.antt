@@ -1,4 +1,4 @@
--- What reading a backslash and the byte behind it says.
+-- What reading a backslash and the byte after it says.
 use Rattle.std.specs.Prelude.{◌≡◌, ℕ, ◌+◌, ◌≤◌, ◌∷◌, ◌++◌, length, drop, IsTrue, codes}
 use Rattle.re_syntax.specs.declared.fault.FaultKind.{FaultKind}
 use Rattle.re_syntax.specs.declared.fault.FaultKind.TheVariants.{TrailingBackslash}

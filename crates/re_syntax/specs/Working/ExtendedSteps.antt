@@ -1,5 +1,5 @@
--- What each step of reading an extended expression says: which part of the grammar stands at a
--- place of the text, or that none does and where that shows.
+-- What each step of reading an extended expression says: which part of the grammar is at a place of
+-- the text, or that there is none and where that shows.
 use Rattle.std.specs.Prelude.{◌≡◌, ℕ, ◌<◌, ◌≤◌, max, Bool, true, false, ◌&&◌, ◌||◌, nat_eq, [], ◌∷◌}
 use Rattle.std.specs.Prelude.{List, length, take, drop, IsTrue, codes, Option}
 use Rattle.std.specs.Global.{Global}
@@ -15,29 +15,29 @@ use Rattle.re_syntax.specs.Expression.{Expression, sequence}
 use Rattle.re_syntax.specs.Extended.{Duplication, Branches, Items, Item, Atom}
 use Rattle.re_syntax.specs.ExtendedFaults.{OpensDuplication, HasNothingToRepeat, IsShownIn}
 
--- a bar, or the closing of a group that stands around
+-- a bar, or the closing of the group around
 abbrev pub is_stop : Bool → ℕ → Bool
 is_stop in_group b = nat_eq b 124 || (in_group && nat_eq b 41)
 
--- where a branch ends: at the text's end, at a bar, at the closing of the group around it
+-- whether a branch ends here: at the text's end, at a bar, or at the closing of the group around it
 abbrev pub stops : Bool → Text → Bool
 stops g [] = true
 stops g (b ∷ t) = is_stop g b
 
--- where the last branch does
+-- whether the last branch ends here: at the text's end, or at the closing of the group around it
 abbrev pub ends : Bool → Text → Bool
 ends g [] = true
 ends g (b ∷ t) = g && nat_eq b 41
 
--- no duplication stands at the front
+-- the text begins with no duplication
 abbrev pub NoDuplication : Text → Type 0
 NoDuplication = HasNone Duplication
 
--- a byte that is no duplication alone
+-- a byte that is not a duplication by itself
 abbrev pub IsNoSign : ℕ → Type 0
 IsNoSign b = ¬ IsTrue (is_in (codes "*+?") b)
 
--- a duplication stands from one place up to another
+-- a duplication goes from one place up to another
 abbrev pub DuplicationStands : Text → ℕ → Counts → ℕ → Type 0
 DuplicationStands = HasOne Duplication
 
@@ -47,14 +47,13 @@ pub record HasBadInterval (text : Text) (at : ℕ) (fault : PatternFault) : Type
   pub none : NoDuplication (drop at text)
   pub shown : IsShownIn text fault
 
--- at this place an atom may stand: the branch goes on, and neither an anchor nor a duplication
--- comes first
+-- an atom may begin here: the branch goes on, and neither an anchor nor a duplication is first
 pub record MayBegin (in_group : Bool) (t : Text) : Type 0 where
   pub goes_on : stops in_group t ≡ false
   pub no_lead : ¬ Begins (codes "^") t
   pub no_duplication : ¬ OpensDuplication t
 
--- an atom stands from one place up to another, at most so high
+-- an atom goes from one place up to another, at most `levels` high
 pub record AtomStands (alloc : Option Global) (in_group : Bool) (levels : ℕ) (text : Text)
     (at : ℕ) (piece : Piece) : Type 0 where
   pub forward : at < piece.behind
@@ -64,11 +63,11 @@ pub record AtomStands (alloc : Option Global) (in_group : Bool) (levels : ℕ) (
   pub is : IsTold alloc piece meaning
   pub stands : Atom in_group piece.height (drop at text) (drop piece.behind text) meaning
 
--- no atom stands there, or only a higher one
+-- no atom begins the text, or only a higher one
 pub record HasNoAtom (in_group : Bool) (levels : ℕ) (t : Text) : Type 0 where
   pub none : (h : ℕ) (u : Text) (e : Expression) → Atom in_group h t u e → h ≤ levels → ⊥
 
--- the same of an item, behind which no duplication stands
+-- an item goes from one place up to another, at most `levels` high, and no duplication follows it
 pub record ItemStands (alloc : Option Global) (in_group : Bool) (levels : ℕ) (text : Text)
     (at : ℕ) (piece : Piece) : Type 0 where
   pub forward : at < piece.behind
@@ -79,7 +78,7 @@ pub record ItemStands (alloc : Option Global) (in_group : Bool) (levels : ℕ) (
   pub is : IsTold alloc piece meaning
   pub stands : Item in_group piece.height (drop at text) (drop piece.behind text) meaning
 
--- no items of a branch stand there, or only higher ones
+-- no items of a branch begin the text, or only higher ones
 pub record HasNoItems (in_group : Bool) (levels : ℕ) (t : Text) : Type 0 where
   pub none : (h : ℕ) (u : Text) (es : List Expression) → Items in_group h t u es →
       stops in_group u ≡ true → h ≤ levels → ⊥
@@ -101,7 +100,7 @@ pub record IsNext (alloc : Option Global) (in_group : Bool) (levels : ℕ) (text
   pub back : HasNoItems in_group levels (drop piece.behind text) →
       HasNoItems in_group levels (drop at text)
 
--- the items of a branch stand from one place up to its end, at most so high
+-- the items of a branch go from one place up to the branch's end, at most `levels` high
 pub record BranchStands (alloc : Option Global) (in_group : Bool) (levels : ℕ) (text : Text)
     (from : ℕ) (piece : Piece) : Type 0 where
   pub forward : from ≤ piece.behind
@@ -112,12 +111,12 @@ pub record BranchStands (alloc : Option Global) (in_group : Bool) (levels : ℕ)
   pub stands : Items in_group piece.height (drop from text) (drop piece.behind text) members
   pub is : IsTold alloc piece (sequence members)
 
--- no branches of an expression stand there, or only higher ones
+-- no branches of an expression begin the text, or only higher ones
 pub record HasNoBranches (in_group : Bool) (levels : ℕ) (t : Text) : Type 0 where
   pub none : (h : ℕ) (u : Text) (es : List Expression) → Branches in_group h t u es →
       ends in_group u ≡ true → h ≤ levels → ⊥
 
--- the branches of an expression stand from one place up to its end, at most so high
+-- the branches of an expression go from one place up to its end, at most `levels` high
 pub record BranchesStand (alloc : Option Global) (in_group : Bool) (levels : ℕ) (text : Text)
     (from : ℕ) (branches : Pieces) : Type 0 where
   pub forward : from ≤ branches.behind

@@ -10,17 +10,17 @@ use Rattle.re_syntax.specs.Intervals.{IsNumber, value, ClosedInterval, capped}
 abbrev pub AreDigits : Text → Type 0
 AreDigits t = IsTrue (list_all (in_class Digit) t)
 
--- no digit comes first
+-- the text begins with no digit
 abbrev pub HasNoDigit : Text → Type 0
 HasNoDigit t = (b : ℕ) (u : Text) → t ≡ b ∷ u → ¬ IsTrue (in_class Digit b)
 
--- so many digits come first, and no more
+-- the text begins with n digits and no more
 pub record IsDigitCount (t : Text) (n : ℕ) : Type 0 where
   pub within : n ≤ length t
   pub digits : AreDigits (take n t)
   pub stops : HasNoDigit (drop n t)
 
--- a number stands from one place up to another, and no digit follows it
+-- a number goes from one place up to another, and no digit follows it
 pub record NumberStands (text : Text) (at count behind : ℕ) : Type 0 where
   pub within : behind ≤ length text
   pub digits : Text
@@ -29,12 +29,12 @@ pub record NumberStands (text : Text) (at count behind : ℕ) : Type 0 where
   pub count_is : count ≡ capped (value digits)
   pub stops : HasNoDigit (drop behind text)
 
--- no number and what closes it stand there
+-- the text does not begin with a number and what closes it
 pub record HasNoGreatest (close t : Text) : Type 0 where
   pub none : (n u : Text) → IsNumber n → t ≡ n ++ (close ++ u) → ⊥
 
--- a number stands from one place up to another, and what closes it is the last of it; it is the
--- greatest count, and the least is none
+-- a number and what closes it go from one place up to another; the number is the greatest count,
+-- and the least is 0
 pub record GreatestStands (close text : Text) (at : ℕ) (counts : Counts) (behind : ℕ) : Type 0 where
   pub within : behind ≤ length text
   pub digits : Text
@@ -43,7 +43,7 @@ pub record GreatestStands (close text : Text) (at : ℕ) (counts : Counts) (behi
   pub least_is : counts.least ≡ 0
   pub most_is : counts.most ≡ Some (capped (value digits))
 
--- an interval stands from one place up to another, and what closes it is the last of it
+-- an interval and what closes it go from one place up to another
 pub record IntervalStands (close text : Text) (at : ℕ) (counts : Counts) (behind : ℕ) : Type 0 where
   pub within : behind ≤ length text
   pub least : ℕ

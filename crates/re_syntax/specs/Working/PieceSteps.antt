@@ -1,4 +1,4 @@
--- What is said of parts of an expression that were read, in basic and in extended expressions.
+-- What the parts of an expression that were read say, in basic and in extended expressions.
 use Rattle.std.specs.Prelude.{◌≡◌, ℕ, ◌+◌, ◌-◌, ◌^◌, max, min, List, [], ◌∷◌, ◌++◌, map, nat_eq}
 use Rattle.std.specs.Prelude.{if◌then◌else◌, Option, None, MatchOption, Vec}
 use Rattle.std.specs.Global.{Global}
@@ -27,17 +27,17 @@ meant_bytes b = if nat_eq b 46 then any_but_nul else only b
 abbrev pub Keeps : Option Global → Option Tree → Expression → Type 0
 Keeps alloc tree e = MatchOption tree (alloc ≡ None) (λ kept. expression_of kept ≡ e)
 
--- those of several
+-- the trees of several expressions, or none where no allocator is given for them
 abbrev pub KeepsAll : Option Global → Option (Vec Tree Global) → List Expression → Type 0
 KeepsAll alloc trees es =
     MatchOption trees (alloc ≡ None) (λ kept. map expression_of kept.items ≡ es)
 
--- what the piece tells of the expression that it means
+-- the piece has the tree of the expression, where trees are kept, and its number of positions
 pub record IsTold (alloc : Option Global) (piece : Piece) (e : Expression) : Type 0 where
   pub tree : Keeps alloc piece.tree e
   pub count : piece.positions ≡ up_to_word (positions e)
 
--- what the pieces tell of theirs
+-- the pieces have the trees of the expressions, where trees are kept, and their number of positions
 pub record AreTold (alloc : Option Global) (pieces : Pieces) (es : List Expression) : Type 0 where
   pub trees : KeepsAll alloc pieces.trees es
   pub count : pieces.positions ≡ up_to_word (positions (cat es))

@@ -1,6 +1,6 @@
--- Basic regular expressions of the standard alone (XBD 9.3), as in Basic without branches, `\+`,
--- `\?` and the interval that has no least number. The law that what the standard defines is read as
--- before is said in them; no definition rests on this.
+-- Basic regular expressions of the standard alone (XBD 9.3): as in Basic, without branches, `\+`,
+-- `\?` and the interval that has no least number. The law that what the standard defines keeps its
+-- meaning uses them; no definition rests on this.
 use Rattle.std.specs.Prelude.{◌≡◌, ℕ, suc, max, ◌≤◌, List, [], ◌∷◌, ◌++◌, Option, None, IsTrue}
 use Rattle.std.specs.Prelude.{codes}
 use Rattle.re_syntax.specs.Bytes.{Text, any_but_nul}
@@ -18,7 +18,7 @@ pub data Duplication : Text → ℕ → Option ℕ → Type 0 where
   interval : {t : Text} {least : ℕ} {most : Option ℕ} → Interval t least most →
       IsAllowed least most → Duplication (codes "\\{" ++ t ++ codes "\\}") least most
 
--- the expression ends here: the text does, or the group
+-- the expression ends here: the text or the group ends
 pub data IsAtEnd : Text → Type 0 where
   of_text : IsAtEnd []
   of_group : {t : Text} → IsAtEnd (codes "\\)" ++ t)

@@ -1,5 +1,5 @@
--- Extended regular expressions of the standard alone (XBD 9.4), as in Extended without the interval
--- that has no least number. The law that what the standard defines is read as before is said in
+-- Extended regular expressions of the standard alone (XBD 9.4): as in Extended, without the
+-- interval that has no least number. The law that what the standard defines keeps its meaning uses
 -- them; no definition rests on this.
 use Rattle.std.specs.Prelude.{◌≡◌, ℕ, suc, max, ◌≤◌, Bool, true, false, List, [], ◌∷◌, ◌++◌, Option}
 use Rattle.std.specs.Prelude.{Some, None, IsTrue, codes}
@@ -22,7 +22,7 @@ pub data Duplication : Text → ℕ → Option ℕ → Type 0 where
       IsAllowed least most → Duplication (codes "{" ++ t ++ codes "}") least most
 
 mutual
-  -- branches parted by bars, each a sequence (XBD 9.4.7)
+  -- branches separated by bars, each a sequence (XBD 9.4.7)
   pub data Branches : Bool → ℕ → Text → Text → List Expression → Type 0 where
     last : {g : Bool} {h : ℕ} {t u : Text} {es : List Expression} → Items g h t u es →
         Branches g h t u (sequence es ∷ [])
@@ -58,7 +58,7 @@ mutual
     group : {g : Bool} {h : ℕ} {t u : Text} {es : List Expression} →
         Branches true h t (codes ")" ++ u) es → Atom g (suc h) (codes "(" ++ t) u (choice es)
 
--- the text is such an expression, which stands inside no group, and not too deep
+-- the text is such an expression, in no group, and not too deep
 pub data IsStandardExtended : Text → Expression → Type 0 where
   as_extended : {h : ℕ} {t : Text} {es : List Expression} → Branches false h t [] es →
       h ≤ most_levels → IsStandardExtended t (choice es)

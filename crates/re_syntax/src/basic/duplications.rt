@@ -8,7 +8,7 @@ use crate::ahead::after;
 use crate::fault::{FaultKind, PatternFault};
 use crate::interval::{Counts, counts_fault, read_interval};
 
-/// The duplication without numbers that stands at a place, if one does, and the place behind it.
+/// The duplication without numbers at a place, if there is one, and the place after it.
 fn read_sign(text: &[u8], at: usize) -> Option<(Counts, usize)>
     requires { at ≤ length text.now }
     ensures { MatchOption result (HasNoSign (drop at text.now))
@@ -27,7 +27,7 @@ fn read_sign(text: &[u8], at: usize) -> Option<(Counts, usize)>
     Some((Counts { least, most }, behind))
 }
 
-/// The duplication that stands at a place of the text, if one does, and the place behind it.
+/// The duplication at a place of the text, if there is one, and the place after it.
 pub fn read_duplication(text: &[u8], at: usize) -> Result<Option<(Counts, usize)>, PatternFault>
     requires { at ≤ length text.now }
     ensures read { IfOk result (λ found. MatchOption found (OpensNoDuplication (drop at text.now))
@@ -52,7 +52,7 @@ pub fn read_duplication(text: &[u8], at: usize) -> Result<Option<(Counts, usize)
     }
 }
 
-/// Whether a duplication stands at a place that is never a byte of its own: `\{`, `\+` or `\?`.
+/// Whether a duplication begins at a place that never stands for its own bytes: `\{`, `\+` or `\?`.
 pub fn needs_item(text: &[u8], at: usize) -> bool
     requires { at ≤ length text.now }
     ensures { MatchBool result (NeedsItem (drop at text.now)) (¬ NeedsItem (drop at text.now)) }

@@ -1,4 +1,4 @@
-use Rattle.grep_cmd.specs.Texts.{usage}
+use Rattle.grep_utility.specs.Texts.{usage}
 use Rattle.grep.proofs.ending.write_usage.Goals as goal
 
 pub returns : goal.returns

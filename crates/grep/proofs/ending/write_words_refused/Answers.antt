@@ -3,7 +3,7 @@ use Rattle.std.proofs.lemmas.Result.{err_from_is_err_and}
 use Rattle.grep_core.specs.Output.{written}
 use Rattle.grep_core.specs.Row.{output_line}
 use Rattle.grep_core.proofs.lemmas.RowLemmas.{stops_early, writes_last}
-use Rattle.grep_cmd.specs.Texts.{usage}
+use Rattle.grep_utility.specs.Texts.{usage}
 use Rattle.grep.specs.Exit.{words_refused}
 use Rattle.grep.proofs.ending.write_words_refused.Goals as goal
 

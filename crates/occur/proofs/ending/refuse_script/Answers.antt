@@ -1,4 +1,4 @@
-use Rattle.grep_cmd.proofs.lemmas.TellingLemmas.{tells_line}
+use Rattle.grep_utility.proofs.lemmas.TellingLemmas.{tells_line}
 use Rattle.occur.proofs.ending.refuse_script.Goals as goal
 
 pub returns-clause-told : goal.returns-clause-told

@@ -1,4 +1,4 @@
-use Rattle.grep_cmd.proofs.lemmas.TellingLemmas.{tells_lines}
+use Rattle.grep_utility.proofs.lemmas.TellingLemmas.{tells_lines}
 use Rattle.occur.proofs.ending.refuse_words.Goals as goal
 
 pub returns-clause-told : goal.returns-clause-told

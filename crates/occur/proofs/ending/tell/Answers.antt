@@ -1,4 +1,4 @@
-use Rattle.grep_cmd.proofs.lemmas.TellingLemmas.{tells_line}
+use Rattle.grep_utility.proofs.lemmas.TellingLemmas.{tells_line}
 use Rattle.occur.proofs.ending.tell.Goals as goal
 
 pub returns : goal.returns

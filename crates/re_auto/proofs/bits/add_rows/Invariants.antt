@@ -4,7 +4,7 @@ use Rattle.re_auto.specs.Working.Bits.{Has}
 use Rattle.re_auto.specs.Working.Bits.{row_of}
 use Rattle.re_auto.proofs.bits.add_rows.Given as goal
 
--- what is added already and what is left to add make up the whole
+-- what is already added and what is left to add are together the whole
 abbrev pub invariant-words : goal.invariant-words
 invariant-words l =
     (length l.into ≡ length l.fn.into)

@@ -56,7 +56,8 @@ impl Automaton {
         self.with_followers(first, from) & bits::only_word(self.taking(byte))
     }
 
-    // The one word of the positions that a stretch of the mode can begin with at such a place.
+    // The one word of the positions that a stretch of the mode can begin with at the line's first
+    // place, or at any other.
     #[inline(always)]
     fn first_word(&self, mode: Mode, at_begin: bool) -> u64
         requires { HasOneWord (expression_of self.now) }
@@ -70,7 +71,7 @@ impl Automaton {
         bits::only_word(self.beginning(at_begin))
     }
 
-    // The word with the positions that can come directly after those of `from`.
+    // The word of the positions that can come directly after those of `from`.
     #[inline(always)]
     fn with_followers(&self, word: u64, from: u64) -> u64
         requires one { HasOneWord (expression_of self.now) }

@@ -1,4 +1,4 @@
-//! Giving starts to positions, each the least that is given to it.
+//! Giving starts to positions: each keeps the least that it is given.
 ghost use Rattle.std.specs.Prelude.{◌≡◌, ℕ, ◌+◌, ◌*◌, ◌<◌, ◌≤◌, ◌↔◌, ◌⊎◌, length, slice_index};
 ghost use Rattle.std.specs.Int.{bit_at};
 ghost use Rattle.re_syntax.specs.Expression.{expression_of};
@@ -15,7 +15,8 @@ use crate::step::automaton::Automaton;
 use crate::step::starts::Starts;
 
 impl Starts {
-    /// Carries over what follows the positions of `from`, as far as `taking` has it.
+    /// Carries the starts of `from` over to the positions that follow its positions and are in
+    /// `taking`.
     pub(super) fn carry(&mut self, automaton: &Automaton, from: &Starts, taking: &[u64])
         requires from { IsMadeForStarts (expression_of automaton.now) from.now }
         requires size { length self.old.held.items ≡
@@ -53,8 +54,7 @@ impl Starts {
         }
     }
 
-    /// Gives `place` to the positions that a stretch can begin with there, as far as `taking` has
-    /// them.
+    /// Gives `place` to the positions that a stretch can begin with there and that are in `taking`.
     pub(super) fn begin(&mut self, automaton: &Automaton, mode: Mode, place: usize, taking: &[u64])
         requires size { length self.old.held.items ≡
             words_for (positions (expression_of automaton.now)) }
@@ -72,7 +72,7 @@ impl Starts {
         }
     }
 
-    // Gives `start` to the positions that both rows have, where they carry no lesser one.
+    // Gives `start` to the positions that are in both rows, where they carry no lesser one.
     #[inline(always)]
     fn lower_row(&mut self, row: &[u64], taking: &[u64], start: usize)
         requires row { length row.now ≡ length self.old.held.items }
@@ -88,7 +88,7 @@ impl Starts {
         }
     }
 
-    // The same for the positions of one word, the one at `k`.
+    // The same for the positions of the word at `k`.
     #[inline(always)]
     fn lower_word(&mut self, k: usize, word: u64, start: usize)
         requires within { k < length self.old.held.items }

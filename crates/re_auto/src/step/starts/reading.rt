@@ -23,7 +23,7 @@ impl Starts {
         least
     }
 
-    // The lesser of `least` and the least start at the positions of one word, the one at `k`.
+    // The lesser of `least` and the least start at the positions of the word at `k`.
     #[inline(always)]
     fn least_of_word(&self, least: Option<usize>, k: usize, word: u64) -> Option<usize>
         requires { (b : ℕ) → b < 64 → bit_at word b ≡ 1 → Has self.now.held.items (k * 64 + b) }
@@ -41,7 +41,7 @@ impl Starts {
     }
 }
 
-// The lesser of the two, where there are two.
+// The lesser of the two, or `start` where `least` is `None`.
 #[inline(always)]
 fn lesser(least: Option<usize>, start: usize) -> usize
     ensures { (m : ℕ) → (result ≤ m) ↔ (AtMost least m ⊎ (start ≤ m)) }

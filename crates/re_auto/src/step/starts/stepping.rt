@@ -1,4 +1,4 @@
-//! Least starts stepped over a line one byte at a time.
+//! Steps of least starts over a line, one byte at a time.
 ghost use Rattle.std.specs.Prelude.{◌≡◌, ℕ, suc, ◌-◌, ◌^◌, ◌<◌, ◌≤◌, ◌↔◌, Some, IsTrue, IfOk};
 ghost use Rattle.std.specs.Prelude.{IfErr, slice_get};
 ghost use Rattle.re_syntax.specs.Bytes.{Text};
@@ -20,7 +20,8 @@ use crate::step::starts::Starts;
 use std::alloc::Global;
 
 impl Starts {
-    /// No starts, for this automaton. The only call that takes memory; its one error is `Memory`.
+    /// Starts without any, for this automaton. Only this call allocates memory, and its only error
+    /// is `Memory`.
     pub fn blank(alloc: Global, automaton: &Automaton) -> Result<Starts, BuildFault>
         ensures made { IfOk result (IsMadeForStarts (expression_of automaton.now)) }
         ensures refused { IfErr result (λ fault. fault ≡ Memory) }
@@ -38,8 +39,8 @@ impl Starts {
         }
     }
 
-    /// Sets it to none at place `from` of a line: the stretches that begin there or later are to be
-    /// carried.
+    /// Removes all starts and sets the place to `from`: the stretches that begin there or later are
+    /// carried from now on.
     pub fn start(&mut self, from: usize)
         ensures made { (e : Expression) → IsMadeForStarts e self.old → IsMadeForStarts e self.new }
         ensures place { place_of self.new ≡ from }
@@ -50,7 +51,8 @@ impl Starts {
         self.place = from;
     }
 
-    /// Makes these starts those, without memory. Both were made for the same automaton.
+    /// Makes these starts equal to `from`, without allocating memory. Both were made for the same
+    /// automaton.
     pub fn copy_from(&mut self, from: &Starts)
         requires { AreOfOneSize self.old from.now }
         ensures { AreSame self.new from.now }
@@ -60,7 +62,7 @@ impl Starts {
         self.starts.copy_from_slice(&from.starts);
     }
 
-    /// Sets the one to what this becomes by one more byte, which counts as one step.
+    /// Sets `into` to what these starts become by one more byte, which counts as one step.
     pub fn advance(
         &self,
         automaton: &Automaton,
@@ -88,8 +90,8 @@ impl Starts {
         meter.add_built(1);
     }
 
-    /// The least start of a matched stretch that is not empty and ends here; `at_end` says that the
-    /// place is the line's last. `None` where there is no such stretch.
+    /// The least start of a matched stretch that is not empty and ends here, or `None` where there
+    /// is no such stretch. `at_end` says that the place is the line's last.
     pub fn accepts(&self, automaton: &Automaton, at_end: bool) -> Option<usize>
         requires made { IsMadeForStarts (expression_of automaton.now) self.now }
         ensures { (mode : Mode) (from : ℕ) (line : Text) (j : ℕ) →
@@ -100,7 +102,7 @@ impl Starts {
         self.least_among(automaton.ending(at_end))
     }
 
-    /// Whether each start that is still carried is behind `start`. Then no matched stretch that
+    /// Whether each start that is still carried is after `start`. Then no matched stretch that
     /// begins at `start` or before ends here or later, and the pass may stop.
     pub fn is_spent(&self, start: usize) -> bool
         ensures spent { IsTrue result ↔ IsSpent (least_of self.now) start }

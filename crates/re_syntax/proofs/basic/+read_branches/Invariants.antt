@@ -4,7 +4,7 @@ use Rattle.re_syntax.proofs.lemmas.BasicItems.{ItemSoFar}
 use Rattle.re_syntax.proofs.lemmas.BasicBranches.{BranchesSoFar}
 use Rattle.re_syntax.proofs.basic.+read_branches.Given as goal
 
--- each call is of a later one of these six, or has a level less
+-- each call is of a later one of these six functions, or has one level less
 abbrev pub decreases-read_branches : goal.decreases-read_branches
 decreases-read_branches l = 6 * l.levels + 5
 

@@ -4,7 +4,7 @@ use Rattle.re_syntax.specs.Bytes.{Begins, class_name}
 use Rattle.re_syntax.specs.Working.Cursors.{left}
 use Rattle.re_syntax.proofs.bracket.take_class.Given as goal
 
--- the cursor stays, and no name of a class that was tried comes next
+-- the cursor has not moved, and no name of a class that was tried comes next
 abbrev pub invariant-loop-class : goal.invariant-loop-class
 invariant-loop-class l =
     (l.cursor ≡ l.fn.cursor) × ((k : ℕ) → k < l.class-index → ¬ Begins (class_name (get_or l.class-items k Upper) ++ codes ":]") (left l.fn.cursor))

@@ -3,7 +3,7 @@ use Rattle.re_syntax.proofs.lemmas.ExtendedItems.{ItemSoFar, SoFar}
 use Rattle.re_syntax.proofs.lemmas.ExtendedBranches.{BranchesSoFar}
 use Rattle.re_syntax.proofs.extended.+read_branches.Given as goal
 
--- each call is of a later one of these six, or has a level less
+-- each call is of a later one of these six functions, or has one level less
 abbrev pub decreases-read_branches : goal.decreases-read_branches
 decreases-read_branches l = 6 * l.levels + 5
 

@@ -3,7 +3,7 @@ use Rattle.re_syntax.specs.Expression.{byte, sequence, expression_of}
 use Rattle.re_syntax.proofs.lemmas.SpelledUnique.{fixed_spelled, fixed_only}
 use Rattle.re_syntax.proofs.fixed.read_fixed.Goals as goal
 
--- the tree is of the sequence of all bytes
+-- the tree means the sequence of all bytes
 whole : (c : goal.After-sequence_of) → expression_of c.sequence_of.result ≡ sequence (map byte c.args.text.now)
 whole c =
     let all : take c.loop-b.b-index c.args.text.now ≡ c.args.text.now = take_all _ _ (omega arith) in

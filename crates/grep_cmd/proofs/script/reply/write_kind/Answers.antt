@@ -2,7 +2,7 @@ use Rattle.std.proofs.Common.{codes, subst}
 use Rattle.std.proofs.lemmas.Result.{err_from_is_err_and}
 use Rattle.grep_core.specs.Written.{Writes}
 use Rattle.grep_core.proofs.lemmas.RowLemmas.{stops_early, writes_last}
-use Rattle.grep_cmd.specs.Texts.{kind_name}
+use Rattle.grep_utility.specs.Texts.{kind_name}
 use Rattle.grep_cmd.proofs.script.reply.write_kind.Goals as goal
 
 pub returns-in_err-push_all : goal.returns-in_err-push_all

@@ -1,7 +1,7 @@
 use Rattle.std.proofs.Common.{◌++◌, codes}
 use Rattle.std.proofs.lemmas.Result.{err_from_is_err_and}
 use Rattle.std.specs.Fmt.{decimal}
-use Rattle.grep_cmd.specs.Texts.{kind_name}
+use Rattle.grep_utility.specs.Texts.{kind_name}
 use Rattle.grep_core.proofs.lemmas.RowLemmas.{stops_early, writes_last}
 use Rattle.grep_cmd.proofs.script.reply.write_place_and_kind.Goals as goal
 

@@ -4,7 +4,7 @@ use Rattle.memchr.proofs.lemmas.PlaceLemmas.{places_between-none, places_from-ap
 use Rattle.re_syntax.specs.Lines.{newline}
 use Rattle.grep_core.proofs.input.newlines.count_newlines.Goals as goal
 
--- the places up to one and those behind it
+-- the places up to one and those after it
 joined : (test : ℕ → Bool) (hay : List ℕ) (i m : ℕ) → length (places_between test hay 0 (i + m)) ≡ length (places_between test hay 0 i) + length (places_between test hay i (i + m))
 joined test hay i m =
     let all : i + m - 0 ≡ i + m = omega arith in

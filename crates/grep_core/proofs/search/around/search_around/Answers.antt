@@ -12,7 +12,7 @@ use Rattle.grep_core.proofs.lemmas.WaitingRows.{if_kept}
 use Rattle.grep_core.proofs.lemmas.AroundSearch.{followed_none, followed_passed, passed_limit, passed_on, followed_sent, followed_few, followed_unsent, followed_whole, followed_broken, followed_out, counts_on, numbers_left, held_few, followed_line, followed_breaks, followed_refused}
 use Rattle.grep_core.proofs.search.around.search_around.Goals as goal
 
--- the number that a refused growth tells of
+-- the number that a refused growth reports
 same_count : {T : Type 0} (number count : ℕ) → (let told : Result T SearchFault = Err (Memory number) in told ≡ Err (Memory count)) → number ≡ count
 same_count number count is = cc
 

@@ -2,7 +2,7 @@ use Rattle.std.proofs.Common.{◌≡◌, ◌-◌, ◌≤◌, length, take}
 use Rattle.re_syntax.specs.Lines.{lines_of, terminated}
 use Rattle.grep_core.proofs.search.behind.last_lines.Given as goal
 
--- the last lines were looked at, as many as there were turns
+-- the last lines were looked at, one a turn
 abbrev pub invariant-loop : goal.invariant-loop
 invariant-loop l = record {
   within : l.start ≤ length l.block;

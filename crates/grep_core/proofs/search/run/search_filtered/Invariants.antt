@@ -5,7 +5,7 @@ use Rattle.grep_core.specs.Sources.{GivesBack}
 use Rattle.grep_core.proofs.lemmas.RunLaws.{RunSoFar}
 use Rattle.grep_core.proofs.search.run.search_filtered.Given as goal
 
--- so many sources were run
+-- the first k sources were run
 abbrev pub invariant-loop-k : goal.invariant-loop-k
 invariant-loop-k g l = record {
   so_far : RunSoFar (map g.M.LineMatch.expression l.fn.matchers) l.asked.options l.many (take l.k (g.S.Sources.listed l.fn.sources)) (GivesBack g.S.Sources.given_back l.fn.sources l.sources)

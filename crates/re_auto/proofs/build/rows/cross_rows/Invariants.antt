@@ -3,7 +3,7 @@ use Rattle.std.specs.Prelude.{◌↔◌}
 use Rattle.re_auto.specs.Working.Bits.{Has, row_of}
 use Rattle.re_auto.proofs.build.rows.cross_rows.Given as goal
 
--- what is added already and what is left to add make up the whole
+-- what is already added and what is left to add are together the whole
 abbrev pub invariant-words : goal.invariant-words
 invariant-words l =
     (length l.follow ≡ length l.fn.follow)

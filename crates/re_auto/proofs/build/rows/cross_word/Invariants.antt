@@ -3,7 +3,7 @@ use Rattle.re_auto.specs.Working.Bits.{Has, row_of}
 use Rattle.re_auto.proofs.lemmas.BitLemmas.{AreAmong, AddsUp}
 use Rattle.re_auto.proofs.build.rows.cross_word.Given as goal
 
--- what is added already and what is left to add make up the whole
+-- what is already added and what is left to add are together the whole
 abbrev pub invariant-bits : goal.invariant-bits
 invariant-bits l =
     (length l.follow ≡ length l.fn.follow)

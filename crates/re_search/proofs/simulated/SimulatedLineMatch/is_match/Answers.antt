@@ -4,7 +4,7 @@ use Rattle.re_search.specs.Working.Stages.{Cache, mode_for}
 use Rattle.re_search.proofs.lemmas.StageLaws.{settled_told, searches_told, searches_steps}
 use Rattle.re_search.proofs.simulated.SimulatedLineMatch.is_match.Goals as goal
 
--- what a cache is that holds nothing
+-- a cache that holds nothing
 nothing : Cache
 nothing = record { classes = []; stride = 0; sets = []; entries = [] }
 

@@ -5,7 +5,7 @@ use Rattle.re_auto.specs.Working.Positions.{part_of}
 use Rattle.re_auto.proofs.lemmas.BitLemmas.{AreAmong, AddsUp}
 use Rattle.re_auto.proofs.step.automaton.Automaton.with_followers.Given as goal
 
--- what is added already and what is left to add make up the whole
+-- what is already added and what is left to add are together the whole
 abbrev pub invariant-bits : goal.invariant-bits
 invariant-bits l =
     AreAmong l.left l.from

@@ -5,7 +5,7 @@ use Rattle.re_auto.specs.Working.Bits.{Has}
 use Rattle.re_auto.specs.Working.StartSets.{AreAlike, Carries, Brings}
 use Rattle.re_auto.proofs.step.starts.Starts.carry.Given as goal
 
--- what is carried already and what is left to carry make up the whole
+-- what is already carried and what is left to carry are together the whole
 abbrev pub invariant-words : goal.invariant-words
 invariant-words l =
     AreAlike l.self l.fn.self

@@ -4,7 +4,8 @@ use Rattle.re_auto.specs.Working.StartSets.{AreAlike, Carries, Brings}
 use Rattle.re_auto.proofs.lemmas.BitLemmas.{AreAmong, AddsUp}
 use Rattle.re_auto.proofs.step.starts.Starts.carry_word.Given as goal
 
--- what is carried already and what is left to carry make up the whole, which has none but members of `from`
+-- what is already carried and what is left to carry are together the whole, which has only members
+-- of `from`
 abbrev pub invariant-bits : goal.invariant-bits
 invariant-bits l =
     AreAlike l.self l.fn.self

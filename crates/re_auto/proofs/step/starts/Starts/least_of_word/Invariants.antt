@@ -3,7 +3,7 @@ use Rattle.re_auto.specs.Working.StartSets.{AtMost}
 use Rattle.re_auto.proofs.lemmas.BitLemmas.{AreAmong, AddsUp}
 use Rattle.re_auto.proofs.step.starts.Starts.least_of_word.Given as goal
 
--- what is found already and what is left to see make up the whole
+-- what is already found and what is left to see are together the whole
 abbrev pub invariant-bits : goal.invariant-bits
 invariant-bits l =
     AreAmong l.left l.word

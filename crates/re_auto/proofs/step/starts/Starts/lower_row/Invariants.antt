@@ -4,7 +4,7 @@ use Rattle.re_auto.specs.Working.Bits.{Has}
 use Rattle.re_auto.specs.Working.StartSets.{AreAlike, Carries}
 use Rattle.re_auto.proofs.step.starts.Starts.lower_row.Given as goal
 
--- what is given already and what is left to give make up the whole
+-- what is already given and what is left to give are together the whole
 abbrev pub invariant-words : goal.invariant-words
 invariant-words l =
     AreAlike l.self l.fn.self

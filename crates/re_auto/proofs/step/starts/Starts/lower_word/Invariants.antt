@@ -3,7 +3,7 @@ use Rattle.re_auto.specs.Working.StartSets.{AreAlike, Carries}
 use Rattle.re_auto.proofs.lemmas.BitLemmas.{AreAmong, AddsUp}
 use Rattle.re_auto.proofs.step.starts.Starts.lower_word.Given as goal
 
--- what is given already and what is left to give make up the whole
+-- what is already given and what is left to give are together the whole
 abbrev pub invariant-bits : goal.invariant-bits
 invariant-bits l =
     AreAlike l.self l.fn.self

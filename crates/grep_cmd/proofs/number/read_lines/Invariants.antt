@@ -1,9 +1,0 @@
-use Rattle.std.proofs.Common.{◌≡◌, min, take}
-use Rattle.re_syntax.specs.Intervals.{value}
-use Rattle.grep_cmd.specs.Words.{most_around}
-use Rattle.grep_cmd.proofs.lemmas.ScriptNumbers.{AreDigitsTo}
-use Rattle.grep_cmd.proofs.number.read_lines.Given as goal
-
--- so many digits were read
-abbrev pub invariant-loop-byte : goal.invariant-loop-byte
-invariant-loop-byte l = AreDigitsTo l.word l.byte-index × (l.lines ≡ min (value (take l.byte-index l.word)) most_around)

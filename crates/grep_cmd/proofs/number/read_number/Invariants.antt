@@ -1,8 +1,0 @@
-use Rattle.std.proofs.Common.{◌≡◌, ◌<◌, ◌^◌, take}
-use Rattle.re_syntax.specs.Intervals.{value}
-use Rattle.grep_cmd.proofs.lemmas.ScriptNumbers.{AreDigitsTo}
-use Rattle.grep_cmd.proofs.number.read_number.Given as goal
-
--- so many digits were read
-abbrev pub invariant-loop-byte : goal.invariant-loop-byte
-invariant-loop-byte l = AreDigitsTo l.word l.byte-index × (l.value ≡ value (take l.byte-index l.word)) × (l.value < 2 ^ 64)

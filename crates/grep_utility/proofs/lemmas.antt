@@ -1,0 +1,11 @@
+pub mod PieceLemmas
+pub mod WordLemmas
+pub mod NumberLemmas
+pub mod UsageLemmas
+pub mod GatherLemmas
+pub mod SourceLemmas
+pub mod OperandLemmas
+pub mod TellingLemmas
+pub mod CommandLemmas
+pub mod CountLemmas
+pub mod ServingLemmas

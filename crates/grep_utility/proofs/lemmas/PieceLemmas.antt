@@ -1,0 +1,70 @@
+-- The pieces of words, one after another.
+use Rattle.std.proofs.Common.{◌≡◌, ℕ, ◌≢◌, nat_eq, true, false, List, [], ◌∷◌, length, codes, Option, Some, None, refl, sym, ap, ◌∙◌, arith}
+use Rattle.std.specs.Borrow.{Bor}
+use Rattle.std.specs.Str.{chars, encode_utf8_all, bytes_eq, IsUtf8}
+use Rattle.std.proofs.lemmas.Str.{encodes-chars, chars-nil}
+use Rattle.re_syntax.specs.Bytes.{Text}
+use Rattle.grep_utility.specs.declared.words.UsageFault.TheVariants.{MissingArgument}
+use Rattle.grep_utility.specs.declared.words.pieces.Argument.{Argument}
+use Rattle.grep_utility.specs.declared.words.pieces.Meaning.TheVariants.{Takes}
+use Rattle.grep_utility.specs.Words.{Piece, fault, with_argument, Wanting, meaning_of, group, pieces, an_operand, ends_options, by_characters, a_group, word_of}
+use Rattle.grep_utility.specs.Working.Pieces.{AreUsedUp, pieces_from}
+
+-- an empty text has no characters
+no_chars : (t : Text) → length t ≡ 0 → chars t ≡ []
+no_chars [] e = chars-nil
+no_chars (b ∷ t) e = absurd (omega arith)
+
+-- nothing is left of a group
+pub group-end : (behind : Option Wanting → List Piece) (t : Text) → length t ≡ 0 → group behind (chars t) ≡ behind None
+group-end behind t e = ap (group behind) (no_chars t e)
+
+-- where no letter of a group is left, the pieces are those of the words
+pub used_up : (letters : Option (Bor Text)) (words : List Text) → AreUsedUp letters → pieces_from letters words ≡ pieces words None
+used_up (Some rest) words none = ap (group (pieces words)) none
+used_up None words never = absurd never
+
+module _ (behind : Option Wanting → List Piece) (c : ℕ) (a : Argument) (takes : meaning_of c ≡ Some (Takes a)) where
+  -- the rest of the group is the argument
+  pub group-argument : (t : Text) → IsUtf8 t → length t ≢ 0 → group behind (c ∷ chars t) ≡ with_argument c a t ∷ behind None
+  group-argument t utf8 more = by (chars t) (encodes-chars t utf8)
+    where
+      by : (cs : List ℕ) → encode_utf8_all cs ≡ t → group behind (c ∷ cs) ≡ with_argument c a t ∷ behind None
+      by [] e = absurd (more (sym (ap length e)))
+      by (d ∷ ds) e = rw (takes, group) (ap (λ u. with_argument c a u ∷ behind None) e)
+
+  -- the argument is behind the group
+  pub group-wants : (t : Text) → length t ≡ 0 → group behind (c ∷ chars t) ≡ behind (Some (record { letter = c; argument = a }))
+  group-wants t none = ap (λ cs. group behind (c ∷ cs)) (no_chars t none) ∙ rw (takes, group) refl
+
+module _ (words : List Text) (w : Wanting) (letters : Option (Bor Text)) (rest : Bor Text) (are : letters ≡ Some rest) (none : length rest.now ≡ 0) where
+  -- the pieces of words behind a group
+  behind_group : pieces_from letters words ≡ pieces words None
+  behind_group = ap (λ l. pieces_from l words) are ∙ group-end (pieces words) rest.now none
+
+  -- the next word is the argument
+  pub pieces-argument : (word : Text) (before : List Text) → before ≡ word ∷ words → pieces before (Some w) ≡ with_argument w.letter w.argument word ∷ pieces_from letters words
+  pieces-argument word before e = ap (λ ws. pieces ws (Some w)) e ∙ ap (λ ps. with_argument w.letter w.argument word ∷ ps) (sym behind_group)
+
+  -- there is no next word
+  pub pieces-no_argument : (before : List Text) → before ≡ [] → words ≡ [] → pieces before (Some w) ≡ fault (MissingArgument w.letter) ∷ pieces_from letters words
+  pieces-no_argument before e f = ap (λ ws. pieces ws (Some w)) e ∙ ap (λ ps. fault (MissingArgument w.letter) ∷ ps) (sym (behind_group ∙ ap (λ ws. pieces ws None) f))
+
+-- the word `--`
+pub word_of-end : (word : Text) → bytes_eq word (codes "--") ≡ true → word_of word ≡ ends_options
+unfolding word_of
+word_of-end word e = rw e refl
+
+-- any other word
+pub word_of-other : (word : Text) → bytes_eq word (codes "--") ≡ false → word_of word ≡ by_characters (chars word)
+unfolding word_of
+word_of-other word e = rw e refl
+
+-- a word that begins with no hyphen
+pub by_characters-operand : (c : ℕ) (cs : List ℕ) → nat_eq c 45 ≡ false → by_characters (c ∷ cs) ≡ an_operand
+by_characters-operand c [] e = refl
+by_characters-operand c (d ∷ ds) e = rw e refl
+
+-- a word that begins with a hyphen, and more
+pub by_characters-group : (c d : ℕ) (cs : List ℕ) → nat_eq c 45 ≡ true → by_characters (c ∷ d ∷ cs) ≡ a_group (d ∷ cs)
+by_characters-group c d cs e = rw e refl

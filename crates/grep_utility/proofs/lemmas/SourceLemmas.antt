@@ -1,0 +1,113 @@
+-- The sources of patterns, one more at a time.
+use Rattle.std.proofs.Common.{◌≡◌, ℕ, suc, ◌+◌, ◌<◌, true, false, List, [], ◌∷◌, ◌++◌, Option, Err, IfSome, inl, inr, length, map, drop, get_or, refl, sym, ap, ◌∙◌, subst, append_assoc, append-nil}
+use Rattle.std.proofs.Math.Numerals.{add-one}
+use Rattle.std.proofs.Math.Seq.{drop-cons}
+use Rattle.re_syntax.specs.Bytes.{Text}
+use Rattle.re_syntax.specs.Lines.{newline, lines_of, list_of, joined, terminated, AreListed}
+use Rattle.re_syntax.proofs.lemmas.LinesLaws.{lines_of-terminated, AreListed-list_of}
+use Rattle.grep_core.specs.Files.{File, whole, broken}
+use Rattle.grep_core.specs.Working.Handed.{StandsFor}
+use Rattle.grep_core.specs.Reading as reading
+use Rattle.grep_core.specs.Reading.{IsReadingOf, file_of, failures_of, open_source}
+use Rattle.grep_core.specs.Run.{count_more}
+use Rattle.grep_core.proofs.lemmas.OneFile.{whole-failures}
+use Rattle.grep_core.proofs.lemmas.OpenedLemmas.{opened, count_on, few_failures}
+use Rattle.grep_utility.specs.declared.words.PatternSource.{PatternSource}
+use Rattle.grep_utility.specs.declared.patterns.FileRead.TheVariants.{Whole, Broken}
+use Rattle.grep_utility.specs.declared.patterns.PatternsFault.{PatternsFault}
+use Rattle.grep_utility.specs.declared.patterns.PatternsFault.TheVariants as fault
+use Rattle.grep_utility.specs.Folder.{Folder}
+use Rattle.grep_utility.specs.Patterns.{Unread, patterns_by, GivesPatterns, behind, behind_all, GivePatterns, FirstUnread}
+use Rattle.grep_utility.specs.Working.Gathered.{Adds, AddsLines, ReadsFile, AddsSource, StopsFor}
+use Rattle.grep_utility.specs.Words.{PatternsFrom, list, given_source}
+use Rattle.grep_utility.proofs.lemmas.GatherLemmas.{Adds-none, Adds-trans}
+
+-- ---- a file
+
+module _ {R : Type 0} (remaining : R → Option Text) (failures : R → ℕ) (source : reading.Source) (reader read : R) (opens : IfSome source.opens (λ b. b ≡ true))
+    (bytes : remaining reader ≡ source.bytes) (fresh : failures reader ≡ 0) (before after : ℕ) (counted : after ≡ count_more before (failures read)) where
+  gave : (lines : List Text) (ending : _) → StandsFor source.name (remaining reader) (remaining read) (failures reader) (failures read) lines ending
+      → (did : reading.Reading) × IsReadingOf source did × (file_of source.name did ≡ record { name = source.name; lines = lines; ending = ending }) × (after ≡ count_more before (failures_of did))
+  gave lines ending s = (
+    s.reading,
+    opened source s.reading opens (subst (λ known. IsReadingOf (open_source source.name known) s.reading) bytes s.is_reading),
+    s.file,
+    counted ∙ ap (count_more before) (s.counted ∙ ap (λ n. count_more n (failures_of s.reading)) fresh) ∙ count_on before (failures_of s.reading) (few_failures s.reading),
+  )
+
+  -- all its lines were added
+  pub file_whole : (old new : Text) → AddsLines (remaining reader) (remaining read) (failures reader) (failures read) old new true → ReadsFile source before after old new Whole
+  file_whole old new h =
+      let did = gave h.texts whole (h.stands source.name) in
+      let none : failures_of did.0 ≡ 0 = whole-failures source.name did.0 (ap (λ (f : File). f.ending) did.2) in (
+        h.texts,
+        (did.0, did.1, sym (ap (λ (f : File). patterns_by f.ending f (failures_of did.0)) did.2)),
+        h.adds,
+        did.3 ∙ ap (count_more before) none,
+      )
+
+  -- not all of them
+  pub file_broken : (old new : Text) → AddsLines (remaining reader) (remaining read) (failures reader) (failures read) old new false → ReadsFile source before after old new Broken
+  file_broken old new h =
+      let did = gave h.texts broken (h.stands source.name) in
+      (failures_of did.0, (did.0, did.1, sym (ap (λ (f : File). patterns_by f.ending f (failures_of did.0)) did.2)), did.3)
+
+-- ---- a list
+
+terminated-joined : (t : Text) (ts : List Text) → terminated (t ∷ ts) ≡ joined (t ∷ ts) ++ newline ∷ []
+terminated-joined t [] = refl
+terminated-joined t (u ∷ ts) = ap (λ l. t ++ newline ∷ l) (terminated-joined u ts) ∙ sym (append_assoc t (newline ∷ joined (u ∷ ts)) (newline ∷ []))
+
+-- the patterns of a list, each followed by a newline, are its bytes and one newline
+terminated-list : (text : Text) (ts : List Text) → AreListed text ts → terminated ts ≡ text ++ newline ∷ []
+terminated-list text [] h = absurd (h.1 refl)
+terminated-list text (t ∷ ts) h = terminated-joined t ts ∙ ap (λ l. l ++ newline ∷ []) (sym h.2)
+
+-- its patterns were added
+pub list_added : (folder : Folder) (old new text : Text) → new ≡ old ++ (text ++ newline ∷ []) → AddsSource folder (list text) old new
+list_added folder old new text is =
+    let listed = AreListed-list_of text in
+    (list_of text, refl, record { bytes = is ∙ ap (λ l. old ++ l) (sym (terminated-list text (list_of text) listed)); no_newlines = listed.0 })
+
+-- ---- all sources
+
+-- what some sources give is had once what is left of them is
+pub record SourcesSoFar (start : Folder) (all : List PatternsFrom) (now : Folder) (left : List PatternsFrom) (bytes : Text) : Type 0 where
+  pub texts : List Text
+  pub adds : Adds [] bytes texts
+  pub give : (more : List Text) → GivePatterns now left more → GivePatterns start all (texts ++ more)
+  pub stop : (unread : Unread) → FirstUnread now left unread → FirstUnread start all unread
+  pub used : behind_all now left ≡ behind_all start all
+
+-- nothing was read
+pub sources_none : (start : Folder) (all : List PatternsFrom) → SourcesSoFar start all start all []
+sources_none start all = record { texts = []; adds = Adds-none []; give = λ more h. h; stop = λ unread h. h; used = refl }
+
+module _ (start : Folder) (all : List PatternsFrom) (now : Folder) (source : PatternsFrom) (left : List PatternsFrom) (bytes : Text) (s : SourcesSoFar start all now (source ∷ left) bytes) where
+  -- one more source was read
+  pub sources_more : (after : Text) → AddsSource now source bytes after → SourcesSoFar start all (behind now source) left after
+  sources_more after h = record {
+    texts = s.texts ++ h.0;
+    adds = Adds-trans [] bytes after s.texts h.0 s.adds h.2;
+    give = λ more k. subst (λ l. GivePatterns start all l) (sym (append_assoc s.texts h.0 more)) (s.give (h.0 ++ more) (h.0, more, h.1, k, refl));
+    stop = λ unread k. s.stop unread (inr (h.0, h.1, k));
+    used = s.used;
+  }
+
+  -- the next is not read
+  pub sources_stop : (before mid after : ℕ) → mid ≡ before → (f : PatternsFault) → StopsFor (λ unread. GivesPatterns now source (Err unread)) mid after f → StopsFor (FirstUnread start all) before after f
+  sources_stop before mid after same (fault.Missing word) h = (h.0, s.stop _ (inl h.1), h.2 ∙ ap (λ n. count_more n h.0) same)
+  sources_stop before mid after same (fault.Broken word) h = (h.0, s.stop _ (inl h.1), h.2 ∙ ap (λ n. count_more n h.0) same)
+  sources_stop before mid after same fault.Memory h = h ∙ same
+
+-- all were read
+pub sources_all : (start : Folder) (all : List PatternsFrom) (now : Folder) (bytes : Text) → SourcesSoFar start all now [] bytes → GivePatterns start all (lines_of bytes)
+sources_all start all now bytes s =
+    subst (GivePatterns start all) (append-nil s.texts ∙ sym (ap lines_of s.adds.bytes ∙ lines_of-terminated s.texts s.adds.no_newlines)) (s.give [] refl)
+
+-- the next of the sources that are left
+pub next_source : (sources : List PatternSource) (k : ℕ) (source : PatternSource) → k < length sources → source ≡ get_or sources k source
+    → map given_source (drop k sources) ≡ given_source source ∷ map given_source (drop (k + 1) sources)
+next_source sources k source h is =
+    ap (map given_source) (drop-cons sources k source h) ∙ ap (λ s. given_source s ∷ map given_source (drop (suc k) sources)) (sym is)
+    ∙ ap (λ n. given_source source ∷ map given_source (drop n sources)) (sym (add-one k))

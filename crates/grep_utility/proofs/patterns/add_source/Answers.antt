@@ -1,0 +1,13 @@
+use Rattle.std.proofs.Common.{[], ◌∷◌, ◌++◌, sym, ap, ◌∙◌, subst}
+use Rattle.re_syntax.specs.Lines.{newline}
+use Rattle.grep_utility.specs.Working.Gathered.{AddsSource}
+use Rattle.grep_utility.specs.Words.{given_source}
+use Rattle.grep_utility.proofs.lemmas.SourceLemmas.{list_added}
+use Rattle.grep_utility.proofs.patterns.add_source.Goals as goal
+
+pub returns-in-Ok-clause-ok : goal.returns-in-Ok-clause-ok
+returns-in-Ok-clause-ok g c =
+    let folder = g.F.Files.folder c.args.files.now in
+    let old = c.args.texts.now.items in
+    let added = c.in-Ok.ensures ∙ ap (λ t. old ++ (t ++ newline ∷ [])) c.as_bytes.ensures.value in
+    subst (λ s. AddsSource folder (given_source s) old c.add_text.new.texts.items) (sym c.in-List.is) (list_added folder old c.add_text.new.texts.items _ added)

@@ -1,0 +1,20 @@
+use Rattle.std.proofs.Common.{◌≡◌, ℕ, List, Option, Some, None, inl, inr, length, sym, ◌∙◌}
+use Rattle.std.specs.Prelude.{nat_lt}
+use Rattle.std.specs.Option.{option_map, is_some}
+use Rattle.std.specs.List.{slice_get}
+use Rattle.std.proofs.lemmas.Bool.{lt-ltb, le-ltb}
+use Rattle.std.proofs.lemmas.Option.{slice_get_within, slice_get_cases}
+use Rattle.std.proofs.lemmas.Iterator.Consumers.{nth_from_yields_List, YieldsList-from_first}
+use Rattle.re_syntax.specs.Lines.{lines_of}
+use Rattle.grep_utility.proofs.searchers.has_more_than.Goals as goal
+
+-- that something stands at a place says that the list reaches it
+reaches : {A B : Type 0} (v : A → B) (r : Option A) (xs : List B) (n : ℕ) → option_map v r ≡ slice_get xs n → is_some r ≡ nat_lt n (length xs)
+reaches v (Some x) xs n e = sym (lt-ltb n (length xs) (slice_get_within xs n (v x) (sym e)))
+reaches v None xs n e = elim (slice_get_cases xs n).1 [ inl h ↦ absurd (let no : ⊥ = cc (e, h.2) in no) | inr h ↦ sym (le-ltb n (length xs) h.0) ]
+
+pub returns : goal.returns
+returns c =
+    let texts = lines_of c.args.texts.now in
+    let all = YieldsList-from_first (λ x. x.now) (λ texts. texts) texts c.split_file.ensures in
+    c.is_some.ensures ∙ reaches (λ x. x.now) _ texts c.args.most (nth_from_yields_List _ _ c.args.most c.nth.ensures.ran all)

@@ -1,0 +1,17 @@
+use Rattle.std.proofs.Common.{[], sym, subst}
+use Rattle.grep_core.specs.Row.{output_line}
+use Rattle.grep_core.specs.Written.{Writes}
+use Rattle.grep_utility.specs.Texts.{fault_text}
+use Rattle.grep_utility.proofs.usage.write_fault.Goals as goal
+
+pub returns-in-TwoSyntaxes : goal.returns-in-TwoSyntaxes
+unfolding fault_text
+returns-in-TwoSyntaxes g c =
+    subst (λ f. Writes g.M.CountedWrite.contents g.M.CountedWrite.failures c.args.messages.now c.write_line.new.out (output_line [] (fault_text f)) c.write_line.result)
+    (sym c.in-TwoSyntaxes.is) c.write_line.ensures
+
+pub returns-in-NoPattern : goal.returns-in-NoPattern
+unfolding fault_text
+returns-in-NoPattern g c =
+    subst (λ f. Writes g.M.CountedWrite.contents g.M.CountedWrite.failures c.args.messages.now c.write_line-in-NoPattern.new.out (output_line [] (fault_text f)) c.write_line-in-NoPattern.result)
+    (sym c.in-NoPattern.is) c.write_line-in-NoPattern.ensures

@@ -1,0 +1,11 @@
+use Rattle.std.proofs.Common.{codes, encode_utf8, ◌≡◌, ◌∙◌, subst}
+use Rattle.grep_core.specs.Row.{output_line}
+use Rattle.grep_core.specs.Written.{Writes}
+use Rattle.grep_utility.specs.Texts.{fault_text}
+use Rattle.grep_utility.proofs.usage.write_unknown_option.Goals as goal
+
+pub returns : goal.returns
+unfolding fault_text
+returns g c =
+    let letter : c.as_bytes-letter.result.now ≡ encode_utf8 c.args.letter = c.as_bytes-letter.ensures.value ∙ c.encode_utf8.ensures.value in
+    subst (λ t. Writes g.M.CountedWrite.contents g.M.CountedWrite.failures c.args.messages.now c.write_line_behind.new.out (output_line (codes "grep: unknown option -") t) c.write_line_behind.result) letter c.write_line_behind.ensures

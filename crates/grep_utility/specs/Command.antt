@@ -1,0 +1,113 @@
+-- The whole command: what it writes for its words, and its exit status (XCU grep).
+use Rattle.std.specs.Prelude.{◌≡◌, ℕ, nat_lt, List, [], ◌∷◌, ◌++◌, ◌⊎◌, length, All, Option, Result}
+use Rattle.std.specs.Prelude.{Ok, Err, MatchBool, MatchResult}
+use Rattle.re_syntax.specs.declared.fault.PatternFault.{PatternFault}
+use Rattle.re_syntax.specs.Bytes.{Text}
+use Rattle.re_syntax.specs.Expression.{Expression}
+use Rattle.re_search.specs.Reading.{IsReadable}
+use Rattle.grep_core.specs.declared.options.Options.{Options}
+use Rattle.grep_core.specs.Files.{AreMeant}
+use Rattle.grep_core.specs.Reading.{Source}
+use Rattle.grep_core.specs.declared.status.Status.{Status}
+use Rattle.grep_core.specs.declared.status.Status.TheVariants.{Selected, NoneSelected, Error}
+use Rattle.grep_core.specs.declared.status.RunFault.{RunFault}
+use Rattle.grep_core.specs.declared.status.RunFault.TheVariants.{Write, MessageWrite, Memory}
+use Rattle.grep_core.specs.Counted.{one_more}
+use Rattle.grep_core.specs.Run.{Writer, Devices, TakesAll, TakesFront, count_more, RunGives}
+use Rattle.grep_utility.specs.Folder.{Folder, sources_named, searched}
+use Rattle.re_syntax.specs.Profile.{most_patterns}
+use Rattle.grep_core.specs.Matchers.{IsFirstRefused}
+use Rattle.grep_utility.specs.Patterns.{Unread, behind_all, GivePatterns, FirstUnread}
+use Rattle.grep_utility.specs.Texts.{usage_texts, out_of_memory, write_error, too_many_patterns}
+use Rattle.grep_utility.specs.Texts.{pattern_refused}
+use Rattle.grep_utility.specs.Words.{Asked, read}
+
+-- the exit status (XCU grep, EXIT STATUS)
+abbrev pub status_number : Status → ℕ
+status_number Selected = 0
+status_number NoneSelected = 1
+status_number Error = 2
+
+-- the lines were written, or a beginning of them where a write failed
+abbrev pub TellsLines : Writer → Writer → List Text → Type 0
+TellsLines old new texts =
+    TakesAll old new texts ⊎ (TakesFront old new texts × (new.failures ≡ one_more old.failures))
+
+-- the command ends with these messages and status 2; nothing more is written to the output, no step
+-- is counted, and so often the devices of files failed
+pub record GivesUp (old new : Devices) (texts : List Text) (failures status : ℕ) : Type 0 where
+  pub is_error : status ≡ 2
+  pub none_written : new.out ≡ old.out
+  pub told : TellsLines old.messages new.messages texts
+  pub counted : new.source_failures ≡ count_more old.source_failures failures
+  pub no_step : new.steps ≡ old.steps
+
+-- how the command ends once the files were searched: what cut the search short is told, but not
+-- behind a message that could not be written
+abbrev pub EndsAfter : Result Status RunFault → Devices → Devices → ℕ → Type 0
+EndsAfter (Ok found) old new status = (status ≡ status_number found) × (new ≡ old)
+EndsAfter (Err Write) old new status = GivesUp old new (write_error ∷ []) 0 status
+EndsAfter (Err MessageWrite) old new status = (status ≡ 2) × (new ≡ old)
+EndsAfter (Err (Memory k lines)) old new status = GivesUp old new (out_of_memory ∷ []) 0 status
+
+-- the files were searched for these expressions, and the command ended so; `given` says of what
+-- readers may have left that readers that had this left were given back
+pub record SearchEnds (es : List Expression) (options : Options) (sources : List Source)
+    (given : List (Option Text) → Type 0) (old new : Devices) (status : ℕ) : Type 0 where
+  pub found : Result Status RunFault
+  pub between : Devices
+  pub runs : RunGives es options sources given old between found
+  pub ends : EndsAfter found between new status
+
+module _ (asked : Asked) (folder : Folder) (texts : List Text) (given : List (Option Text) → Type 0)
+    (old new : Devices) (status : ℕ) where
+  -- the first pattern that isn't readable is told
+  pub record RefusesPattern : Type 0 where
+    pub place : ℕ
+    pub fault : PatternFault
+    pub is_first : IsFirstRefused asked.syntax asked.options.ignore_case texts place fault
+    pub gives_up : GivesUp old new (pattern_refused place fault ∷ []) 0 status
+
+  -- all patterns are readable, and the files are searched for what they mean
+  pub record SearchesNamed : Type 0 where
+    pub readable : All (IsReadable asked.syntax asked.options.ignore_case) texts
+    pub es : List Expression
+    pub are_meant : AreMeant asked.syntax asked.options texts es
+    pub ends : SearchEnds es asked.options (sources_named folder (searched asked.files)) given old
+        new status
+
+  -- the patterns are counted, then each is read in order, and then the files are searched
+  abbrev pub DoesForPatterns : Type 0
+  DoesForPatterns =
+      MatchBool (nat_lt most_patterns (length texts))
+      (GivesUp old new (too_many_patterns ∷ []) 0 status) (RefusesPattern ⊎ SearchesNamed)
+
+  -- or memory was wanting before the search
+  abbrev pub PatternsGive : Type 0
+  PatternsGive = DoesForPatterns ⊎ GivesUp old new (out_of_memory ∷ []) 0 status
+
+module _ (folder : Folder) (given : List (Option Text) → Type 0) (old new : Devices)
+    (status : ℕ) where
+  -- the pattern files are read, up to the first that can't be; their readers are given back before
+  -- those of the files
+  abbrev pub DoesForRequest : Asked → Type 0
+  DoesForRequest asked =
+      ((unread : Unread) × FirstUnread folder asked.sources unread ×
+      GivesUp old new (unread.message ∷ []) unread.failures status)
+      ⊎ ((texts : List Text) × (read : List (Option Text)) × GivePatterns folder asked.sources texts
+      × DoesForPatterns asked (behind_all folder asked.sources) texts (λ left. given (read ++ left))
+      old new status)
+
+  -- or memory was wanting before the search
+  abbrev pub RequestGives : Asked → Type 0
+  RequestGives asked = DoesForRequest asked ⊎ GivesUp old new (out_of_memory ∷ []) 0 status
+
+  -- what the command does for its words, where memory is not wanting before the search
+  abbrev pub DoesForWords : List Text → Type 0
+  DoesForWords words =
+      MatchResult (read words) DoesForRequest
+      (λ fault. GivesUp old new (usage_texts fault) 0 status)
+
+  -- what the command does for its words, or memory was wanting before the search
+  abbrev pub CommandGives : List Text → Type 0
+  CommandGives words = DoesForWords words ⊎ GivesUp old new (out_of_memory ∷ []) 0 status

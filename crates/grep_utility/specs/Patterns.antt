@@ -1,0 +1,57 @@
+-- The patterns of a request (XCU grep, options `-e` and `-f`, and the operand pattern_list).
+use Rattle.std.specs.Prelude.{◌≡◌, ℕ, List, [], ◌∷◌, ◌++◌, ◌⊎◌, Result, Ok, Err}
+use Rattle.re_syntax.specs.Bytes.{Text}
+use Rattle.re_syntax.specs.Lines.{list_of}
+use Rattle.grep_core.specs.Files.{File, Ending, whole, missing, broken}
+use Rattle.grep_core.specs.Messages.{cannot_open, read_error}
+use Rattle.grep_core.specs.Reading as reading
+use Rattle.grep_core.specs.Reading.{Reading, IsReadingOf, file_of, failures_of}
+use Rattle.grep_utility.specs.Folder.{Folder, source_named, after_use}
+use Rattle.grep_utility.specs.Words.{PatternsFrom, list, file}
+
+-- a pattern file that was not read: the message on it, and how often the devices failed in it
+pub record Unread : Type 0 where
+  pub message : Text
+  pub failures : ℕ
+
+-- the lines of a pattern file are its patterns, where it was read to its end
+abbrev pub patterns_by : Ending → File → ℕ → Result (List Text) Unread
+patterns_by whole f failures = Ok f.lines
+patterns_by missing f failures = Err (record { message = cannot_open f.name; failures = failures })
+patterns_by broken f failures = Err (record { message = read_error f.name; failures = failures })
+
+-- what a pattern file gives
+abbrev pub FileGives : reading.Source → Result (List Text) Unread → Type 0
+FileGives source given =
+    (did : Reading) × IsReadingOf source did
+    × (given ≡
+    patterns_by (file_of source.name did).ending (file_of source.name did) (failures_of did))
+
+-- what a source of patterns gives: a list is parted by its newlines
+abbrev pub GivesPatterns : Folder → PatternsFrom → Result (List Text) Unread → Type 0
+GivesPatterns folder (list text) given = given ≡ Ok (list_of text)
+GivesPatterns folder (file name) given = FileGives (source_named folder name) given
+
+-- what is known of files once the source of patterns was read
+abbrev pub behind : Folder → PatternsFrom → Folder
+behind folder (list text) = folder
+behind folder (file name) = after_use folder name
+
+abbrev pub behind_all : Folder → List PatternsFrom → Folder
+behind_all folder [] = folder
+behind_all folder (source ∷ sources) = behind_all (behind folder source) sources
+
+-- sources, each of which is read, give these patterns in order
+abbrev pub GivePatterns : Folder → List PatternsFrom → List Text → Type 0
+GivePatterns folder [] texts = texts ≡ []
+GivePatterns folder (source ∷ sources) texts =
+    (first : List Text) × (rest : List Text) × GivesPatterns folder source (Ok first)
+    × GivePatterns (behind folder source) sources rest × (texts ≡ first ++ rest)
+
+-- the first source that is not read, behind some that are
+abbrev pub FirstUnread : Folder → List PatternsFrom → Unread → Type 0
+FirstUnread folder [] fault = ⊥
+FirstUnread folder (source ∷ sources) fault =
+    GivesPatterns folder source (Err fault)
+    ⊎ ((first : List Text) × GivesPatterns folder source (Ok first) ×
+    FirstUnread (behind folder source) sources fault)

@@ -1,0 +1,308 @@
+-- The words of a command (XBD 12.2, Guidelines 3 to 7, 10, 11 and 13; XCU grep, OPTIONS and
+-- OPERANDS). An option behind an operand is still an option, as GNU grep has it; Guideline 9 has
+-- all options before the operands.
+use Rattle.std.specs.Prelude.{◌≡◌, ℕ, ◌-◌, ◌^◌, nat_eq, nat_lt, min, Bool, true, false, ◌&&◌}
+use Rattle.std.specs.Prelude.{if◌then◌else◌}
+use Rattle.std.specs.Prelude.{List, [], ◌∷◌, ◌++◌, map, codes, bytes_eq, Option, Some, None}
+use Rattle.std.specs.Prelude.{Result, Ok, Err, String}
+use Rattle.std.specs.List.{list_all}
+use Rattle.std.specs.Str.{byte, chars, encode_utf8_all}
+use Rattle.std.specs.String.{string_bytes}
+use Rattle.re_syntax.specs.declared.class.Class.TheVariants.{Digit}
+use Rattle.re_syntax.specs.Bytes.{Text, in_class}
+use Rattle.re_syntax.specs.Intervals.{value}
+use Rattle.re_syntax.specs.declared.syntax.Syntax.{Syntax}
+use Rattle.re_syntax.specs.declared.syntax.Syntax.TheVariants.{Basic, Extended, Fixed}
+use Rattle.grep_core.specs.declared.options.Context.{Context}
+use Rattle.grep_core.specs.declared.options.Options.{Options}
+use Rattle.grep_core.specs.declared.options.Flag.{Flag}
+use Rattle.grep_core.specs.declared.options.Flag.TheVariants.{Count, IgnoreCase, FilesWithMatches}
+use Rattle.grep_core.specs.declared.options.Flag.TheVariants.{LineNumber, OnlyMatching, Quiet}
+use Rattle.grep_core.specs.declared.options.Flag.TheVariants.{NoMessages, InvertMatch, LineRegexp}
+use Rattle.grep_utility.specs.declared.words.UsageFault.{UsageFault}
+use Rattle.grep_utility.specs.declared.words.UsageFault.TheVariants.{UnknownOption, MissingArgument}
+use Rattle.grep_utility.specs.declared.words.UsageFault.TheVariants.{BadNumber, TwoSyntaxes, NoPattern}
+use Rattle.grep_utility.specs.declared.words.UsageFault.TheVariants.{Memory}
+use Rattle.grep_utility.specs.declared.words.PatternSource.{PatternSource}
+use Rattle.grep_utility.specs.declared.words.PatternSource.TheVariants as given
+use Rattle.grep_utility.specs.declared.words.Request.{Request}
+use Rattle.grep_utility.specs.declared.words.around.Side.{Side}
+use Rattle.grep_utility.specs.declared.words.around.Side.TheVariants.{After, Before, Both}
+use Rattle.grep_utility.specs.declared.words.around.Around.{Around}
+use Rattle.grep_utility.specs.declared.words.pieces.Argument.{Argument}
+use Rattle.grep_utility.specs.declared.words.pieces.Argument.TheVariants as argument
+use Rattle.grep_utility.specs.declared.words.pieces.Meaning.{Meaning}
+use Rattle.grep_utility.specs.declared.words.pieces.Meaning.TheVariants as meaning
+
+-- a pattern list, or the name of a pattern file
+pub data PatternsFrom : Type 0 where
+  list : Text → PatternsFrom
+  file : Text → PatternsFrom
+
+-- what a request asks for
+pub record Asked : Type 0 where
+  pub syntax : Syntax
+  pub options : Options
+  pub sources : List PatternsFrom
+  pub files : List Text
+
+-- an option with its argument, an operand, or a fault
+pub data Piece : Type 0 where
+  flag : Flag → Piece
+  reads_as : Syntax → Piece
+  source : PatternsFrom → Piece
+  -- so many lines are shown on a side of selected ones
+  around : Side → ℕ → Piece
+  operand : Text → Piece
+  fault : UsageFault → Piece
+
+-- a number, as a script has it, is one decimal digit or more, of a value below 2 ^ 64
+abbrev pub number_of : Text → Option ℕ
+number_of [] = None
+number_of (b ∷ rest) =
+    if list_all (in_class Digit) (b ∷ rest) &&
+    nat_lt (value (b ∷ rest)) (2 ^ 64) then Some (value (b ∷ rest)) else None
+
+-- the greatest number of lines that can be asked for
+abbrev pub most_around : ℕ
+most_around = 2 ^ 64 - 1
+
+-- a number of lines is one decimal digit or more; a greater one than the greatest stands for that
+abbrev pub lines_of : Text → Option ℕ
+lines_of [] = None
+lines_of (b ∷ rest) =
+    if list_all (in_class Digit) (b ∷ rest) then Some (min (value (b ∷ rest)) most_around) else None
+
+abbrev pub around_from : ℕ → Side → Option ℕ → Piece
+around_from letter side (Some count) = around side count
+around_from letter side None = fault (BadNumber letter)
+
+-- the option of this letter with its argument
+abbrev pub with_argument : ℕ → Argument → Text → Piece
+with_argument letter argument.List text = source (list text)
+with_argument letter argument.File text = source (file text)
+with_argument letter (argument.Lines side) text = around_from letter side (lines_of text)
+
+-- what a character means as an option (XCU grep, OPTIONS; `A`, `B`, `C` and `o` after the GNU
+-- manual)
+unfoldable pub meaning_of : ℕ → Option Meaning
+meaning_of c =
+    if nat_eq c (byte "A") then Some (meaning.Takes (argument.Lines After)) else
+    if nat_eq c (byte "B") then Some (meaning.Takes (argument.Lines Before)) else
+    if nat_eq c (byte "C") then Some (meaning.Takes (argument.Lines Both)) else
+    if nat_eq c (byte "E") then Some (meaning.Syntax Extended) else
+    if nat_eq c (byte "F") then Some (meaning.Syntax Fixed) else
+    if nat_eq c (byte "c") then Some (meaning.Flag Count) else
+    if nat_eq c (byte "e") then Some (meaning.Takes argument.List) else
+    if nat_eq c (byte "f") then Some (meaning.Takes argument.File) else
+    if nat_eq c (byte "i") then Some (meaning.Flag IgnoreCase) else
+    if nat_eq c (byte "l") then Some (meaning.Flag FilesWithMatches) else
+    if nat_eq c (byte "n") then Some (meaning.Flag LineNumber) else
+    if nat_eq c (byte "o") then Some (meaning.Flag OnlyMatching) else
+    if nat_eq c (byte "q") then Some (meaning.Flag Quiet) else
+    if nat_eq c (byte "s") then Some (meaning.Flag NoMessages) else
+    if nat_eq c (byte "v") then Some (meaning.Flag InvertMatch) else
+    if nat_eq c (byte "x") then Some (meaning.Flag LineRegexp) else None
+
+-- what a word is: `--` ends the options (Guideline 10), a hyphen and more is a group of options (4
+-- and 5), and `-` is an operand (13)
+pub data Word : Type 0 where
+  an_operand : Word
+  ends_options : Word
+  a_group : List ℕ → Word
+
+abbrev pub by_characters : List ℕ → Word
+by_characters [] = an_operand
+by_characters (c ∷ []) = an_operand
+by_characters (c ∷ d ∷ cs) = if nat_eq c (byte "-") then a_group (d ∷ cs) else an_operand
+
+unfoldable pub word_of : Text → Word
+word_of word = if bytes_eq word (codes "--") then ends_options else by_characters (chars word)
+
+-- an option whose argument is still to come, by its character
+pub record Wanting : Type 0 where
+  pub letter : ℕ
+  pub argument : Argument
+
+-- the options of a group and the pieces behind it. The argument of an option is the rest of the
+-- group or, where there is none, the next word (Guidelines 6 and 7)
+module _ (behind : Option Wanting → List Piece) where
+  abbrev pub group : List ℕ → List Piece
+  group [] = behind None
+  group (c ∷ cs) = elim (meaning_of c) [
+    | Some (meaning.Flag f) ↦ flag f ∷ group cs
+    | Some (meaning.Syntax s) ↦ reads_as s ∷ group cs
+    | Some (meaning.Takes a) ↦ elim cs [
+      | [] ↦ behind (Some (record { letter = c; argument = a }))
+      | d ∷ ds ↦ with_argument c a (encode_utf8_all (d ∷ ds)) ∷ behind None
+    ]
+    | None ↦ fault (UnknownOption c) ∷ group cs
+  ]
+
+-- the pieces of words, where an option before them may want the first as its argument
+abbrev pub pieces : List Text → Option Wanting → List Piece
+pieces [] None = []
+pieces [] (Some w) = fault (MissingArgument w.letter) ∷ []
+pieces (word ∷ words) (Some w) = with_argument w.letter w.argument word ∷ pieces words None
+pieces (word ∷ words) None = elim (word_of word) [
+  | an_operand ↦ operand word ∷ pieces words None
+  | ends_options ↦ map operand words
+  | a_group cs ↦ group (pieces words) cs
+]
+
+-- neither of `-E` and `-F` follows the other (XCU grep, SYNOPSIS)
+abbrev pub may_follow : Syntax → Syntax → Bool
+may_follow Extended Fixed = false
+may_follow Fixed Extended = false
+may_follow _ _ = true
+
+-- the first fault of pieces behind this syntax
+abbrev pub first_fault : Syntax → List Piece → Option UsageFault
+first_fault before [] = None
+first_fault before (fault f ∷ ps) = Some f
+first_fault before (reads_as s ∷ ps) =
+    if may_follow before s then first_fault s ps else Some TwoSyntaxes
+first_fault before (_ ∷ ps) = first_fault before ps
+
+-- the syntax that pieces leave, where this one was asked for before them
+abbrev pub syntax_behind : Syntax → List Piece → Syntax
+syntax_behind before [] = before
+syntax_behind before (reads_as s ∷ ps) = syntax_behind s ps
+syntax_behind before (_ ∷ ps) = syntax_behind before ps
+
+abbrev pub with_flag : Flag → Options → Options
+with_flag Count options = record options { count = true }
+with_flag IgnoreCase options = record options { ignore_case = true }
+with_flag FilesWithMatches options = record options { files_with_matches = true }
+with_flag LineNumber options = record options { line_number = true }
+with_flag OnlyMatching options = record options { only_matching = true }
+with_flag Quiet options = record options { quiet = true }
+with_flag NoMessages options = record options { no_messages = true }
+with_flag InvertMatch options = record options { invert_match = true }
+with_flag LineRegexp options = record options { line_regexp = true }
+
+-- the options that pieces set beside those that were set before
+abbrev pub options_behind : Options → List Piece → Options
+options_behind before [] = before
+options_behind before (flag f ∷ ps) = options_behind (with_flag f before) ps
+options_behind before (_ ∷ ps) = options_behind before ps
+
+abbrev pub with_lines : Side → ℕ → Around → Around
+with_lines After count before = record before { after = Some count }
+with_lines Before count before = record before { before = Some count }
+with_lines Both count before = record before { both = Some count }
+
+-- the numbers that `-A`, `-B` and `-C` have behind pieces: of each the last one counts
+abbrev pub around_behind : Around → List Piece → Around
+around_behind before [] = before
+around_behind before (around side count ∷ ps) = around_behind (with_lines side count before) ps
+around_behind before (_ ∷ ps) = around_behind before ps
+
+abbrev pub either : Option ℕ → Option ℕ → Option ℕ
+either (Some count) _ = Some count
+either None other = other
+
+abbrev pub or_none : Option ℕ → ℕ
+or_none (Some count) = count
+or_none None = 0
+
+abbrev pub context_from : Option ℕ → Option ℕ → Option Context
+context_from None None = None
+context_from None (Some after) = Some (record { before = 0; after = after })
+context_from (Some before) after = Some (record { before = before; after = or_none after })
+
+-- on each side its own option goes before `-C`, and no lines are shown on a side without a number
+-- where the other has one
+abbrev pub context_of : Around → Option Context
+context_of numbers =
+    context_from (either numbers.before numbers.both) (either numbers.after numbers.both)
+
+abbrev pub sources_of : List Piece → List PatternsFrom
+sources_of [] = []
+sources_of (source s ∷ ps) = s ∷ sources_of ps
+sources_of (_ ∷ ps) = sources_of ps
+
+abbrev pub operands_of : List Piece → List Text
+operands_of [] = []
+operands_of (operand text ∷ ps) = text ∷ operands_of ps
+operands_of (_ ∷ ps) = operands_of ps
+
+-- a request with the pieces behind it
+abbrev pub with_pieces : Asked → List Piece → Asked
+with_pieces before ps = record {
+  syntax = syntax_behind before.syntax ps;
+  options = options_behind before.options ps;
+  sources = before.sources ++ sources_of ps;
+  files = before.files ++ operands_of ps;
+}
+
+-- without `-e` and `-f` the first operand is the pattern list (XCU grep, OPERANDS)
+abbrev pub with_patterns : Asked → List PatternsFrom → List Text → Result Asked UsageFault
+with_patterns a (_ ∷ _) _ = Ok a
+with_patterns a [] (text ∷ files) = Ok (record a { sources = list text ∷ []; files = files })
+with_patterns a [] [] = Err NoPattern
+
+abbrev pub completed : Asked → Result Asked UsageFault
+completed a = with_patterns a a.sources a.files
+
+abbrev pub with_context : Option Context → Asked → Asked
+with_context context a = record a { options = record a.options { context = context } }
+
+-- the first fault of the pieces, or what they ask for behind this request and these numbers
+abbrev pub reads_on : Around → Asked → List Piece → Result Asked UsageFault
+reads_on numbers before ps = elim (first_fault before.syntax ps) [
+  | Some f ↦ Err f
+  | None ↦ completed (with_context (context_of (around_behind numbers ps)) (with_pieces before ps))
+]
+
+abbrev pub nothing_asked : Asked
+nothing_asked = record {
+  syntax = Basic;
+  options = record {
+    count = false;
+    ignore_case = false;
+    files_with_matches = false;
+    line_number = false;
+    only_matching = false;
+    quiet = false;
+    no_messages = false;
+    invert_match = false;
+    line_regexp = false;
+    context = None;
+  };
+  sources = [];
+  files = [];
+}
+
+abbrev pub no_numbers : Around
+no_numbers = record { after = None; before = None; both = None }
+
+-- what words ask for, or their first fault
+abbrev pub read : List Text → Result Asked UsageFault
+read words = reads_on no_numbers nothing_asked (pieces words None)
+
+abbrev pub given_source : PatternSource → PatternsFrom
+given_source (given.List text) = list (string_bytes text)
+given_source (given.File name) = file (string_bytes name)
+
+abbrev pub texts_of : {Z : Type 0} → List (String Z) → List Text
+texts_of words = map string_bytes words
+
+-- a request by its texts
+abbrev pub asked : Request → Asked
+asked request = record {
+  syntax = request.syntax;
+  options = request.options;
+  sources = map given_source request.sources.items;
+  files = texts_of request.files.items;
+}
+
+-- memory was wanted, or else this holds
+abbrev pub OrMemory : UsageFault → Type 0 → Type 0
+OrMemory Memory P = Unit {0}
+OrMemory _ P = P
+
+-- a request is what its words ask for, and a fault is theirs or want of memory
+abbrev pub AreRead : List Text → Result Request UsageFault → Type 0
+AreRead words (Ok request) = read words ≡ Ok (asked request)
+AreRead words (Err f) = OrMemory f (read words ≡ Err f)

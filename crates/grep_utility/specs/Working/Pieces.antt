@@ -1,0 +1,45 @@
+-- How words are cut into pieces from the first one on.
+use Rattle.std.specs.Prelude.{◌≡◌, List, [], ◌∷◌, map, Option, Some, None, Result, Ok, Err}
+use Rattle.std.specs.Borrow.{Bor}
+use Rattle.std.specs.Str.{chars}
+use Rattle.re_syntax.specs.Bytes.{Text}
+use Rattle.grep_utility.specs.Words.{Piece, flag, reads_as, source, list, file, around, operand, fault}
+use Rattle.grep_utility.specs.Words.{an_operand, ends_options, a_group, word_of, group, pieces}
+use Rattle.grep_utility.specs.Words.{texts_of}
+use Rattle.grep_utility.specs.declared.words.UsageFault.{UsageFault}
+use Rattle.grep_utility.specs.declared.words.pieces.Piece as code
+use Rattle.grep_utility.specs.declared.words.pieces.Piece.TheVariants as piece
+use Rattle.grep_utility.specs.declared.words.pieces.Word as kind
+use Rattle.grep_utility.specs.declared.words.pieces.Word.TheVariants.{Operand, EndOfOptions, Group}
+use Rattle.grep_utility.specs.declared.words.pieces.WordPieces.{WordPieces}
+
+abbrev pub piece_of : Result code.Piece UsageFault → Piece
+piece_of (Ok (piece.Flag f)) = flag f
+piece_of (Ok (piece.Syntax s)) = reads_as s
+piece_of (Ok (piece.List text)) = source (list text.now)
+piece_of (Ok (piece.File name)) = source (file name.now)
+piece_of (Ok (piece.Around side count)) = around side count
+piece_of (Ok (piece.Operand text)) = operand text.now
+piece_of (Err f) = fault f
+
+-- what a word is, with the first character of a group
+abbrev pub IsWord : Text → kind.Word → Type 0
+IsWord word Operand = word_of word ≡ an_operand
+IsWord word EndOfOptions = word_of word ≡ ends_options
+IsWord word (Group letter rest) = word_of word ≡ a_group (letter ∷ chars rest.now)
+
+-- the pieces of words, where these letters of a group are left before them, or `--` came
+abbrev pub pieces_from : Option (Bor Text) → List Text → List Piece
+pieces_from None words = map operand words
+pieces_from (Some letters) words = group (pieces words) (chars letters.now)
+
+-- no letter of a group is left, and no `--` came
+abbrev pub AreUsedUp : Option (Bor Text) → Type 0
+AreUsedUp None = ⊥
+AreUsedUp (Some letters) = chars letters.now ≡ []
+
+abbrev pub words_left : WordPieces → List Text
+words_left p = texts_of p.words.now
+
+abbrev pub pieces_left : WordPieces → List Piece
+pieces_left p = pieces_from p.letters (words_left p)

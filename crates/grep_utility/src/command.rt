@@ -1,0 +1,178 @@
+//! The whole command (XCU grep).
+ghost use Rattle.std.specs.Prelude.{◌≡◌, ℕ, ◌<◌, nat_lt, IfSome, map, length};
+ghost use Rattle.re_syntax.specs.Lines.{lines_of};
+ghost use Rattle.re_search.specs.Working.Filters.{AreNeeded};
+ghost use Rattle.re_search.specs.Working.Matchers.{matched_expression, wants_whole};
+ghost use Rattle.re_search.specs.Searching.{AllAnswer};
+ghost use Rattle.grep_core.specs.Run.{writer, devices};
+ghost use Rattle.grep_core.specs.Sources.{GivesBack};
+ghost use Rattle.grep_utility.specs.Command.{SearchEnds, PatternsGive, RequestGives, CommandGives};
+ghost use Rattle.grep_utility.specs.Folder.{searched, sources_named};
+ghost use Rattle.grep_utility.specs.Words.{asked, texts_of};
+
+use crate::files::Files;
+use crate::patterns::read_patterns;
+use crate::refusal::tell_refused;
+use crate::searchers::{Searchers, has_more_than, searchers_of};
+use crate::searching::search_files;
+use crate::telling::{end_search, tell, tell_unread, tell_usage};
+use crate::texts::{FAILED, OUT_OF_MEMORY};
+use crate::words::{Request, read_words};
+use grep_core::{Asked, CountedWrite};
+use re_search::Meter;
+use re_syntax::{FaultKind, MOST_PATTERNS};
+use std::alloc::Global;
+
+/// Searches the files of a request, and answers the exit status.
+fn search_request<F: Files, W: CountedWrite, N: CountedWrite>(
+    alloc: Global,
+    request: &Request,
+    searchers: &mut Searchers,
+    files: &mut F,
+    out: &mut W,
+    messages: &mut N,
+    meter: &mut Meter,
+) -> u8
+    requires whole { AllAnswer request.now.options.line_regexp
+        (map wants_whole searchers.old.matchers.items) }
+    requires needed { IfSome searchers.old.needed
+        (λ strings. AreNeeded strings (map matched_expression searchers.old.matchers.items)) }
+    ensures { SearchEnds (map matched_expression searchers.old.matchers.items) request.now.options
+        (sources_named (F.folder files.old) (searched (texts_of request.now.files.items)))
+        (GivesBack F.given_back files.old files.new)
+        (devices (writer W.contents W.failures out.old) (writer N.contents N.failures messages.old)
+        (F.failures files.old) meter.old)
+        (devices (writer W.contents W.failures out.new) (writer N.contents N.failures messages.new)
+        (F.failures files.new) meter.new)
+        result }
+{
+    let asked = Asked {
+        alloc,
+        options: request.options,
+        filter: searchers.needed.as_ref(),
+    };
+    let words = &request.files;
+    let matchers = &mut searchers.matchers;
+    let found = search_files(&asked, files, words, matchers, out, messages, meter);
+    end_search(messages, found)
+}
+
+/// Reads the patterns, which are the lines of `texts`, and searches the files of a request for
+/// them; answers the exit status.
+fn run_patterns<F: Files, W: CountedWrite, N: CountedWrite>(
+    alloc: Global,
+    request: &Request,
+    texts: &[u8],
+    files: &mut F,
+    out: &mut W,
+    messages: &mut N,
+    meter: &mut Meter,
+) -> u8
+    ensures { PatternsGive (asked request.now) (F.folder files.old) (lines_of texts.now)
+        (GivesBack F.given_back files.old files.new)
+        (devices (writer W.contents W.failures out.old) (writer N.contents N.failures messages.old)
+        (F.failures files.old) meter.old)
+        (devices (writer W.contents W.failures out.new) (writer N.contents N.failures messages.new)
+        (F.failures files.new) meter.new)
+        result }
+{
+    if has_more_than(MOST_PATTERNS, texts) {
+        tell(messages, b"grep: too many patterns");
+        return FAILED;
+    }
+    match searchers_of(alloc, texts, request.syntax, &request.options) {
+        Ok(mut searchers) => search_request(
+            alloc,
+            request,
+            &mut searchers,
+            files,
+            out,
+            messages,
+            meter,
+        ),
+        Err((place, fault)) => {
+            if fault.kind == FaultKind::Memory {
+                tell(messages, OUT_OF_MEMORY);
+                return FAILED;
+            }
+            tell_refused(messages, place, fault);
+            FAILED
+        }
+    }
+}
+
+/// Reads the patterns of a request and searches its files for them; answers the exit status.
+fn run_request<F: Files, W: CountedWrite, N: CountedWrite>(
+    alloc: Global,
+    request: &Request,
+    files: &mut F,
+    out: &mut W,
+    messages: &mut N,
+    meter: &mut Meter,
+) -> u8
+    ensures { RequestGives (F.folder files.old) (GivesBack F.given_back files.old files.new)
+        (devices (writer W.contents W.failures out.old) (writer N.contents N.failures messages.old)
+        (F.failures files.old) meter.old)
+        (devices (writer W.contents W.failures out.new) (writer N.contents N.failures messages.new)
+        (F.failures files.new) meter.new)
+        result (asked request.now) }
+{
+    match read_patterns(alloc, files, &request.sources) {
+        Ok(texts) => run_patterns(alloc, request, &texts, files, out, messages, meter),
+        Err(fault) => {
+            tell_unread(messages, fault);
+            FAILED
+        }
+    }
+}
+
+/// The whole command (XCU grep), with the words that follow its name: what goes to standard output
+/// and to standard error, and the exit status.
+///
+/// The status is 0 where a line was selected, 1 where none was, and 2 on an error. It is 2, with
+/// nothing written to standard output, for the first of these reasons, of which a message tells:
+///
+/// 1. Words are refused, as [`read_words`] says: the fault and a line on how grep is used.
+/// 2. A pattern file can't be opened or read: `grep: NAME: cannot open` or `grep: NAME: read
+/// error`.
+///    `-s` doesn't silence these. Pattern files are read in the order of their options.
+/// 3. There are more than 65,535 patterns: `grep: too many patterns`.
+/// 4. A pattern is refused: `grep: pattern N: KIND at AT`, with N the number of the first such
+/// pattern over all lists and pattern files, from 1, and AT a place in it, counted in bytes from 0.
+///
+/// Else the files are searched in order, standard input where there is none. A file that can't be
+/// opened or read is told, but not under `-s`, and the search goes on behind it; the status is then
+/// 2, but 0 where a line was selected under `-q`. The word `-`, as a file or a pattern file, is
+/// standard input, which is empty from its second use on.
+///
+/// Where a write to standard output fails, a beginning of the output went out, `grep: write error`
+/// is told and the status is 2. Where a message can't be written the status is 2 and nothing more
+/// is told. Where a growth is refused `grep: out of memory` is told and the status is 2. No write
+/// is tried again, and neither device is flushed.
+///
+/// The steps that the meter counts are at most those of one search of each line for each pattern,
+/// and where parts are written, of one more for each part of the line and one for its end; before
+/// the files are searched none is counted.
+pub fn run_grep<F: Files, W: CountedWrite, M: CountedWrite>(
+    alloc: Global,
+    words: &[String],
+    files: &mut F,
+    out: &mut W,
+    messages: &mut M,
+    meter: &mut Meter,
+) -> u8
+    ensures { CommandGives (F.folder files.old) (GivesBack F.given_back files.old files.new)
+        (devices (writer W.contents W.failures out.old) (writer M.contents M.failures messages.old)
+        (F.failures files.old) meter.old)
+        (devices (writer W.contents W.failures out.new) (writer M.contents M.failures messages.new)
+        (F.failures files.new) meter.new)
+        result (texts_of words.now) }
+{
+    match read_words(alloc, words) {
+        Ok(request) => run_request(alloc, &request, files, out, messages, meter),
+        Err(fault) => {
+            tell_usage(messages, fault);
+            FAILED
+        }
+    }
+}

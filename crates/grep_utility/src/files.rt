@@ -1,0 +1,122 @@
+//! The files that a command may name.
+ghost use Rattle.std.specs.Prelude.{◌≡◌, ℕ, ⊤, List, [], ◌∷◌, Option};
+ghost use Rattle.grep_core.specs.Run.{count_more};
+ghost use Rattle.grep_core.specs.Sources.{Opens, GivesBack};
+ghost use Rattle.grep_utility.specs.Folder.{Folder, file_named, input_used, is_standard, display_name};
+ghost use Rattle.grep_utility.specs.Folder.{source_named, after_use};
+
+use grep_core::CountedRead;
+
+/// Files by their names, and standard input.
+pub trait Files {
+    /// What a file, or standard input, is read by.
+    type Reader: CountedRead;
+
+    /// What is known of the files: whether each can be opened, and its bytes; and the bytes that
+    /// standard input has left.
+    ghost folder: { Self → Folder };
+
+    /// How many attempts to open a file, and reads of readers that were given back, have failed.
+    ghost failures: { Self → ℕ };
+
+    /// What the readers that were given back had left, in order: any history of them that a caller
+    /// keeps.
+    ghost given_back: { Self → List (Option (List ℕ)) → Type 0 } = { λ _ _. ⊤ };
+
+    /// Which loan they are that are a `&mut`, by the name of its referent's value in proofs. It is
+    /// the same for all that are none.
+    ghost loan: { Self → ℕ } = { λ _. 0 };
+
+    /// A reader of standard input, of which no read has failed. From the second call on there is
+    /// nothing to read.
+    fn standard(&mut self) -> Self::Reader
+        ensures used { folder self.new ≡ input_used (folder self.old) }
+        ensures bytes { Self.Reader.remaining result ≡ (folder self.old).input }
+        ensures fresh { Self.Reader.failures result ≡ 0 }
+        ensures counted { failures self.new ≡ failures self.old }
+        ensures none_back { GivesBack given_back self.old self.new [] }
+        ensures same_loan { loan self.new ≡ loan self.old };
+
+    /// A reader of the file, from its first byte on, of which no read has failed. `None` says that
+    /// it could not be opened, which is counted as a failure.
+    fn open(&mut self, name: &str) -> Option<Self::Reader>
+        ensures kept { folder self.new ≡ folder self.old }
+        ensures opened { Opens Self.Reader.remaining Self.Reader.failures
+            (file_named (folder self.old) name.now)
+            (failures self.old) (failures self.new) result }
+        ensures none_back { GivesBack given_back self.old self.new [] }
+        ensures same_loan { loan self.new ≡ loan self.old };
+
+    /// Takes a reader back, and counts its failures.
+    fn close(&mut self, reader: Self::Reader)
+        ensures kept { folder self.new ≡ folder self.old }
+        ensures counted { failures self.new ≡
+            count_more (failures self.old) (Self.Reader.failures reader) }
+        ensures back { GivesBack given_back self.old self.new (Self.Reader.remaining reader ∷ []) }
+        ensures same_loan { loan self.new ≡ loan self.old };
+
+    /// How many attempts to open a file, and reads of readers that were given back, have failed.
+    /// The count stays at the greatest `u64`.
+    fn failures(&self) -> u64
+        ensures { result ≡ failures self.now };
+}
+
+impl<F: Files> Files for &mut F {
+    type Reader = F::Reader;
+
+    ghost folder = { λ f. F.folder f.now };
+
+    ghost failures = { λ f. F.failures f.now };
+
+    ghost given_back = { λ f left. F.given_back f.now left };
+
+    ghost loan = { λ f. f.ghost_name };
+
+    fn standard(&mut self) -> F::Reader {
+        Files::standard(&mut **self)
+    }
+
+    fn open(&mut self, name: &str) -> Option<F::Reader> {
+        Files::open(&mut **self, name)
+    }
+
+    fn close(&mut self, reader: F::Reader) {
+        Files::close(&mut **self, reader)
+    }
+
+    fn failures(&self) -> u64 {
+        Files::failures(&**self)
+    }
+}
+
+/// Whether the word names standard input (XBD 12.2, Guideline 13).
+fn is_standard(name: &str) -> bool
+    ensures { result ≡ is_standard name.now }
+{
+    name == "-"
+}
+
+/// The name of the source that the word names, as output and messages show it.
+pub fn display_name(name: &str) -> &[u8]
+    ensures { result.now ≡ display_name name.now }
+{
+    if is_standard(name) {
+        return b"(standard input)";
+    }
+    name.as_bytes()
+}
+
+/// Opens the source that the word names.
+pub fn open_named<F: Files>(files: &mut F, name: &str) -> Option<F::Reader>
+    ensures used { F.folder files.new ≡ after_use (F.folder files.old) name.now }
+    ensures opened { Opens F.Reader.remaining F.Reader.failures
+        (source_named (F.folder files.old) name.now)
+        (F.failures files.old) (F.failures files.new) result }
+    ensures none_back { GivesBack F.given_back files.old files.new [] }
+    ensures same_loan { F.loan files.new ≡ F.loan files.old }
+{
+    if is_standard(name) {
+        return Some(files.standard());
+    }
+    files.open(name)
+}

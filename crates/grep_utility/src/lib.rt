@@ -1,0 +1,29 @@
+//! The utility grep: from its words to its exit status, over any files.
+#![tactic(auto)]
+
+mod command;
+mod files;
+mod matchers;
+mod memory;
+mod number;
+mod operands;
+mod patterns;
+mod refusal;
+mod searchers;
+mod searching;
+mod telling;
+mod texts;
+mod usage;
+mod words;
+
+pub use command::run_grep;
+pub use files::Files;
+pub use matchers::matchers_of;
+pub use memory::{Content, MemoryFile, MemoryFiles, MemoryReader};
+pub use number::read_number;
+pub use refusal::kind_name;
+pub use texts::{FAILED, OUT_OF_MEMORY, USAGE, WRITE_ERROR};
+pub use usage::write_usage_fault;
+pub use words::around::Side;
+pub use words::pieces::{Argument, Meaning, meaning_of_option};
+pub use words::{PatternSource, Request, UsageFault, read_words};

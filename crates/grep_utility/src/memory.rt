@@ -1,0 +1,176 @@
+//! Files in memory, for tests of searches and of whole commands.
+ghost use Rattle.std.specs.Prelude.{◌≡◌, MatchOption, option_map, option_copied, find, bytes_eq};
+ghost use Rattle.grep_core.specs.Counted.{one_more};
+ghost use Rattle.grep_core.specs.Run.{count_more};
+ghost use Rattle.grep_utility.specs.Working.Memory.{content_named, fresh_reader};
+
+use crate::files::Files;
+use grep_core::{CountedRead, Limited, Sources, Tally};
+
+/// What reads bytes in memory.
+pub type MemoryReader<'a> = Tally<Limited<&'a [u8]>>;
+
+/// Bytes in memory, and how far they are read.
+#[derive(Clone, Copy, Debug, Drop)]
+pub struct Content<'a> {
+    pub bytes: &'a [u8],
+    /// The most bytes that one read gives.
+    pub step: usize,
+    /// How many bytes are read before each further read fails.
+    pub left: usize,
+}
+
+impl<'a> Content<'a> {
+    /// Bytes that are read to their end.
+    pub fn new(bytes: &'a [u8]) -> Content<'a>
+        ensures { result ≡ record { bytes = bytes.entry; step = usize.MAX; left = usize.MAX } }
+    {
+        Content {
+            bytes,
+            step: usize::MAX,
+            left: usize::MAX,
+        }
+    }
+
+    /// A reader of the bytes, of which no read has failed.
+    fn reader(self) -> MemoryReader<'a>
+        ensures { result ≡ fresh_reader self.entry }
+    {
+        Tally::new(Limited::new(self.bytes, self.step, self.left))
+    }
+}
+
+/// A file in memory.
+#[derive(Clone, Copy, Debug, Drop)]
+pub struct MemoryFile<'a> {
+    pub name: &'a str,
+    /// `None` says that the file cannot be opened.
+    pub content: Option<Content<'a>>,
+}
+
+/// Files in memory, and standard input. As [`Files`] they are opened by their names, of several of
+/// one name the first, and what is not among them cannot be opened. As [`Sources`] they are the
+/// list of the files in order, without standard input.
+#[derive(Debug, Drop)]
+pub struct MemoryFiles<'f, 'a> {
+    pub files: &'f [MemoryFile<'a>],
+    /// What standard input has left.
+    pub input: Content<'a>,
+    /// How many attempts to open a file, and reads of readers that were given back, have failed.
+    pub failed: u64,
+}
+
+impl<'f, 'a> MemoryFiles<'f, 'a> {
+    /// These files, and this standard input, of which nothing was used.
+    pub fn new(files: &'f [MemoryFile<'a>], input: Content<'a>) -> MemoryFiles<'f, 'a>
+        ensures { result ≡ record { files = files.entry; input = input.entry; failed = 0 } }
+    {
+        MemoryFiles {
+            files,
+            input,
+            failed: 0,
+        }
+    }
+
+    /// A reader of the content. `None` says that there is none, which is counted as a failure.
+    fn open_content(&mut self, content: Option<Content<'a>>) -> Option<MemoryReader<'a>>
+        ensures files { self.new.files ≡ self.old.files }
+        ensures input { self.new.input ≡ self.old.input }
+        ensures counted { MatchOption content.entry (self.new.failed ≡ one_more self.old.failed)
+            (λ _. self.new.failed ≡ self.old.failed) }
+        ensures opened { result ≡ option_map fresh_reader content.entry }
+    {
+        if content.is_none() {
+            self.failed = self.failed.saturating_add(1);
+        }
+        Some(content?.reader())
+    }
+
+    /// Counts the failures of a reader that is given back.
+    #[tactic(auto, using(crate::proofs::lemmas::CountLemmas::many_counted))]
+    fn count_failures(&mut self, reader: MemoryReader<'a>)
+        ensures files { self.new.files ≡ self.old.files }
+        ensures input { self.new.input ≡ self.old.input }
+        ensures counted { self.new.failed ≡ count_more self.old.failed reader.entry.failed }
+    {
+        self.failed = self.failed.saturating_add(reader.failures());
+    }
+}
+
+/// The first file of this name.
+fn file_named<'f, 'a>(files: &'f [MemoryFile<'a>], name: &str) -> Option<&'f MemoryFile<'a>>
+    ensures { option_copied result ≡ find (λ file. bytes_eq file.name.now name.now) files.now }
+{
+    files.iter().find(|file| file.name == name)
+}
+
+/// The content of the first file of this name.
+fn content_named<'a>(files: &[MemoryFile<'a>], name: &str) -> Option<Content<'a>>
+    ensures { result ≡ content_named files.now name.now }
+{
+    match file_named(files, name) {
+        Some(file) => file.content,
+        None => None,
+    }
+}
+
+impl<'a> Files for MemoryFiles<'_, 'a> {
+    ghost use Rattle.grep_utility.specs.Working.Memory.{folder_of};
+
+    type Reader = MemoryReader<'a>;
+
+    ghost folder = { λ m. folder_of m.files.now m.input };
+
+    ghost failures = { λ m. m.failed };
+
+    fn standard(&mut self) -> MemoryReader<'a> {
+        let reader = self.input.reader();
+        self.input = Content::new(b"");
+        reader
+    }
+
+    fn open(&mut self, name: &str) -> Option<MemoryReader<'a>> {
+        let content = content_named(self.files, name);
+        self.open_content(content)
+    }
+
+    fn close(&mut self, reader: MemoryReader<'a>) {
+        self.count_failures(reader);
+    }
+
+    fn failures(&self) -> u64 {
+        self.failed
+    }
+}
+
+impl<'a> Sources for MemoryFiles<'_, 'a> {
+    ghost use Rattle.std.specs.Prelude.{map};
+    ghost use Rattle.grep_utility.specs.Working.Memory.{source_of};
+
+    type Reader = MemoryReader<'a>;
+
+    ghost listed = { λ m. map source_of m.files.now };
+
+    ghost failures = { λ m. m.failed };
+
+    fn count(&self) -> usize {
+        self.files.len()
+    }
+
+    fn name(&self, k: usize) -> &[u8] {
+        self.files[k].name.as_bytes()
+    }
+
+    fn open(&mut self, k: usize) -> Option<MemoryReader<'a>> {
+        let content = self.files[k].content;
+        self.open_content(content)
+    }
+
+    fn close(&mut self, reader: MemoryReader<'a>) {
+        self.count_failures(reader);
+    }
+
+    fn failures(&self) -> u64 {
+        self.failed
+    }
+}

@@ -1,0 +1,185 @@
+//! The patterns of a request (XCU grep, options `-e` and `-f`, and the operand pattern_list).
+ghost use Rattle.std.specs.Prelude.{◌≡◌, List, Option, [], ◌∷◌, ◌++◌, IfOk, IfErr, OnErr, Err, map};
+ghost use Rattle.re_syntax.specs.Bytes.{Text};
+ghost use Rattle.re_syntax.specs.Lines.{newline, lines_of};
+ghost use Rattle.grep_core.specs.declared.input.lines.Stage.{Stage};
+ghost use Rattle.grep_core.specs.Sources.{GivesBack};
+ghost use Rattle.grep_utility.specs.Folder.{source_named, after_use};
+ghost use Rattle.grep_utility.specs.Patterns.{GivesPatterns, behind, behind_all, GivePatterns};
+ghost use Rattle.grep_utility.specs.Patterns.{FirstUnread};
+ghost use Rattle.grep_utility.specs.Working.Gathered.{AddsLines, ReadsFile, AddsSource, StopsFor};
+ghost use Rattle.grep_utility.specs.Words.{given_source};
+
+use crate::files::{Files, open_named};
+use crate::words::PatternSource;
+use grep_core::{CountedRead, NumberedLines, ReadFault};
+use std::alloc::{AllocError, Global};
+
+/// How a pattern file was read.
+#[derive(Clone, Copy, Drop)]
+pub enum FileRead {
+    /// It could not be opened.
+    Missing,
+    /// A read failed, or there were more lines than can be numbered.
+    Broken,
+    /// To its end.
+    Whole,
+}
+
+/// Why the patterns of a request were not read.
+#[derive(Clone, Copy, Drop)]
+pub enum PatternsFault<'a> {
+    /// The pattern file that this word names could not be opened.
+    Missing(&'a str),
+    /// A read of the pattern file that this word names failed, or it has more lines than can be
+    /// numbered.
+    Broken(&'a str),
+    /// A growth was refused.
+    Memory,
+}
+
+/// Adds a text and a newline.
+fn add_text(texts: &mut Vec<u8>, text: &[u8]) -> Result<(), AllocError>
+    ensures { IfOk result (λ _. texts.new.items ≡ texts.old.items ++ (text.now ++ newline ∷ [])) }
+{
+    texts.extend_from_slice(text)?;
+    texts.push(b'\n')?;
+    Ok(())
+}
+
+/// Adds the lines of a reader, and answers whether they are all, which they are not where a read
+/// failed or there are more than can be numbered.
+fn add_lines<R: CountedRead>(
+    lines: &mut NumberedLines<R>,
+    texts: &mut Vec<u8>,
+) -> Result<bool, AllocError>
+    requires none_ahead { lines.old.lines.ahead ≡ [] }
+    requires still_open { lines.old.lines.stage ≡ Stage.Open }
+    requires none_handed { lines.old.number ≡ 0 }
+    ensures ok { IfOk result (λ all. AddsLines
+        (R.remaining lines.old.lines.reader) (R.remaining lines.new.lines.reader)
+        (R.failures lines.old.lines.reader) (R.failures lines.new.lines.reader)
+        texts.old.items texts.new.items all) }
+    ensures err { OnErr result
+        (R.failures lines.new.lines.reader ≡ R.failures lines.old.lines.reader) }
+{
+    loop {
+        match lines.next_line() {
+            Ok(true) => add_text(texts, lines.line())?,
+            Ok(false) => return Ok(true),
+            Err(ReadFault::Device) => return Ok(false),
+            Err(ReadFault::Memory) => return Err(AllocError),
+        }
+    }
+}
+
+/// Adds the lines of a reader that was not read before, as [`add_lines`] does, and gives the reader
+/// back.
+fn add_all_lines<R: CountedRead>(
+    alloc: Global,
+    reader: R,
+    texts: &mut Vec<u8>,
+) -> (R, Result<bool, AllocError>)
+    ensures ok { IfOk result.1 (λ all. AddsLines (R.remaining reader) (R.remaining result.0)
+        (R.failures reader) (R.failures result.0) texts.old.items texts.new.items all) }
+    ensures err { OnErr result.1 (R.failures result.0 ≡ R.failures reader) }
+{
+    let mut lines = match NumberedLines::new(alloc, reader) {
+        Ok(lines) => lines,
+        Err(reader) => return (reader, Err(AllocError)),
+    };
+    let read = add_lines(&mut lines, texts);
+    (lines.into_reader(), read)
+}
+
+/// Adds the lines of the pattern file that the word names.
+fn add_file<F: Files>(
+    alloc: Global,
+    files: &mut F,
+    word: &str,
+    texts: &mut Vec<u8>,
+) -> Result<FileRead, AllocError>
+    ensures used { F.folder files.new ≡ after_use (F.folder files.old) word.now }
+    ensures same_loan { F.loan files.new ≡ F.loan files.old }
+    ensures back { (left : List (Option Text)) × GivesBack F.given_back files.old files.new left }
+    ensures ok { IfOk result (λ read. ReadsFile (source_named (F.folder files.old) word.now)
+        (F.failures files.old) (F.failures files.new) texts.old.items texts.new.items read) }
+    ensures err { OnErr result (F.failures files.new ≡ F.failures files.old) }
+{
+    let Some(reader) = open_named(files, word) else {
+        return Ok(FileRead::Missing);
+    };
+    let (reader, read) = add_all_lines(alloc, reader, texts);
+    files.close(reader);
+    match read {
+        Ok(true) => Ok(FileRead::Whole),
+        Ok(false) => Ok(FileRead::Broken),
+        Err(fault) => Err(fault),
+    }
+}
+
+/// Adds the patterns of a source.
+fn add_source<'a, F: Files>(
+    alloc: Global,
+    files: &mut F,
+    source: &'a PatternSource,
+    texts: &mut Vec<u8>,
+) -> Result<(), PatternsFault<'a>>
+    ensures used { F.folder files.new ≡ behind (F.folder files.old) (given_source source.now) }
+    ensures same_loan { F.loan files.new ≡ F.loan files.old }
+    ensures back { (left : List (Option Text)) × GivesBack F.given_back files.old files.new left }
+    ensures ok { IfOk result
+        (λ _.
+        AddsSource (F.folder files.old) (given_source source.now) texts.old.items texts.new.items) }
+    ensures none_failed { IfOk result (λ _. F.failures files.new ≡ F.failures files.old) }
+    ensures err { IfErr result
+        (λ fault.
+        StopsFor
+        (λ unread. GivesPatterns (F.folder files.old) (given_source source.now) (Err unread))
+        (F.failures files.old) (F.failures files.new) fault) }
+{
+    match source {
+        PatternSource::List(list) => match add_text(texts, list.as_bytes()) {
+            Ok(()) => Ok(()),
+            Err(_) => Err(PatternsFault::Memory),
+        },
+        PatternSource::File(word) => match add_file(alloc, files, word, texts) {
+            Ok(FileRead::Whole) => Ok(()),
+            Ok(FileRead::Missing) => Err(PatternsFault::Missing(word)),
+            Ok(FileRead::Broken) => Err(PatternsFault::Broken(word)),
+            Err(_) => Err(PatternsFault::Memory),
+        },
+    }
+}
+
+/// The patterns of all sources, in order, each followed by a newline.
+///
+/// Nothing is read behind the first file that could not be opened or read, of which
+/// `PatternsFault::Missing` and `PatternsFault::Broken` tell. `PatternsFault::Memory` comes where a
+/// growth is refused.
+pub fn read_patterns<'a, F: Files>(
+    alloc: Global,
+    files: &mut F,
+    sources: &'a [PatternSource],
+) -> Result<Vec<u8>, PatternsFault<'a>>
+    ensures same_loan { F.loan files.new ≡ F.loan files.old }
+    ensures back { (left : List (Option Text)) × GivesBack F.given_back files.old files.new left }
+    ensures used { IfOk result
+        (λ _. F.folder files.new ≡ behind_all (F.folder files.old) (map given_source sources.now)) }
+    ensures none_failed { IfOk result (λ _. F.failures files.new ≡ F.failures files.old) }
+    ensures ok { IfOk result
+        (λ texts.
+        GivePatterns (F.folder files.old) (map given_source sources.now) (lines_of texts.items)) }
+    ensures err { IfErr result
+        (λ fault. StopsFor (FirstUnread (F.folder files.old) (map given_source sources.now))
+        (F.failures files.old) (F.failures files.new) fault) }
+{
+    let mut texts = Vec::new(alloc);
+    for source in sources {
+        match add_source(alloc, files, source, &mut texts) {
+            Ok(()) => {}
+            Err(fault) => return Err(fault),
+        }
+    }
+    Ok(texts)
+}

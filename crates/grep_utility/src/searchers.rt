@@ -1,0 +1,130 @@
+//! The matchers of a search: one for all strings together, or one for each pattern.
+ghost use Rattle.std.specs.Prelude.{◌≡◌, ◌⊎◌, [], ◌∷◌, nat_lt, All, IsTrue, IfOk, IfErr, IfSome};
+ghost use Rattle.std.specs.Prelude.{length, map};
+ghost use Rattle.re_syntax.specs.Lines.{lines_of};
+ghost use Rattle.re_syntax.specs.Spelled.{has_limit};
+ghost use Rattle.re_search.specs.Working.Filters.{AreNeeded};
+ghost use Rattle.re_search.specs.Reading.{IsOutOfMemory};
+ghost use Rattle.re_search.specs.Working.Matchers.{matched_expression};
+ghost use Rattle.grep_core.specs.Matchers.{IsFirstRefused};
+ghost use Rattle.grep_utility.specs.Working.Serving.{ServeFor, IsJoined, IsStringFor};
+
+use crate::matchers::matchers_of;
+use grep_core::Options;
+use re_search::{Filter, FixedSet, Matcher, is_plain, needed_strings};
+use re_syntax::{FaultKind, MOST_POSITIONS, PatternFault, Syntax, split_file};
+use std::alloc::{AllocError, Global};
+
+/// How many patterns may be looked for one after another; one pass for more of them is quicker.
+const FEW: usize = 7;
+
+/// What a search asks of each line.
+#[derive(Drop)]
+pub struct Searchers {
+    /// The matchers that decide.
+    pub matchers: Vec<Matcher>,
+    /// Strings of which some stands on each line that some matcher matches, where they are known:
+    /// a line without them need not be shown to the matchers.
+    pub needed: Option<Filter>,
+}
+
+/// The matchers of a search for the patterns, which are the lines of `texts`: one for all of them
+/// together, where they are many and each is a string, and else one for each.
+///
+/// # Errors
+///
+/// Those of [`matchers_of`].
+pub fn searchers_of(
+    alloc: Global,
+    texts: &[u8],
+    syntax: Syntax,
+    options: &Options,
+) -> Result<Searchers, (usize, PatternFault)>
+    ensures ok { IfOk result
+        (λ s. ServeFor syntax options.now (lines_of texts.now) s.matchers.items) }
+    ensures needed { IfOk result
+        (λ s.
+        IfSome s.needed (λ strings. AreNeeded strings (map matched_expression s.matchers.items))) }
+    ensures err { IfErr result (λ refused. IsOutOfMemory refused.1
+        ⊎ IsFirstRefused syntax options.now.ignore_case (lines_of texts.now) refused.0 refused.1) }
+{
+    if has_more_than(FEW, texts) && are_strings(alloc, texts, syntax, options.ignore_case) {
+        let Ok(matchers) = joined(alloc, texts, options) else {
+            let kind = FaultKind::Memory;
+            return Err((0, PatternFault { kind, at: 0 }));
+        };
+        let needed = None;
+        return Ok(Searchers { matchers, needed });
+    }
+    match matchers_of(alloc, texts, syntax, options) {
+        Ok(matchers) => {
+            let needed = needed_by(alloc, &matchers);
+            Ok(Searchers { matchers, needed })
+        }
+        Err(refused) => Err(refused),
+    }
+}
+
+/// Whether there are more patterns than this, which are the lines of `texts`.
+pub fn has_more_than(most: usize, texts: &[u8]) -> bool
+    ensures { result ≡ nat_lt most (length (lines_of texts.now)) }
+{
+    split_file(texts).nth(most).is_some()
+}
+
+/// Whether each pattern is read as the string that it is, and is not too long where that counts.
+fn are_strings(alloc: Global, texts: &[u8], syntax: Syntax, fold: bool) -> bool
+    ensures { IsTrue result → All (IsStringFor syntax fold) (lines_of texts.now) }
+{
+    for text in split_file(texts) {
+        if !is_string_for(alloc, text, syntax, fold) {
+            return false;
+        }
+    }
+    true
+}
+
+/// Whether the pattern is read as the string that it is, and is not too long where that counts.
+fn is_string_for(alloc: Global, text: &[u8], syntax: Syntax, fold: bool) -> bool
+    ensures { IsTrue result → IsStringFor syntax fold text.now }
+{
+    if has_most(syntax, fold) && text.len() > MOST_POSITIONS {
+        return false;
+    }
+    is_plain(alloc, text, syntax)
+}
+
+/// Whether the length of a string counts.
+fn has_most(syntax: Syntax, fold: bool) -> bool
+    ensures { result ≡ has_limit syntax fold }
+{
+    match syntax {
+        Syntax::Basic => true,
+        Syntax::Extended => true,
+        Syntax::Fixed => fold,
+    }
+}
+
+/// The one matcher for all strings.
+fn joined(alloc: Global, texts: &[u8], options: &Options) -> Result<Vec<Matcher>, AllocError>
+    ensures { IfOk result (λ matchers. IsJoined options.now (lines_of texts.now) matchers.items) }
+{
+    let set = FixedSet::new(alloc, texts, options.ignore_case, options.line_regexp)?;
+    let mut matchers = Vec::new(alloc);
+    matchers.push(Matcher::FixedSet(Box::new(alloc, set)?))?;
+    Ok(matchers)
+}
+
+/// Strings that the matchers need, where these are many and each needs some. Where memory is
+/// refused for them the search goes without.
+fn needed_by(alloc: Global, matchers: &[Matcher]) -> Option<Filter>
+    ensures { IfSome result (λ strings. AreNeeded strings (map matched_expression matchers.now)) }
+{
+    if matchers.len() <= FEW {
+        return None;
+    }
+    match needed_strings(alloc, matchers) {
+        Ok(strings) => strings,
+        Err(_) => None,
+    }
+}

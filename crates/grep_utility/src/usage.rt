@@ -1,0 +1,87 @@
+//! What is told of words that are refused (XCU grep, STDERR).
+ghost use Rattle.std.specs.Prelude.{[]};
+ghost use Rattle.grep_core.specs.Output.{written};
+ghost use Rattle.grep_core.specs.Row.{output_line};
+ghost use Rattle.grep_core.specs.Written.{Writes};
+ghost use Rattle.grep_utility.specs.Texts.{fault_text, usage_behind, usage_texts};
+
+use crate::texts::{OUT_OF_MEMORY, USAGE};
+use crate::words::UsageFault;
+use grep_core::{CountedWrite, WriteFault, push_all, write_line, write_line_behind};
+
+/// Writes the line on an option without its argument.
+fn write_missing_argument<M: CountedWrite>(messages: &mut M, letter: char) -> Result<(), WriteFault>
+    ensures { Writes M.contents M.failures messages.old messages.new
+        (output_line [] (fault_text (UsageFault.MissingArgument letter))) result }
+{
+    let mut bytes = [0; 4];
+    let letter = letter.encode_utf8(&mut bytes).as_bytes();
+    push_all(messages, b"grep: option -")?;
+    write_line_behind(messages, letter, b" needs an argument")
+}
+
+/// Writes the line on an option whose argument is no number.
+fn write_bad_number<M: CountedWrite>(messages: &mut M, letter: char) -> Result<(), WriteFault>
+    ensures { Writes M.contents M.failures messages.old messages.new
+        (output_line [] (fault_text (UsageFault.BadNumber letter))) result }
+{
+    let mut bytes = [0; 4];
+    let letter = letter.encode_utf8(&mut bytes).as_bytes();
+    push_all(messages, b"grep: option -")?;
+    write_line_behind(messages, letter, b" needs a number")
+}
+
+/// Writes the line on a character that is no option.
+fn write_unknown_option<M: CountedWrite>(messages: &mut M, letter: char) -> Result<(), WriteFault>
+    ensures { Writes M.contents M.failures messages.old messages.new
+        (output_line [] (fault_text (UsageFault.UnknownOption letter))) result }
+{
+    let mut bytes = [0; 4];
+    let letter = letter.encode_utf8(&mut bytes).as_bytes();
+    write_line_behind(messages, b"grep: unknown option -", letter)
+}
+
+/// Writes the line that tells of the fault.
+#[tactic(auto, unfolding(crate::specs::Texts::fault_text))]
+fn write_fault<M: CountedWrite>(messages: &mut M, fault: UsageFault) -> Result<(), WriteFault>
+    ensures { Writes M.contents M.failures messages.old messages.new
+        (output_line [] (fault_text fault)) result }
+{
+    match fault {
+        UsageFault::UnknownOption(letter) => write_unknown_option(messages, letter),
+        UsageFault::MissingArgument(letter) => write_missing_argument(messages, letter),
+        UsageFault::BadNumber(letter) => write_bad_number(messages, letter),
+        UsageFault::TwoSyntaxes => write_line(messages, b"grep: -E and -F together"),
+        UsageFault::NoPattern => write_line(messages, b"grep: no pattern"),
+        UsageFault::Memory => write_line(messages, OUT_OF_MEMORY),
+    }
+}
+
+/// Writes how the command is used, but not behind want of memory.
+fn write_usage_behind<M: CountedWrite>(
+    messages: &mut M,
+    fault: UsageFault,
+) -> Result<(), WriteFault>
+    ensures { Writes M.contents M.failures messages.old messages.new
+        (written [] (usage_behind fault)) result }
+{
+    match fault {
+        UsageFault::Memory => Ok(()),
+        _ => write_line(messages, USAGE),
+    }
+}
+
+/// Writes the line that tells of the fault, and behind it how the command is used, but not where
+/// memory was wanted.
+///
+/// `WriteFault` comes where a write fails. It is not tried again.
+pub fn write_usage_fault<M: CountedWrite>(
+    messages: &mut M,
+    fault: UsageFault,
+) -> Result<(), WriteFault>
+    ensures { Writes M.contents M.failures messages.old messages.new
+        (written [] (usage_texts fault)) result }
+{
+    write_fault(messages, fault)?;
+    write_usage_behind(messages, fault)
+}

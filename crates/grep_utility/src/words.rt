@@ -1,0 +1,243 @@
+//! The words of grep, and what they ask for (XBD 12.2; XCU grep, SYNOPSIS, OPTIONS, OPERANDS).
+ghost use Rattle.std.specs.Prelude.{◌≡◌, ◌∷◌, [], IfOk, MatchResult};
+ghost use Rattle.grep_utility.specs.Words.{AreRead, OrMemory, around_behind, asked, completed};
+ghost use Rattle.grep_utility.specs.Words.{context_of, file, first_fault, list, may_follow};
+ghost use Rattle.grep_utility.specs.Words.{no_numbers, nothing_asked, operand, pieces, reads_on};
+ghost use Rattle.grep_utility.specs.Words.{source, texts_of, with_context, with_flag, with_pieces};
+ghost use Rattle.grep_utility.specs.Working.Pieces.{piece_of};
+
+pub mod around;
+pub mod pieces;
+
+use crate::words::around::Around;
+use crate::words::pieces::{Piece, pieces_of};
+use grep_core::{Flag, Options};
+use re_syntax::Syntax;
+use std::alloc::{AllocError, Global};
+
+/// Why words are refused.
+#[derive(Clone, Copy, PartialEq, Eq, Debug, Drop)]
+pub enum UsageFault {
+    /// This character is no option of grep.
+    UnknownOption(char),
+    /// No argument follows this option, which is `A`, `B`, `C`, `e` or `f`.
+    MissingArgument(char),
+    /// The argument of this option, which is `A`, `B` or `C`, is no number.
+    BadNumber(char),
+    /// Both of `-E` and `-F` were given.
+    TwoSyntaxes,
+    /// There is no `-e`, no `-f` and no operand.
+    NoPattern,
+    /// A growth was refused.
+    Memory,
+}
+
+impl From<AllocError> for UsageFault {
+    ghost use Rattle.std.specs.Prelude.{◌≡◌};
+    ghost use Rattle.grep_utility.specs.declared.words.UsageFault.{UsageFault};
+
+    ghost from_gives = { λ _ fault. fault ≡ UsageFault.Memory };
+
+    fn from(_: AllocError) -> UsageFault {
+        UsageFault::Memory
+    }
+}
+
+/// Where patterns come from.
+#[derive(PartialEq, Eq, Debug, Drop)]
+pub enum PatternSource {
+    /// A pattern list: the argument of `-e`, or the first operand where there is no `-e` and no
+    /// `-f`.
+    List(String),
+    /// The pattern file of this name: the argument of `-f`.
+    File(String),
+}
+
+/// What words ask for.
+#[derive(PartialEq, Eq, Debug, Drop)]
+pub struct Request {
+    /// How the patterns are read.
+    pub syntax: Syntax,
+    pub options: Options,
+    /// Where the patterns come from, in order.
+    pub sources: Vec<PatternSource>,
+    /// The names of the files that are searched, in order; standard input is searched where there
+    /// are none.
+    pub files: Vec<String>,
+}
+
+/// Sets the option.
+fn set(options: &mut Options, flag: Flag)
+    ensures { options.new ≡ with_flag flag options.old }
+{
+    match flag {
+        Flag::Count => options.count = true,
+        Flag::IgnoreCase => options.ignore_case = true,
+        Flag::FilesWithMatches => options.files_with_matches = true,
+        Flag::LineNumber => options.line_number = true,
+        Flag::OnlyMatching => options.only_matching = true,
+        Flag::Quiet => options.quiet = true,
+        Flag::NoMessages => options.no_messages = true,
+        Flag::InvertMatch => options.invert_match = true,
+        Flag::LineRegexp => options.line_regexp = true,
+    }
+}
+
+/// Whether the option for the second syntax may stand behind that for the first, or behind none.
+fn goes_with(before: Syntax, syntax: Syntax) -> bool
+    ensures { result ≡ may_follow before syntax }
+{
+    match (before, syntax) {
+        (Syntax::Extended, Syntax::Fixed) => false,
+        (Syntax::Fixed, Syntax::Extended) => false,
+        _ => true,
+    }
+}
+
+impl Request {
+    /// Adds an argument of `-e`.
+    fn add_list(&mut self, alloc: Global, text: &str) -> Result<(), AllocError>
+        ensures { IfOk result (λ _. asked self.new
+            ≡ with_pieces (asked self.old) (source (list text.now) ∷ [])) }
+    {
+        self.sources
+            .push(PatternSource::List(String::from_str(alloc, text)?))?;
+        Ok(())
+    }
+
+    /// Adds an argument of `-f`.
+    fn add_file(&mut self, alloc: Global, name: &str) -> Result<(), AllocError>
+        ensures { IfOk result (λ _. asked self.new
+            ≡ with_pieces (asked self.old) (source (file name.now) ∷ [])) }
+    {
+        self.sources
+            .push(PatternSource::File(String::from_str(alloc, name)?))?;
+        Ok(())
+    }
+
+    /// Adds an operand.
+    fn add_operand(&mut self, alloc: Global, text: &str) -> Result<(), AllocError>
+        ensures { IfOk result (λ _. asked self.new
+            ≡ with_pieces (asked self.old) (operand text.now ∷ [])) }
+    {
+        self.files.push(String::from_str(alloc, text)?)?;
+        Ok(())
+    }
+
+    /// Without `-e` and `-f` the first operand is the pattern list.
+    ///
+    /// `NoPattern` comes where there is none, `Memory` where a growth is refused.
+    fn complete(mut self) -> Result<Request, UsageFault>
+        ensures { MatchResult result
+            (λ request. completed (asked self) ≡ Ok (asked request))
+            (λ fault. OrMemory fault (completed (asked self) ≡ Err fault)) }
+    {
+        if self.sources.is_empty() {
+            if self.files.is_empty() {
+                return Err(UsageFault::NoPattern);
+            }
+            let list = self.files.remove(0);
+            if self.sources.push(PatternSource::List(list)).is_err() {
+                return Err(UsageFault::Memory);
+            }
+        }
+        Ok(self)
+    }
+}
+
+/// What words ask for, as far as they were read.
+#[derive(Drop)]
+struct Draft {
+    request: Request,
+    around: Around,
+}
+
+impl Draft {
+    /// A request of which no word was read.
+    fn new(alloc: Global) -> Draft
+        ensures numbers { result.around ≡ no_numbers }
+        ensures nothing { asked result.request ≡ nothing_asked }
+    {
+        let request = Request {
+            syntax: Syntax::Basic,
+            options: Options::default(),
+            sources: Vec::new(alloc),
+            files: Vec::new(alloc),
+        };
+        Draft {
+            request,
+            around: Around::default(),
+        }
+    }
+
+    /// Adds what the words ask for, up to their first fault, of which it tells as
+    /// [`Draft::add`] does.
+    fn add_words(&mut self, alloc: Global, words: &[String]) -> Result<(), UsageFault>
+        ensures { MatchResult result
+            (λ _. completed (with_context (context_of self.new.around) (asked self.new.request))
+            ≡ reads_on self.old.around (asked self.old.request) (pieces (texts_of words.now) None))
+            (λ fault. OrMemory fault
+            (reads_on self.old.around (asked self.old.request) (pieces (texts_of words.now) None)
+            ≡ Err fault)) }
+    {
+        for piece in pieces_of(words) {
+            self.add(alloc, piece?)?;
+        }
+        Ok(())
+    }
+
+    /// Adds what an option or an operand asks for.
+    ///
+    /// `TwoSyntaxes` comes where one of `-E` and `-F` follows the other, `Memory` where a growth is
+    /// refused.
+    fn add(&mut self, alloc: Global, piece: Piece) -> Result<(), UsageFault>
+        ensures { MatchResult result
+            (λ _. (first_fault self.old.request.syntax (piece_of (Ok piece.entry) ∷ []) ≡ None)
+            × (asked self.new.request
+            ≡ with_pieces (asked self.old.request) (piece_of (Ok piece.entry) ∷ []))
+            × (self.new.around ≡ around_behind self.old.around (piece_of (Ok piece.entry) ∷ [])))
+            (λ fault. OrMemory fault
+            (first_fault self.old.request.syntax (piece_of (Ok piece.entry) ∷ []) ≡ Some fault)) }
+    {
+        let request = &mut self.request;
+        match piece {
+            Piece::Flag(flag) => set(&mut request.options, flag),
+            Piece::Syntax(syntax) if goes_with(request.syntax, syntax) => request.syntax = syntax,
+            Piece::Syntax(_) => return Err(UsageFault::TwoSyntaxes),
+            Piece::List(text) => request.add_list(alloc, text)?,
+            Piece::File(name) => request.add_file(alloc, name)?,
+            Piece::Around(side, count) => self.around.set(side, count),
+            Piece::Operand(text) => request.add_operand(alloc, text)?,
+        }
+        Ok(())
+    }
+
+    /// What all words ask for.
+    ///
+    /// `NoPattern` comes where there is no pattern, `Memory` where a growth is refused.
+    fn complete(mut self) -> Result<Request, UsageFault>
+        ensures { MatchResult result
+            (λ request. completed (with_context (context_of self.around) (asked self.request))
+            ≡ Ok (asked request))
+            (λ fault. OrMemory fault
+            (completed (with_context (context_of self.around) (asked self.request)) ≡ Err fault)) }
+    {
+        self.request.options.context = self.around.context();
+        self.request.complete()
+    }
+}
+
+/// Reads the words that follow the name of the command.
+///
+/// The first fault from the left is told: `UnknownOption` where a character of a group of options
+/// is none, `MissingArgument` where nothing follows an option that has an argument, `BadNumber`
+/// where that of `-A`, `-B` or `-C` is no number, `TwoSyntaxes` where one of `-E` and `-F` follows
+/// the other; else `NoPattern` where there is no `-e`, no `-f` and no operand. `Memory` comes where
+/// a growth is refused.
+pub fn read_words(alloc: Global, words: &[String]) -> Result<Request, UsageFault>
+    ensures { AreRead (texts_of words.now) result }
+{
+    let mut draft = Draft::new(alloc);
+    draft.add_words(alloc, words)?;
+    draft.complete()
+}
