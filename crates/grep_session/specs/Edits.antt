@@ -32,8 +32,7 @@ pub data Edit : Type 0 where
   AddMissing : Text → Edit
   -- removes the file of this number
   DropFile : ℕ → Edit
-  -- in the file of the first number, from the line of the second on, replaces the third number of
-  -- lines by these
+  -- replaces lines of a file: its number, the first line, the number of lines, and the new lines
   Splice : ℕ → ℕ → ℕ → List Text → Edit
   -- adds the patterns of this list at the end; removes the pattern of this number
   AddPatterns : Text → Edit

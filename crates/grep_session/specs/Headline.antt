@@ -60,8 +60,7 @@ pub record Attempt : Type 0 where
   pub edit : Edit
   pub answer : Result (Unit {0}) EditFault
 
--- the attempts, one after the other, turn the old inputs into the new ones, each as its edit
--- promises
+-- the attempts, one after the other, lead from old to new inputs, each as its edit promises
 abbrev pub ComesTo : List Attempt → Inputs → Inputs → Type 0
 ComesTo [] old new = new ≡ old
 ComesTo (attempt ∷ more) old new =
@@ -77,7 +76,7 @@ abbrev pub accepted : List Attempt → List Edit
 accepted [] = []
 accepted (attempt ∷ more) = with_accepted attempt.edit attempt.answer (accepted more)
 
--- the edits, one after the other, are accepted and turn the old inputs into the new ones
+-- the edits, one after the other, are accepted and lead from old to new inputs
 abbrev pub Makes : List Edit → Inputs → Inputs → Type 0
 Makes [] old new = new ≡ old
 Makes (edit ∷ more) old new =

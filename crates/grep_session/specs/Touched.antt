@@ -22,8 +22,7 @@ use Rattle.grep_session.specs.Edits.{Edit, AddFile, AddMissing, DropFile, Splice
 use Rattle.grep_session.specs.Edits.{DropPattern, SetFlag, SetSyntax, SetContext, option_of}
 use Rattle.grep_session.specs.Edits.{HasPlace, Applies}
 
--- what an edit has searched: each of the lines `paired` by that number of patterns, and the parts
--- of the lines `lines`
+-- what an edit has searched: each of `paired` by that number of patterns, and the parts of `lines`
 pub record Touched : Type 0 where
   pub patterns : ℕ
   pub paired : List Text

@@ -122,8 +122,7 @@ module _ (options : Options) (many : Bool) (name : Text) where
       shown_rows (is_selected options line) (next_shown p (is_selected options line)) before line
       ++ around_rows (behind_line p (is_selected options line)) (before ++ line_text line ∷ []) more
 
-  -- what is written for the lines of a file; `some` says whether a line of an earlier file is
-  -- selected
+  -- what is written for a file's lines; `some` says whether a line of an earlier file is selected
   abbrev pub text_rows : Form → Bool → List KeptLine → List Text
   text_rows (around context) some text = around_rows (progress_from context some) [] text
   text_rows shape some text = rows_as shape 1 text
