@@ -1,4 +1,4 @@
--- How the program ends behind its command (XCU grep, EXIT STATUS and STDERR).
+-- How the program ends after its command (XCU grep, EXIT STATUS and STDERR).
 use Rattle.std.specs.Prelude.{◌≡◌, ℕ, nat_lt, List, [], ◌∷◌, ◌⊎◌, codes, Option, MatchBool}
 use Rattle.grep_core.specs.Buffer.{BufferedWriter, SendsAll, SendsSome, all_contents}
 use Rattle.grep_core.specs.Meters.{Steps}
@@ -11,12 +11,12 @@ use Rattle.grep_utility.specs.Texts.{write_error}
 abbrev pub words_refused : Text
 words_refused = codes "grep: words must be UTF-8"
 
--- a write error is told, but not where a message could not be written before
+-- a write error is reported, but not if a message could not be written before
 abbrev pub TellsWriteError : Writer → Writer → Type 0
 TellsWriteError old new =
     MatchBool (nat_lt 0 old.failures) (new ≡ old) (TellsLines old new (write_error ∷ []))
 
--- standard output, gathered; standard error; how often a file could not be opened or read; and the
+-- standard output, buffered; standard error; how often a file could not be opened or read; and the
 -- steps that were counted
 pub record Streams (W : Type 0) : Type 0 where
   pub out : BufferedWriter W
@@ -29,9 +29,9 @@ streams out messages failures steps =
     record { out = out; messages = messages; source_failures = failures; steps = steps }
 
 module _ {W : Type 0} (contents : W → Option Text) (failures : W → ℕ) where
-  -- where a write of the output failed before, nothing more is sent; otherwise all that waits goes
-  -- out, and the status is the one that was found; or a beginning of it goes out, and that is told
-  -- and the status is 2
+  -- if a write of the output failed before, nothing more is sent, and the status is the found one;
+  -- otherwise all buffered output is sent, with the same status; or a beginning of it is sent, the
+  -- write error is reported, and the status is 2
   abbrev pub EndsAs : BufferedWriter W → BufferedWriter W → Writer → Writer → ℕ → ℕ → Type 0
   EndsAs old new told_before told found status =
       MatchBool (nat_lt 0 (failures old.inner))
@@ -43,7 +43,7 @@ module _ {W : Type 0} (contents : W → Option Text) (failures : W → ℕ) wher
   abbrev pub gathered : BufferedWriter W → Writer
   gathered = writer (all_contents contents) (λ out. failures out.inner)
 
-  -- what the program does for its words: what the command does, and then its end
+  -- what the program does for its words: what the command does, and then how the program ends
   pub record ProgramGives (folder : Folder) (given : List (Option Text) → Type 0)
       (words : List Text) (old new : Streams W) (status : ℕ) : Type 0 where
     pub found : ℕ

@@ -1,4 +1,4 @@
--- what the contract of the whole command, or of the session, rests on
+-- what the contract of the whole program is stated with
 pub mod Exit
--- what else contracts are said in: of this crate as a library, and of its private functions
+-- what other contracts are stated with: those of the files of the system
 pub mod Working

@@ -10,8 +10,8 @@ use std::fs::File;
 use std::io::{ErrorKind, Read, Stdin};
 use std::{fs, io};
 
-/// What is read: standard input, a file, or nothing. Contracts know of it what they know of the
-/// device that it is, so that a failed read is passed on as one.
+/// What is read: standard input, a file, or nothing. Contracts know of it what they know of its
+/// device, so a failed read is passed on as one.
 #[derive(Drop)]
 pub enum Stream<I, F> {
     StandardInput(I),
@@ -43,13 +43,13 @@ pub struct DiskFiles<'a> {
     guard: OutputGuard,
     /// Standard input was used.
     input_used: bool,
-    /// How many attempts to open a file, and reads of streams that were given back, have failed.
+    /// How many attempts to open a file, and reads of closed streams, have failed.
     failed: u64,
 }
 
 impl<'a> DiskFiles<'a> {
-    /// All files, of which none was opened, and standard input, which was not used. Of the inputs
-    /// that the guard tells to be standard output each read fails.
+    /// All files, none of them opened, and standard input, not yet used. Each read of an input
+    /// fails if the guard says that it is standard output.
     pub fn new(rt: &'a HostRuntime, guard: OutputGuard) -> DiskFiles<'a>
         ensures unused { result.input_used ≡ false }
         ensures none_failed { result.failed ≡ 0 }
@@ -63,8 +63,8 @@ impl<'a> DiskFiles<'a> {
     }
 }
 
-/// Nothing is known of a file's bytes, nor whether it can be opened; of standard input it is known
-/// that it is empty from its second use on.
+/// Nothing is known of a file's bytes, nor whether it can be opened. Standard input is known to be
+/// empty from its second use on.
 impl Files for DiskFiles<'_> {
     type Reader = Tally<Stream<Stdin, File>>;
 

@@ -1,4 +1,4 @@
-//! How the program tells of its own faults, and how it ends.
+//! How the program reports its own faults, and how it ends.
 ghost use Rattle.std.specs.Prelude.{◌≡◌, [], ◌∷◌};
 ghost use Rattle.grep_core.specs.Output.{written};
 ghost use Rattle.grep_core.specs.Run.{writer};
@@ -18,7 +18,7 @@ fn write_usage<M: CountedWrite>(messages: &mut M) -> Result<(), WriteFault>
     write_line(messages, USAGE)
 }
 
-/// Writes the lines on words that are not UTF-8.
+/// Writes the lines about words that are not UTF-8.
 fn write_words_refused<M: CountedWrite>(messages: &mut M) -> Result<(), WriteFault>
     ensures { Writes M.contents M.failures messages.old messages.new
         (written [] (words_refused ∷ usage ∷ [])) result }
@@ -27,7 +27,7 @@ fn write_words_refused<M: CountedWrite>(messages: &mut M) -> Result<(), WriteFau
     write_usage(messages)
 }
 
-/// Tells that a word is not UTF-8, and answers the exit status. A write that fails is not tried
+/// Reports that a word is not UTF-8, and returns the exit status. A write that fails is not tried
 /// again.
 pub fn refuse_words<M: CountedWrite>(messages: &mut M) -> u8
     ensures status { result ≡ 2 }
@@ -39,8 +39,7 @@ pub fn refuse_words<M: CountedWrite>(messages: &mut M) -> u8
     FAILED
 }
 
-/// Tells that memory was refused, and answers the exit status. A write that fails is not tried
-/// again.
+/// Reports that memory ran out, and returns the exit status. A write that fails is not tried again.
 pub fn refuse_memory<M: CountedWrite>(messages: &mut M) -> u8
     ensures status { result ≡ 2 }
     ensures told { TellsLines (writer M.contents M.failures messages.old)
@@ -51,8 +50,8 @@ pub fn refuse_memory<M: CountedWrite>(messages: &mut M) -> u8
     FAILED
 }
 
-/// Tells that the output could not be written, but not where a message could not be written before,
-/// and answers the exit status.
+/// Reports that the output could not be written, unless a message could not be written before, and
+/// returns the exit status.
 fn tell_write_error<M: CountedWrite>(messages: &mut M) -> u8
     ensures status { result ≡ 2 }
     ensures told { TellsWriteError (writer M.contents M.failures messages.old)
@@ -65,9 +64,9 @@ fn tell_write_error<M: CountedWrite>(messages: &mut M) -> u8
     FAILED
 }
 
-/// Sends the output that waits, and answers the exit status: the one that was found, or 2 where the
-/// output could not be sent, which is told. Where a write of the output failed before none is tried
-/// again.
+/// Sends the buffered output, and returns the exit status: the one that was found, or 2 if the
+/// output could not be sent, which is reported. If a write of the output failed before, nothing is
+/// sent.
 pub fn finish<W: CountedWrite, M: CountedWrite>(
     out: &mut Buffered<W>,
     messages: &mut M,

@@ -1,11 +1,11 @@
-//! A search doesn't read the file to which it writes rows: it would find them again, without end.
+//! A search doesn't read the file to which it writes rows: it would find them again, endlessly.
 
 use grep_utility::{PatternSource, read_words};
 use std::fs::{File, Metadata};
 use std::os::unix::fs::MetadataExt;
 use std::{fs, io};
 
-/// A file of the system, by whichever name it was opened.
+/// A file of the system, under any name.
 #[derive(Clone, Copy, PartialEq, Eq, Drop)]
 struct FileIdentity {
     device: u64,
@@ -13,8 +13,8 @@ struct FileIdentity {
 }
 
 impl FileIdentity {
-    /// The regular file that this is the metadata of. A device or a pipe doesn't grow by what is
-    /// written to it.
+    /// The regular file with this metadata. Devices and pipes have none: they don't grow by what is
+    /// written to them.
     fn of_regular(metadata: io::Result<Metadata>) -> Option<FileIdentity> {
         let metadata = metadata.ok()?;
         metadata.is_file().then_some(FileIdentity {
@@ -24,18 +24,18 @@ impl FileIdentity {
     }
 }
 
-/// Tells the inputs that are standard output. As GNU grep has it, standard output is guarded where
-/// it is a regular file and rows are written as they are found: not under `-c`, `-l` and `-q`. A
+/// Recognizes the inputs that are standard output. As in GNU grep, standard output is guarded if it
+/// is a regular file and rows are written as they are found: not under `-c`, `-l` and `-q`. A
 /// pattern file may be standard output, since it is read before a row is written.
 #[derive(Drop)]
 pub struct OutputGuard {
     output: Option<FileIdentity>,
-    /// How many pattern files are still to come.
+    /// How many pattern files are still to be read.
     pattern_files: usize,
 }
 
 impl OutputGuard {
-    /// Guards standard output while the command of these words runs. Where the system does not say
+    /// Guards standard output while the command of these words runs. If the system does not say
     /// which file it is, none is guarded.
     pub fn new(rt: &HostRuntime, words: &[String]) -> OutputGuard {
         let mut guard = OutputGuard {
@@ -58,7 +58,7 @@ impl OutputGuard {
         guard
     }
 
-    /// Whether the next input is read in any case: as a pattern file, or since nothing is guarded.
+    /// Whether the next input is always read: it is a pattern file, or nothing is guarded.
     fn passes(&mut self) -> bool {
         if self.pattern_files > 0 {
             self.pattern_files -= 1;

@@ -1,4 +1,4 @@
-//! `grep`: the words, files and streams of the system for the command, and its exit status.
+//! `grep`: runs the command on the words, files and streams of the system, with its exit status.
 #![tactic(auto)]
 
 mod disk;
@@ -21,7 +21,7 @@ use std::io::ErrorKind;
 use std::process::ExitCode;
 use std::{env, io};
 
-/// Runs the command, whose output is gathered and sent at the end; answers the exit status.
+/// Runs the command, sends the output that is still buffered, and returns the exit status.
 fn run_gathered<F: Files, W: CountedWrite, M: CountedWrite>(
     alloc: Global,
     words: &[String],
@@ -42,8 +42,8 @@ fn run_gathered<F: Files, W: CountedWrite, M: CountedWrite>(
     finish(out, messages, found)
 }
 
-/// Runs the command on the devices of the system. Output is gathered, and goes out before each read
-/// that may wait; a message goes out as a whole line.
+/// Runs the command on the devices of the system. Output is buffered, and sent before each read
+/// that may wait. A message is sent as a whole line.
 fn run(rt: &HostRuntime, words: &[String]) -> u8 {
     let alloc = rt.alloc();
     let Ok(mut messages) = WholeLines::new(alloc, Tally::new(rt.stderr())) else {

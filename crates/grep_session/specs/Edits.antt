@@ -1,4 +1,4 @@
--- The edits of a session, and what each makes of its inputs.
+-- The edits of a session, and the inputs that each leaves.
 use Rattle.std.specs.Prelude.{◌≡◌, ◌≢◌, ℕ, ◌+◌, ◌<◌, ◌≤◌, Bool, false, List, [], ◌∷◌, ◌++◌, length}
 use Rattle.std.specs.Prelude.{Option, None, Result, Ok, Err, All, slice_set}
 use Rattle.std.specs.List.{splice, remove}
@@ -27,19 +27,19 @@ use Rattle.grep_session.specs.declared.fault.EditFault.TheVariants.{TooManyPatte
 
 -- the calls that change a session; files, lines and patterns are numbered from 0
 pub data Edit : Type 0 where
-  -- a file of this name and these lines goes last; one that cannot be opened does
+  -- adds a file of this name and these lines at the end; adds a file that cannot be opened
   AddFile : Text → List Text → Edit
   AddMissing : Text → Edit
-  -- the file of this number goes
+  -- removes the file of this number
   DropFile : ℕ → Edit
-  -- in the file of this number, from this line on, so many lines give way to these
+  -- replaces lines of a file: its number, the first line, the number of lines, and the new lines
   Splice : ℕ → ℕ → ℕ → List Text → Edit
-  -- the patterns of this list go last; the pattern of this number goes
+  -- adds the patterns of this list at the end; removes the pattern of this number
   AddPatterns : Text → Edit
   DropPattern : ℕ → Edit
   SetFlag : Flag → Bool → Edit
   SetSyntax : Syntax → Edit
-  -- so many lines are shown around selected ones, or none
+  -- sets how many lines are shown around selected ones, or that none are
   SetContext : Option Context → Edit
 
 -- an option's value
@@ -54,7 +54,7 @@ option_of NoMessages options = options.no_messages
 option_of InvertMatch options = options.invert_match
 option_of LineRegexp options = options.line_regexp
 
--- the options with one of them set so
+-- the options with one of them set to this value
 abbrev pub with_option : Flag → Bool → Options → Options
 with_option Count on options = record options { count = on }
 with_option IgnoreCase on options = record options { ignore_case = on }
@@ -101,28 +101,28 @@ with_patterns patterns old = record old { patterns = patterns }
 abbrev pub with_context : Option Context → Inputs → Inputs
 with_context context old = record old { options = record old.options { context = context } }
 
--- the file of this number has so many lines from a first on
+-- file `k` can be opened, and has `count` lines from line `start` on
 pub record HasPlace (files : List File) (k start count : ℕ) : Type 0 where
   pub in_files : k < length files
   pub opens : (file_at files k).ending ≢ missing
   pub in_file : start + count ≤ length (file_at files k).lines
 
--- the files, in one of which so many lines from a first on gave way to others
+-- the files after `count` lines of file `k` from line `start` on were replaced by others
 abbrev pub spliced : List File → ℕ → ℕ → ℕ → List Text → List File
 spliced files k start count lines =
     slice_set files k
     (record (file_at files k)
     { lines = splice (file_at files k).lines start (start + count) lines })
 
--- the new inputs where all texts are readable; else the first that is not is told
+-- the new inputs if all texts are readable; otherwise the fault of the first that is not
 abbrev pub Reads : Syntax → Bool → List Text → Inputs → Result Inputs EditFault → Type 0
 Reads syntax fold texts new outcome =
     IfHolds (All (IsReadable syntax fold) texts) (outcome ≡ Ok new)
     ((place : ℕ) × (fault : PatternFault) × IsFirstRefused syntax fold texts place fault ×
     (outcome ≡ Err (Pattern place fault)))
 
--- what an edit makes of the inputs; where it is refused for several reasons, the first of them in
--- this order is told
+-- the outcome of an edit of the inputs; if it is refused for several reasons, the first of them in
+-- this order is reported
 abbrev pub Applies : Edit → Inputs → Result Inputs EditFault → Type 0
 Applies (AddFile name lines) old outcome =
     IfHolds (All HasNoNewline lines)
@@ -155,8 +155,8 @@ Applies (SetSyntax syntax) old outcome =
     Reads syntax old.options.ignore_case old.patterns (record old { syntax = syntax }) outcome
 Applies (SetContext context) old outcome = outcome ≡ Ok (with_context context old)
 
--- what an edit answers and leaves: the new inputs, or the old ones and why it was refused; want of
--- memory may stand for any other answer
+-- what an edit answers and leaves: the new inputs, or the old ones and why it was refused; out of
+-- memory may be reported in place of any other answer
 abbrev pub EditGives : {T : Type 0} → Edit → Inputs → Inputs → Result T EditFault → Type 0
 EditGives edit old new (Ok done) = Applies edit old (Ok new)
 EditGives edit old new (Err Memory) = new ≡ old

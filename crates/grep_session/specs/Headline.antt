@@ -1,6 +1,6 @@
--- The headline: after every list of edits, what is written of a session and the status that it
--- gives are those that grep's definition gives from scratch for the files, patterns and options
--- that the accepted edits leave;
+-- The headline: after every list of edits, what is written for a session and its status are those
+-- that grep's definition gives from scratch for the files, patterns and options that the accepted
+-- edits leave;
 -- an edit is refused only for its named cause, and a refused edit changes nothing.
 use Rattle.std.specs.Prelude.{◌≡◌, ℕ, List, [], ◌∷◌, ◌++◌, Option, Result, Ok, Err, IfOk}
 use Rattle.re_syntax.specs.Bytes.{Text}
@@ -24,12 +24,12 @@ pub record GrepGives (inputs : Inputs) (out told : List Text) (status : Status) 
   pub are_messages : Messages es inputs.options inputs.files told
   pub is_status : StatusOf es inputs.options inputs.files status
 
--- ---- what is written of inputs
+-- ---- what is written for inputs
 
 module _ {W : Type 0} (contents : W → Option Text) (failures : W → ℕ) (inputs : Inputs)
     (margin : Text) (old new : W) where
-  -- the output was written, each line behind the margin, and the answer is the status; or a write
-  -- failed, and a beginning of that went out
+  -- the output was written, each line after the margin, and the answer is the status; or a write
+  -- failed, and a beginning of the output was written
   pub record ReportsInputs {E : Type 0} (result : Result Status E) : Type 0 where
     pub out : List Text
     pub told : List Text
@@ -38,8 +38,8 @@ module _ {W : Type 0} (contents : W → Option Text) (failures : W → ℕ) (inp
     pub wrote : Writes contents failures old new (written margin out) result
     pub answered : IfOk result (λ answer. answer ≡ status)
 
-  -- the messages were written, each behind the margin; or a write failed, and a beginning of them
-  -- went out
+  -- the messages were written, each after the margin; or a write failed, and a beginning of them
+  -- was written
   pub record TellsInputs {T E : Type 0} (result : Result T E) : Type 0 where
     pub out : List Text
     pub told : List Text
@@ -60,7 +60,7 @@ pub record Attempt : Type 0 where
   pub edit : Edit
   pub answer : Result (Unit {0}) EditFault
 
--- the attempts, one after the other, made this of the inputs, each as its edit promises
+-- the attempts, one after the other, lead from old to new inputs, each as its edit promises
 abbrev pub ComesTo : List Attempt → Inputs → Inputs → Type 0
 ComesTo [] old new = new ≡ old
 ComesTo (attempt ∷ more) old new =
@@ -76,16 +76,16 @@ abbrev pub accepted : List Attempt → List Edit
 accepted [] = []
 accepted (attempt ∷ more) = with_accepted attempt.edit attempt.answer (accepted more)
 
--- the edits, one after the other, make this of the inputs
+-- the edits, one after the other, are accepted and lead from old to new inputs
 abbrev pub Makes : List Edit → Inputs → Inputs → Type 0
 Makes [] old new = new ≡ old
 Makes (edit ∷ more) old new =
     (between : Inputs) × Applies edit old (Ok between) × Makes more between new
 
--- whatever is tried on a new session, what it then holds are the inputs that the accepted edits
--- alone leave, and no others;
--- a further edit is answered for these inputs, by what it makes of them, by its cause, or for want
--- of memory; and for inputs grep gives one thing
+-- after any attempts on a new session, it holds the inputs that the accepted edits alone leave, and
+-- no others;
+-- a further edit of these inputs leaves new ones, or is refused for its cause or since memory ran
+-- out; and for given inputs grep's output, messages and status are unique
 pub record AcceptedEditsDecide : Type 0 where
   pub leave : (tried : List Attempt) (left : Inputs) → ComesTo tried no_inputs left →
       Makes (accepted tried) no_inputs left

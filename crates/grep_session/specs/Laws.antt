@@ -1,4 +1,4 @@
--- What the definitions promise of themselves.
+-- Laws of the definitions.
 use Rattle.std.specs.Prelude.{◌≡◌, ℕ, Result, Ok, Err}
 use Rattle.grep_core.specs.Files.{Inputs}
 use Rattle.grep_session.specs.declared.fault.EditFault.{EditFault}
@@ -6,19 +6,19 @@ use Rattle.grep_session.specs.declared.fault.EditFault.TheVariants.{Pattern}
 use Rattle.grep_session.specs.Edits.{Edit, Applies}
 use Rattle.grep_session.specs.Touched.{Costs}
 
--- two refusals are the same, or differ in what is told of the same pattern
+-- two refusals are the same, or differ in what is reported of the same pattern
 abbrev pub AreAlikeFaults : EditFault → EditFault → Type 0
 AreAlikeFaults (Pattern i f) (Pattern j g) = i ≡ j
 AreAlikeFaults a b = a ≡ b
 
--- two outcomes are the same new inputs, or such refusals
+-- two outcomes are the same new inputs, or alike refusals
 abbrev pub AreAlike : Result Inputs EditFault → Result Inputs EditFault → Type 0
 AreAlike (Ok a) (Ok b) = a ≡ b
 AreAlike (Ok a) (Err g) = ⊥
 AreAlike (Err f) (Ok b) = ⊥
 AreAlike (Err f) (Err g) = AreAlikeFaults f g
 
--- an edit makes one thing of its inputs, and has one cost
+-- an edit has one outcome for its inputs, up to alike refusals, and one cost
 pub record HasOneOutcome (edit : Edit) (old : Inputs) : Type 0 where
   pub one_outcome : (a b : Result Inputs EditFault) → Applies edit old a → Applies edit old b →
       AreAlike a b

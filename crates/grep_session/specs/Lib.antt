@@ -1,10 +1,10 @@
--- what these cite of the crates below
+-- what the definitions below use of the crates below
 pub use Rattle.grep_core.specs.Files
--- what the contract of the whole command, or of the session, rests on
+-- what the contract of the session is stated with
 pub mod Edits
 pub mod Touched
 pub mod Headline
--- what the public laws say of the definitions
+-- the public laws of the definitions
 pub mod Laws
--- what else contracts are said in: of this crate as a library, and of its private functions
+-- what other contracts are stated with: of this crate as a library, and of its private functions
 pub mod Working

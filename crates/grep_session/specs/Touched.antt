@@ -22,7 +22,7 @@ use Rattle.grep_session.specs.Edits.{Edit, AddFile, AddMissing, DropFile, Splice
 use Rattle.grep_session.specs.Edits.{DropPattern, SetFlag, SetSyntax, SetContext, option_of}
 use Rattle.grep_session.specs.Edits.{HasPlace, Applies}
 
--- what an edit has searched: each of some lines by so many patterns, and the parts of some lines
+-- what an edit has searched: each of `paired` by that number of patterns, and the parts of `lines`
 pub record Touched : Type 0 where
   pub patterns : ℕ
   pub paired : List Text
@@ -31,18 +31,18 @@ pub record Touched : Type 0 where
 abbrev pub nothing_touched : Touched
 nothing_touched = record { patterns = 0; paired = []; lines = [] }
 
--- the lines by so many patterns, and their parts
+-- the lines searched by this number of patterns, and their parts
 abbrev pub searched_by : ℕ → List Text → Touched
 searched_by patterns lines = record { patterns = patterns; paired = lines; lines = lines }
 
--- their parts alone
+-- the parts of the lines alone
 abbrev pub parts_alone : List Text → Touched
 parts_alone lines = record { patterns = 0; paired = []; lines = lines }
 
 abbrev pub all_lines : Inputs → List Text
 all_lines inputs = flat_map (λ file. file.lines) inputs.files
 
--- what an option touches that is set to something else
+-- what an option touches when its value changes
 abbrev pub touched_by_flag : Flag → Inputs → Touched
 touched_by_flag IgnoreCase old = searched_by (length old.patterns) (all_lines old)
 touched_by_flag LineRegexp old = searched_by (length old.patterns) (all_lines old)
@@ -72,13 +72,13 @@ Touches (AddMissing name) old touched = touched ≡ nothing_touched
 Touches (DropFile k) old touched = touched ≡ nothing_touched
 Touches (SetContext context) old touched = touched ≡ nothing_touched
 
--- each of the lines searched once by each of so many patterns
+-- the cost of searching each of the lines once by each of this number of patterns
 abbrev pub pairs_cost : ℕ → List Text → ℕ
 pairs_cost patterns [] = 0
 pairs_cost patterns (line ∷ lines) = search_cost patterns line + pairs_cost patterns lines
 
 module _ (es : List Expression) (options : Options) where
-  -- under `-o` the parts of a line are searched by all patterns, once for each part and once more
+  -- the cost of a line's parts under `-o`: all patterns search once for each part, and once more
   abbrev pub PartsCostOf : Text → ℕ → Type 0
   PartsCostOf line cost =
       MatchBool options.only_matching
@@ -117,15 +117,15 @@ pub record TakesSteps (edit : Edit) (old : Inputs) (begun ended : Steps) : Type 
   pub is_most : (most ≡ 0) ⊎ Costs edit old most
   pub few : AddsAtMost most begun ended
 
--- the options on which no verdict rests
+-- the options on which nothing that is kept depends
 abbrev pub is_of_output : Flag → Type 0
 is_of_output IgnoreCase = ⊥
 is_of_output LineRegexp = ⊥
 is_of_output OnlyMatching = ⊥
 is_of_output _ = ⊤
 
--- the edits that ask for no memory: what only leaves something out, changes what is written alone,
--- or sets what is set already; and what is refused for a file, a line or the number of patterns
+-- the edits that ask for no memory: those that only remove something, change only what is written,
+-- or set what is set already; and those refused for a file, a line or the number of patterns
 abbrev pub NeedsNoMemory : Edit → Inputs → Type 0
 NeedsNoMemory (AddFile name lines) old = All HasNoNewline lines → ⊥
 NeedsNoMemory (AddMissing name) old = ⊥

@@ -1,4 +1,4 @@
-//! Patterns that come behind others.
+//! Patterns that are added after others.
 ghost use Rattle.std.specs.Prelude.{◌-◌, ◌≤◌, length, map, drop, IfOk};
 ghost use Rattle.re_search.specs.Searching.{AllAnswer, AddsAtMost, SameMatchers};
 ghost use Rattle.grep_core.specs.Cost.{search_cost};

@@ -28,7 +28,7 @@ fn write_separator<W: CountedWrite>(
     Ok(())
 }
 
-/// Writes the last `count` of these lines, the first lines of a file, as lines around others.
+/// Writes the last `count` of these first lines of a file, as lines around others.
 fn write_waiting<W: CountedWrite>(
     wanted: &Wanted,
     lines: &[KeptLine],
@@ -66,7 +66,7 @@ fn write_itself<W: CountedWrite>(
     wanted.write_around(number, &line.text, out, margin)
 }
 
-/// Writes what is shown at a line, which is selected or is not, behind the lines before it.
+/// Writes what is shown at a line, selected or not, that follows the lines before it.
 fn write_shown<W: CountedWrite>(
     wanted: &Wanted,
     before: &[KeptLine],
@@ -89,8 +89,8 @@ fn write_shown<W: CountedWrite>(
     write_itself(wanted, before.len() as u64 + 1, line, found, out, margin)
 }
 
-/// Writes the selected lines of a file and those around them, behind files of which some line is
-/// shown or none is, and answers how many of its lines are selected.
+/// Writes the selected lines of a file and those around them, and returns how many of its lines are
+/// selected. `some` says whether a line of an earlier file was shown.
 pub fn write_lines_around<W: CountedWrite>(
     wanted: &Wanted,
     context: Context,

@@ -1,10 +1,10 @@
 //! How the patterns changed.
 
-/// Patterns that came, or one that went.
+/// Patterns that were added, or one that was removed.
 #[derive(Clone, Copy, Drop)]
 pub enum Change {
-    /// The patterns from this number on came.
+    /// The patterns from this number on were added.
     Added(usize),
-    /// The pattern that had this number went.
+    /// The pattern with this number was removed.
     Dropped(usize),
 }

@@ -1,5 +1,5 @@
-//! What is found in all lines where patterns come or go: the patterns that came are searched for,
-//! and the parts of a line are searched where one of those that came or went matches it.
+//! What is found in all lines when patterns are added or removed. The added patterns are searched
+//! for. The parts of a line are searched where an added or removed pattern matches it.
 ghost use Rattle.std.specs.Prelude.{◌≡◌, ℕ, ◌≤◌, ◌++◌, List, [], length, map, MatchBool, ◌∷◌, IfOk};
 ghost use Rattle.std.specs.Prelude.{All, IfSome, OnErr, nat_eq, nat_lt, vec_capacity};
 ghost use Rattle.std.specs.List.{AllZip, list_any};
@@ -42,8 +42,8 @@ fn has_grown(old: &[usize], new: &[usize]) -> bool
     old.len() < new.len()
 }
 
-/// What is found in a line, where the matchers of these numbers match it: its parts anew where
-/// that is asked, and else those that are kept.
+/// What is found in a line that the matchers of these numbers match. Its parts are searched anew
+/// where `anew` is set; otherwise the kept ones stay.
 fn find_again<M: LineMatch>(
     alloc: Global,
     matchers: &mut [M],
@@ -69,7 +69,7 @@ fn find_again<M: LineMatch>(
     Findings::new(alloc, numbers, spans)
 }
 
-/// What is found in a line without pattern `p`, which is gone.
+/// What is found in a line after pattern `p` was removed.
 fn find_without<M: LineMatch>(
     alloc: Global,
     matchers: &mut [M],
@@ -97,7 +97,7 @@ fn find_without<M: LineMatch>(
     find_again(alloc, matchers, options, anew, line, numbers, meter)
 }
 
-/// What is found in a line with the patterns from `first` on, which came.
+/// What is found in a line after the patterns from `first` on were added.
 fn find_with<M: LineMatch>(
     alloc: Global,
     matchers: &mut [M],
@@ -127,7 +127,7 @@ fn find_with<M: LineMatch>(
     find_again(alloc, matchers, options, anew, line, numbers, meter)
 }
 
-/// What is found in a line behind a change of the patterns.
+/// What is found in a line after a change of the patterns.
 fn find_changed<M: LineMatch>(
     alloc: Global,
     matchers: &mut [M],
@@ -157,7 +157,7 @@ fn find_changed<M: LineMatch>(
     }
 }
 
-/// Adds what is found in lines behind a change of the patterns.
+/// Adds what is found in lines after a change of the patterns.
 fn change_lines<M: LineMatch>(
     alloc: Global,
     matchers: &mut [M],
@@ -190,7 +190,7 @@ fn change_lines<M: LineMatch>(
     Ok(())
 }
 
-/// Adds what is found in the lines of a file behind a change of the patterns.
+/// Adds what is found in the lines of a file after a change of the patterns.
 fn change_file<M: LineMatch>(
     alloc: Global,
     matchers: &mut [M],
@@ -222,7 +222,7 @@ fn change_file<M: LineMatch>(
     }
 }
 
-/// What is found in the lines of all files, in order, behind a change of the patterns.
+/// What is found in the lines of all files, in order, after a change of the patterns.
 fn change_files<M: LineMatch>(
     alloc: Global,
     matchers: &mut [M],
@@ -254,8 +254,8 @@ fn change_files<M: LineMatch>(
     Ok(found)
 }
 
-/// Puts what is found in the lines of a session's files behind a change of the patterns in the place
-/// of what is kept of them. Where memory runs out, the files stay as they are.
+/// Replaces what is kept of the lines of a session's files by what is found in them after a change
+/// of the patterns. If memory runs out, the files stay as they are.
 pub fn change_columns(
     alloc: Global,
     matchers: &mut Vec<Matcher>,

@@ -24,7 +24,7 @@ pub fn option_of(options: &Options, flag: Flag) -> bool
     }
 }
 
-/// The options with one of them set so.
+/// The options with one of them set to this value.
 pub fn with_option(options: Options, flag: Flag, on: bool) -> Options
     ensures { result ≡ with_option flag on options }
 {
@@ -80,18 +80,18 @@ pub fn is_same(a: Syntax, b: Syntax) -> bool
     }
 }
 
-/// What an option has to do with what is kept.
+/// How an option affects what is kept.
 #[derive(Clone, Copy, Drop)]
 pub enum Effect {
     /// Other lines may be matched.
     Verdicts,
-    /// The parts of lines are asked for.
+    /// The parts of lines have to be searched.
     Parts,
-    /// All that is kept serves as it did.
+    /// All that is kept stays valid.
     Output,
 }
 
-/// What an option that is set so has to do with what is kept.
+/// How an option with this value affects what is kept.
 pub fn effect_of(flag: Flag, on: bool) -> Effect
     ensures { HasEffect flag on result }
 {

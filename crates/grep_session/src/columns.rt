@@ -17,7 +17,7 @@ use grep_core::Options;
 use re_search::{LineMatch, Matcher, Meter};
 use std::alloc::{AllocError, Global};
 
-/// The parts that the matchers find in a line of which it is known which of them match.
+/// The parts that the matchers find in a line. It is known which of them match it.
 fn find_parts<M: LineMatch>(
     alloc: Global,
     matchers: &mut [M],
@@ -37,7 +37,7 @@ fn find_parts<M: LineMatch>(
     find_with_parts(alloc, matchers, options, &line.text, numbers, meter)
 }
 
-/// What the matchers find in a line: anew, or its parts alone.
+/// What the matchers find in a line: all anew, or its parts alone.
 fn find_line<M: LineMatch>(
     alloc: Global,
     matchers: &mut [M],
@@ -125,7 +125,7 @@ fn find_in_file<M: LineMatch>(
     }
 }
 
-/// What the matchers find in the lines of all files, in order: anew, or the parts alone.
+/// What the matchers find in the lines of all files, in order: all anew, or the parts alone.
 pub fn find_all<M: LineMatch>(
     alloc: Global,
     matchers: &mut [M],
@@ -156,8 +156,8 @@ pub fn find_all<M: LineMatch>(
     Ok(found)
 }
 
-/// Puts what the matchers of a session find in the lines of its files in the place of what is kept
-/// of them: anew, or the parts alone. Where memory runs out, the files stay as they are.
+/// Replaces what is kept of the lines of a session's files by what its matchers find in them: all
+/// anew, or the parts alone. If memory runs out, the files stay as they are.
 pub fn find_columns(
     alloc: Global,
     matchers: &mut Vec<Matcher>,

@@ -1,4 +1,4 @@
-//! A pattern goes, and the later ones move up.
+//! A pattern is removed, and the later ones move up.
 ghost use Rattle.std.specs.Prelude.{◌≡◌, ◌<◌, List, length, map, false, All, ◌≤◌, vec_len};
 ghost use Rattle.std.specs.Prelude.{vec_capacity};
 ghost use Rattle.re_syntax.specs.Expression.{Expression};
@@ -10,7 +10,7 @@ ghost use Rattle.grep_session.specs.Working.Dropping.{without};
 use crate::kept::{KeptFile, KeptLine};
 use re_search::Matcher;
 
-/// Takes pattern `p` out of what is kept of a line.
+/// Removes pattern `p` from what is kept of a line.
 fn drop_in_line(line: &mut KeptLine, p: usize)
     ensures text { line.new.text ≡ line.old.text }
     ensures matched { line.new.found.numbers ≡ without p line.old.found.numbers }
@@ -18,7 +18,7 @@ fn drop_in_line(line: &mut KeptLine, p: usize)
     line.found.drop_number(p);
 }
 
-/// Takes pattern `p` out of what is kept of lines.
+/// Removes pattern `p` from what is kept of lines.
 fn drop_in_lines(lines: &mut [KeptLine], p: usize)
     ensures texts { map line_text lines.new ≡ map line_text lines.old }
     ensures kept { (es : List Expression) (options : Options) → p < length es →
@@ -30,7 +30,7 @@ fn drop_in_lines(lines: &mut [KeptLine], p: usize)
     }
 }
 
-/// Takes pattern `p` out of what is kept of a file.
+/// Removes pattern `p` from what is kept of a file.
 fn drop_in_file(file: &mut KeptFile, p: usize)
     ensures same { kept_file file.new ≡ kept_file file.old }
     ensures kept { (es : List Expression) (options : Options) → p < length es →
@@ -43,7 +43,7 @@ fn drop_in_file(file: &mut KeptFile, p: usize)
     }
 }
 
-/// Takes pattern `p` out of what is kept of files.
+/// Removes pattern `p` from what is kept of files.
 fn drop_in_files(files: &mut [KeptFile], p: usize)
     ensures same { map kept_file files.new ≡ map kept_file files.old }
     ensures kept { (es : List Expression) (options : Options) → p < length es →
@@ -55,7 +55,7 @@ fn drop_in_files(files: &mut [KeptFile], p: usize)
     }
 }
 
-/// The same in the files of a session.
+/// Removes pattern `p` from what is kept of the files of a session.
 pub fn drop_column(files: &mut Vec<KeptFile>, p: usize)
     ensures same { map kept_file files.new.items ≡ map kept_file files.old.items }
     ensures kept { (es : List Expression) (options : Options) → p < length es →
@@ -65,7 +65,7 @@ pub fn drop_column(files: &mut Vec<KeptFile>, p: usize)
     drop_in_files(files, p);
 }
 
-/// Puts a matcher back in its place, for which there is room.
+/// Puts a removed matcher back in its place. There is room for it.
 pub fn put_back(matchers: &mut Vec<Matcher>, p: usize, gone: Matcher)
     requires within { p ≤ length matchers.old.items }
     requires room { vec_len matchers.old < vec_capacity matchers.old }

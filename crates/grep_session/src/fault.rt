@@ -10,14 +10,14 @@ pub enum EditFault {
     FileIsMissing,
     /// The file has fewer lines.
     OutOfRange,
-    /// A line that was handed in has a newline in it.
+    /// A given line has a newline in it.
     LineHasNewline,
     /// There is no pattern of this number.
     NoSuchPattern,
-    /// The text of a pattern is none: its number, and why.
+    /// The text of a pattern is not valid: the number of the pattern, and why.
     Pattern(usize, PatternFault),
     /// There would be more than 65,535 patterns.
     TooManyPatterns,
-    /// A growth was refused.
+    /// Memory ran out.
     Memory,
 }

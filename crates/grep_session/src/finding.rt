@@ -98,7 +98,7 @@ fn add_parts<M: LineMatch>(
     Ok(())
 }
 
-/// The parts of the line under `-o`, and else none.
+/// The parts of the line under `-o`, otherwise none.
 fn parts_of<M: LineMatch>(
     alloc: Global,
     matchers: &mut [M],
@@ -121,8 +121,8 @@ fn parts_of<M: LineMatch>(
     Ok(spans)
 }
 
-/// What is found in the line, where the matchers of these numbers match it: under `-o` its parts
-/// are searched where there is a number.
+/// What is found in the line that the matchers of these numbers match. Under `-o` its parts are
+/// searched if there is a number.
 pub fn find_with_parts<M: LineMatch>(
     alloc: Global,
     matchers: &mut [M],

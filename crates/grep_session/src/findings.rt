@@ -17,7 +17,7 @@ struct Found {
 }
 
 /// What the patterns find in a line: the numbers of those that match it, in ascending order, and
-/// the parts of it that they match. Where none matches it there is nothing of it in memory.
+/// the parts of it that they match. A line that no pattern matches takes no memory here.
 #[derive(Drop)]
 pub struct Findings {
     found: Option<Box<Found>>,
@@ -34,7 +34,7 @@ impl Model for Findings {
     ghost invariant = { λ findings. IsSmall findings.found };
 }
 
-/// What is left without pattern `p`.
+/// What is left after pattern `p` is removed.
 fn without(found: Option<Box<Found>>, p: usize) -> Option<Box<Found>>
     ensures numbers { numbers_in result ≡ without p (numbers_in found) }
     ensures small { IsSmall result }
@@ -50,14 +50,14 @@ fn without(found: Option<Box<Found>>, p: usize) -> Option<Box<Found>>
 }
 
 impl Findings {
-    /// Those of a line that no pattern matches.
+    /// The findings of a line that no pattern matches.
     pub fn none() -> Findings
         ensures { result ≡ no_finds }
     {
         Findings { found: None }
     }
 
-    /// The patterns of these numbers match the line, and these parts of it.
+    /// The findings of a line in which the patterns of these numbers match these parts.
     pub fn new(alloc: Global, numbers: Vec<usize>, spans: Vec<Span>) -> Result<Findings, AllocError>
         ensures { IfOk result (λ findings. findings ≡ finds_with numbers.items spans.items) }
     {
@@ -88,7 +88,7 @@ impl Findings {
         }
     }
 
-    /// Takes pattern `p` out. No memory is asked for.
+    /// Removes pattern `p`. No memory is asked for.
     pub fn drop_number(&mut self, p: usize)
         ensures { self.new.numbers ≡ without p self.old.numbers }
     {

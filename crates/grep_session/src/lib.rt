@@ -1,5 +1,5 @@
-//! Files and patterns that are edited, and what grep writes of them after each edit, from verdicts
-//! that are kept.
+//! Files and patterns that are edited, and what grep writes for them after each edit, from kept
+//! verdicts.
 #![tactic(auto)]
 
 mod adding;

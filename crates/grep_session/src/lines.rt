@@ -29,7 +29,7 @@ fn write_parts<W: CountedWrite>(
     Ok(())
 }
 
-/// Writes the rows of a selected line, by what the options ask for.
+/// Writes the rows of a selected line in the form that the options ask for.
 fn write_selected<W: CountedWrite>(
     wanted: &Wanted,
     number: u64,
@@ -52,7 +52,7 @@ fn write_selected<W: CountedWrite>(
     }
 }
 
-/// Writes the rows of a line, where there are any, and answers whether it is selected.
+/// Writes the rows of a line, if it has any, and returns whether it is selected.
 fn write_line<W: CountedWrite>(
     wanted: &Wanted,
     number: u64,
@@ -72,7 +72,7 @@ fn write_line<W: CountedWrite>(
     Ok(true)
 }
 
-/// Writes the rows of a file's selected lines, and answers how many these are.
+/// Writes the rows of a file's selected lines, and returns how many lines are selected.
 fn write_found<W: CountedWrite>(
     wanted: &Wanted,
     lines: &[KeptLine],
@@ -95,8 +95,8 @@ fn write_found<W: CountedWrite>(
     Ok(selected)
 }
 
-/// Writes the rows of a file's lines, behind files of which a line is selected or none is, and
-/// answers how many of its lines are selected.
+/// Writes the rows of a file's lines, and returns how many of its lines are selected. `some` says
+/// whether a line of an earlier file is selected.
 pub fn write_lines<W: CountedWrite>(
     wanted: &Wanted,
     some: bool,

@@ -28,8 +28,7 @@ pub fn texts_of(alloc: Global, list: &[u8]) -> Result<Vec<Vec<u8>>, AllocError>
     Ok(texts)
 }
 
-/// Whether a session of so many patterns would have too many with those of a list. No text is
-/// copied.
+/// Whether a session of `old` patterns would have too many with those of a list. No text is copied.
 pub fn too_many(old: usize, list: &[u8]) -> bool
     requires { old ≤ most_patterns }
     ensures { MatchBool result (most_patterns < old + length (list_of list.now))

@@ -18,7 +18,7 @@ fn push_matcher(matchers: &mut Vec<Matcher>, matcher: Matcher) -> Result<(), All
     Ok(())
 }
 
-/// The fault of the pattern at a place; a want of memory is none of the pattern.
+/// The fault of the pattern at a place. Out of memory is no fault of the pattern.
 fn fault_at(place: usize, fault: PatternFault) -> EditFault
     ensures { result ≡ told_at place fault }
 {
@@ -32,7 +32,7 @@ fn fault_at(place: usize, fault: PatternFault) -> EditFault
 ///
 /// # Errors
 ///
-/// `EditFault::Pattern` with the place of the first text that is no pattern, and why; or
+/// `EditFault::Pattern` with the place of the first text that is not a valid pattern, and why; or
 /// `EditFault::Memory`.
 pub fn read_matchers(
     alloc: Global,

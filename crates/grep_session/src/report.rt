@@ -1,5 +1,5 @@
-//! What grep writes of files that are kept, and its status. No line is searched and no memory is
-//! taken: all comes from what is kept.
+//! What grep writes for the kept files, and its status. No line is searched and no memory is asked
+//! for: all is computed from what is kept.
 ghost use Rattle.std.specs.Prelude.{◌≡◌, All, List, map, length, nat_le, IfOk};
 ghost use Rattle.re_syntax.specs.Expression.{Expression};
 ghost use Rattle.grep_core.specs.Messages.{StatusOf};
@@ -18,8 +18,8 @@ use grep_core::{
     write_summary,
 };
 
-/// Writes the output for one file, behind files of which a line is selected or none is, and
-/// answers whether a line of it is selected.
+/// Writes the output for one file, and returns whether a line of it is selected. `some` says
+/// whether a line of an earlier file is selected.
 fn write_file<W: CountedWrite>(
     wanted: &Wanted,
     some: bool,
@@ -70,7 +70,7 @@ fn write_files<W: CountedWrite>(
     Ok(())
 }
 
-/// Writes the messages on files, up to one at which a run stops under `-q`.
+/// Writes the messages about files, up to the file at which a run stops under `-q`.
 fn tell_files<W: CountedWrite>(
     files: &[KeptFile],
     options: &Options,
@@ -103,7 +103,7 @@ fn any_missing(files: &[KeptFile]) -> bool
     files.iter().any(|file| file.end().is_fault())
 }
 
-/// The status by what is kept.
+/// The status, computed from what is kept.
 #[tactic(auto, using(crate::proofs::lemmas::KeptLaws::status_in_turn))]
 fn status_by_files(files: &[KeptFile], options: &Options) -> Status
     ensures { result ≡ status_by_files options.now files.now }
@@ -115,7 +115,7 @@ fn status_by_files(files: &[KeptFile], options: &Options) -> Status
     status_of(some, any_missing(files))
 }
 
-/// The status of grep for the files (XCU grep, EXIT STATUS), where what is kept of them is right.
+/// The status of grep for the files (XCU grep, EXIT STATUS), if what is kept of them is right.
 pub fn status(files: &[KeptFile], options: &Options) -> Status
     ensures { (es : List Expression) → All (IsFileKept es options.now) files.now →
         StatusOf es options.now (map kept_file files.now) result }
@@ -123,10 +123,11 @@ pub fn status(files: &[KeptFile], options: &Options) -> Status
     status_by_files(files, options)
 }
 
-/// Writes what grep writes to standard output for the files (XCU grep, STDOUT), each line behind
-/// the margin, and answers its status, where what is kept of the files is right.
+/// Writes what grep writes to standard output for the files (XCU grep, STDOUT), each line after the
+/// margin, and returns its status, if what is kept of the files is right.
 ///
-/// `WriteFault` comes where a write fails; what went out is a beginning. It is not tried again.
+/// If a write fails, `WriteFault` is returned, and a beginning of the output was written. The write
+/// is not tried again.
 pub fn write_report<W: CountedWrite>(
     files: &[KeptFile],
     options: &Options,
@@ -142,10 +143,11 @@ pub fn write_report<W: CountedWrite>(
     Ok(status(files, options))
 }
 
-/// Writes what grep writes to standard error about the files (XCU grep, STDERR), each line behind
-/// the margin, where what is kept of them is right.
+/// Writes what grep writes to standard error about the files (XCU grep, STDERR), each line after
+/// the margin, if what is kept of them is right.
 ///
-/// `WriteFault` comes where a write fails; what went out is a beginning. It is not tried again.
+/// If a write fails, `WriteFault` is returned, and a beginning of the messages was written. The
+/// write is not tried again.
 pub fn write_messages<W: CountedWrite>(
     files: &[KeptFile],
     options: &Options,

@@ -56,8 +56,8 @@ impl Model for Session {
 }
 
 impl Session {
-    /// No file, no pattern, basic syntax, and no option. Each pattern that is added may keep so
-    /// many states.
+    /// A session with no file, no pattern, basic syntax, and no option. Each added pattern may keep
+    /// `states` states.
     pub fn new(alloc: Global, states: usize) -> Session
         requires some { 1 ≤ states }
         requires few { states ≤ most_states }
@@ -74,7 +74,7 @@ impl Session {
         }
     }
 
-    /// Takes file `k` out; later files move up.
+    /// Removes file `k`; later files move up.
     ///
     /// # Errors
     ///
@@ -91,7 +91,7 @@ impl Session {
         Ok(())
     }
 
-    /// Puts a file that cannot be opened behind the others.
+    /// Adds a file that cannot be opened after the others.
     ///
     /// # Errors
     ///
@@ -109,7 +109,7 @@ impl Session {
         Ok(())
     }
 
-    /// Puts a file behind the others.
+    /// Adds a file after the others.
     ///
     /// # Errors
     ///
@@ -145,8 +145,8 @@ impl Session {
         Ok(())
     }
 
-    /// In file `k`, puts lines in the place of `count` lines from line `start` on. The new lines
-    /// alone are searched, and without any no memory is asked for.
+    /// Replaces `count` lines of file `k` from line `start` on by other lines. Only the new lines
+    /// are searched. If there are none, no memory is asked for.
     ///
     /// # Errors
     ///
@@ -230,8 +230,8 @@ impl Session {
     ///
     /// # Errors
     ///
-    /// `EditFault::Pattern` with the number of the first pattern that is none in this syntax, or
-    /// `EditFault::Memory`.
+    /// `EditFault::Pattern` with the number of the first pattern that is not valid in this syntax,
+    /// or `EditFault::Memory`.
     pub fn set_syntax(&mut self, syntax: Syntax, meter: &mut Meter) -> Result<(), EditFault>
         ensures gives { EditGives (SetSyntax syntax) self.old self.new result }
         ensures steps { TakesSteps (SetSyntax syntax) self.old meter.old meter.new }
@@ -283,7 +283,7 @@ impl Session {
     ///
     /// # Errors
     ///
-    /// `EditFault::Pattern` with the number of the first pattern that is too large where both cases
+    /// `EditFault::Pattern` with the number of the first pattern that is too large when both cases
     /// of its letters are alike, by `-i` alone; or `EditFault::Memory`.
     pub fn set_flag(&mut self, flag: Flag, on: bool, meter: &mut Meter) -> Result<(), EditFault>
         ensures gives { EditGives (SetFlag flag on) self.old self.new result }
@@ -320,13 +320,13 @@ impl Session {
         self.put_options(options);
     }
 
-    /// Adds the patterns of a list behind the others. The new patterns alone are searched for, and
+    /// Adds the patterns of a list after the others. Only the new patterns are searched for, and
     /// under `-o` the parts of the lines that one of them matches.
     ///
     /// # Errors
     ///
     /// `EditFault::TooManyPatterns`, `EditFault::Pattern` with the place in the list of the first
-    /// text that is no pattern, or `EditFault::Memory`.
+    /// text that is not a valid pattern, or `EditFault::Memory`.
     pub fn add_patterns(&mut self, list: &[u8], meter: &mut Meter) -> Result<(), EditFault>
         ensures gives { EditGives (AddPatterns list.now) self.old self.new result }
         ensures steps { TakesSteps (AddPatterns list.now) self.old meter.old meter.new }
@@ -378,8 +378,8 @@ impl Session {
         Ok(())
     }
 
-    /// Takes pattern `p` out; later patterns move up. Under `-o` the lines that it matched are
-    /// searched for their parts; else no memory is asked for.
+    /// Removes pattern `p`; later patterns move up. Under `-o` the lines that it matched are
+    /// searched for their parts; otherwise no memory is asked for.
     ///
     /// # Errors
     ///
@@ -400,7 +400,7 @@ impl Session {
         Ok(())
     }
 
-    /// Takes pattern `p` out, and searches the parts of the lines that it matched.
+    /// Removes pattern `p`, and searches the parts of the lines that it matched.
     fn drop_parted(&mut self, p: usize, meter: &mut Meter) -> Result<(), EditFault>
         requires within { p < length self.old.patterns }
         ensures gives { EditGives (DropPattern p) self.old self.new result }
@@ -426,8 +426,7 @@ impl Session {
         Ok(())
     }
 
-    /// Takes pattern `p` out where no parts are kept; later patterns move up. No memory is asked
-    /// for.
+    /// Removes pattern `p` where no parts are kept; later patterns move up. No memory is asked for.
     fn drop_plain(&mut self, p: usize)
         requires within { p < length self.old.patterns }
         requires no_parts { self.old.options.only_matching ≡ false }
@@ -439,7 +438,7 @@ impl Session {
     }
 }
 
-/// Puts a file behind the others.
+/// Adds a file after the others.
 fn push_file(files: &mut Vec<KeptFile>, file: KeptFile) -> Result<(), AllocError>
     ensures ok { IfOk result (λ _. files.new.items ≡ files.old.items ++ file ∷ []) }
     ensures err { OnErr result (files.new.items ≡ files.old.items) }

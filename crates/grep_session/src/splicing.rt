@@ -1,4 +1,4 @@
-//! Lines that give way to others.
+//! Lines that are replaced by others.
 ghost use Rattle.std.specs.Prelude.{◌≡◌, ◌≢◌, ◌+◌, ◌≤◌, List, ℕ, length, map, IfOk, IfErr, IfSome};
 ghost use Rattle.std.specs.Prelude.{OnErr, All, MatchBool, []};
 ghost use Rattle.std.specs.List.{splice};
@@ -52,7 +52,7 @@ pub fn find_place(files: &[KeptFile], k: usize, start: usize, count: usize) -> R
     Ok(())
 }
 
-/// Puts lines in the place of others. Without new lines no memory is asked for.
+/// Replaces lines by others. Without new lines no memory is asked for.
 fn put_lines(
     lines: &mut Vec<KeptLine>,
     start: usize,
@@ -73,7 +73,7 @@ fn put_lines(
     Ok(())
 }
 
-/// Puts lines in the place of others of a file.
+/// Replaces lines of a file by others.
 pub fn put_in(
     file: &mut KeptFile,
     start: usize,

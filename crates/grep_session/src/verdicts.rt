@@ -1,4 +1,4 @@
-//! What is known of files and lines without a search, by what is kept of them.
+//! What is known of files and lines without a search, from what is kept of them.
 ghost use Rattle.std.specs.Prelude.{◌≡◌};
 ghost use Rattle.grep_session.specs.Working.Report.{end_of, is_selected, some_selected};
 ghost use Rattle.grep_session.specs.Working.Report.{has_selected};

@@ -1,4 +1,4 @@
 -- what the words of the command line choose
 pub mod Words
--- how the program tells of its faults, and its exit status
+-- how the program reports its faults, and its exit status
 pub mod Exit

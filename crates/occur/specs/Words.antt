@@ -20,7 +20,7 @@ use Rattle.occur.specs.declared.words.OccurFault.TheVariants as fault
 abbrev pub texts_of : {Z : Type 0} → List (String Z) → List Text
 texts_of words = map string_bytes words
 
--- the option --states N, from 1 to 65,536 and without it 256
+-- the option --states N, from 1 to 65,536; the default is 256
 abbrev pub states_rule : Rule
 states_rule = record (new_rule (codes "states")) {
   long = Some (codes "states");
@@ -38,31 +38,31 @@ script_rule = record (new_rule (codes "script")) { action = Some Set; value_name
 abbrev pub occur_app : App
 occur_app = with_rule (with_rule (new_app (codes "occur")) states_rule) script_rule
 
--- a number of states was found, as text
+-- a number of states was found, as the text of a number
 abbrev pub HasStates : Found → Type 0
 HasStates found =
     (text : Text) × (one_text found (codes "states") ≡ Some text) × IsUnsignedIn 1 65536 text
 
--- the choices are what was found: the number that is written for the option, and the operand
+-- the choices are what was found: the number that the option's text means, and the operand
 pub record IsChosenBy (rows : List Row) (choices : Choices) : Type 0 where
   pub number : Text
   pub has_number : one_of (codes "states") rows ≡ Some number
   pub states : choices.states ≡ digits_value 10 (without_leading_plus number)
   pub script : option_map string_bytes choices.script ≡ first_of (codes "script") rows
 
--- the file that has the script: none where standard input has it, for which no operand stands, or
--- `-`
+-- the file that has the script: none if the script is standard input, that is, without an operand
+-- or with `-`
 abbrev pub script_file : Option Text → Option Text
 script_file None = None
 script_file (Some name) = if is_standard name then None else Some name
 
--- an error of the library as a fault
+-- the fault for an error of the library
 abbrev pub Tells : Error → OccurFault → Type 0
 Tells error fault.Memory = kind_of error ≡ OutOfMemory
 Tells error (fault.Words told) = (told ≡ error) × (kind_of error ≢ OutOfMemory)
 
--- words are taken only where no kind of error may come; a fault of the words has such a kind, and
--- any other fault is want of memory
+-- words are accepted only if no kind of error is possible; a fault of the words has a possible
+-- kind, and any other fault is out of memory
 abbrev pub TellsAmong : Kinds → Result Choices OccurFault → Type 0
 TellsAmong kinds (Ok choices) = kinds ≡ []
 TellsAmong kinds (Err fault.Memory) = ⊤
@@ -85,8 +85,8 @@ form_words name None (Some script) = name ∷ script ∷ []
 form_words name (Some number) None = name ∷ codes "--states" ∷ number ∷ []
 form_words name (Some number) (Some script) = name ∷ codes "--states" ∷ number ∷ script ∷ []
 
--- such words choose the number, or 256, and the script; they are not taken only where the number is
--- not from 1 to 65,536
+-- such words choose the number, or 256, and the script; they are refused only if the number is not
+-- from 1 to 65,536
 abbrev pub Reads : Option Text → Option Text → Result Choices OccurFault → Type 0
 Reads number script (Ok choices) =
     (choices.states ≡
@@ -96,7 +96,7 @@ Reads number script (Err fault.Memory) = ⊤
 Reads number script (Err (fault.Words error)) =
     IsSomeAnd number (λ text. IsUnsignedIn 1 65536 text → ⊥)
 
--- the words ask for help, unless memory is refused
+-- the words ask for help, unless memory runs out
 abbrev pub AsksForHelp : Result Choices OccurFault → Type 0
 AsksForHelp (Ok choices) = ⊥
 AsksForHelp (Err fault.Memory) = ⊤

@@ -1,4 +1,4 @@
-//! How the program tells of its own faults, and how it ends.
+//! How the program reports its own faults, and how it ends.
 ghost use Rattle.std.specs.Prelude.{◌≡◌, [], ◌∷◌};
 ghost use Rattle.clap.specs.Words.{kind_of};
 ghost use Rattle.grep_core.specs.Output.{written};
@@ -17,7 +17,7 @@ use grep_core::{CountedWrite, WriteFault, write_line, write_row};
 /// The exit status of a script of which a command was refused.
 const REFUSED: u8 = 1;
 
-/// Memory was refused.
+/// The message when memory runs out.
 const OUT_OF_MEMORY: &[u8] = b"occur: out of memory";
 
 /// Writes the line. A write that fails is not tried again.
@@ -28,7 +28,7 @@ fn tell<M: CountedWrite>(messages: &mut M, text: &[u8])
     let _ = write_line(messages, text);
 }
 
-/// Writes the lines on words that are not UTF-8.
+/// Writes the lines about words that are not UTF-8.
 fn write_words_refused<M: CountedWrite>(messages: &mut M) -> Result<(), WriteFault>
     ensures { Writes M.contents M.failures messages.old messages.new
         (written [] (words_refused ∷ usage ∷ [])) result }
@@ -45,7 +45,7 @@ fn write_usage<M: CountedWrite>(messages: &mut M) -> Result<(), WriteFault>
     write_line(messages, b"usage: occur [--states N] [SCRIPT]")
 }
 
-/// Tells that a word is not UTF-8, and answers the exit status. A write that fails is not tried
+/// Reports that a word is not UTF-8, and returns the exit status. A write that fails is not tried
 /// again.
 pub fn refuse_words<M: CountedWrite>(messages: &mut M) -> u8
     ensures status { result ≡ 2 }
@@ -57,8 +57,7 @@ pub fn refuse_words<M: CountedWrite>(messages: &mut M) -> u8
     FAILED
 }
 
-/// Tells that memory was refused, and answers the exit status. A write that fails is not tried
-/// again.
+/// Reports that memory ran out, and returns the exit status. A write that fails is not tried again.
 pub fn refuse_memory<M: CountedWrite>(messages: &mut M) -> u8
     ensures status { result ≡ 2 }
     ensures told { TellsLines (writer M.contents M.failures messages.old)
@@ -69,7 +68,7 @@ pub fn refuse_memory<M: CountedWrite>(messages: &mut M) -> u8
     FAILED
 }
 
-/// Writes the message on a script that could not be opened.
+/// Writes the message about a script that could not be opened.
 fn write_cannot_open<M: CountedWrite>(messages: &mut M, name: &[u8]) -> Result<(), WriteFault>
     ensures { Writes M.contents M.failures messages.old messages.new
         (output_line [] (cannot_open name.now)) result }
@@ -84,7 +83,7 @@ fn write_cannot_open<M: CountedWrite>(messages: &mut M, name: &[u8]) -> Result<(
     )
 }
 
-/// Tells that the script could not be opened, and answers the exit status. A write that fails is
+/// Reports that the script could not be opened, and returns the exit status. A write that fails is
 /// not tried again.
 pub fn refuse_script<M: CountedWrite>(messages: &mut M, name: &str) -> u8
     ensures status { result ≡ 2 }
@@ -96,7 +95,7 @@ pub fn refuse_script<M: CountedWrite>(messages: &mut M, name: &str) -> u8
     FAILED
 }
 
-/// The text on a script that was not run to its end.
+/// The message about a script that was not run to its end.
 fn fault_text(fault: ScriptFault) -> &'static [u8]
     ensures { result.now ≡ fault_text fault }
 {
@@ -107,8 +106,8 @@ fn fault_text(fault: ScriptFault) -> &'static [u8]
     }
 }
 
-/// Tells what kept a script from its end, and answers the exit status. A write that fails is not
-/// tried again.
+/// Reports the fault if a script was not run to its end, and returns the exit status. A write that
+/// fails is not tried again.
 pub fn end_script<M: CountedWrite>(messages: &mut M, ended: Result<ScriptEnd, ScriptFault>) -> u8
     ensures { EndsScript ended (writer M.contents M.failures messages.old)
         (writer M.contents M.failures messages.new) result }
@@ -123,7 +122,7 @@ pub fn end_script<M: CountedWrite>(messages: &mut M, ended: Result<ScriptEnd, Sc
     }
 }
 
-/// The exit status of words that the program does not run: those that ask for help are no fault.
+/// The exit status when the words choose no script to run. Asking for help is no fault.
 pub fn words_status(error: &Error) -> u8
     ensures { result ≡ words_status (kind_of error.now) }
 {

@@ -1,4 +1,4 @@
-//! `occur`: a script that edits files, patterns and options, and asks what grep finds.
+//! `occur`: runs a script that edits files, patterns and options, and asks what grep finds.
 #![tactic(auto)]
 
 mod ending;
@@ -19,8 +19,8 @@ use std::os::unix::fs::MetadataExt;
 use std::process::ExitCode;
 use std::{env, fs, io};
 
-/// Whether a script is the regular file to which replies go: each reply would be a command again,
-/// without end.
+/// Whether a script is the regular file to which replies are written: each reply would be a command
+/// again, endlessly.
 fn is_output(script: io::Result<Metadata>, output: io::Result<Metadata>) -> bool {
     let (Ok(script), Ok(output)) = (script, output) else {
         return false;
@@ -28,13 +28,13 @@ fn is_output(script: io::Result<Metadata>, output: io::Result<Metadata>) -> bool
     script.is_file() && script.dev() == output.dev() && script.ino() == output.ino()
 }
 
-/// Tells a script that is the output as one that can't be read, and answers the exit status.
+/// Reports a script that is the output as one that can't be read, and returns the exit status.
 fn refuse_output(rt: &HostRuntime) -> u8 {
     end_script(&mut Tally::new(rt.stderr()), Err(ScriptFault::Read))
 }
 
-/// Runs the script that the reader gives, with its replies on standard output, and answers the
-/// exit status.
+/// Runs the script from the reader, with its replies on standard output, and returns the exit
+/// status.
 fn run_from<R: CountedRead>(rt: &HostRuntime, reader: &mut R, states: usize) -> u8
     requires least { 1 ≤ states }
     requires most { states ≤ most_states }
@@ -47,9 +47,9 @@ fn run_from<R: CountedRead>(rt: &HostRuntime, reader: &mut R, states: usize) -> 
     end_script(&mut messages, ended)
 }
 
-/// Runs the script that the words choose, and answers the exit status. A script that is standard
-/// output itself is not read; that is asked before it is opened, since it could take the number of
-/// a standard output that is closed.
+/// Runs the script that the words choose, and returns the exit status. A script that is standard
+/// output itself is not read. Standard output is identified before the script is opened: if it is
+/// closed, the script could take its number.
 fn run(rt: &HostRuntime, choices: &Choices) -> u8
     requires least { 1 ≤ choices.now.states }
     requires most { choices.now.states ≤ most_states }
@@ -70,8 +70,8 @@ fn run(rt: &HostRuntime, choices: &Choices) -> u8
     run_from(rt, &mut Tally::new(file), choices.states)
 }
 
-/// Prints what the words come to where no script is run, and answers the exit status. Where help
-/// could not be written that is told.
+/// Prints the help or the error when no script is run, and returns the exit status. If the help
+/// could not be written, that is reported.
 fn tell_words(rt: &HostRuntime, error: &Error) -> u8 {
     match error.print(rt) {
         Ok(()) => words_status(error),
@@ -80,7 +80,7 @@ fn tell_words(rt: &HostRuntime, error: &Error) -> u8 {
     }
 }
 
-/// Does what the words ask for, and answers the exit status.
+/// Does what the words ask for, and returns the exit status.
 fn run_words(rt: &HostRuntime, words: &[String]) -> u8 {
     match occur_words(rt.alloc(), words) {
         Ok(choices) => run(rt, &choices),

@@ -18,15 +18,15 @@ use thiserror::Error;
 /// What the words choose.
 #[derive(Debug, Drop)]
 pub struct Choices {
-    /// How many states are kept of each pattern.
+    /// How many states are kept for each pattern.
     pub states: usize,
     /// The operand SCRIPT, as it was given.
     pub script: Option<String>,
 }
 
 impl Choices {
-    /// The file that has the script. There is none where standard input has it, for which no
-    /// operand stands, or `-` (XBD 12.2, Guideline 13).
+    /// The file that has the script. There is none if the script is standard input, that is,
+    /// without an operand or with `-` (XBD 12.2, Guideline 13).
     pub fn script_file(&self) -> Option<&str>
         ensures { option_map (λ s. s.now) result
             ≡ script_file (option_map string_bytes self.now.script) }
@@ -42,10 +42,10 @@ impl Choices {
 /// Why the words choose nothing.
 #[derive(Debug, Drop, Error)]
 pub enum OccurFault {
-    /// The command does not take the words, or they ask for help.
+    /// The command refuses the words, or they ask for help.
     #[error("{0}")]
     Words(clap::Error),
-    /// Memory was refused.
+    /// Memory ran out.
     #[error("out of memory")]
     Memory,
 }
@@ -105,7 +105,7 @@ fn occur_command<'a>(alloc: Global) -> Result<Command<'a>, AllocError>
         .arg(script_operand(alloc))
 }
 
-/// The same text in memory of its own, where there is one.
+/// A copy of the text, if there is one.
 fn owned(alloc: Global, text: Option<&str>) -> Result<Option<String>, AllocError>
     ensures { IfOk result
         (λ copy. option_map string_bytes copy ≡ option_map (λ s. s.now) text.entry) }
@@ -116,7 +116,7 @@ fn owned(alloc: Global, text: Option<&str>) -> Result<Option<String>, AllocError
     }
 }
 
-/// What was found for the option and the operand.
+/// The choices by what was found for the option and the operand.
 fn choices_of(alloc: Global, matches: &ArgMatches<'_>) -> Result<Choices, AllocError>
     requires { HasStates (found_of matches.now) }
     ensures states { IfOk result (λ choices. (1 ≤ choices.states) × (choices.states ≤ 65536)) }
@@ -127,7 +127,7 @@ fn choices_of(alloc: Global, matches: &ArgMatches<'_>) -> Result<Choices, AllocE
     Ok(Choices { states, script })
 }
 
-/// Reads the words by clap.
+/// Parses the words with clap.
 fn parse_words(alloc: Global, words: &[String]) -> Result<Choices, OccurFault>
     ensures states { IfOk result (λ choices. (1 ≤ choices.states) × (choices.states ≤ 65536)) }
     ensures chosen { IfOk result (IsChosenBy (matches_of occur_app (texts_of words.now))) }
@@ -137,7 +137,7 @@ fn parse_words(alloc: Global, words: &[String]) -> Result<Choices, OccurFault>
     Ok(choices_of(alloc, &matches)?)
 }
 
-/// Reads the words of the process, of which the first is the program's name.
+/// Parses the words of the process, of which the first is the program's name.
 pub fn occur_words(alloc: Global, words: &[String]) -> Result<Choices, OccurFault>
     ensures states { IfOk result (λ choices. (1 ≤ choices.states) × (choices.states ≤ 65536)) }
     ensures forms { (name : Text) (number script : Option Text)
@@ -146,7 +146,7 @@ pub fn occur_words(alloc: Global, words: &[String]) -> Result<Choices, OccurFaul
     ensures help { (name : Text) → texts_of words.now ≡ name ∷ codes "--help" ∷ []
         → AsksForHelp result }
 
-    // For any words: what clap defines for this command.
+    // For any words: the choices and faults that clap defines for this command.
     ensures chosen { IfOk result (IsChosenBy (matches_of occur_app (texts_of words.now))) }
     ensures faults { TellsAmong (fault_of occur_app (texts_of words.now)) result }
 {

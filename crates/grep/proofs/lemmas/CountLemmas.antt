@@ -1,9 +1,9 @@
--- Counts that stay at the greatest u64.
+-- Counts that stop at the greatest u64.
 use Rattle.std.proofs.Common.{◌≡◌, ℕ, zero, suc, ◌+◌, ◌-◌, ◌^◌, ◌≤◌, min, ap, ◌∙◌, arith}
 use Rattle.grep_core.specs.Counted.{one_more}
 use Rattle.grep_core.specs.Run.{count_more}
 
--- many more, by one sum
+-- counting k more is one sum
 pub count_more-sum : (n k : ℕ) → n ≤ 2 ^ 64 - 1 → count_more n k ≡ min (n + k) (2 ^ 64 - 1)
 count_more-sum n zero fits = omega (arith, fits)
 count_more-sum n (suc k) fits =

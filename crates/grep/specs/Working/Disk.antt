@@ -13,7 +13,7 @@ known_bytes of_input of_file (File file) = of_file file
 known_bytes of_input of_file Empty = Some []
 known_bytes of_input of_file Output = None
 
--- nothing is known, but that standard input is empty once it was used
+-- nothing is known, except that standard input is empty after it was used
 abbrev pub folder_of : Bool → Folder
 folder_of input_used = record {
   opens = λ _. None;

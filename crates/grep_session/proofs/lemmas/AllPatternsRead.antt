@@ -88,7 +88,7 @@ takes_parts edit old new es begun ended applies touches meant s = record {
 }
 
 module _ (es : List Expression) (old new : Options) (same : new.line_regexp ≡ old.line_regexp) where
-  -- what is kept of a line tells which expressions match it
+  -- what is kept of a line says which expressions match it
   ready_line : (line : KeptLine) → IsKept es old line → IsReady false es new line
   ready_line line k = subst (λ w. AreMatching line.text.items w 0 es line.found.numbers) (sym same) k.matching
 
@@ -99,7 +99,7 @@ module _ (es : List Expression) (old new : Options) (same : new.line_regexp ≡ 
       one None h = tt
       one (Some lines) h = All-weaker (IsKept es old) (IsReady false es new) ready_line lines h
 
-  -- under options that ask for no more parts it stays right
+  -- under options that ask for no more parts, what is kept of a line stays right
   module _ (less : IsTrue new.only_matching → IsTrue old.only_matching) where
     kept_line : (line : KeptLine) → IsKept es old line → IsKept es new line
     kept_line line k = record { matching = ready_line line k; parts = by_flags new.only_matching old.only_matching less k.parts }
@@ -119,7 +119,7 @@ module _ (es : List Expression) (old new : Options) (same : new.line_regexp ≡ 
         one None h = tt
         one (Some lines) h = All-weaker (IsKept es old) (IsKept es new) kept_line lines h
 
--- the matchers are those of the patterns under such options too
+-- the matchers are those of the patterns under options with the same `-x` and `-i`, too
 pub AreMatchers-options : (syntax : Syntax) (old new : Options) (texts : List Text) (matchers : List Matcher) → new.line_regexp ≡ old.line_regexp → new.ignore_case ≡ old.ignore_case → AreMatchers syntax old texts matchers → AreMatchers syntax new texts matchers
 AreMatchers-options syntax old new texts matchers whole case s = record {
   meant = subst (λ fold. AllZip (λ text e. IsMeant syntax fold text e) texts (map matched_expression matchers)) (sym case) s.meant;
@@ -159,7 +159,7 @@ pub applies_flag : (flag : Flag) (on : Bool) (old : Inputs) → (with_option fla
     → Applies (SetFlag flag on) old (Ok (read_as old.syntax (with_option flag on old.options) old))
 applies_flag flag on old case readable = inl (subst (λ fold. All (IsReadable old.syntax fold) old.patterns) (sym case) readable, refl)
 
--- an option that is set to what it is
+-- an option that is set to its present value
 pub applies_same : (flag : Flag) (on : Bool) (old : Inputs) → option_of flag old.options ≡ on → All (IsReadable old.syntax old.options.ignore_case) old.patterns → Applies (SetFlag flag on) old (Ok old)
 applies_same flag on old same readable =
     let options : with_option flag on old.options ≡ old.options = ap (λ b. with_option flag b old.options) (sym same) ∙ with_same flag old.options in

@@ -1,4 +1,4 @@
--- What is written of lines that are kept, where lines around selected ones are shown, are the groups of the file.
+-- Where lines around selected ones are shown, what is written for kept lines is the file's groups.
 use Rattle.std.proofs.Common.{◌≡◌, ◌+◌, nat_lt, ◌<◌, Bool, true, false, ◌-◌, List, [], ◌∷◌, ◌++◌, length, map, All, refl, sym, ap, subst, ◌∙◌, append_assoc, append-nil, if◌then◌else◌}
 use Rattle.std.proofs.lemmas.Bool.{false≢true, lt-ltb, ltb-true}
 use Rattle.std.proofs.lemmas.List.Elements.{All-head, All-tail}
@@ -18,7 +18,7 @@ use Rattle.grep_session.specs.Working.Kept.{line_text, IsKept}
 use Rattle.grep_session.specs.Working.Report.{is_selected, shown_rows, around_rows}
 use Rattle.grep_session.proofs.lemmas.KeptLaws.{selected_told}
 
--- while lines are shown behind a selected one, none waits
+-- while lines are shown after a selected one, none waits
 abbrev pub IsIdle : Progress → Type 0
 IsIdle p = 0 < p.left → p.waiting ≡ 0
 
@@ -31,7 +31,7 @@ idle_line p false idle = by_left (nat_lt 0 p.left) refl
     by_left false e = λ more. absurd (false≢true (sym e ∙ lt-ltb 0 p.left more))
 
 module _ (options : Options) (many : Bool) (name : Text) where
-  -- the lines before a line are written only where it is selected
+  -- the lines before a line are written only if it is selected
   same_rows : (p : Progress) (found : Bool) (before : List Text) (line : KeptLine) → IsIdle p
       → rows_at options many name found (next_shown p found) (last_of p.waiting before) (length before + 1) (line_text line) ≡ shown_rows options many name found (next_shown p found) before line
   same_rows p true before line idle = refl
@@ -45,7 +45,7 @@ module _ (options : Options) (many : Bool) (name : Text) where
       by_left false e = refl
 
 module _ (es : List Expression) (options : Options) (many : Bool) (name : Text) (context : Context) (some : Bool) where
-  -- over the lines from some on
+  -- over the lines from a place on
   tracked : (text : List KeptLine) → All (IsKept es options) text → (p : Progress) (before rows : List Text) → IsIdle p → Tracks es options many name context some p before rows
       → (q : Progress) × Tracks es options many name context some q (before ++ map line_text text) (rows ++ around_rows options many name p before text)
   tracked [] k p before rows idle t = (p, subst (λ ls. Tracks es options many name context some p ls (rows ++ [])) (sym (append-nil before)) (subst (Tracks es options many name context some p before) (sym (append-nil rows)) t))

@@ -23,7 +23,7 @@ not_left_out false e = sym e
 
 -- ---- how many lines wait
 
--- no more lines wait than may stand before a selected one
+-- no more lines wait than may be shown before a selected one
 pub few_wait : (p : Progress) (found : Bool) → p.waiting ≤ p.context.before → (behind_line p found).waiting ≤ (behind_line p found).context.before
 few_wait p true few = omega arith
 few_wait p false few = by_left (nat_lt 0 p.left)
@@ -32,7 +32,7 @@ few_wait p false few = by_left (nat_lt 0 p.left)
     by_left true = few
     by_left false = omega arith
 
--- and no more than there are
+-- no more lines wait than there are
 pub wait_within : (p : Progress) (found : Bool) (k : ℕ) → p.waiting ≤ k → (behind_line p found).waiting ≤ k + 1
 wait_within p true k within = omega arith
 wait_within p false k within = by_left (nat_lt 0 p.left)
@@ -41,7 +41,7 @@ wait_within p false k within = by_left (nat_lt 0 p.left)
     by_left true = omega (arith, within)
     by_left false = omega (arith, within)
 
--- those that are shown at the next line are there
+-- the lines that are shown before the next line exist
 pub shown_within : (p : Progress) (found : Bool) (k : ℕ) → p.waiting ≤ k → (next_shown p found).before ≤ k
 shown_within p true k within = within
 shown_within p false k within = omega arith
@@ -57,7 +57,7 @@ module _ (options : Options) (many : Bool) (name : Text) where
   abbrev pub waiting : ℕ → List Text → List Text
   waiting = rows_around options many name
 
-  -- the last lines, from the first of them on
+  -- the rows of the last lines, as the lines from a place on
   waiting_first : (xs : List KeptLine) (count : ℕ) → waiting (length xs - count + 1) (last_of count (map line_text xs)) ≡ waiting (length xs - count + 1) (map line_text (drop (length xs - count) xs))
   waiting_first xs count = ap (waiting (length xs - count + 1)) (ap (λ n. drop (n - count) (map line_text xs)) (length-map xs line_text) ∙ drop-map line_text (length xs - count) xs)
 

@@ -1,4 +1,4 @@
--- Patterns come or go: what is found in a line, and the steps that its search takes.
+-- Patterns are added or removed: what is found in a line, and the steps that its search takes.
 use Rattle.std.proofs.Common.{◌≡◌, ℕ, zero, suc, ◌+◌, ◌<◌, ◌≤◌, Bool, true, false, ◌||◌, List, [], ◌∷◌, ◌++◌, inl, inr, length, map, take, drop, length-take, length-drop, ◌-◌, nat_eq, nat_lt, get_or, MatchBool, Decides, Any, refl, sym, ap, subst, ◌∙◌, append_assoc, append-nil, All, Result, Ok, Err, IfOk, arith}
 use Rattle.std.specs.Bool.{⊤}
 use Rattle.std.specs.List.{remove, list_any}
@@ -46,7 +46,7 @@ module _ (line : Text) (entire : Bool) where
       let other : nat_eq first p ≡ false = eq_other first p (λ e. let no_less : ⊥ = omega (arith, e, h) in no_less) in
       elim a.1 [ inl c ↦ ap (list_any (λ n. nat_eq n p)) c.1 ∙ ap (λ b. b || list_any (λ n. nat_eq n p) a.0) other ∙ rest | inr c ↦ ap (list_any (λ n. nat_eq n p)) c.1 ∙ rest ]
 
-  -- an expression's number is there where it matches
+  -- an expression's number is among the numbers if and only if it matches
   pub number_tells : (first k : ℕ) (es : List Expression) (ns : List ℕ) (d : Expression) → k < length es → AreMatching line entire first es ns → Decides (list_any (λ n. nat_eq n (first + k)) ns) (Matches (get_or es k d) line entire)
   number_tells first k [] ns d h a = absurd (let false : ⊥ = omega (arith, h) in false)
   number_tells first zero (e ∷ es) ns d h a =
@@ -65,16 +65,16 @@ module _ (line : Text) (entire : Bool) where
       subst (λ b. Decides b (Matches (get_or es k d) line entire)) (sym same)
       (subst (λ q. Decides (list_any (λ n. nat_eq n q) a.0) (Matches (get_or es k d) line entire)) place (number_tells (suc first) k es a.0 d (let less : k < length es = omega (arith, h) in less) a.2))
 
--- ---- the parts of a line that one that went does not match
+-- ---- the parts of a line that a removed expression does not match
 
--- what holds of an element that is left holds of one
+-- what holds of an element that is left holds of an element of the whole list
 Any-left_behind : {A : Type 0} (P : A → Type 0) (xs : List A) (k : ℕ) → Any P (remove xs k) → Any P xs
 Any-left_behind P [] zero h = h
 Any-left_behind P [] (suc k) h = h
 Any-left_behind P (x ∷ xs) zero h = Any-later P x xs h
 Any-left_behind P (x ∷ xs) (suc k) h = elim (Any-cases P x (remove xs k) h) [ inl p ↦ Any-first P x xs p | inr l ↦ Any-later P x xs (Any-left_behind P xs k l) ]
 
--- and the other way round, where it does not hold of the one that went
+-- the converse, where it does not hold of the removed element
 Any-without : {A : Type 0} (P : A → Type 0) (xs : List A) (k : ℕ) (d : A) → k < length xs → (P (get_or xs k d) → ⊥) → Any P xs → Any P (remove xs k)
 Any-without P [] k d h none some = absurd (Any-none P some)
 Any-without P (x ∷ xs) zero d h none some = elim (Any-cases P x xs some) [ inl p ↦ absurd (none p) | inr l ↦ l ]
@@ -100,7 +100,7 @@ module _ (line : Text) (entire : Bool) (es : List Expression) (k : ℕ) (d : Exp
 -- ---- parts that are searched anew, or stay
 
 module _ (options : Options) where
-  -- what is found is right where the parts were searched anew, and where they stay what they are
+  -- what is found is right, whether the parts were searched anew or stay the same
   pub right_again : (es fs : List Expression) (line : KeptLine) (numbers : List ℕ) (found : Finds) (anew : Bool)
       → (anew ≡ false → (ps : List (ℕ × ℕ)) → AreParts es line.text.items options.line_regexp ps → AreParts fs line.text.items options.line_regexp ps)
       → ArePartsKept es options line.text.items line.found.spans → AreMatching line.text.items options.line_regexp 0 fs numbers → IsFoundAgain anew fs options line numbers found → IsRight fs options line.text.items found
@@ -134,7 +134,7 @@ module _ (change : Change) (changed es : List Expression) (options : Options) (l
       let own = cost.1 in
       record { own = cost.0; is_own = cost.1; few = adds_within (search_cost (searched_for change changed) line) cost.0 begun ended (omega (arith, own.2)) few }
 
-  -- a line that was, where that is needed
+  -- a line that was searched for its parts, if that is needed
   pub changed_with_parts : (verdict : Bool) (begun mid ended : Steps) → Decides verdict (Matched changed options line) → AddsAtMost (search_cost (searched_for change changed) line) begun mid
       → (own : ℕ) × MatchBool verdict (PartsCostOf es options line own) (own ≡ 0) × AddsAtMost own mid ended → SearchesOne (ChangeCost change changed es options) line begun ended
   changed_with_parts verdict begun mid ended d few parts = record {
@@ -169,18 +169,18 @@ module _ (C : Text → ℕ → Type 0) where
         let rest = CostOfEach-exists lines in
         (own.0 + rest.0, (own.0, rest.0, own.1, rest.1, refl))
 
-    -- there are more lines than those that were searched
+    -- the steps for the first lines are within the cost of all
     pub each_front : (lines more all : List Text) (begun ended : Steps) → lines ++ more ≡ all → SearchesEach C lines begun ended → SearchesEach C all begun ended
     each_front lines more all begun ended both a =
         let rest = CostOfEach-exists more in
         subst (λ l. SearchesEach C l begun ended) both (record { cost = a.cost + rest.0; is_cost = CostOfEach-append lines more a.cost rest.0 a.is_cost rest.1; few = adds_within a.cost (a.cost + rest.0) begun ended (omega arith) a.few })
 
-    -- one more line was searched, and there are more
+    -- so are the steps for the first lines and the next one
     pub each_next : (lines : List Text) (line : Text) (more all : List Text) (begun mid ended : Steps) → lines ++ (line ∷ more) ≡ all → SearchesEach C lines begun mid → SearchesOne C line mid ended → SearchesEach C all begun ended
     each_next lines line more all begun mid ended both a b =
         each_front (lines ++ line ∷ []) more all begun ended (append_assoc lines (line ∷ []) more ∙ both) (each_one lines line (lines ++ line ∷ []) begun mid ended refl a b)
 
--- the cost of lines, as the cost of an edit has it
+-- the cost of lines, in the form of the cost of an edit
 pub CostOfEach-sum : (change : Change) (changed es : List Expression) (options : Options) (lines : List Text) (cost : ℕ) → CostOfEach (ChangeCost change changed es options) lines cost
     → (chosen : List Text) × (parts : ℕ) × Chosen (Matched changed options) lines chosen × PartsCost es options chosen parts × (cost ≡ pairs_cost (searched_for change changed) lines + parts)
 CostOfEach-sum change changed es options [] cost c = ([], 0, refl, refl, omega (arith, c))
@@ -198,7 +198,7 @@ decided_single : {A : Type 0} (P : A → Type 0) (x : A) (verdict : Bool) → De
 decided_single P x verdict d = ((λ t. Any-first P x [] (d.0 t)), (λ a. d.1 (Any-single P x a)))
 
 module _ (p : ℕ) (es before changed : List Expression) (options : Options) (line : KeptLine) (h : HasChanged (Dropped p) es before changed) (k : IsKept before options line) where
-  -- whether the one that went matched it
+  -- whether the removed expression matched it
   pub went_verdict : Decides (list_any (λ n. nat_eq n p) line.found.numbers) (Matched changed options line.text.items)
   went_verdict =
       let text = line.text.items in
@@ -208,7 +208,7 @@ module _ (p : ℕ) (es before changed : List Expression) (options : Options) (li
       let one = subst (λ e. Decides (list_any (λ n. nat_eq n p) line.found.numbers) (Matches e text options.line_regexp)) (sym h.2) here in
       subst (λ c. Decides (list_any (λ n. nat_eq n p) line.found.numbers) (Matched c options text)) (sym h.4) (decided_single (λ e. Matches e text options.line_regexp) h.0 _ one)
 
-  -- what is found in it then
+  -- what is found in it after the change is right
   pub went_right : (found : Finds) → IsFoundAgain (list_any (λ n. nat_eq n p) line.found.numbers) es options line (without p line.found.numbers) found → IsRight es options line.text.items found
   went_right found again =
       let text = line.text.items in
@@ -224,7 +224,7 @@ module _ (p : ℕ) (es before changed : List Expression) (options : Options) (li
 -- ---- a line with more expressions
 
 module _ (line : Text) (entire : Bool) where
-  -- a number, and so a match
+  -- if there is a number, some expression matches
   some_at : (first : ℕ) (es : List Expression) (n : ℕ) (ns : List ℕ) → AreMatching line entire first es (n ∷ ns) → Any (λ e. Matches e line entire) es
   some_at first [] n ns a = absurd (let none : n ∷ ns ≡ [] = a in let false : ⊥ = cc none in false)
   some_at first (e ∷ es) n ns a =
@@ -233,7 +233,7 @@ module _ (line : Text) (entire : Bool) where
         | inr c ↦ Any-later (λ e. Matches e line entire) e es (some_at (suc first) es n ns (subst (AreMatching line entire (suc first) es) (sym c.1) a.2))
       ]
 
-  -- the numbers are more where some expression matches
+  -- there are more numbers if and only if some added expression matches
   grown_tells : (first : ℕ) (es : List Expression) (old found : List ℕ) → AreMatching line entire first es found → Decides (nat_lt (length old) (length (old ++ found))) (Any (λ e. Matches e line entire) es)
   grown_tells first es old [] a =
       let many = length-append old [] in
@@ -244,14 +244,14 @@ module _ (line : Text) (entire : Bool) where
 
 module _ (first : ℕ) (es before changed : List Expression) (options : Options) (line : KeptLine) (h : HasChanged (Added first) es before changed) (k : IsKept before options line) (new : List ℕ)
     (a : AddsMatching line.text.items options.line_regexp first (drop first es) line.found.numbers new) where
-  -- whether one of those that came matches it
+  -- whether an added expression matches it
   pub came_verdict : Decides (nat_lt (length line.found.numbers) (length new)) (Matched changed options line.text.items)
   came_verdict =
       let told = grown_tells line.text.items options.line_regexp first (drop first es) line.found.numbers a.found a.are_found in
       subst (λ c. Decides (nat_lt (length line.found.numbers) (length new)) (Matched c options line.text.items)) (sym h.1)
       (subst (λ ns. Decides (nat_lt (length line.found.numbers) (length ns)) (Matched (drop first es) options line.text.items)) (sym a.added) told)
 
-  -- what is found in it then
+  -- what is found in it after the change is right
   pub came_right : first ≤ length es → (found : Finds) → IsFoundAgain (nat_lt (length line.found.numbers) (length new)) es options line new found → IsRight es options line.text.items found
   came_right within found again =
       let text = line.text.items in
@@ -266,7 +266,7 @@ module _ (first : ℕ) (es before changed : List Expression) (options : Options)
       right_again options before es line new found _ stay k.parts
       (subst (λ ns. AreMatching text options.line_regexp 0 es ns) (sym a.added) (subst (λ l. AreMatching text options.line_regexp 0 l (line.found.numbers ++ a.found)) both numbers)) again
 
--- ---- what a search answers
+-- ---- what a search returns
 
 -- a line without an expression
 pub goes_right : {E : Type 0} (p : ℕ) (es : List Expression) (options : Options) (line : KeptLine) (r : Result Finds E) → IfOk r (IsFoundAgain (list_any (λ n. nat_eq n p) line.found.numbers) es options line (without p line.found.numbers))
@@ -291,7 +291,7 @@ kept_at P xs i x within is all = subst P (sym is) (all i x within)
 pub adds_right_none : (es : List Expression) (options : Options) (old : List Finds) → AddsRight es options [] old old
 adds_right_none es options old = record { found = []; are_right = tt; added = sym (append-nil old) }
 
--- as many steps as matchers came
+-- one search by each of the added matchers
 pub came_steps : {M : Type 0} (expression : M → Expression) (matchers : List M) (first : ℕ) (changed : List Expression) (line : Text) (begun ended : Steps) → changed ≡ drop first (map expression matchers)
     → AddsAtMost (search_cost (length matchers - first) line) begun ended → AddsAtMost (search_cost (length changed) line) begun ended
 came_steps expression matchers first changed line begun ended is few =

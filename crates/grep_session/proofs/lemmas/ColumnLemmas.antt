@@ -66,7 +66,7 @@ module _ (es : List Expression) (options : Options) where
         few = adds_within _ (pairs_cost matchers (lines ++ more) + (a.parts + b.parts)) begun ended (omega (arith, pairs)) few;
       })
 
--- ---- steps of matchers that stand for the same expressions as before
+-- ---- steps of matchers that have the same expressions as before
 
 module _ {M : Type 0} (expression : M → Expression) (now old : List M) (options : Options) (anew : Bool) (same : map expression now ≡ map expression old) where
   pub line_steps_as : (line : Text) (begun ended : Steps) → SearchesKept (map expression now) options (if anew then length now else 0) line begun ended → SearchesKept (map expression old) options (if anew then length old else 0) line begun ended

@@ -1,4 +1,4 @@
--- A pattern goes, and what matches a line keeps its meaning.
+-- A pattern is removed, and the numbers of those that match a line stay right.
 use Rattle.std.proofs.Common.{◌≡◌, ℕ, zero, suc, ◌+◌, ◌-◌, ◌<◌, ◌≤◌, Bool, MatchBool, All, true, false, not, List, [], ◌∷◌, ◌++◌, inl, inr, length, map, take, drop, nat_eq, nat_lt, get_or, cond, if◌then◌else◌, refl, sym, ap, subst, ◌∙◌, arith}
 use Rattle.std.proofs.Math.ListN.{set}
 use Rattle.std.specs.List.{AllWithin, AllZip, remove, filter}
@@ -37,7 +37,7 @@ lt_yes p n h = grind (arith, nat_tests)
 pub lt_no : (p n : ℕ) → n ≤ p → nat_lt p n ≡ false
 lt_no p n h = grind (arith, nat_tests)
 
--- the pattern's own number goes
+-- the pattern's own number is removed
 without_same : (p : ℕ) (ns : List ℕ) → without p (p ∷ ns) ≡ without p ns
 without_same p ns = ap (λ b. map (lowered p) (cond (not b) (p ∷ filter (λ n. not (nat_eq n p)) ns) (filter (λ n. not (nat_eq n p)) ns))) (eq_same p)
 
@@ -48,7 +48,7 @@ without_less p n ns h =
     ap (λ b. map (lowered p) (cond (not b) (n ∷ filter (λ n. not (nat_eq n p)) ns) (filter (λ n. not (nat_eq n p)) ns))) other
     ∙ ap (λ b. (if b then n - 1 else n) ∷ without p ns) (lt_no p n (omega (arith, h)))
 
--- a number behind it falls by one
+-- a number after it is lowered by one
 without_more : (p n : ℕ) (ns : List ℕ) → p ≤ n → without p (suc n ∷ ns) ≡ n ∷ without p ns
 without_more p n ns h =
     let other : nat_eq (suc n) p ≡ false = eq_other (suc n) p (λ e. let no_less : ⊥ = omega (arith, e, h) in no_less) in
@@ -57,7 +57,7 @@ without_more p n ns h =
     ∙ ap (λ b. (if b then suc n - 1 else suc n) ∷ without p ns) (lt_yes p (suc n) (omega (arith, h))) ∙ ap (λ m. m ∷ without p ns) less
 
 module _ (line : Text) (entire : Bool) where
-  -- all numbers are behind it
+  -- all numbers are after it
   AreMatching-lower : (p first : ℕ) (es : List Expression) (ns : List ℕ) → p ≤ first → AreMatching line entire (suc first) es ns → AreMatching line entire first es (without p ns)
   AreMatching-lower p first [] ns h a = ap (without p) a
   AreMatching-lower p first (e ∷ es) ns h a =
@@ -65,7 +65,7 @@ module _ (line : Text) (entire : Bool) where
       elim a.1 [ inl c ↦ inl (c.0, ap (without p) c.1 ∙ without_more p first a.0 h) | inr c ↦ inr (c.0, ap (without p) c.1) ] in
       (without p a.0, choice, AreMatching-lower p (suc first) es a.0 (omega (arith, h)) a.2)
 
-  -- one of the expressions goes
+  -- one of the expressions is removed
   pub AreMatching-drop : (first k : ℕ) (es : List Expression) (ns : List ℕ) → k < length es → AreMatching line entire first es ns → AreMatching line entire first (remove es k) (without (first + k) ns)
   AreMatching-drop first k [] ns h a = absurd (let false : ⊥ = omega (arith, h) in false)
   AreMatching-drop first zero (e ∷ es) ns h a =
@@ -79,13 +79,13 @@ module _ (line : Text) (entire : Bool) where
       elim a.1 [ inl c ↦ inl (c.0, ap (without p) c.1 ∙ without_less p first a.0 (omega arith)) | inr c ↦ inr (c.0, ap (without p) c.1) ] in
       (without p a.0, choice, subst (λ q. AreMatching line entire (suc first) (remove es k) (without q a.0)) place (AreMatching-drop (suc first) k es a.0 (let less : k < length es = omega (arith, h) in less) a.2))
 
--- one more element has what f makes of it
+-- one more element is replaced by f of it
 pub map_so_far : (f : ℕ → ℕ) (xs : List ℕ) (i : ℕ) (d : ℕ) → i < length xs → set (map f (take i xs) ++ drop i xs) i (f (get_or (map f (take i xs) ++ drop i xs) i d)) ≡ map f (take (suc i) xs) ++ drop (suc i) xs
 map_so_far f [] i d h = absurd (let false : ⊥ = omega (arith, h) in false)
 map_so_far f (x ∷ xs) zero d h = refl
 map_so_far f (x ∷ xs) (suc i) d h = ap (λ l. f x ∷ l) (map_so_far f xs i d (let less : i < length xs = omega (arith, h) in less))
 
--- all have
+-- all elements are replaced by f of them
 pub map_done : (f : ℕ → ℕ) (xs : List ℕ) (n : ℕ) → length xs ≤ n → map f (take n xs) ++ drop n xs ≡ map f xs
 map_done f [] zero h = refl
 map_done f [] (suc n) h = refl
@@ -106,7 +106,7 @@ module _ (es : List Expression) (options : Options) (p : ℕ) (h : p < length es
         parts = subst (λ b. MatchBool b (AreParts (remove es p) new.text.items options.line_regexp (map span_places new.found.spans)) ⊤) (sym no_parts) tt;
       }
 
--- an element gave way to another: what holds of those behind it still does
+-- one element was replaced by another: what holds of those after it still does
 pub behind_set : {X : Type 0} (P : X → Type 0) (xs : List X) (i n : ℕ) (x : X) → AllWithin P xs i n → AllWithin P (set xs i x) (suc i) n
 behind_set P xs i n x h = λ k d low high. subst P (sym (get_or-set_other xs i k x d (λ e. let apart : ⊥ = omega (arith, e, low) in apart))) (h k d (omega (arith, low)) high)
 

@@ -1,4 +1,4 @@
--- The laws of the definitions: an edit makes one thing of its inputs, and has one cost.
+-- The laws of the definitions: an edit has one outcome for its inputs, and one cost.
 use Rattle.std.proofs.Common.{◌≡◌, ℕ, ◌+◌, ◌*◌, ◌<◌, Bool, true, false, List, [], ◌∷◌, length, Result, Ok, Err, MatchBool, take, get_or, length-take, refl, sym, ap, subst, ◌∙◌, arith}
 use Rattle.re_syntax.specs.declared.fault.PatternFault.{PatternFault}
 use Rattle.re_syntax.specs.declared.syntax.Syntax.{Syntax}
@@ -55,7 +55,7 @@ Reads-once syntax fold texts new a b p q =
     let same : x.0 ≡ y.0 = omega (arith, here, there) in
     alike_patterns a b x.0 y.0 x.1 y.1 x.3 y.3 same)
 
--- an edit makes one thing of its inputs
+-- an edit has one outcome for its inputs
 pub Applies-once : (edit : Edit) (old : Inputs) (a b : Result Inputs EditFault) → Applies edit old a → Applies edit old b → AreAlike a b
 Applies-once (AddFile name lines) old a b p q = IfHolds-both p q (λ e f. alike_same a b (same_value e f)) (λ e f. alike_same a b (same_value e f))
 Applies-once (AddMissing name) old a b p q = alike_same a b (same_value p q)

@@ -1,4 +1,4 @@
--- What an edit makes of a session's inputs, and of what is kept.
+-- How an edit changes a session's inputs, and what is kept.
 use Rattle.std.proofs.Common.{◌≡◌, ◌≢◌, ℕ, suc, ◌+◌, ◌<◌, List, [], ◌∷◌, ◌++◌, length, map, take, drop, Option, Some, None, Ok, Err, IfSome, inl, inr, refl, sym, ap, subst, ◌∙◌, All, get_or, slice_set, arith}
 use Rattle.std.proofs.Math.ListN.{set}
 use Rattle.std.proofs.Math.Seq.{map-set_same}
@@ -32,7 +32,7 @@ use Rattle.grep_session.proofs.lemmas.SessionLemmas.{map-splice}
 
 -- ---- matchers
 
--- matchers that look the same stand for the same patterns
+-- matchers with the same expressions are those of the same patterns
 pub AreMatchers-same : (syntax : Syntax) (options : Options) (texts : List Text) (old new : List Matcher) → AreMatchers syntax options texts old → map matched_expression new ≡ map matched_expression old → map wants_whole new ≡ map wants_whole old
     → AreMatchers syntax options texts new
 AreMatchers-same syntax options texts old new s e w = record {
@@ -66,7 +66,7 @@ takes_lines edit old files es matchers lines begun ended applies touches meant m
   few = s.few;
 }
 
--- ---- lines that give way
+-- ---- lines that are replaced
 
 pub applies_splice : (old : Inputs) (k start count : ℕ) (lines : List Text) → HasPlace old.files k start count → All HasNoNewline lines → Applies (Splice k start count lines) old (Ok (with_files (spliced old.files k start count lines) old))
 applies_splice old k start count lines p none =
@@ -77,7 +77,7 @@ pub refuses_splice : (old : Inputs) (k start count : ℕ) (lines : List Text) �
 refuses_splice old k start count lines p newline =
     inr ((λ h. absurd (let false : ⊥ = omega (arith, h, p.in_files) in false)), inr (p.opens, inr ((λ h. absurd (let false : ⊥ = omega (arith, h, p.in_file) in false)), inr (newline, refl))))
 
--- a newline is told as a newline
+-- a newline is reported as a newline
 abbrev tells_newline : EditFault → Type 0
 tells_newline LineHasNewline = ⊤
 tells_newline _ = ⊥
@@ -91,7 +91,7 @@ needs_for_lines old k start count lines place none some (inl empty) = some empty
 needs_for_lines old k start count lines place none some (inr (inl nowhere)) = nowhere place
 needs_for_lines old k start count lines place none some (inr (inr newline)) = newline none
 
--- where f of a list is empty, the list is
+-- if `map f` of a list is empty, so is the list
 pub empty_map : {X Y : Type 0} (f : X → Y) (xs : List X) → map f xs ≡ [] → xs ≡ []
 empty_map f [] e = refl
 empty_map f (x ∷ xs) e =
@@ -99,7 +99,7 @@ empty_map f (x ∷ xs) e =
     absurd (let false : ⊥ = omega (arith, bad) in false)
 
 module _ (start count : ℕ) (new : List KeptLine) where
-  -- what the lines of a file become
+  -- the lines of a file after the splice
   abbrev pub put : Option (List KeptLine) → Option (List KeptLine)
   put lines = option_map (λ l. splice l start (start + count) new) lines
 
@@ -108,7 +108,7 @@ module _ (start count : ℕ) (new : List KeptLine) where
   file_put name None opens = absurd (opens refl)
   file_put name (Some lines) opens = ap (λ l. record { name = name; lines = l; ending = whole }) (map-splice line_text lines (splice lines start (start + count) new) new start (start + count) refl)
 
-  -- the files in one of which lines gave way
+  -- the files after lines of one of them were replaced
   pub files_put : (files : List KeptFile) (k : ℕ) (d file : KeptFile) → k < length files → file.name.items ≡ (get_or files k d).name.items → kept_lines file ≡ put (kept_lines (get_or files k d)) → (file_at (map kept_file files) k).ending ≢ missing
       → map kept_file (set files k file) ≡ spliced (map kept_file files) k start count (map line_text new)
   files_put files k d file within name lines opens =
@@ -118,7 +118,7 @@ module _ (start count : ℕ) (new : List KeptLine) where
       (λ i. file_with (name i) (lines i)) ∙ file_put old.name.items (kept_lines old) (subst (λ (f : File). f.ending ≢ missing) at opens) in
       map-set kept_file files k file ∙ ap (λ f. slice_set (map kept_file files) k f) (one ∙ ap (λ (f : File). record f { lines = splice f.lines start (start + count) (map line_text new) }) (sym at))
 
-  -- what is kept of them stays right
+  -- what is kept of the lines stays right
   pub kept_put : (es : List Expression) (options : Options) (lines : Option (List KeptLine)) → IfSome lines (All (IsKept es options)) → All (IsKept es options) new → IfSome (put lines) (All (IsKept es options))
   kept_put es options None h n = tt
   kept_put es options (Some lines) h n =
@@ -132,6 +132,6 @@ files_same files k d file name lines = map-set_same kept_file files k file d (λ
 pub in_kept : (files : List KeptFile) (k : ℕ) → k < length (map kept_file files) → k < length files
 in_kept files k h = omega (arith, h, length-map files kept_file)
 
--- what is kept of the files stays right where it does so in one
+-- what is kept of the files stays right if it does so for the changed one
 pub files_kept : (es : List Expression) (options : Options) (files : List KeptFile) (k : ℕ) (file : KeptFile) (lines : Option (List KeptLine)) → All (IsFileKept es options) files → kept_lines file ≡ lines → IfSome lines (All (IsKept es options)) → All (IsFileKept es options) (set files k file)
 files_kept es options files k file lines all same kept = All-set (IsFileKept es options) files k file (subst (λ l. IfSome l (All (IsKept es options))) (sym same) kept) all

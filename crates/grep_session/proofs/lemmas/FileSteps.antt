@@ -1,4 +1,4 @@
--- What is written of one file, and of files one after another.
+-- What is written for one file, and for files one after another.
 use Rattle.std.proofs.Common.{◌≡◌, ℕ, ◌+◌, nat_lt, ◌<◌, Bool, true, false, ◌&&◌, ◌||◌, List, [], ◌∷◌, ◌++◌, length, drop, get_or, Option, None, Some, Result, ap, sym, refl, subst, ◌∙◌, arith, if◌then◌else◌}
 use Rattle.std.proofs.lemmas.Bool.{lt-ltb}
 use Rattle.re_syntax.specs.Bytes.{Text}
@@ -12,7 +12,7 @@ use Rattle.grep_session.specs.declared.kept.KeptFile.{KeptFile}
 use Rattle.grep_session.specs.Working.Report.{is_selected, some_selected, selected_count, text_rows, rows_with, file_rows, rows_behind, told_from, end_of, has_selected}
 use Rattle.grep_session.proofs.lemmas.Writing.{WrittenUpTo, drop-item, writes_behind, stops_before, written_on, broken_off, all_written}
 
--- the number of selected lines tells whether there is one
+-- the number of selected lines is above 0 if and only if some line is selected
 pub counted_some : (options : Options) (text : List KeptLine) → nat_lt 0 (selected_count options text) ≡ some_selected options text
 counted_some options [] = refl
 counted_some options (line ∷ text) = by_verdict (is_selected options line) (selected_count options text) (some_selected options text) (counted_some options text)
@@ -23,7 +23,7 @@ counted_some options (line ∷ text) = by_verdict (is_selected options line) (se
 
 module _ {W : Type 0} (contents : W → Option Text) (failures : W → ℕ) (margin : Text) (options : Options) where
   module _ (many : Bool) (name : Text) (some : Bool) (kept : Option (List KeptLine)) where
-    -- all rows of the lines went out, and behind them the summary as the last call answers
+    -- all rows of the lines were written, and after them the summary as the last call returned
     pub file_written : {T E : Type 0} (a b c : W) (r : Result T E) (text : List KeptLine) (selected : ℕ) → kept ≡ Some text → selected ≡ selected_count options text
         → GoesOut contents failures a b (written margin (text_rows options many name (form options) some text)) → Writes contents failures b c (written margin (summary_as (form options) many name Whole selected)) r
         → Writes contents failures a c (written margin (rows_with options many name some kept)) r
@@ -38,7 +38,7 @@ module _ {W : Type 0} (contents : W → Option Text) (failures : W → ℕ) (mar
         subst (λ k. StopsWithin contents failures a b (written margin (rows_with options many name some k))) (sym is)
         (stops_before contents failures margin a b (text_rows options many name (form options) some text) (summary_as (form options) many name Whole (selected_count options text)) s)
 
-    -- there are none
+    -- the file has no lines, since it cannot be opened
     pub file_unopened : {T E : Type 0} (a b : W) (r : Result T E) → kept ≡ None → Writes contents failures a b (written margin (summary_as (form options) many name Missing 0)) r → Writes contents failures a b (written margin (rows_with options many name some kept)) r
     file_unopened a b r is w = subst (λ k. Writes contents failures a b (written margin (rows_with options many name some k)) r) (sym is) w
 
@@ -69,7 +69,7 @@ module _ {W : Type 0} (contents : W → Option Text) (failures : W → ℕ) (mar
         subst (λ v. WrittenUpTo contents failures margin a c all (if v then [] else told_from options (drop (i + 1) xs))) (sym e)
         (written_on contents failures margin a b c all (told_from options (drop i xs)) here (if options.quiet && has_selected options x then [] else told_from options (drop (i + 1) xs)) next_told s g)
 
-    -- the run goes on
+    -- the run continues
     pub told_further : (stops : Bool) → stops ≡ (options.quiet && has_selected options x) → stops ≡ false → GoesOut contents failures b c (written margin here) → WrittenUpTo contents failures margin a c all (told_from options (drop (i + 1) xs))
     told_further stops e goes g = subst (λ v. WrittenUpTo contents failures margin a c all (if v then [] else told_from options (drop (i + 1) xs))) goes (told_on stops e g)
 

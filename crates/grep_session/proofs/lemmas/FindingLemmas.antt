@@ -20,7 +20,7 @@ use Rattle.grep_session.specs.Touched.{PartsCostOf, PartsCost, pairs_cost}
 -- ---- the numbers of the expressions that match a line
 
 module _ (line : Text) (entire : Bool) where
-  -- those of more expressions follow
+  -- the numbers of more expressions are appended
   pub AreMatching-append : (first : ℕ) (es fs : List Expression) (ns ms : List ℕ) → AreMatching line entire first es ns → AreMatching line entire (first + length es) fs ms → AreMatching line entire first (es ++ fs) (ns ++ ms)
   AreMatching-append first [] fs ns ms a b =
       let same : first + 0 ≡ first = omega arith in
@@ -91,7 +91,7 @@ module _ (es : List Expression) (options : Options) (line : Text) where
   spans_done from spans s none =
       subst (AreParts es line options.line_regexp) (ap (λ l. map span_places spans ++ l) (none_left from s.left s.are_left none) ∙ append-nil (map span_places spans)) s.are_parts
 
-  -- the parts were asked for once more than there are before a place
+  -- the parts cost one search each, and one more
   pub spans_cost : options.only_matching ≡ true → (from : ℕ) (spans : List Span) (begun spent after : Steps) (matchers : ℕ) → matchers ≡ length es → SpansSoFar from spans
       → AddsAtMost (length spans * search_cost matchers line) begun spent → AddsAtMost (search_cost matchers line) spent after → (own : ℕ) × PartsCostOf es options line own × AddsAtMost own begun after
   spans_cost asked from spans begun spent after matchers many s few more =
@@ -124,7 +124,7 @@ module _ (es : List Expression) (options : Options) (line : Text) where
       let parts = parts_cost_exists in
       record { own = parts.0; is_own = parts.1; few = adds_within (search_cost matchers line) (search_cost matchers line + parts.0) begun ended (omega arith) few }
 
-  -- a line was searched, and then its parts were
+  -- a line was searched, and then its parts were searched
   pub searched_for_parts : (matchers : ℕ) (begun mid ended : Steps) → AddsAtMost (search_cost matchers line) begun mid → (own : ℕ) × PartsCostOf es options line own × AddsAtMost own mid ended → SearchesKept es options matchers line begun ended
   searched_for_parts matchers begun mid ended few parts =
       record { own = parts.0; is_own = parts.1; few = adds_both (search_cost matchers line) parts.0 begun mid ended few parts.2 }
@@ -168,7 +168,7 @@ module _ (es : List Expression) (options : Options) (matchers : ℕ) where
         few = adds_within _ (pairs_cost matchers (lines ++ line ∷ []) + (a.parts + b.own)) begun ended (omega (arith, pairs)) few;
       })
 
-  -- there are more lines than those that were searched
+  -- the steps for the first lines are within the cost of all
   pub searched_front : (lines more all : List Text) (begun ended : Steps) → lines ++ more ≡ all → SearchesAllKept es options matchers lines begun ended → SearchesAllKept es options matchers all begun ended
   searched_front lines more all begun ended both a =
       let rest = PartsCost-exists es options more in
@@ -179,19 +179,19 @@ module _ (es : List Expression) (options : Options) (matchers : ℕ) where
         few = adds_within _ (pairs_cost matchers (lines ++ more) + (a.parts + rest.0)) begun ended (omega (arith, pairs)) a.few;
       })
 
-  -- one more line was searched, and there are more
+  -- so are the steps for the first lines and the next one
   pub searched_next : (lines : List Text) (line : Text) (more all : List Text) (begun mid ended : Steps) → lines ++ (line ∷ more) ≡ all → SearchesAllKept es options matchers lines begun mid → SearchesKept es options matchers line mid ended
       → SearchesAllKept es options matchers all begun ended
   searched_next lines line more all begun mid ended both a b =
       searched_front (lines ++ line ∷ []) more all begun ended (append_assoc lines (line ∷ []) more ∙ both) (searched_one lines line (lines ++ line ∷ []) begun mid ended refl a b)
 
--- the steps of matchers that stand for the same expressions as before
+-- the steps of matchers that have the same expressions as before
 pub steps_as : {M : Type 0} (expression : M → Expression) (now old : List M) (options : Options) (line : Text) (begun ended : Steps) → map expression now ≡ map expression old
     → SearchesKept (map expression now) options (length now) line begun ended → SearchesKept (map expression old) options (length old) line begun ended
 steps_as expression now old options line begun ended same s =
     subst (λ n. SearchesKept (map expression old) options n line begun ended) (same_length expression now old same) (subst (λ es. SearchesKept es options (length now) line begun ended) same s)
 
--- an element goes from what is left to what is done
+-- an element moves from what is left to what is done
 pub one_taken : {X Y Z : Type 0} (f : Y → Z) (g : X → Z) (done new : List Y) (y : Y) (x : X) (left rest : List X) (all : List Z) → map f done ++ map g left ≡ all → left ≡ x ∷ rest → f y ≡ g x → new ≡ done ++ y ∷ [] → map f new ++ map g rest ≡ all
 one_taken f g done new y x left rest all so_far next same pushed =
     ap (λ l. map f l ++ map g rest) pushed ∙ ap (λ l. l ++ map g rest) (map-append f done (y ∷ [])) ∙ append_assoc (map f done) (f y ∷ []) (map g rest)
@@ -201,13 +201,13 @@ one_taken f g done new y x left rest all so_far next same pushed =
 pub taken_first : {X Z : Type 0} (g : X → Z) (x : X) (left rest : List X) (done all : List Z) → done ++ map g left ≡ all → left ≡ x ∷ rest → done ++ (g x ∷ map g rest) ≡ all
 taken_first g x left rest done all so_far next = ap (λ l. done ++ map g l) (sym next) ∙ so_far
 
--- there is an element, and so there was one
+-- a list with an element to take is not empty
 pub none_taken : {X Z : Type 0} (g : X → Z) (done rest : List Z) (z : Z) (all : List X) → done ++ (z ∷ rest) ≡ map g all → all ≡ [] → ⊥
 none_taken g done rest z all e none =
     let same : length (done ++ (z ∷ rest)) ≡ 0 = ap length (e ∙ ap (map g) none) in
     omega (arith, same, length-append done (z ∷ rest))
 
--- a list without a length
+-- a list of length 0 is empty
 pub empty_list : {X : Type 0} (xs : List X) → length xs ≡ 0 → xs ≡ []
 empty_list [] none = refl
 empty_list (x ∷ xs) none = absurd (let false : ⊥ = omega (arith, none) in false)

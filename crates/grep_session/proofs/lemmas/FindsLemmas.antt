@@ -1,4 +1,4 @@
--- A line that no expression matches has no part.
+-- A line that no expression matches has no parts.
 use Rattle.std.proofs.Common.{◌≡◌, ℕ, Bool, true, false, List, [], ◌∷◌, MatchBool, Result, Ok, Err, IfOk, sym, subst}
 use Rattle.std.specs.Bool.{⊤}
 use Rattle.re_syntax.specs.Bytes.{Text}
@@ -11,7 +11,7 @@ use Rattle.grep_session.specs.Working.Found.{IsRight}
 use Rattle.grep_session.specs.Working.Kept.{AreMatching, ArePartsKept}
 use Rattle.grep_session.proofs.lemmas.SurvivingLemmas.{none_match, some_match}
 
--- no number, no part
+-- if there is no number, there are no parts
 pub no_parts : (line : Text) (entire : Bool) (es : List Expression) → AreMatching line entire 0 es [] → AreParts es line entire []
 no_parts line entire es none = λ i j found. none_match line entire 0 es none (some_match line entire es i j found.not_empty found.on_line found.is_whole found.holds)
 
@@ -23,7 +23,7 @@ module _ (es : List Expression) (options : Options) (line : Text) where
       by_flag true p = p
       by_flag false p = tt
 
-  -- where no expression matches the line, nothing is right
+  -- if no expression matches the line, empty findings are right
   pub none_right : (numbers : List ℕ) → numbers ≡ [] → AreMatching line options.line_regexp 0 es numbers → IsRight es options line no_finds
   none_right numbers empty matching = let none = subst (AreMatching line options.line_regexp 0 es) empty matching in record { matching = none; parts = no_parts_kept none }
 
@@ -32,11 +32,11 @@ module _ (es : List Expression) (options : Options) (line : Text) where
   finds_right [] spans matching parts = record { matching = matching; parts = no_parts_kept matching }
   finds_right (n ∷ numbers) spans matching parts = record { matching = matching; parts = parts }
 
-  -- the same of what equals them
+  -- the same of findings that equal them
   pub finds_right_as : (numbers : List ℕ) (spans : List Span) (found : Finds) → found ≡ finds_with numbers spans → ArePartsKept es options line spans → AreMatching line options.line_regexp 0 es numbers → IsRight es options line found
   finds_right_as numbers spans found is parts matching = subst (IsRight es options line) (sym is) (finds_right numbers spans matching parts)
 
-  -- the same of what a call answers
+  -- the same of the findings that a call returns
   pub right_where : {E : Type 0} (numbers : List ℕ) (spans : List Span) (r : Result Finds E) → IfOk r (λ found. found ≡ finds_with numbers spans) → ArePartsKept es options line spans
       → IfOk r (λ found. AreMatching line options.line_regexp 0 es numbers → IsRight es options line found)
   right_where numbers spans (Ok found) is parts = finds_right_as numbers spans found is parts

@@ -1,4 +1,4 @@
--- What was found takes the place of what is kept, one line at a time.
+-- What was found replaces what is kept, one line at a time.
 use Rattle.std.proofs.Common.{◌≡◌, ℕ, zero, suc, ◌<◌, ◌≤◌, List, [], ◌∷◌, ◌++◌, length, map, take, drop, get_or, Option, None, Some, IfSome, All, drop-cons, refl, sym, ap, subst, ◌∙◌, arith}
 use Rattle.std.proofs.Math.ListN.{set}
 use Rattle.grep_session.specs.declared.kept.KeptLine.{KeptLine}
@@ -19,7 +19,7 @@ pub with_found-none : (lines : List KeptLine) → with_found lines [] ≡ lines
 with_found-none [] = refl
 with_found-none (line ∷ lines) = refl
 
--- an element in its own place
+-- setting an element to itself changes nothing
 set_itself : (lines : List KeptLine) (i : ℕ) (d : KeptLine) → set lines i (get_or lines i d) ≡ lines
 set_itself [] i d = refl
 set_itself (line ∷ lines) zero d = refl
@@ -42,7 +42,7 @@ with_found-all (line ∷ lines) [] (suc n) h = refl
 with_found-all (line ∷ lines) (one ∷ found) zero h = absurd (let false : ⊥ = omega (arith, h) in false)
 with_found-all (line ∷ lines) (one ∷ found) (suc n) h = ap (λ l. line_with line one ∷ l) (with_found-all lines found n (let less : length lines ≤ n = omega (arith, h) in less))
 
--- the first, and then others
+-- dropping one more element
 pub drop_drop : {X : Type 0} (i : ℕ) (xs : List X) → drop 1 (drop i xs) ≡ drop (suc i) xs
 drop_drop zero [] = refl
 drop_drop (suc i) [] = refl

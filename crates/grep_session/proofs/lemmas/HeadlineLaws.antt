@@ -1,4 +1,4 @@
--- What the report, the messages and the status of a session are, from scratch; and that the accepted edits decide.
+-- A session's report, messages and status, from scratch; the accepted edits decide them.
 use Rattle.std.proofs.Common.{◌≡◌, ℕ, List, [], ◌∷◌, ◌++◌, Option, Result, Ok, Err, refl, sym, subst, ◌∙◌}
 use Rattle.re_syntax.specs.Bytes.{Text}
 use Rattle.re_syntax.specs.Expression.{Expression}
@@ -73,14 +73,14 @@ one_end_from (edit ∷ more) old a b p q =
     let same : p.0 ≡ q.0 = Applies-once edit old (Ok p.0) (Ok q.0) p.1 q.1 in
     one_end_from more q.0 a b (subst (λ i. Makes more i a) same p.2) q.2
 
--- the last attempt, behind what the others came to
+-- the last attempt, after the others
 last_from : (tried : List Attempt) (last : Attempt) (old new : Inputs) → ComesTo (tried ++ last ∷ []) old new → (left : Inputs) × ComesTo tried old left × EditGives last.edit left new last.answer
 last_from [] last old new c = (old, refl, subst (λ i. EditGives last.edit old i last.answer) (sym c.2) c.1)
 last_from (attempt ∷ more) last old new c =
     let rest = last_from more last c.0 new c.2 in
     (rest.0, (c.0, c.1, rest.1), rest.2)
 
--- grep gives one thing for inputs
+-- for given inputs grep's output, messages and status are unique
 pub one_report : (inputs : Inputs) (out more told tells : List Text) (status other : Status) → GrepGives inputs out told status → GrepGives inputs more tells other → (more ≡ out) × (tells ≡ told) × (other ≡ status)
 one_report inputs out more told tells status other g h =
     let same : h.es ≡ g.es = means_one inputs.syntax inputs.options inputs.patterns h.es g.es h.are_meant g.are_meant in (

@@ -1,4 +1,4 @@
--- The verdicts on lines and files that are kept, the messages and the status are those of grep, where what is kept is right.
+-- If what is kept is right, the verdicts from it, the messages and the status are those of grep.
 use Rattle.std.proofs.Common.{◌≡◌, ℕ, suc, ◌==◌, ◌≤◌, Bool, true, false, ◌&&◌, not, IsTrue, ◌↔◌, Decides, List, [], ◌∷◌, ◌++◌, length, map, All, Any, Option, None, Some, MatchBool, IfSome, refl, sym, ap, ◌∙◌, inl, inr, arith, if◌then◌else◌}
 use Rattle.std.specs.Prelude.{⊤}
 use Rattle.std.specs.List.{list_any}
@@ -30,7 +30,7 @@ use Rattle.grep_session.specs.Working.Report.{matches_none, is_selected, has_sel
 pub status_in_turn : (quiet some : Bool) (status : Status) → (quiet && some) ≡ false → status ≡ (if quiet && some then selected else status)
 status_in_turn quiet some status e = ap (λ b. if b then selected else status) (sym e)
 
--- the verdict on some element of a list that is mapped
+-- whether the verdict holds of some element of a mapped list
 mapped_told : {A B : Type 0} (f : A → B) (p : A → Bool) (P : B → Type 0) (K : A → Type 0) → ((x : A) → K x → Decides (p x) (P (f x))) → (xs : List A) → All K xs → Decides (list_any p xs) (Any P (map f xs))
 mapped_told f p P K tells [] k = decided_no (Any-none P)
 mapped_told f p P K tells (x ∷ xs) k =
@@ -41,7 +41,7 @@ mapped_told f p P K tells (x ∷ xs) k =
 not_empty : (x : ℕ) (xs : List ℕ) → not (length (x ∷ xs) == 0) ≡ true
 not_empty x xs = grind (arith, nat_tests)
 
--- some expression matches a line where the numbers of those that do are not empty
+-- some expression matches a line if and only if the numbers of those that do are not empty
 matching_tells : (line : Text) (entire : Bool) (first : ℕ) (es : List Expression) (numbers : List ℕ) → AreMatching line entire first es numbers → IsTrue (not (length numbers == 0)) ↔ Any (λ e. Matches e line entire) es
 matching_tells line entire first [] numbers h = ((λ t. absurd (false≢true (ap (λ l. not (length l == 0)) (sym h) ∙ t))), (λ a. absurd (Any-none (λ e. Matches e line entire) a)))
 matching_tells line entire first (e ∷ es) numbers (rest, inl (matches, is), h) =
@@ -103,7 +103,7 @@ module _ (es : List Expression) (options : Options) where
   file_fits None k = tt
   file_fits (Some text) k = lines_fit text k
 
-  -- what is kept right fits
+  -- if what is kept of files is right, its parts are on their lines
   pub files_fit : (files : List KeptFile) → All (IsFileKept es options) files → All (FileFits options) files
   files_fit [] k = All-nil (FileFits options)
   files_fit (file ∷ files) k = All-cons (FileFits options) file files (file_fits (kept_lines file) (All-head (IsFileKept es options) file files k)) (files_fit files (All-tail (IsFileKept es options) file files k))
@@ -122,7 +122,7 @@ module _ (es : List Expression) (options : Options) where
       by_stop true told e = refl
       by_stop false told e = e
 
-  -- the files that are reached, and what is told of them
+  -- the files that are reached, and the messages about them
   loud_told : (files : List KeptFile) → All (IsFileKept es options) files → (reached : List File) × Reached es options (map kept_file files) reached × EachGives (Message es options) reached (told_as options false files)
   loud_told [] k = ([], refl, refl)
   loud_told (file ∷ files) k =
@@ -134,7 +134,7 @@ module _ (es : List Expression) (options : Options) where
       by_stop false d told r =
           (kept_file file ∷ r.0, (r.0, refl, inr ((λ s. false≢true (d.1 s)), r.1)), (message (ending_of (end_of file)) file.name.items, told, one_message file.name.items (kept_lines file), r.2, refl))
 
-  -- what is told are the messages
+  -- the messages by what is kept are grep's messages
   pub kept_messages : (files : List KeptFile) → All (IsFileKept es options) files → Messages es options (map kept_file files) (told_from options files)
   kept_messages files k = by_flag options.no_messages
     where

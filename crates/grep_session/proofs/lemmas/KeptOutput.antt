@@ -1,4 +1,4 @@
--- What is written of the lines of files that are kept is what grep writes of these files, where what is kept is right.
+-- If what is kept is right, what is written for the kept files is what grep writes for them.
 use Rattle.std.proofs.Common.{◌≡◌, ℕ, ◌+◌, nat_le, Bool, true, false, ◌&&◌, ◌||◌, IsTrue, Decides, List, [], ◌∷◌, ◌++◌, length, map, drop, slice_range, All, Option, None, Some, IfSome, refl, sym, ap, subst, ◌∙◌, arith, append-nil, if◌then◌else◌}
 use Rattle.std.specs.List.{enumerate_from}
 use Rattle.std.proofs.lemmas.Bool.{false≢true}
@@ -41,14 +41,14 @@ asks_parts options e = by_flags options.quiet options.files_with_matches options
     by_flags false false false false v None is = absurd (let no : ⊥ = cc in no)
     by_flags false false false false v (Some context) is = absurd (let no : ⊥ = cc in no)
 
--- ---- groups that are written one behind the other
+-- ---- groups that are written one after the other
 
--- a list that begins so is empty
+-- the beginning of an empty list is empty
 begins_nothing : {A : Type 0} (xs ys zs : List A) → zs ≡ xs ++ ys → zs ≡ [] → xs ≡ []
 begins_nothing [] ys zs is none = refl
 begins_nothing (x ∷ xs) ys zs is none = absurd (let e : x ∷ (xs ++ ys) ≡ [] = sym is ∙ none in let no : ⊥ = cc in no)
 
--- behind files of which no line is selected, the first separator goes before the first group of two
+-- after files without a selected line, the first group of two files has no separator before it
 two_behind : (context : Context) (found : Bool) (groups more : List Text) → (found ≡ true → groups ≡ [] → ⊥) → (found ≡ false → groups ≡ [])
     → drop 1 groups ++ behind_rows (around context) found more ≡ drop 1 (groups ++ more)
 two_behind context true [] more there none = absurd (there refl refl)
@@ -112,12 +112,13 @@ module _ (es : List Expression) (options : Options) where
         by_verdict true rows more ls p r = (rows, more, p, r, refl)
         by_verdict false rows more ls p r = r
 
-    -- the output for a file that could be opened, but for lines around selected ones
+    -- the output for a file that can be opened, but for lines around selected ones
     counted : (shape : Form) (text : List KeptLine) → OutAs es options many shape (file_with name (Some text) ∷ []) (rows_as options many name shape 1 text ++ summary_as shape many name Whole (length (picked_from 1 text)))
         → OutAs es options many shape (file_with name (Some text) ∷ []) (rows_as options many name shape 1 text ++ summary_as shape many name Whole (selected_count options text))
     counted shape text is = subst (λ n. OutAs es options many shape (file_with name (Some text) ∷ []) (rows_as options many name shape 1 text ++ summary_as shape many name Whole n)) (picked_count 1 text) is
 
-    -- groups of the file's output, and what is written of them behind files of which a line is selected or none
+    -- groups of the file's output, and what is written of them after files with or without a
+    -- selected line
     text_output : (shape : Form) → (shape ≡ parts → IsTrue options.only_matching) → (some : Bool) (text : List KeptLine) → All (IsKept es options) text
         → (groups : List Text) × GroupedAs es options many shape (file_with name (Some text) ∷ []) groups
         × (text_rows options many name shape some text ++ summary_as shape many name Whole (selected_count options text) ≡ behind_rows shape some groups)
@@ -147,7 +148,7 @@ module _ (es : List Expression) (options : Options) where
         let all = around_groups es options many name context some text k in
         (all.0, EachGives-one (GroupsOf es options many context) (file_with name (Some text)) all.0 all.1, append-nil (text_rows options many name (around context) some text) ∙ all.2)
 
-    -- the same for a file that could not be opened
+    -- the same for a file that cannot be opened
     no_output : (shape : Form) (some : Bool) → (groups : List Text) × GroupedAs es options many shape (file_with name None ∷ []) groups × (summary_as shape many name Missing 0 ≡ behind_rows shape some groups)
     no_output nothing some = ([], output_all es options many name [] Missing nothing [] [] (rows_none es options many name nothing) refl, refl)
     no_output names some = ([], output_all es options many name [] Missing names [] [] (rows_none es options many name names) refl, refl)
@@ -172,7 +173,7 @@ module _ (es : List Expression) (options : Options) where
     none_grouped lines = refl
     none_grouped (around context) = refl
 
-    -- of a file some group is written exactly where a line of it is selected
+    -- a group of a file is written if and only if a line of it is selected
     file_behind : (context : Context) (found : Bool) (file : File) (groups more : List Text) → Decides found (HasSelected es options file) → EachGives (GroupsOf es options many context) (file ∷ []) groups
         → drop 1 groups ++ behind_rows (around context) found more ≡ drop 1 (groups ++ more)
     file_behind context found file groups more told gives =
@@ -181,7 +182,7 @@ module _ (es : List Expression) (options : Options) where
         (λ is none. groups_some es options context (shown_name many file) (shown_number options) file.lines gives.0 gives.2 (told.0 is) (sym same ∙ none))
         (λ fails. same ∙ groups_none es options context (shown_name many file) (shown_number options) file.lines gives.0 gives.2 (λ has. false≢true (sym fails ∙ told.1 has)))
 
-    -- what is written of a file, and of those behind it
+    -- what is written for a file, and for those after it
     next_behind : (shape : Form) (some found : Bool) (file : File) (groups more : List Text) → Decides found (HasSelected es options file) → GroupedAs es options many shape (file ∷ []) groups
         → behind_rows shape some groups ++ behind_rows shape (some || found) more ≡ behind_rows shape some (groups ++ more)
     next_behind nothing some found file groups more told gives = refl

@@ -8,7 +8,7 @@ use Rattle.grep_session.specs.declared.kept.KeptLine.{KeptLine}
 use Rattle.grep_session.specs.Working.Report.{is_selected, selected_count, line_rows, rows_from}
 use Rattle.grep_session.proofs.lemmas.Writing.{WrittenUpTo, drop-item, written_on, broken_off}
 
--- one more is one more at most
+-- the count grows by at most one
 pub count_few : (selected more number : ℕ) (found : Bool) → more ≡ (if found then selected + 1 else selected) → selected ≤ number → more ≤ number + 1
 count_few selected more number true e h = omega (arith, e, h)
 count_few selected more number false e h = omega (arith, e, h)
@@ -27,7 +27,7 @@ module _ (options : Options) (xs : List KeptLine) (i : ℕ) (x : KeptLine) (insi
     next_rows : rows_from options many name number (drop i xs) ≡ line_rows options many name number x ++ rows_from options many name (number + 1) (drop (i + 1) xs)
     next_rows = ap (rows_from options many name number) (drop-item xs i x inside is)
 
-    -- the rows of the next line went out
+    -- the rows of the next line were written
     pub line_on : GoesOut contents failures b c (written margin (line_rows options many name number x)) → WrittenUpTo contents failures margin a c all (rows_from options many name (number + 1) (drop (i + 1) xs))
     line_on g = written_on contents failures margin a b c all (rows_from options many name number (drop i xs)) (line_rows options many name number x) (rows_from options many name (number + 1) (drop (i + 1) xs)) next_rows s g
 

@@ -1,4 +1,4 @@
--- Patterns come: whose matchers they have then, and the steps that takes.
+-- Patterns are added: the matchers after that, and the steps that it takes.
 use Rattle.std.proofs.Common.{◌≡◌, ℕ, ◌+◌, ◌<◌, List, [], ◌∷◌, ◌++◌, Ok, Err, All, inl, inr, length, map, take, drop, refl, sym, ap, subst, ◌∙◌}
 use Rattle.std.proofs.lemmas.List.{map-append, length-append}
 use Rattle.std.proofs.lemmas.List.Elements.{All-append}
@@ -36,7 +36,7 @@ drop_front [] [] = refl
 drop_front [] (y ∷ ys) = refl
 drop_front (x ∷ xs) ys = drop_front xs ys
 
--- f of those that were there, and of those that came
+-- f of the old elements, and of the added ones
 module _ {X Y : Type 0} (f : X → Y) (xs ys all : List X) (first : ℕ) (both : all ≡ xs ++ ys) (at : first ≡ length xs) where
   pub were_there : map f xs ≡ take first (map f all)
   were_there = sym (ap (λ n. take n (map f all)) at ∙ take-map f (length xs) all ∙ ap (λ l. map f (take (length xs) l)) both ∙ ap (map f) (take_front xs ys))
@@ -44,11 +44,11 @@ module _ {X Y : Type 0} (f : X → Y) (xs ys all : List X) (first : ℕ) (both :
   pub have_come : map f ys ≡ drop first (map f all)
   have_come = sym (ap (λ n. drop n (map f all)) at ∙ drop-map f (length xs) all ∙ ap (λ l. map f (drop (length xs) l)) both ∙ ap (map f) (drop_front xs ys))
 
-  -- those that came are taken off
+  -- the added elements are removed again
   pub taken_off : (now new : List X) → map f now ≡ map f all → new ≡ take first now → map f new ≡ map f xs
   taken_off now new same put = ap (map f) put ∙ sym (take-map f first now) ∙ ap (take first) same ∙ sym were_there
 
--- the matchers of more patterns behind others
+-- the matchers of more patterns after others
 pub AreMatchers-append : (syntax : Syntax) (options : Options) (texts others : List Text) (old more all : List Matcher) → all ≡ old ++ more → AreMatchers syntax options texts old → AreMatchers syntax options others more → AreMatchers syntax options (texts ++ others) all
 AreMatchers-append syntax options texts others old more all both a b = subst (AreMatchers syntax options (texts ++ others)) (sym both) (record {
   meant =
@@ -67,7 +67,7 @@ module _ (list : Text) (old : Inputs) (few : most_patterns < length old.patterns
       let first = told.2 in
       subst (λ f. EditGives {T = T} (AddPatterns list) old old (Err f)) (sym told.3) (inr (few, inr ((λ all. first.unreadable (all told.0 [] first.in_texts)), (told.0, told.1, first, refl))), refl)
 
-  -- all lines were searched by those that came, and the parts of those lines that one of them matches
+  -- all lines were searched by the added patterns, and those that one of them matches for parts
   pub takes_new : (first : ℕ) (es changed : List Expression) (begun ended : Steps) → All (IsReadable old.syntax old.options.ignore_case) (list_of list) → AreMeant old.syntax old.options (old.patterns ++ list_of list) es → AreMeant old.syntax old.options (list_of list) changed
       → length changed ≡ length (list_of list) → SearchesEach (ChangeCost (Added first) changed es old.options) (all_lines old) begun ended → TakesSteps (AddPatterns list) old begun ended
   takes_new first es changed begun ended readable meant new many s =

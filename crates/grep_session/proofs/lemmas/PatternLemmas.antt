@@ -1,4 +1,4 @@
--- A pattern goes where parts are kept: the steps that takes, and how it comes back.
+-- A pattern is removed where parts are kept: the steps that this takes, and how it is put back.
 use Rattle.std.proofs.Common.{◌≡◌, ℕ, zero, suc, ◌+◌, ◌<◌, List, [], ◌∷◌, ◌++◌, Ok, inl, inr, length, map, take, drop, get_or, refl, sym, ap, subst, ◌∙◌, arith}
 use Rattle.std.proofs.lemmas.List.{map-append, length-map, get_or-map}
 use Rattle.std.specs.List.{AllZip, remove, insert, take-map, drop-map}
@@ -25,14 +25,14 @@ AllZip-at P (x ∷ xs) [] k d e h l = absurd h
 AllZip-at P (x ∷ xs) (y ∷ ys) zero d e h l = h.0
 AllZip-at P (x ∷ xs) (y ∷ ys) (suc k) d e h l = AllZip-at P xs ys k d e h.1 (let less : k < length xs = omega (arith, l) in less)
 
--- the elements with a property that is the same
+-- the elements with an equivalent property
 Chosen-as : {A : Type 0} (P Q : A → Type 0) → ((x : A) → P x → Q x) → ((x : A) → Q x → P x) → (xs ys : List A) → Chosen P xs ys → Chosen Q xs ys
 Chosen-as P Q there back [] ys c = c
 Chosen-as {A} P Q there back (x ∷ xs) ys c =
     let one : IfHolds (Q x) (c.0 ≡ x ∷ []) (c.0 ≡ []) = elim c.2 [ inl h ↦ inl (there x h.0, h.1) | inr h ↦ inr ((λ q. h.0 (back x q)), h.1) ] in
     (c.0, c.1, one, Chosen-as P Q there back xs c.1 c.3, c.4)
 
--- the parts of the lines that it matched were searched
+-- the parts of the lines that the removed pattern matched were searched
 pub takes_drop : (p : ℕ) (old : Inputs) (es before : List Expression) (e : Expression) (begun ended : Steps) → p < length old.patterns → AreMeant old.syntax old.options old.patterns before → HasChanged (Dropped p) es before (e ∷ []) → e ≡ get_or before p e
     → SearchesEach (ChangeCost (Dropped p) (e ∷ []) es old.options) (all_lines old) begun ended → TakesSteps (DropPattern p) old begun ended
 takes_drop p old es before e begun ended within meant h is s =
@@ -59,7 +59,7 @@ takes_drop p old es before e begun ended within meant h is s =
       few = s.few;
     }
 
--- an element that was taken out comes back
+-- an element that was removed is put back
 insert_first : {X : Type 0} (xs : List X) (y : X) → insert xs 0 y ≡ y ∷ xs
 insert_first [] y = refl
 insert_first (x ∷ xs) y = refl
@@ -72,7 +72,7 @@ insert_remove (x ∷ xs) (suc p) y h is = ap (λ l. x ∷ l) (insert_remove xs p
 map-insert : {X Y : Type 0} (f : X → Y) (xs : List X) (p : ℕ) (y : X) → map f (insert xs p y) ≡ insert (map f xs) p (f y)
 map-insert f xs p y = map-append f (take p xs) (y ∷ drop p xs) ∙ (λ i. sym (take-map f p xs) i ++ (f y ∷ sym (drop-map f p xs) i))
 
--- f of all, where f of the others did not change
+-- f of all elements, where f of the others did not change
 pub put_back_same : {X Y : Type 0} (f : X → Y) (xs now new : List X) (p : ℕ) (gone : X) → p < length xs → gone ≡ get_or xs p gone → map f now ≡ remove (map f xs) p → new ≡ insert now p gone → map f new ≡ map f xs
 put_back_same f xs now new p gone h is left put =
     let at : f gone ≡ get_or (map f xs) p (f gone) = ap f is ∙ sym (get_or-map f xs p gone (f gone) h) in

@@ -11,7 +11,7 @@ use Rattle.grep_session.specs.declared.fault.EditFault.{EditFault}
 use Rattle.grep_session.specs.declared.fault.EditFault.TheVariants.{Pattern, Memory}
 use Rattle.grep_session.specs.Working.Reading.{RefusesFirst, told_by, told_at}
 
--- a kind of fault is want of memory, or one of the pattern
+-- a kind of fault is out of memory, or one of the pattern
 told_either : (kind : FaultKind) (place : ℕ) (fault : PatternFault) → (told_by kind place fault ≡ Memory) ⊎ (told_by kind place fault ≡ Pattern place fault)
 told_either UnclosedBracket place fault = inr refl
 told_either BadClass place fault = inr refl

@@ -1,4 +1,4 @@
--- What becomes of a session's inputs.
+-- How lists of a session's inputs change.
 use Rattle.std.proofs.Common.{◌≡◌, ℕ, suc, ◌+◌, ◌<◌, List, [], ◌∷◌, ◌++◌, length, map, take, drop, refl, sym, ap, subst, ◌∙◌, All, get_or, add-one, arith}
 use Rattle.std.proofs.Math.Seq.{take-suc}
 use Rattle.std.proofs.lemmas.List.Elements.{All-push}
@@ -10,11 +10,11 @@ use Rattle.std.proofs.lemmas.Iterator.{items_from_drains}
 use Rattle.std.proofs.lemmas.Iterator.Adapters.{YieldsList-from_vec}
 use Rattle.std.specs.List.{remove, splice, take-map, drop-map}
 
--- f of what is left of a list
+-- f of a list after an element was removed
 pub map-remove : {X Y : Type 0} (f : X → Y) (xs new : List X) (k : ℕ) → new ≡ remove xs k → map f new ≡ remove (map f xs) k
 map-remove f xs new k e = ap (map f) e ∙ map-append f (take k xs) (drop (suc k) xs) ∙ (λ i. sym (take-map f k xs) i ++ sym (drop-map f (suc k) xs) i)
 
--- f of a list of which a part gave way
+-- f of a list after a part of it was replaced
 pub map-splice : {X Y : Type 0} (f : X → Y) (xs new ys : List X) (i j : ℕ) → new ≡ splice xs i j ys → map f new ≡ splice (map f xs) i j (map f ys)
 map-splice f xs new ys i j e =
     ap (map f) e ∙ map-append f (take i xs) (ys ++ drop j xs) ∙ (λ n. sym (take-map f i xs) n ++ map-append f ys (drop j xs) n)
@@ -24,7 +24,7 @@ pub map-same : {X : Type 0} (xs : List X) → map (λ x. x) xs ≡ xs
 map-same [] = refl
 map-same (x ∷ xs) = ap (λ l. x ∷ l) (map-same xs)
 
--- where P fails at one element it does not hold of all
+-- if P fails at one element, it does not hold of all
 pub fails_at : {X Y : Type 0} (P : Y → Type 0) (f : X → Y) (xs : List X) (i : ℕ) (x : X) → i < length xs → x ≡ get_or xs i x → (P (f x) → ⊥) → All P (map f xs) → ⊥
 fails_at P f xs i x within is fails all = fails (subst P (get_or-map f xs i x (f x) within ∙ ap f (sym is)) (all i (f x) (omega (arith, length-map xs f))))
 

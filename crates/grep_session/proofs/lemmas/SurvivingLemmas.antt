@@ -1,4 +1,4 @@
--- The parts of a line stay what they are where patterns come or go that do not match it.
+-- The parts of a line stay the same when patterns that do not match it are added or removed.
 use Rattle.std.proofs.Common.{◌≡◌, ℕ, suc, ◌<◌, ◌≤◌, Bool, true, false, List, [], ◌∷◌, ◌++◌, inl, inr, length, Any, sym, subst}
 use Rattle.std.specs.Bool.{OnTrue}
 use Rattle.re_syntax.specs.Bytes.{Text}
@@ -26,7 +26,7 @@ module _ (es fs : List Expression) (line : Text) (entire : Bool) (there : (from 
 -- ---- an expression that does not match
 
 module _ (line : Text) (entire : Bool) where
-  -- what holds on a part that may be found matches
+  -- an expression that holds on a part that may be found matches the line
   pub found_matches : (e : Expression) (i j : ℕ) → i < j → j ≤ length line → OnTrue entire ((i ≡ 0) × (j ≡ length line)) → Holds line e i j → Matches e line entire
   found_matches e i j apart on_line is_whole h = by_whole entire is_whole
     where
@@ -34,7 +34,7 @@ module _ (line : Text) (entire : Bool) where
       by_whole true both = subst (λ a. Holds line e a (length line)) both.0 (subst (Holds line e i) both.1 h)
       by_whole false both = (i, j, on_line, h)
 
-  -- no number, no match
+  -- if there is no number, no expression matches
   pub none_match : (first : ℕ) (es : List Expression) → AreMatching line entire first es [] → Any (λ e. Matches e line entire) es → ⊥
   none_match first [] a some = Any-none (λ e. Matches e line entire) some
   none_match first (e ∷ es) a some =
@@ -46,7 +46,7 @@ module _ (line : Text) (entire : Bool) where
         ]
       ]
 
-  -- some of them hold on a part that was found, and so match
+  -- if some of them hold on a part that was found, they match
   pub some_match : (fs : List Expression) (i j : ℕ) → i < j → j ≤ length line → OnTrue entire ((i ≡ 0) × (j ≡ length line)) → Any (λ e. Holds line e i j) fs → Any (λ e. Matches e line entire) fs
   some_match fs i j apart on_line is_whole some = (some.0, some.1, some.2, some.3, found_matches some.1 i j apart on_line is_whole some.4)
 
@@ -63,10 +63,10 @@ module _ (line : Text) (entire : Bool) where
       holds = elim (Any-append-cases (λ e. Holds line e i j) es fs f.holds) [ inl h ↦ h | inr h ↦ absurd (none (some_match fs i j f.not_empty f.on_line f.is_whole h)) ];
     }
 
-    -- patterns come that do not match the line
+    -- patterns that do not match the line are added
     pub parts_survive : (from : ℕ) (ps : List (ℕ × ℕ)) → ArePartsFrom es line entire from ps → ArePartsFrom (es ++ fs) line entire from ps
     parts_survive from ps p = same_parts es (es ++ fs) line entire more_found no_more_found from ps p
 
-    -- patterns go that do not match the line
+    -- patterns that do not match the line are removed
     pub parts_remain : (from : ℕ) (ps : List (ℕ × ℕ)) → ArePartsFrom (es ++ fs) line entire from ps → ArePartsFrom es line entire from ps
     parts_remain from ps p = same_parts (es ++ fs) es line entire no_more_found more_found from ps p

@@ -1,4 +1,4 @@
--- Lines that are written one after another, by those that are left.
+-- Lines that are written one after another, by the lines that are left.
 use Rattle.std.proofs.Common.{◌≡◌, ℕ, ◌+◌, ◌<◌, List, [], ◌∷◌, ◌++◌, length, drop, get_or, map, Option, Result, Ok, Err, IfOk, refl, sym, ap, subst, ◌∙◌, add-one, append_assoc, append-nil}
 use Rattle.std.specs.List.{flat_map}
 use Rattle.std.specs.Result.{IsErr}
@@ -11,7 +11,7 @@ use Rattle.grep_core.specs.Written.{GoesOut, StopsWithin, Writes}
 use Rattle.grep_core.proofs.lemmas.RowLemmas.{goes_nowhere, goes_on, stops_early, stops_later, writes_last}
 use Rattle.grep_core.proofs.lemmas.WriterLaws.{written-append}
 
--- what is left from a place on is what stands there and what is left behind it
+-- the elements from a place on are the element there and those after it
 pub drop-next : {A : Type 0} (xs : List A) (i : ℕ) (d : A) → i < length xs → drop i xs ≡ get_or xs i d ∷ drop (i + 1) xs
 drop-next xs i d inside = drop-cons xs i d inside ∙ ap (λ k. get_or xs i d ∷ drop k xs) (sym (add-one i))
 
@@ -53,7 +53,7 @@ module _ {W : Type 0} (contents : W → Option Text) (failures : W → ℕ) (mar
       subst (StopsWithin contents failures a c) (sym (ap (written margin) is ∙ written-append margin (s.done ++ here) rest ∙ ap (λ l. l ++ written margin rest) (written-append margin s.done here)))
       (stops_early contents failures a c (written margin s.done ++ written margin here) (written margin rest) (stops_later contents failures a b c (written margin s.done) (written margin here) s.wrote f))
 
-  -- some lines were written, and others as the last call answers
+  -- some lines were written, and the others as the last call returned
   pub writes_behind : {T E : Type 0} (a b c : W) (xs ys : List Text) (r : Result T E) → GoesOut contents failures a b (written margin xs) → Writes contents failures b c (written margin ys) r → Writes contents failures a c (written margin (xs ++ ys)) r
   writes_behind a b c xs ys r g w =
       subst (λ bytes. Writes contents failures a c bytes r) (sym (written-append margin xs ys)) (writes_last contents failures a b c (written margin xs) (written margin ys) r g w)
@@ -62,14 +62,14 @@ module _ {W : Type 0} (contents : W → Option Text) (failures : W → ℕ) (mar
   pub stops_before : (a b : W) (xs ys : List Text) → StopsWithin contents failures a b (written margin xs) → StopsWithin contents failures a b (written margin (xs ++ ys))
   stops_before a b xs ys s = subst (StopsWithin contents failures a b) (sym (written-append margin xs ys)) (stops_early contents failures a b (written margin xs) (written margin ys) s)
 
-  -- one line went out
+  -- one line was written
   pub one_went : (a b : W) (text : Text) → GoesOut contents failures a b (output_line margin text) → GoesOut contents failures a b (written margin (text ∷ []))
   one_went a b text g = subst (GoesOut contents failures a b) (sym (append-nil (output_line margin text))) g
 
   pub one_stopped : (a b : W) (text : Text) → StopsWithin contents failures a b (output_line margin text) → StopsWithin contents failures a b (written margin (text ∷ []))
   one_stopped a b text s = subst (StopsWithin contents failures a b) (sym (append-nil (output_line margin text))) s
 
-  -- what goes out at an error
+  -- a write failed, and a beginning of the bytes was written
   pub writes_err : {T E : Type 0} (a b : W) (bytes : Text) (r : Result T E) → IsErr r → StopsWithin contents failures a b bytes → Writes contents failures a b bytes r
   writes_err a b bytes (Ok v) is s = absurd (false≢true is)
   writes_err a b bytes (Err e) is s = s

@@ -1,4 +1,4 @@
--- What it is to read all patterns again, with another syntax or other options.
+-- Reading all patterns again, with another syntax or other options.
 use Rattle.std.specs.Prelude.{◌≡◌, Result, Ok, Err, All}
 use Rattle.re_syntax.specs.declared.syntax.Syntax.{Syntax}
 use Rattle.re_search.specs.Reading.{IsReadable}

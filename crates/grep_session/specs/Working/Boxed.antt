@@ -1,4 +1,4 @@
--- What is found in a line, as it lies in memory.
+-- How what is found in a line is kept in memory.
 use Rattle.std.specs.Prelude.{ℕ, ◌<◌, List, length, Option, None, Some, IfSome, Box}
 use Rattle.std.specs.declared.alloc.Global.{Global}
 use Rattle.grep_session.specs.declared.findings.Found.{Found}
@@ -12,6 +12,6 @@ finds_in (Some found) =
 abbrev pub numbers_in : Option (Box Found Global) → List ℕ
 numbers_in found = (finds_in found).numbers
 
--- there is nothing of it where no pattern matches the line
+-- nothing is kept of a line that no pattern matches
 abbrev pub IsSmall : Option (Box Found Global) → Type 0
 IsSmall found = IfSome found (λ some. 0 < length some.value.numbers.items)

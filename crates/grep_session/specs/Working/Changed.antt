@@ -1,4 +1,4 @@
--- What becomes of what is kept where patterns come or go, and how many steps that takes.
+-- What becomes of what is kept when patterns are added or removed, and how many steps that takes.
 use Rattle.std.specs.Prelude.{◌≡◌, ℕ, ◌+◌, ◌<◌, ◌≤◌, ⊤, List, [], ◌∷◌, length, take, drop, get_or}
 use Rattle.std.specs.List.{remove}
 use Rattle.re_syntax.specs.Bytes.{Text}
@@ -13,44 +13,44 @@ use Rattle.grep_session.specs.declared.change.Change.{Change}
 use Rattle.grep_session.specs.declared.change.Change.TheVariants.{Added, Dropped}
 use Rattle.grep_session.specs.Touched.{PartsCostOf}
 
--- the expressions before a change, those behind it, and those that came or went
+-- the expressions after a change, those before it, and those that were added or removed
 abbrev pub HasChanged : Change → List Expression → List Expression → List Expression → Type 0
 HasChanged (Added first) es before changed = (before ≡ take first es) × (changed ≡ drop first es)
 HasChanged (Dropped p) es before changed =
     (e : Expression) × (p < length before) × (e ≡ get_or before p e) × (es ≡ remove before p) ×
     (changed ≡ e ∷ [])
 
--- there are as many patterns as a change speaks of
+-- the patterns that a change names are among this number of patterns
 abbrev pub IsWithin : Change → ℕ → Type 0
 IsWithin (Added first) many = first ≤ many
 IsWithin (Dropped p) many = ⊤
 
--- by how many expressions each line is searched
+-- the number of expressions by which each line is searched
 abbrev pub searched_for : Change → List Expression → ℕ
 searched_for (Added first) changed = length changed
 searched_for (Dropped p) changed = 0
 
--- the cost of a line: its search by so many expressions, and that for its parts where one of those
--- that came or went matches it
+-- the cost of a line: its search by the added expressions, and that for its parts where an added
+-- or removed expression matches it
 abbrev pub ChangeCost : Change → List Expression → List Expression → Options → Text → ℕ → Type 0
 ChangeCost change changed es options line cost =
     (own : ℕ) × IfHolds (Matched changed options line) (PartsCostOf es options line own) (own ≡ 0)
     × (cost ≡ search_cost (searched_for change changed) line + own)
 
--- the cost of lines, each of which has its own
+-- the sum of the lines' costs
 abbrev pub CostOfEach : (Text → ℕ → Type 0) → List Text → ℕ → Type 0
 CostOfEach C [] cost = cost ≡ 0
 CostOfEach C (line ∷ lines) cost =
     (own : ℕ) × (rest : ℕ) × C line own × CostOfEach C lines rest × (cost ≡ own + rest)
 
--- no more steps were taken than lines cost
+-- no more steps were taken than the lines cost
 pub record SearchesEach (C : Text → ℕ → Type 0) (lines : List Text)
     (begun ended : Steps) : Type 0 where
   pub cost : ℕ
   pub is_cost : CostOfEach C lines cost
   pub few : AddsAtMost cost begun ended
 
--- the same of one line
+-- no more steps were taken than the line costs
 pub record SearchesOne (C : Text → ℕ → Type 0) (line : Text) (begun ended : Steps) : Type 0 where
   pub own : ℕ
   pub is_own : C line own

@@ -1,4 +1,4 @@
--- What an option has to do with what is kept.
+-- How an option affects what is kept.
 use Rattle.std.specs.Prelude.{◌≡◌, Bool, true, IsTrue, length}
 use Rattle.grep_core.specs.declared.options.Flag.{Flag}
 use Rattle.grep_core.specs.declared.options.Flag.TheVariants.{OnlyMatching}
@@ -9,14 +9,14 @@ use Rattle.grep_session.specs.declared.choosing.Effect.TheVariants.{Verdicts, Pa
 use Rattle.grep_session.specs.Edits.{with_option}
 use Rattle.grep_session.specs.Touched.{touched_by_flag, searched_by, all_lines, is_of_output}
 
--- under the option other lines may be matched
+-- a new value of the option may change which lines are matched
 pub record ChangesVerdicts (flag : Flag) : Type 0 where
   pub touches : (old : Inputs) →
       touched_by_flag flag old ≡ searched_by (length old.patterns) (all_lines old)
   pub no_output : is_of_output flag → ⊥
   pub no_parts : flag ≡ OnlyMatching → ⊥
 
--- what is kept serves the option, set so, as it did
+-- what is kept stays valid when the option is set to this value
 pub record KeepsAll (flag : Flag) (on : Bool) : Type 0 where
   pub same_whole : (options : Options) →
       (with_option flag on options).line_regexp ≡ options.line_regexp

@@ -12,7 +12,7 @@ pub record Finds : Type 0 where
 abbrev pub no_finds : Finds
 no_finds = record { numbers = []; spans = [] }
 
--- the patterns of these numbers match the line; where there are none no part is kept
+-- the patterns of these numbers match the line; if there are none, no part is kept
 abbrev pub finds_with : List ℕ → List Span → Finds
 finds_with [] spans = no_finds
 finds_with (n ∷ numbers) spans = record { numbers = n ∷ numbers; spans = spans }

@@ -1,4 +1,4 @@
--- What was found takes the place of what is kept.
+-- What was found replaces what is kept.
 use Rattle.std.specs.Prelude.{◌≡◌, ℕ, Bool, true, false, List, [], ◌∷◌, ◌++◌, ⊤}
 use Rattle.std.specs.List.{AllZip, flat_map}
 use Rattle.re_syntax.specs.Bytes.{Text}
@@ -30,22 +30,22 @@ pub record IsRight (es : List Expression) (options : Options) (line : Text)
   pub matching : AreMatching line options.line_regexp 0 es found.numbers
   pub parts : ArePartsKept es options line found.spans
 
--- what has to be known of a line before it is searched: nothing where it is searched anew, and else
+-- what has to be known of a line before it is searched: nothing if it is searched anew, otherwise
 -- which expressions match it
 abbrev pub IsReady : Bool → List Expression → Options → KeptLine → Type 0
 IsReady true es options line = ⊤
 IsReady false es options line =
     AreMatching line.text.items options.line_regexp 0 es line.found.numbers
 
--- what is found in a line by these expressions, where those of these numbers match it: its parts
--- were searched, or those that were kept stay
+-- what these expressions find in a line that those of these numbers match: its parts were searched,
+-- or the kept ones stay
 abbrev pub IsFoundAgain : Bool → List Expression → Options → KeptLine → List ℕ → Finds → Type 0
 IsFoundAgain true es options line numbers found =
     AreMatching line.text.items options.line_regexp 0 es numbers →
     IsRight es options line.text.items found
 IsFoundAgain false es options line numbers found = found ≡ finds_with numbers line.found.spans
 
--- what is right for these lines was added
+-- right findings for these lines were added
 pub record AddsRight (es : List Expression) (options : Options) (lines : List Text)
     (old new : List Finds) : Type 0 where
   pub found : List Finds

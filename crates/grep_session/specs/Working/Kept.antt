@@ -1,4 +1,4 @@
--- What a session keeps of its patterns and files, and the inputs for which that stands.
+-- What a session keeps of its patterns and files, and the inputs that it represents.
 use Rattle.std.specs.Prelude.{◌≡◌, ℕ, suc, ◌+◌, Bool, List, [], ◌∷◌, ◌++◌, map, Option, None, Some}
 use Rattle.std.specs.Prelude.{IfSome, MatchBool, All, ⊤}
 use Rattle.std.specs.Option.{option_map}
@@ -59,7 +59,7 @@ module _ (es : List Expression) (options : Options) where
   abbrev pub IsFileKept : KeptFile → Type 0
   IsFileKept file = IfSome (kept_lines file) (All IsKept)
 
-  -- the steps of a search of one line: by each of so many matchers, and for its parts
+  -- the steps of a search of one line: by each of this number of matchers, and for its parts
   pub record SearchesKept (matchers : ℕ) (line : Text) (begun ended : Steps) : Type 0 where
     pub own : ℕ
     pub is_own : PartsCostOf es options line own
@@ -71,7 +71,7 @@ module _ (es : List Expression) (options : Options) where
     pub are_parts : PartsCost es options lines parts
     pub few : AddsAtMost (pairs_cost matchers lines + parts) begun ended
 
--- ---- the inputs for which it stands
+-- ---- the inputs that it represents
 
 abbrev pub file_with : Text → Option (List KeptLine) → File
 file_with name None = record { name = name; lines = []; ending = missing }

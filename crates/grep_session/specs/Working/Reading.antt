@@ -9,7 +9,7 @@ use Rattle.grep_session.specs.declared.fault.EditFault.{EditFault}
 use Rattle.grep_session.specs.declared.fault.EditFault.TheVariants.{Pattern, Memory}
 use Rattle.grep_core.specs.Matchers.{IsFirstRefused}
 
--- what is told of a pattern's fault; want of memory is none of the pattern
+-- the fault of an edit for a pattern's fault; out of memory is no fault of the pattern
 abbrev pub told_by : FaultKind → ℕ → PatternFault → EditFault
 told_by OutOfMemory place fault = Memory
 told_by _ place fault = Pattern place fault
@@ -17,7 +17,7 @@ told_by _ place fault = Pattern place fault
 abbrev pub told_at : ℕ → PatternFault → EditFault
 told_at place fault = told_by fault.kind place fault
 
--- memory ran out, or the first text that is not readable is told
+-- memory ran out, or the fault of the first text that is not readable is reported
 abbrev pub RefusesFirst : Syntax → Bool → List Text → EditFault → Type 0
 RefusesFirst syntax fold texts told =
     (told ≡ Memory) ⊎

@@ -1,4 +1,4 @@
--- What is written of files that are kept, as a function of what is kept.
+-- What is written for the kept files, as a function of what is kept.
 use Rattle.std.specs.Prelude.{◌==◌, ℕ, ◌+◌, ◌≤◌, Bool, false, ◌&&◌, ◌||◌, not, IsTrue, List, []}
 use Rattle.std.specs.Prelude.{◌∷◌, ◌++◌, All, map, length, slice_range, Option, None, Some}
 use Rattle.std.specs.Prelude.{if◌then◌else◌, Result, IfOk}
@@ -61,11 +61,11 @@ selected_count options (line ∷ more) =
 
 -- ---- rows
 
--- the stretch is one of a line of this text
+-- the span is within a line of this text
 abbrev pub OnLine : Text → Span → Type 0
 OnLine text span = (span.start ≤ span.end) × (span.end ≤ length text)
 
--- under `-o` the parts that are kept of a line are stretches of it
+-- under `-o` the kept parts of a line are within it
 abbrev pub PartsFit : Options → KeptLine → Type 0
 PartsFit options line =
     IsTrue options.only_matching → All (OnLine (line_text line)) line.found.spans
@@ -78,7 +78,7 @@ abbrev pub FileFits : Options → KeptFile → Type 0
 FileFits options file = LinesFit options (kept_lines file)
 
 module _ (options : Options) (many : Bool) (name : Text) where
-  -- a row with this text for a line of this number
+  -- the row with this text for the line of this number
   abbrev pub row : ℕ → Text → Text
   row number text = head colon (name_shown many name) (shown_number options number) ++ text
 
@@ -87,7 +87,7 @@ module _ (options : Options) (many : Bool) (name : Text) where
   part_rows number text spans =
       map (λ span. row number (slice_range text span.start span.end)) spans
 
-  -- the rows of a selected line, by what is asked for
+  -- the rows of a selected line, by the form of the output
   abbrev pub selected_rows : Form → ℕ → KeptLine → List Text
   selected_rows lines number line = row number (line_text line) ∷ []
   selected_rows parts number line = part_rows number (line_text line) line.found.spans
@@ -109,25 +109,25 @@ module _ (options : Options) (many : Bool) (name : Text) where
   abbrev pub rows_from : ℕ → List KeptLine → List Text
   rows_from number text = rows_as (form options) number text
 
-  -- what is written at a line of which so much is shown; those before it are the lines before it
+  -- what is written at a line, by what is shown there; `before` are the lines before it
   abbrev pub shown_rows : Bool → Shown → List Text → KeptLine → List Text
   shown_rows found shown before line =
       rows_at options many name found shown (last_of shown.before before) (length before + 1)
       (line_text line)
 
-  -- what is written of the lines behind those before, which have come so far
+  -- what is written for the lines after the lines `before`, from this progress on
   abbrev pub around_rows : Progress → List Text → List KeptLine → List Text
   around_rows p before [] = []
   around_rows p before (line ∷ more) =
       shown_rows (is_selected options line) (next_shown p (is_selected options line)) before line
       ++ around_rows (behind_line p (is_selected options line)) (before ++ line_text line ∷ []) more
 
-  -- what is written of the lines of a file, behind files of which a line is selected, or none is
+  -- what is written for a file's lines; `some` says whether a line of an earlier file is selected
   abbrev pub text_rows : Form → Bool → List KeptLine → List Text
   text_rows (around context) some text = around_rows (progress_from context some) [] text
   text_rows shape some text = rows_as shape 1 text
 
-  -- the same, and what is written behind them
+  -- the same, and the summary that is written after them
   abbrev pub rows_with : Bool → Option (List KeptLine) → List Text
   rows_with some None = summary_as (form options) many name Missing 0
   rows_with some (Some text) =
@@ -137,20 +137,20 @@ module _ (options : Options) (many : Bool) (name : Text) where
 abbrev pub file_rows : Options → Bool → Bool → KeptFile → List Text
 file_rows options many some file = rows_with options many file.name.items some (kept_lines file)
 
--- what is written of files, behind others of which a line is selected, or none is
+-- what is written for files; `some` says whether a line of an earlier file is selected
 abbrev pub rows_behind : Options → Bool → Bool → List KeptFile → List Text
 rows_behind options many some [] = []
 rows_behind options many some (file ∷ files) =
     file_rows options many some file
     ++ rows_behind options many (some || has_selected options file) files
 
--- what is written of files
+-- what is written for all files
 abbrev pub report_rows : Options → Bool → List KeptFile → List Text
 report_rows options many files = rows_behind options many false files
 
 -- ---- messages and status
 
--- what is told of files, up to one at which a run stops under `-q`
+-- the messages about files, up to the file at which a run stops under `-q`
 abbrev pub told_as : Options → Bool → List KeptFile → List Text
 told_as options silent [] = []
 told_as options silent (file ∷ files) =
@@ -179,14 +179,14 @@ status_by_files options files =
 
 module _ {W : Type 0} (contents : W → Option Text) (failures : W → ℕ) (es : List Expression)
     (options : Options) (files : List File) (margin : Text) (old new : W) where
-  -- the output for the files was written, or a beginning of it, and what is answered is the status
+  -- the output for the files was written, or a beginning of it, and the answer is the status
   pub record Reports {E : Type 0} (result : Result Status E) : Type 0 where
     pub out : List Text
     pub is_output : Out es options files out
     pub wrote : Writes contents failures old new (written margin out) result
     pub is_status : IfOk result (StatusOf es options files)
 
-  -- the messages on the files were written, or a beginning of them
+  -- the messages about the files were written, or a beginning of them
   pub record TellsMessages {T E : Type 0} (result : Result T E) : Type 0 where
     pub told : List Text
     pub are_messages : Messages es options files told

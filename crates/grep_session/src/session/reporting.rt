@@ -1,5 +1,5 @@
-//! What grep writes of a session, and its status. No line is searched and no memory is taken: all
-//! comes from what is kept.
+//! What grep writes for a session, and its status. No line is searched and no memory is asked for:
+//! all is computed from what is kept.
 ghost use Rattle.grep_session.specs.Headline.{ReportsInputs, TellsInputs, IsStatusOfInputs};
 
 use crate::report::{status, write_messages, write_report};
@@ -8,13 +8,13 @@ use grep_core::{CountedWrite, Status, WriteFault};
 
 impl Session {
     /// Writes what grep writes to standard output for the files, patterns and options of the
-    /// session (XCU grep, STDOUT), each line behind the margin, and answers its status. No line is
-    /// searched and no memory is taken.
+    /// session (XCU grep, STDOUT), each line after the margin, and returns its status. No line is
+    /// searched and no memory is asked for.
     ///
     /// # Errors
     ///
-    /// `WriteFault` comes where a write fails, which the writer counts; what went out is a
-    /// beginning. It is not tried again.
+    /// `WriteFault` if a write fails, which the writer counts. A beginning was written. The write
+    /// is not tried again.
     pub fn report<W: CountedWrite>(&self, margin: &[u8], out: &mut W) -> Result<Status, WriteFault>
         ensures { ReportsInputs W.contents W.failures self.now margin.now out.old out.new result }
     {
@@ -22,12 +22,12 @@ impl Session {
     }
 
     /// Writes what grep writes to standard error about the files of the session (XCU grep,
-    /// STDERR), each line behind the margin. No line is searched and no memory is taken.
+    /// STDERR), each line after the margin. No line is searched and no memory is asked for.
     ///
     /// # Errors
     ///
-    /// `WriteFault` comes where a write fails, which the writer counts; what went out is a
-    /// beginning. It is not tried again.
+    /// `WriteFault` if a write fails, which the writer counts. A beginning was written. The write
+    /// is not tried again.
     pub fn messages<W: CountedWrite>(&self, margin: &[u8], out: &mut W) -> Result<(), WriteFault>
         ensures { TellsInputs W.contents W.failures self.now margin.now out.old out.new result }
     {

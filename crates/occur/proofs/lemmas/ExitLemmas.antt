@@ -1,4 +1,4 @@
--- The bytes of a message on the script, written as a row.
+-- The bytes of a message about the script, written as a row.
 use Rattle.std.proofs.Common.{◌≡◌, ℕ, [], ◌∷◌, ◌++◌, Option, None, Some, Result, codes, sym, ap, ◌∙◌, append_assoc, append-nil, subst}
 use Rattle.grep_core.specs.Row.{colon, head, output_line}
 use Rattle.grep_core.specs.Written.{Writes}

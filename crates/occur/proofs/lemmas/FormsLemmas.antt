@@ -46,7 +46,7 @@ met_plain c idle position word h e = no_flag c idle position word h e
 met_plain c (option id) position word h e = no_flag c (option id) position word h e
 met_plain c positional position word h e = no_flag c positional position word h e
 
--- and has no fault of a flag
+-- an operand has no fault of a flag
 no_flag_fault : (s : Shape) (word : Text) (h : Held) → is_operand word ≡ true → other_fault s None word h ≡ []
 no_flag_fault s word h e =
     ap (λ b. cond b [] (flag_word_fault s.rules s.args_override_self (long_of word) word h)) (no_dashes word e)
@@ -129,7 +129,7 @@ both_script name number script d e = ap (λ (w : Walk). first_of (codes "script"
 abbrev top : Shape
 top = (built occur_app).top
 
--- the fault of words over which the walk goes so, with this fault
+-- the fault of words with this walk, where the walk itself has this fault
 abbrev fault_by : Walk → Kinds → Kinds
 fault_by w walking = or_else walking (or_else (entered_fault (built occur_app) w.stopped) (or_else (settle_fault rules false w.held)
     (or_else (defaults_fault (settled rules w.held).rows rules) (check_fault top (finished rules w.held) (is_some (entered (built occur_app) w.stopped))))))

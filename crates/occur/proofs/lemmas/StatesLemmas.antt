@@ -78,7 +78,7 @@ has_entry (e ∷ xs) id h = go (bytes_eq e.0.now id) refl h.0 h.1 h.2 (λ rest. 
         let rest = later (i, omega arith, λ d. at d) in
         (rest.0, rw t rest.1)
 
--- the first value of an entry, which is read as it was written
+-- the first value of an entry whose values are read as they were written
 first_read : (P : Text → Type 0) (x : MatchedArg) (f : Found) (id : Text) (vs : List (Bor Text)) → x.vals.items ≡ vs → matched_of f id ≡ Some x
     → x.reading ≡ reading.AsWritten → 0 < length vs → All (λ v. P v.now) vs
     → (t : Text) × (one_text f id ≡ Some t) × P t

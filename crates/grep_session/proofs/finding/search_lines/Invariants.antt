@@ -4,7 +4,7 @@ use Rattle.re_search.specs.Searching.{SameMatchers}
 use Rattle.grep_session.specs.Working.Kept.{IsKept, SearchesAllKept, line_text}
 use Rattle.grep_session.proofs.finding.search_lines.Given as goal
 
--- the lines that were taken were searched
+-- the lines that were taken out were searched
 abbrev pub invariant-loop-text : goal.invariant-loop-text
 invariant-loop-text g l =
     (goal.iterator-loop-text g).can_next l.text-iterator × (goal.iterator-loop-text g).is_finite l.text-iterator
