@@ -1,4 +1,4 @@
-//! What is written of the lines of one file, where lines around selected ones are shown.
+//! What is written for the lines of one file when lines around selected ones are shown.
 ghost use Rattle.std.specs.Prelude.{◌≡◌, ◌+◌, ◌-◌, ◌≤◌, [], ◌∷◌, IfOk, length, map, if◌then◌else◌};
 ghost use Rattle.grep_core.specs.Around.{group_separator};
 ghost use Rattle.grep_core.specs.Output.{written};
@@ -13,7 +13,7 @@ use grep_core::{
     Context, CountedWrite, Progress, Shown, Wanted, WriteFault, count_found, write_line_behind,
 };
 
-/// Writes the separator, where there is one.
+/// Writes the separator, if there is one.
 fn write_separator<W: CountedWrite>(
     separated: bool,
     out: &mut W,

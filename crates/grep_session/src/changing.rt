@@ -42,8 +42,8 @@ fn has_grown(old: &[usize], new: &[usize]) -> bool
     old.len() < new.len()
 }
 
-/// What is found in a line that the matchers of these numbers match. Its parts are searched anew
-/// where `anew` is set; otherwise the kept ones stay.
+/// What is found in a line that the matchers of these numbers match. Its parts are searched anew if
+/// `anew` is set; otherwise the kept ones stay.
 fn find_again<M: LineMatch>(
     alloc: Global,
     matchers: &mut [M],
@@ -254,8 +254,8 @@ fn change_files<M: LineMatch>(
     Ok(found)
 }
 
-/// Replaces what is kept of the lines of a session's files by what is found in them after a change
-/// of the patterns. If memory runs out, the files stay as they are.
+/// Replaces what is kept of the lines of a session's files with what is found in them after a
+/// change of the patterns. If memory runs out, the files stay as they are.
 pub fn change_columns(
     alloc: Global,
     matchers: &mut Vec<Matcher>,

@@ -156,7 +156,7 @@ pub fn find_all<M: LineMatch>(
     Ok(found)
 }
 
-/// Replaces what is kept of the lines of a session's files by what its matchers find in them: all
+/// Replaces what is kept of the lines of a session's files with what its matchers find in them: all
 /// anew, or the parts alone. If memory runs out, the files stay as they are.
 pub fn find_columns(
     alloc: Global,

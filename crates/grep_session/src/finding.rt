@@ -18,7 +18,7 @@ use grep_core::{Options, next_part};
 use re_search::{LineMatch, Matcher, Meter, Span};
 use std::alloc::{AllocError, Global};
 
-/// Adds the matcher's number where it matches the line.
+/// Adds the matcher's number if it matches the line.
 fn note_matching<M: LineMatch>(
     matcher: &mut M,
     number: usize,

@@ -12,7 +12,7 @@ use crate::findings::Findings;
 use crate::kept::{KeptFile, KeptLine};
 use std::vec::IntoIter;
 
-/// Replaces what is kept of a line by the first of the findings.
+/// Replaces what is kept of a line with the next findings.
 fn put_next(line: &mut KeptLine, found: &mut IntoIter<Findings>)
     ensures line { line.new ≡ next_line line.old (into_iter_items found.old) }
     ensures rest { into_iter_items found.new ≡ drop 1 (into_iter_items found.old) }
@@ -23,7 +23,7 @@ fn put_next(line: &mut KeptLine, found: &mut IntoIter<Findings>)
     line.found = new;
 }
 
-/// Replaces what is kept of the lines by the first of the findings.
+/// Replaces what is kept of each of the lines with the next findings.
 fn put_found(lines: &mut [KeptLine], found: &mut IntoIter<Findings>)
     ensures lines { lines.new ≡ with_found lines.old (into_iter_items found.old) }
     ensures rest { into_iter_items found.new ≡ drop (length lines.old) (into_iter_items found.old) }
@@ -33,7 +33,7 @@ fn put_found(lines: &mut [KeptLine], found: &mut IntoIter<Findings>)
     }
 }
 
-/// Replaces what is kept of the lines of a file by the first of the findings.
+/// Replaces what is kept of each line of a file with the next findings.
 fn put_found_in(file: &mut KeptFile, found: &mut IntoIter<Findings>)
     ensures name { file.new.name ≡ file.old.name }
     ensures lines { kept_lines file.new ≡
@@ -47,7 +47,7 @@ fn put_found_in(file: &mut KeptFile, found: &mut IntoIter<Findings>)
     }
 }
 
-/// Replaces what is kept of all lines of the files, in order, by what was found in them.
+/// Replaces what is kept of all lines of the files, in order, with what was found in them.
 pub fn put_all(files: &mut [KeptFile], found: Vec<Findings>)
     ensures same { map kept_file files.new ≡ map kept_file files.old }
     ensures right { (es : List Expression) (options : Options) →
@@ -60,7 +60,7 @@ pub fn put_all(files: &mut [KeptFile], found: Vec<Findings>)
     }
 }
 
-/// Replaces what is kept of all lines of a session's files, in order, by what was found in them.
+/// Replaces what is kept of all lines of a session's files, in order, with what was found in them.
 pub fn put_columns(files: &mut Vec<KeptFile>, found: Vec<Findings>)
     ensures same { map kept_file files.new.items ≡ map kept_file files.old.items }
     ensures right { (es : List Expression) (options : Options) →

@@ -10,7 +10,7 @@ pub struct KeptLine {
     pub found: Findings,
 }
 
-/// A file by its name, and its lines, or none where it cannot be opened.
+/// A file: its name, and its lines, or none if it cannot be opened.
 #[derive(Drop)]
 pub struct KeptFile {
     /// The name.

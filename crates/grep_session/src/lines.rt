@@ -1,4 +1,4 @@
-//! What is written of the lines of one file.
+//! What is written for the lines of one file.
 ghost use Rattle.std.specs.Prelude.{◌≡◌, IfOk, All, length, if◌then◌else◌};
 ghost use Rattle.grep_core.specs.Output.{form, parts, written};
 ghost use Rattle.grep_core.specs.Written.{Writes};

@@ -145,7 +145,7 @@ impl Session {
         Ok(())
     }
 
-    /// Replaces `count` lines of file `k` from line `start` on by other lines. Only the new lines
+    /// Replaces `count` lines of file `k` from line `start` on with other lines. Only the new lines
     /// are searched. If there are none, no memory is asked for.
     ///
     /// # Errors

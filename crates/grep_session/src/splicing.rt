@@ -52,7 +52,7 @@ pub fn find_place(files: &[KeptFile], k: usize, start: usize, count: usize) -> R
     Ok(())
 }
 
-/// Replaces lines by others. Without new lines no memory is asked for.
+/// Replaces lines with others. Without new lines no memory is asked for.
 fn put_lines(
     lines: &mut Vec<KeptLine>,
     start: usize,
@@ -73,7 +73,7 @@ fn put_lines(
     Ok(())
 }
 
-/// Replaces lines of a file by others.
+/// Replaces lines of a file with others.
 pub fn put_in(
     file: &mut KeptFile,
     start: usize,

@@ -124,7 +124,7 @@ module _ (start count : ℕ) (new : List KeptLine) where
   kept_put es options (Some lines) h n =
       All-append (IsKept es options) (take start lines) (new ++ drop (start + count) lines) (All-take (IsKept es options) start lines h) (All-append (IsKept es options) new (drop (start + count) lines) n (All-drop (IsKept es options) (start + count) lines h))
 
--- a file that looks as before changes nothing
+-- putting a file with the same name and lines in its place changes nothing
 pub files_same : (files : List KeptFile) (k : ℕ) (d file : KeptFile) → file.name.items ≡ (get_or files k d).name.items → kept_lines file ≡ kept_lines (get_or files k d) → map kept_file (set files k file) ≡ map kept_file files
 files_same files k d file name lines = map-set_same kept_file files k file d (λ i. file_with (name i) (lines i))
 

@@ -134,7 +134,7 @@ module _ (es : List Expression) (options : Options) where
       by_stop false d told r =
           (kept_file file ∷ r.0, (r.0, refl, inr ((λ s. false≢true (d.1 s)), r.1)), (message (ending_of (end_of file)) file.name.items, told, one_message file.name.items (kept_lines file), r.2, refl))
 
-  -- the messages by what is kept are grep's messages
+  -- the messages computed from what is kept are grep's messages
   pub kept_messages : (files : List KeptFile) → All (IsFileKept es options) files → Messages es options (map kept_file files) (told_from options files)
   kept_messages files k = by_flag options.no_messages
     where
