@@ -26,7 +26,7 @@ static ROWS: [Row<'static>; 11] = [
     ("-c -A 1 a h", b"", b"2\n", "", 0),
     ("-o -A 1 a h", b"", b"a\na\n", "", 0),
     ("-n -A 99999999999999999999 f h", b"", b"6:f\n7-a\n", "", 0),
-    // An empty line is shown, and none that was shown comes again.
+    // An empty line is shown, and no line is shown twice.
     ("-n -B 2 s m", b"", b"3-bc\n4-\n5:s\n6-d\n7:s\n", "", 0),
 ];
 

@@ -59,7 +59,7 @@ fn rows() -> &'static [Row<'static>] {
     &ROWS
 }
 
-/// Words that are refused, and the line that tells of them.
+/// Words that are refused, and the line that reports them.
 fn refused_words() -> &'static [(&'static str, &'static str)] {
     &REFUSED_WORDS
 }

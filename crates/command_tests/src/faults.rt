@@ -10,7 +10,7 @@ use std::process::Abort;
 use std::test::Fail;
 
 /// A command whose file `h` fails after this many bytes, from the first number to the second; its
-/// output; whether the failed read is told; its exit status.
+/// output; whether the failed read is reported; its exit status.
 type CutRow = (&'static str, usize, usize, &'static [u8], bool, u8);
 
 static CUT: [CutRow; 20] = [
@@ -69,7 +69,7 @@ fn failed_reads_are_told(rt: HostRuntime) -> Result<(), Fail> {
     Ok(())
 }
 
-/// A command; its output; how many bytes of it come before its message; that message.
+/// A command; its output; how many bytes of it are before its message; that message.
 type WrittenRow = (&'static str, &'static [u8], usize, &'static [u8]);
 
 static WRITTEN: [WrittenRow; 6] = [
@@ -103,7 +103,7 @@ fn written_rows() -> &'static [WrittenRow] {
 
 const WRITE_ERROR: &[u8] = b"grep: write error\n";
 
-/// Compares what the row's search and command give where so many bytes are written.
+/// Compares what the row's search and command give where this number of bytes is written.
 fn assert_cut_output(
     rt: &impl Abort,
     alloc: Global,
@@ -142,8 +142,8 @@ fn failed_writes_end_the_run(rt: HostRuntime) -> Result<(), Fail> {
     Ok(())
 }
 
-/// Compares what the row's search and command write where no device moves more than so many bytes
-/// a call.
+/// Compares what the row's search and command write where no device moves more than `step` bytes a
+/// call.
 fn assert_moved(rt: &impl Abort, alloc: Global, row: WrittenRow, step: usize) -> Result<(), Fail> {
     let (line, output, _, message) = row;
     let folder = folder().map(|file| read_by(file, step));
@@ -212,7 +212,8 @@ fn told_rows() -> &'static [ToldRow] {
     &TOLD
 }
 
-/// Compares what the row's search and command give where so many bytes of messages are written.
+/// Compares what the row's search and command give where this number of bytes of messages is
+/// written.
 fn assert_cut_message(
     rt: &impl Abort,
     alloc: Global,
@@ -252,8 +253,8 @@ fn failed_messages_end_the_run(rt: HostRuntime) -> Result<(), Fail> {
     Ok(())
 }
 
-/// Commands that write nothing to standard output, the last because no write goes through, and what
-/// they tell.
+/// Commands that write nothing to standard output, the last because each write fails, and what they
+/// report.
 static GIVEN_UP: [(&str, &[u8]); 6] = [
     ("-e a -e [ f", b"grep: pattern 2: UnclosedBracket at 0\n"),
     ("-f nofile f", b"grep: nofile: cannot open\n"),
@@ -269,7 +270,7 @@ static GIVEN_UP: [(&str, &[u8]); 6] = [
     ("a f", b"grep: write error\n"),
 ];
 
-/// Commands that write nothing, and what they tell.
+/// Commands that write nothing to standard output, and what they report.
 fn given_up() -> &'static [(&'static str, &'static [u8])] {
     &GIVEN_UP
 }

@@ -81,7 +81,7 @@ pub fn file<'a>(name: &'a str, bytes: &'a [u8]) -> MemoryFile<'a> {
     }
 }
 
-/// A file whose reads fail once all its bytes were given.
+/// A file whose reads fail once all its bytes were read.
 pub fn broken_file<'a>(name: &'a str, bytes: &'a [u8]) -> MemoryFile<'a> {
     let left = bytes.len();
     MemoryFile {
@@ -93,7 +93,7 @@ pub fn broken_file<'a>(name: &'a str, bytes: &'a [u8]) -> MemoryFile<'a> {
     }
 }
 
-/// The same file, of which one read gives at most so many bytes.
+/// The same file, of which one read returns at most `step` bytes.
 pub fn read_by<'a>(file: MemoryFile<'a>, step: usize) -> MemoryFile<'a> {
     let content = match file.content {
         Some(content) => Some(Content { step, ..content }),
@@ -235,7 +235,7 @@ pub fn status_of(answer: Result<Status, RunFault>) -> u8 {
     }
 }
 
-/// Compares what a run of this line wrote; the place is one more number that tells the run.
+/// Compares what a run of this line wrote; the place is one more number that identifies the run.
 pub fn assert_written<T>(
     rt: &impl Abort,
     run: &Outcome<T>,

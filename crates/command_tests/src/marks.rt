@@ -4,14 +4,14 @@
 //! as commands. Without it each request is granted.
 use std::alloc::{AllocError, Global};
 
-/// A request for so many bytes and N more has the N-th request behind it refused.
+/// A request for this number of bytes and N more has the N-th request after it refused.
 const REFUSE: usize = 9_000_000;
 
-/// A request for so many bytes is refused where one was since the last command, and ends that
-/// command.
+/// A request for this number of bytes is refused where one was since the last command, and ends
+/// that command.
 const WAS_REFUSED: usize = 8_000_000;
 
-/// A request for so many bytes.
+/// Makes a request for this number of bytes.
 fn ask(alloc: Global, bytes: usize) -> Result<usize, AllocError> {
     let mut mark = Vec::with_capacity(alloc, bytes)?;
     mark.push(b'.')?;

@@ -15,8 +15,7 @@ use std::test::Fail;
 /// How many requests a row makes at most.
 const MOST: usize = 2_000;
 
-/// What a search writes for one source: the output of each line, what comes at its end, and its
-/// message.
+/// What a search writes for one source: the output of each line, that at its end, and its message.
 type Part = (&'static [&'static [u8]], &'static [u8], &'static [u8]);
 
 /// A command, what its search writes for each source, and its answer.
@@ -81,7 +80,7 @@ static ROWS: [Row; 6] = [
     ),
 ];
 
-/// A file whose second line is longer than what one read gives.
+/// A file whose second line is longer than what one read returns.
 fn long_file(alloc: Global) -> Result<Vec<u8>, AllocError> {
     let mut text = Vec::new(alloc);
     text.extend_from_slice(b"aba\n")?;
@@ -90,7 +89,7 @@ fn long_file(alloc: Global) -> Result<Vec<u8>, AllocError> {
     Ok(text)
 }
 
-/// What stands on standard output and standard error once the first sources were searched, and the
+/// What is on standard output and standard error once the first sources were searched, and the
 /// first lines of the next one.
 fn written(
     alloc: Global,
@@ -115,7 +114,7 @@ fn written(
     Ok((output, messages))
 }
 
-/// Compares what a search gave with its row; whether it told that a growth was refused.
+/// Compares what a search gave with its row; whether it reported that a growth was refused.
 fn assert_answer(
     rt: &impl Abort,
     alloc: Global,

@@ -11,8 +11,8 @@ const STATES: usize = 16;
 /// A script, its replies, and how it ends.
 type Row = (&'static [u8], &'static [u8], ScriptEnd);
 
-/// How far a reader and a writer go before each further call fails, and the most bytes that one
-/// call moves.
+/// How many bytes a reader and a writer move before each further call fails, and the most bytes
+/// that one call moves.
 #[derive(Clone, Copy)]
 struct Limits {
     step: usize,
@@ -39,7 +39,7 @@ fn replies_to(
     (answer, writer.into_inner().into_inner())
 }
 
-/// Runs the script of a row, which comes in one piece and byte by byte.
+/// Runs the script of a row, which is read in one piece and byte by byte.
 fn assert_row(rt: &impl Abort, alloc: Global, row: Row) {
     let (script, wanted, end) = row;
     for step in [usize::MAX, 1] {
@@ -59,7 +59,8 @@ static ROWS: [Row; 5] = [
         b"ok\nok\no ab\nstatus 0\nok\nok\nrefused Pattern 1 UnclosedGroup 0\no ab\no ca\nstatus 0\nrefused OutOfRange\n",
         ScriptEnd::Refused,
     ),
-    // messages and the status with and without `-q` and `-s`, a prefix that comes and goes, and a command that is cut off
+    // messages and the status with and without `-q` and `-s`, a prefix that is added and removed,
+    // and a command that is cut off
     (
         b"missing g\npatterns 1\na\nflag q on\nshow\nfile f 1\nxa\nshow\nflag s on\nflag q off\nshow\nclose 0\nshow\nFlag q on\npatterns 0\ndrop 1\nfile h 3\none\n",
         b"ok\nok\nok\ne grep: g: cannot open\nstatus 2\nok\ne grep: g: cannot open\nstatus 0\nok\nok\no f:xa\nstatus 2\nok\no xa\nstatus 0\nrefused BadCommand\nrefused BadCommand\nrefused NoSuchPattern\nrefused Truncated\n",
@@ -90,7 +91,7 @@ const SCRIPT: &[u8] = b"file f 1\nab\npatterns 1\na\nshow\n";
 
 const REPLIES: &[u8] = b"ok\nok\no ab\nstatus 0\n";
 
-/// How many bytes of the replies stand after so many of the script.
+/// How many bytes of the replies are written once `read` bytes of the script were read.
 fn answered_by(read: usize) -> usize {
     match read {
         0..12 => 0,

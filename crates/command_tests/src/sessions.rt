@@ -1,4 +1,4 @@
-//! Sessions under edits: what they answer, report and tell, and in how many steps.
+//! Sessions under edits: what they return, show and report, and in how many steps.
 mod edits;
 mod harness;
 mod large;

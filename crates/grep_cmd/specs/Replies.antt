@@ -1,4 +1,4 @@
--- The replies to a script (occur(1), REPLIES), and what a run of it writes and answers.
+-- The replies to a script (occur(1), REPLIES), and what a run of it writes and returns.
 use Rattle.std.specs.Prelude.{◌≡◌, ◌≢◌, ℕ, Bool, if◌then◌else◌, List, [], ◌∷◌, ◌++◌, take, codes}
 use Rattle.std.specs.Prelude.{bytes_eq, Option, Result, Ok, Err, ◌⊎◌}
 use Rattle.std.specs.List.{list_any}
@@ -25,7 +25,7 @@ use Rattle.grep_utility.specs.Texts.{kind_name}
 -- ---- replies
 
 -- why an edit was refused: the name of its fault; of a pattern also its place, the kind of its
--- fault and where that stands in it
+-- fault and where that is in it
 unfoldable pub cause : EditFault → Text
 cause fault.NoSuchFile = codes "NoSuchFile"
 cause fault.FileIsMissing = codes "FileIsMissing"
@@ -55,7 +55,7 @@ truncated = refused_for (codes "Truncated")
 abbrev pub is_refusal : Text → Bool
 is_refusal line = bytes_eq (take 8 line) (codes "refused ")
 
--- an edit was answered so; where it needs no memory it was not refused for want of it
+-- an edit was answered so; where it needs no memory it was not refused as out of memory
 pub record IsAnswered (edit : Edit) (before after : Inputs)
     (answer : Result (Unit {0}) EditFault) : Type 0 where
   pub gives : EditGives edit before after answer
@@ -85,15 +85,15 @@ abbrev pub end_for : List Text → ScriptEnd
 end_for replies = if list_any is_refusal replies then Refused else Clean
 
 -- the replies to the first steps of a script, whose lines are those of a file, with the lines
--- behind them
+-- after them
 pub record AnswersScript (file : File) (replies rest : List Text) : Type 0 where
   pub steps : List Step
   pub are_steps : Steps file.ending file.lines steps rest
   pub after : Inputs
   pub are_replies : Replies steps no_inputs replies after
 
--- a script that is read stands for a file: what its reader had and has left, and how often its
--- reads had failed and have
+-- a script that was read is a file: what its reader had left before and has now, and how often its
+-- reads had failed before and have now
 pub record ReadsScript (known left : Option Text) (failed_before failed : ℕ)
     (file : File) : Type 0 where
   pub reading : Reading
@@ -147,7 +147,7 @@ module _ {W : Type 0} (contents : W → Option Text) (failures : W → ℕ) (kno
     pub answers : AnswersScript file replies rest
     pub goes : GoesOut contents failures old new (written [] replies)
 
-  -- a write failed: a beginning of the replies to the first commands went out
+  -- a write failed: a beginning of the replies to the first commands was written
   pub record StopsWriting : Type 0 where
     pub file : File
     pub reads : BeginsScript known failed_before failed file ⊎
@@ -157,7 +157,7 @@ module _ {W : Type 0} (contents : W → Option Text) (failures : W → ℕ) (kno
     pub answers : AnswersScript file replies rest
     pub stops : StopsWithin contents failures old new (written [] replies)
 
-  -- what a run of a script writes and answers
+  -- what a run of a script writes and returns
   abbrev pub ScriptGives : Result ScriptEnd ScriptFault → Type 0
   ScriptGives (Ok ending) = Ends ending
   ScriptGives (Err Read) = IsCut

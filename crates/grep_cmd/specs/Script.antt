@@ -20,7 +20,7 @@ use Rattle.grep_utility.specs.Words.{meaning_of, number_of}
 abbrev pub space : ℕ
 space = 32
 
--- the words of a line, parted by single spaces: one more than there are spaces
+-- the words of a line, separated by single spaces: one more than there are spaces
 unfoldable pub words_of : Text → List Text
 words_of [] = [] ∷ []
 words_of (b ∷ rest) = if nat_eq b space then [] ∷ words_of rest else put_before b (words_of rest)
@@ -52,7 +52,7 @@ syntax_of word =
 
 -- ---- commands
 
--- an edit, an edit of as many of the next lines as it counts, or the report
+-- an edit, an edit with the number of next lines that it counts, or the report
 pub data Command : Type 0 where
   edits : Edit → Command
   counts : ℕ → (List Text → Edit) → Command

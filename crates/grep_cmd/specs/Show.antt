@@ -13,7 +13,7 @@ status_line Selected = codes "status 0"
 status_line NoneSelected = codes "status 1"
 status_line Error = codes "status 2"
 
--- the lines, each behind the margin
+-- the lines, each after the margin
 abbrev pub behind : Text → List Text → List Text
 behind margin text = map (λ line. margin ++ line) text
 

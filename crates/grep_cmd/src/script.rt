@@ -75,7 +75,7 @@ fn answer_all<R: CountedRead, W: CountedWrite>(
     }
 }
 
-/// Sends the replies that were gathered, behind a script that ended so.
+/// Sends the buffered replies, after a script that ended so.
 fn send_replies<W: CountedWrite>(
     ended: Result<ScriptEnd, ScriptFault>,
     writer: &mut W,
@@ -94,19 +94,20 @@ fn send_replies<W: CountedWrite>(
 }
 
 /// Runs a script on a new session: reads its commands line by line, makes their edits, and writes
-/// the replies in the order of the commands. Each pattern may keep so many states.
+/// the replies in the order of the commands. Each pattern keeps at most this number of states.
 ///
-/// The replies are those that the definition of a script gives for its lines, an edit's for want of
-/// memory aside, and all of them were sent. Before each read that may wait all replies to the
-/// commands before were sent, so that whoever hands in a command needs no other to see its reply.
+/// The replies are those that the definition of a script gives for its lines, but an edit may be
+/// refused as out of memory. All of them were sent. Before each read that may wait, all replies to
+/// the commands before it are sent, so that the sender of a command sees its reply without sending
+/// another.
 ///
 /// # Errors
 ///
 /// `ScriptFault::Read` where a read fails, or there are more lines than a `u64` can number, and
 /// `ScriptFault::Memory` where a line, a name or the lines of a command can't be held: the commands
 /// before that were answered, and of a script whose reading failed no whole command is left.
-/// `ScriptFault::Write` where a write fails: a beginning of the replies went out. No read or write
-/// is tried again.
+/// `ScriptFault::Write` where a write fails: a beginning of the replies was written. No read or
+/// write is tried again.
 pub fn run_script<R: CountedRead, W: CountedWrite>(
     alloc: Global,
     reader: &mut R,

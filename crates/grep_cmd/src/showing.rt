@@ -19,8 +19,8 @@ fn write_status<W: CountedWrite>(status: Status, out: &mut W) -> Result<(), Writ
     }
 }
 
-/// Writes the output lines of the session behind `o `, then the message lines behind `e `, then
-/// the status.
+/// Writes the output lines of the session after `o `, then the message lines after `e `, then the
+/// status.
 pub fn show<W: CountedWrite>(session: &Session, out: &mut W) -> Result<(), WriteFault>
     ensures { Shows W.contents W.failures session.now out.old out.new result }
 {

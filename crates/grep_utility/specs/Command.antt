@@ -34,7 +34,7 @@ TellsLines old new texts =
     TakesAll old new texts ⊎ (TakesFront old new texts × (new.failures ≡ one_more old.failures))
 
 -- the command ends with these messages and status 2; nothing more is written to the output, no step
--- is counted, and so often the devices of files failed
+-- is counted, and the devices of files failed this number of times
 pub record GivesUp (old new : Devices) (texts : List Text) (failures status : ℕ) : Type 0 where
   pub is_error : status ≡ 2
   pub none_written : new.out ≡ old.out
@@ -42,16 +42,16 @@ pub record GivesUp (old new : Devices) (texts : List Text) (failures status : �
   pub counted : new.source_failures ≡ count_more old.source_failures failures
   pub no_step : new.steps ≡ old.steps
 
--- how the command ends once the files were searched: what cut the search short is told, but not
--- behind a message that could not be written
+-- how the command ends once the files were searched: what cut the search short is reported, but
+-- not after a message that could not be written
 abbrev pub EndsAfter : Result Status RunFault → Devices → Devices → ℕ → Type 0
 EndsAfter (Ok found) old new status = (status ≡ status_number found) × (new ≡ old)
 EndsAfter (Err Write) old new status = GivesUp old new (write_error ∷ []) 0 status
 EndsAfter (Err MessageWrite) old new status = (status ≡ 2) × (new ≡ old)
 EndsAfter (Err (Memory k lines)) old new status = GivesUp old new (out_of_memory ∷ []) 0 status
 
--- the files were searched for these expressions, and the command ended so; `given` says of what
--- readers may have left that readers that had this left were given back
+-- the files were searched for these expressions, and the command ended so; `given` holds of what
+-- the returned readers had left
 pub record SearchEnds (es : List Expression) (options : Options) (sources : List Source)
     (given : List (Option Text) → Type 0) (old new : Devices) (status : ℕ) : Type 0 where
   pub found : Result Status RunFault
@@ -61,7 +61,7 @@ pub record SearchEnds (es : List Expression) (options : Options) (sources : List
 
 module _ (asked : Asked) (folder : Folder) (texts : List Text) (given : List (Option Text) → Type 0)
     (old new : Devices) (status : ℕ) where
-  -- the first pattern that isn't readable is told
+  -- the first pattern that isn't readable is reported
   pub record RefusesPattern : Type 0 where
     pub place : ℕ
     pub fault : PatternFault
@@ -82,13 +82,13 @@ module _ (asked : Asked) (folder : Folder) (texts : List Text) (given : List (Op
       MatchBool (nat_lt most_patterns (length texts))
       (GivesUp old new (too_many_patterns ∷ []) 0 status) (RefusesPattern ⊎ SearchesNamed)
 
-  -- or memory was wanting before the search
+  -- or it was out of memory before the search
   abbrev pub PatternsGive : Type 0
   PatternsGive = DoesForPatterns ⊎ GivesUp old new (out_of_memory ∷ []) 0 status
 
 module _ (folder : Folder) (given : List (Option Text) → Type 0) (old new : Devices)
     (status : ℕ) where
-  -- the pattern files are read, up to the first that can't be; their readers are given back before
+  -- the pattern files are read, up to the first that can't be; their readers are returned before
   -- those of the files
   abbrev pub DoesForRequest : Asked → Type 0
   DoesForRequest asked =
@@ -98,16 +98,16 @@ module _ (folder : Folder) (given : List (Option Text) → Type 0) (old new : De
       × DoesForPatterns asked (behind_all folder asked.sources) texts (λ left. given (read ++ left))
       old new status)
 
-  -- or memory was wanting before the search
+  -- or it was out of memory before the search
   abbrev pub RequestGives : Asked → Type 0
   RequestGives asked = DoesForRequest asked ⊎ GivesUp old new (out_of_memory ∷ []) 0 status
 
-  -- what the command does for its words, where memory is not wanting before the search
+  -- what the command does for its words, unless it is out of memory before the search
   abbrev pub DoesForWords : List Text → Type 0
   DoesForWords words =
       MatchResult (read words) DoesForRequest
       (λ fault. GivesUp old new (usage_texts fault) 0 status)
 
-  -- what the command does for its words, or memory was wanting before the search
+  -- what the command does for its words, or it was out of memory before the search
   abbrev pub CommandGives : List Text → Type 0
   CommandGives words = DoesForWords words ⊎ GivesUp old new (out_of_memory ∷ []) 0 status

@@ -27,7 +27,7 @@ FileGives source given =
     × (given ≡
     patterns_by (file_of source.name did).ending (file_of source.name did) (failures_of did))
 
--- what a source of patterns gives: a list is parted by its newlines
+-- what a source of patterns gives: a list is split at its newlines
 abbrev pub GivesPatterns : Folder → PatternsFrom → Result (List Text) Unread → Type 0
 GivesPatterns folder (list text) given = given ≡ Ok (list_of text)
 GivesPatterns folder (file name) given = FileGives (source_named folder name) given
@@ -48,7 +48,7 @@ GivePatterns folder (source ∷ sources) texts =
     (first : List Text) × (rest : List Text) × GivesPatterns folder source (Ok first)
     × GivePatterns (behind folder source) sources rest × (texts ≡ first ++ rest)
 
--- the first source that is not read, behind some that are
+-- the first source that is not read, after some that are
 abbrev pub FirstUnread : Folder → List PatternsFrom → Unread → Type 0
 FirstUnread folder [] fault = ⊥
 FirstUnread folder (source ∷ sources) fault =

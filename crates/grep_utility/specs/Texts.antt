@@ -37,7 +37,7 @@ kind_name kind.TooDeep = codes "TooDeep"
 kind_name kind.TooLarge = codes "TooLarge"
 kind_name kind.Memory = codes "Memory"
 
--- what is told of a pattern that is refused; patterns are counted from 1 over all of them
+-- the message on a pattern that is refused; patterns are counted from 1 over all of them
 abbrev pub pattern_refused : ℕ → PatternFault → Text
 pattern_refused place fault =
     codes "grep: pattern " ++ decimal (place + 1) ++ codes ": " ++ kind_name fault.kind ++
@@ -57,7 +57,7 @@ usage =
     codes "usage: grep [-E|-F] [-cilnoqsvx] [-A NUM] [-B NUM] [-C NUM] " ++
     codes "[-e LIST]... [-f FILE]... [LIST] [FILE...]"
 
--- how the command is used (XCU grep, SYNOPSIS), behind a fault of the words themselves
+-- how the command is used (XCU grep, SYNOPSIS), after a fault of the words themselves
 abbrev pub usage_behind : UsageFault → List Text
 usage_behind Memory = []
 usage_behind _ = usage ∷ []

@@ -1,5 +1,5 @@
 -- The words of a command (XBD 12.2, Guidelines 3 to 7, 10, 11 and 13; XCU grep, OPTIONS and
--- OPERANDS). An option behind an operand is still an option, as GNU grep has it; Guideline 9 has
+-- OPERANDS). An option after an operand is still an option, as GNU grep has it; Guideline 9 has
 -- all options before the operands.
 use Rattle.std.specs.Prelude.{◌≡◌, ℕ, ◌-◌, ◌^◌, nat_eq, nat_lt, min, Bool, true, false, ◌&&◌}
 use Rattle.std.specs.Prelude.{if◌then◌else◌}
@@ -51,7 +51,7 @@ pub data Piece : Type 0 where
   flag : Flag → Piece
   reads_as : Syntax → Piece
   source : PatternsFrom → Piece
-  -- so many lines are shown on a side of selected ones
+  -- this number of lines is shown on a side of selected ones
   around : Side → ℕ → Piece
   operand : Text → Piece
   fault : UsageFault → Piece
@@ -67,7 +67,7 @@ number_of (b ∷ rest) =
 abbrev pub most_around : ℕ
 most_around = 2 ^ 64 - 1
 
--- a number of lines is one decimal digit or more; a greater one than the greatest stands for that
+-- a number of lines is one decimal digit or more; one above the greatest counts as the greatest
 abbrev pub lines_of : Text → Option ℕ
 lines_of [] = None
 lines_of (b ∷ rest) =
@@ -119,12 +119,12 @@ by_characters (c ∷ d ∷ cs) = if nat_eq c (byte "-") then a_group (d ∷ cs) 
 unfoldable pub word_of : Text → Word
 word_of word = if bytes_eq word (codes "--") then ends_options else by_characters (chars word)
 
--- an option whose argument is still to come, by its character
+-- an option that still needs its argument, by its character
 pub record Wanting : Type 0 where
   pub letter : ℕ
   pub argument : Argument
 
--- the options of a group and the pieces behind it. The argument of an option is the rest of the
+-- the options of a group and the pieces after it. The argument of an option is the rest of the
 -- group or, where there is none, the next word (Guidelines 6 and 7)
 module _ (behind : Option Wanting → List Piece) where
   abbrev pub group : List ℕ → List Piece
@@ -139,7 +139,7 @@ module _ (behind : Option Wanting → List Piece) where
     | None ↦ fault (UnknownOption c) ∷ group cs
   ]
 
--- the pieces of words, where an option before them may want the first as its argument
+-- the pieces of words, where an option before them may take the first as its argument
 abbrev pub pieces : List Text → Option Wanting → List Piece
 pieces [] None = []
 pieces [] (Some w) = fault (MissingArgument w.letter) ∷ []
@@ -156,7 +156,7 @@ may_follow Extended Fixed = false
 may_follow Fixed Extended = false
 may_follow _ _ = true
 
--- the first fault of pieces behind this syntax
+-- the first fault of pieces that follow this syntax
 abbrev pub first_fault : Syntax → List Piece → Option UsageFault
 first_fault before [] = None
 first_fault before (fault f ∷ ps) = Some f
@@ -192,7 +192,7 @@ with_lines After count before = record before { after = Some count }
 with_lines Before count before = record before { before = Some count }
 with_lines Both count before = record before { both = Some count }
 
--- the numbers that `-A`, `-B` and `-C` have behind pieces: of each the last one counts
+-- the numbers that `-A`, `-B` and `-C` have after pieces: the last one of each counts
 abbrev pub around_behind : Around → List Piece → Around
 around_behind before [] = before
 around_behind before (around side count ∷ ps) = around_behind (with_lines side count before) ps
@@ -211,8 +211,8 @@ context_from None None = None
 context_from None (Some after) = Some (record { before = 0; after = after })
 context_from (Some before) after = Some (record { before = before; after = or_none after })
 
--- on each side its own option goes before `-C`, and no lines are shown on a side without a number
--- where the other has one
+-- on each side its own option takes precedence over `-C`; no lines are shown on a side without a
+-- number where the other has one
 abbrev pub context_of : Around → Option Context
 context_of numbers =
     context_from (either numbers.before numbers.both) (either numbers.after numbers.both)
@@ -227,7 +227,7 @@ operands_of [] = []
 operands_of (operand text ∷ ps) = text ∷ operands_of ps
 operands_of (_ ∷ ps) = operands_of ps
 
--- a request with the pieces behind it
+-- a request to which the pieces are added
 abbrev pub with_pieces : Asked → List Piece → Asked
 with_pieces before ps = record {
   syntax = syntax_behind before.syntax ps;
@@ -248,7 +248,7 @@ completed a = with_patterns a a.sources a.files
 abbrev pub with_context : Option Context → Asked → Asked
 with_context context a = record a { options = record a.options { context = context } }
 
--- the first fault of the pieces, or what they ask for behind this request and these numbers
+-- the first fault of the pieces, or what they ask for after this request and these numbers
 abbrev pub reads_on : Around → Asked → List Piece → Result Asked UsageFault
 reads_on numbers before ps = elim (first_fault before.syntax ps) [
   | Some f ↦ Err f
@@ -297,12 +297,12 @@ asked request = record {
   files = texts_of request.files.items;
 }
 
--- memory was wanted, or else this holds
+-- the fault is out of memory, or this holds
 abbrev pub OrMemory : UsageFault → Type 0 → Type 0
 OrMemory Memory P = Unit {0}
 OrMemory _ P = P
 
--- a request is what its words ask for, and a fault is theirs or want of memory
+-- a request is what its words ask for, and a fault is theirs or out of memory
 abbrev pub AreRead : List Text → Result Request UsageFault → Type 0
 AreRead words (Ok request) = read words ≡ Ok (asked request)
 AreRead words (Err f) = OrMemory f (read words ≡ Err f)

@@ -23,7 +23,7 @@ use re_search::Meter;
 use re_syntax::{FaultKind, MOST_PATTERNS};
 use std::alloc::Global;
 
-/// Searches the files of a request, and answers the exit status.
+/// Searches the files of a request, and returns the exit status.
 fn search_request<F: Files, W: CountedWrite, N: CountedWrite>(
     alloc: Global,
     request: &Request,
@@ -58,7 +58,7 @@ fn search_request<F: Files, W: CountedWrite, N: CountedWrite>(
 }
 
 /// Reads the patterns, which are the lines of `texts`, and searches the files of a request for
-/// them; answers the exit status.
+/// them; returns the exit status.
 fn run_patterns<F: Files, W: CountedWrite, N: CountedWrite>(
     alloc: Global,
     request: &Request,
@@ -101,7 +101,7 @@ fn run_patterns<F: Files, W: CountedWrite, N: CountedWrite>(
     }
 }
 
-/// Reads the patterns of a request and searches its files for them; answers the exit status.
+/// Reads the patterns of a request and searches its files for them; returns the exit status.
 fn run_request<F: Files, W: CountedWrite, N: CountedWrite>(
     alloc: Global,
     request: &Request,
@@ -126,11 +126,11 @@ fn run_request<F: Files, W: CountedWrite, N: CountedWrite>(
     }
 }
 
-/// The whole command (XCU grep), with the words that follow its name: what goes to standard output
-/// and to standard error, and the exit status.
+/// The whole command (XCU grep), with the words that follow its name: writes standard output and
+/// standard error, and returns the exit status.
 ///
 /// The status is 0 where a line was selected, 1 where none was, and 2 on an error. It is 2, with
-/// nothing written to standard output, for the first of these reasons, of which a message tells:
+/// nothing written to standard output, for the first of these reasons, which a message reports:
 ///
 /// 1. Words are refused, as [`read_words`] says: the fault and a line on how grep is used.
 /// 2. A pattern file can't be opened or read: `grep: NAME: cannot open` or `grep: NAME: read
@@ -141,14 +141,14 @@ fn run_request<F: Files, W: CountedWrite, N: CountedWrite>(
 /// pattern over all lists and pattern files, from 1, and AT a place in it, counted in bytes from 0.
 ///
 /// Else the files are searched in order, standard input where there is none. A file that can't be
-/// opened or read is told, but not under `-s`, and the search goes on behind it; the status is then
-/// 2, but 0 where a line was selected under `-q`. The word `-`, as a file or a pattern file, is
-/// standard input, which is empty from its second use on.
+/// opened or read is reported, but not under `-s`, and the search continues after it. The status is
+/// then 2, but 0 where a line was selected under `-q`. The word `-`, as a file or a pattern file,
+/// is standard input, which is empty from its second use on.
 ///
-/// Where a write to standard output fails, a beginning of the output went out, `grep: write error`
-/// is told and the status is 2. Where a message can't be written the status is 2 and nothing more
-/// is told. Where a growth is refused `grep: out of memory` is told and the status is 2. No write
-/// is tried again, and neither device is flushed.
+/// Where a write to standard output fails, a beginning of the output was written, `grep: write
+/// error` is reported and the status is 2. Where a message can't be written, the status is 2 and
+/// nothing more is reported. Where a growth is refused, `grep: out of memory` is reported and the
+/// status is 2. No write is tried again, and neither device is flushed.
 ///
 /// The steps that the meter counts are at most those of one search of each line for each pattern,
 /// and where parts are written, of one more for each part of the line and one for its end; before

@@ -16,11 +16,10 @@ pub trait Files {
     /// standard input has left.
     ghost folder: { Self → Folder };
 
-    /// How many attempts to open a file, and reads of readers that were given back, have failed.
+    /// How many attempts to open a file, and reads of returned readers, have failed.
     ghost failures: { Self → ℕ };
 
-    /// What the readers that were given back had left, in order: any history of them that a caller
-    /// keeps.
+    /// What the returned readers had left, in order: any history of them that a caller keeps.
     ghost given_back: { Self → List (Option (List ℕ)) → Type 0 } = { λ _ _. ⊤ };
 
     /// Which loan they are that are a `&mut`, by the name of its referent's value in proofs. It is
@@ -55,8 +54,8 @@ pub trait Files {
         ensures back { GivesBack given_back self.old self.new (Self.Reader.remaining reader ∷ []) }
         ensures same_loan { loan self.new ≡ loan self.old };
 
-    /// How many attempts to open a file, and reads of readers that were given back, have failed.
-    /// The count stays at the greatest `u64`.
+    /// How many attempts to open a file, and reads of returned readers, have failed. The count
+    /// stays at the greatest `u64`.
     fn failures(&self) -> u64
         ensures { result ≡ failures self.now };
 }

@@ -18,7 +18,7 @@ const LEAST_STATES: usize = 256;
 
 const MOST_STATES: usize = 16_384;
 
-/// How many entries the cache of a matcher may have, where there are so many patterns.
+/// How many entries the cache of a matcher may have, for this number of patterns.
 fn states_for(patterns: usize) -> usize
     ensures { (1 ≤ result) × (result ≤ 16384) }
 {

@@ -14,7 +14,7 @@ pub type MemoryReader<'a> = Tally<Limited<&'a [u8]>>;
 #[derive(Clone, Copy, Debug, Drop)]
 pub struct Content<'a> {
     pub bytes: &'a [u8],
-    /// The most bytes that one read gives.
+    /// The most bytes that one read returns.
     pub step: usize,
     /// How many bytes are read before each further read fails.
     pub left: usize,
@@ -56,7 +56,7 @@ pub struct MemoryFiles<'f, 'a> {
     pub files: &'f [MemoryFile<'a>],
     /// What standard input has left.
     pub input: Content<'a>,
-    /// How many attempts to open a file, and reads of readers that were given back, have failed.
+    /// How many attempts to open a file, and reads of returned readers, have failed.
     pub failed: u64,
 }
 
@@ -86,7 +86,7 @@ impl<'f, 'a> MemoryFiles<'f, 'a> {
         Some(content?.reader())
     }
 
-    /// Counts the failures of a reader that is given back.
+    /// Counts the failures of a reader that is returned.
     #[tactic(auto, using(crate::proofs::lemmas::CountLemmas::many_counted))]
     fn count_failures(&mut self, reader: MemoryReader<'a>)
         ensures files { self.new.files ≡ self.old.files }

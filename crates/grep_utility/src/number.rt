@@ -31,8 +31,8 @@ pub fn read_number(word: &[u8]) -> Option<usize>
     Some(value)
 }
 
-/// How many lines the word asks for: one decimal digit or more. A number that a `u64` doesn't have
-/// stands for the greatest one.
+/// How many lines the word asks for: one decimal digit or more. A number above the greatest `u64`
+/// counts as the greatest one.
 pub fn read_lines(word: &[u8]) -> Option<u64>
     ensures { result ≡ lines_of word.now }
 {

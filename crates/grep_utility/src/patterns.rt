@@ -47,7 +47,7 @@ fn add_text(texts: &mut Vec<u8>, text: &[u8]) -> Result<(), AllocError>
     Ok(())
 }
 
-/// Adds the lines of a reader, and answers whether they are all, which they are not where a read
+/// Adds the lines of a reader, and returns whether they are all, which they are not where a read
 /// failed or there are more than can be numbered.
 fn add_lines<R: CountedRead>(
     lines: &mut NumberedLines<R>,
@@ -73,8 +73,8 @@ fn add_lines<R: CountedRead>(
     }
 }
 
-/// Adds the lines of a reader that was not read before, as [`add_lines`] does, and gives the reader
-/// back.
+/// Adds the lines of a reader that was not read before, as [`add_lines`] does, and returns the
+/// reader.
 fn add_all_lines<R: CountedRead>(
     alloc: Global,
     reader: R,
@@ -154,9 +154,9 @@ fn add_source<'a, F: Files>(
 
 /// The patterns of all sources, in order, each followed by a newline.
 ///
-/// Nothing is read behind the first file that could not be opened or read, of which
-/// `PatternsFault::Missing` and `PatternsFault::Broken` tell. `PatternsFault::Memory` comes where a
-/// growth is refused.
+/// Nothing is read after the first file that could not be opened or read, which
+/// `PatternsFault::Missing` and `PatternsFault::Broken` report. `PatternsFault::Memory` is returned
+/// where a growth is refused.
 pub fn read_patterns<'a, F: Files>(
     alloc: Global,
     files: &mut F,

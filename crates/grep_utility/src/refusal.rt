@@ -1,4 +1,4 @@
-//! What is told of a pattern that is refused (XCU grep, STDERR).
+//! The message on a pattern that is refused (XCU grep, STDERR).
 ghost use Rattle.std.specs.Prelude.{◌≡◌, ◌+◌, ◌-◌, ◌^◌, ◌<◌, ◌++◌, [], ◌∷◌, codes};
 ghost use Rattle.std.specs.Fmt.{decimal};
 ghost use Rattle.grep_core.specs.Row.{output_line};
@@ -83,7 +83,7 @@ fn write_refused<M: CountedWrite>(
     write_count(messages, b" at ", None, fault.at as u64)
 }
 
-/// Tells of a pattern that is refused, by its place, counted from 0. A write that fails is not
+/// Reports a pattern that is refused, by its place, counted from 0. A write that fails is not
 /// tried again.
 pub fn tell_refused<M: CountedWrite>(messages: &mut M, place: usize, fault: PatternFault)
     requires { place < 2 ^ 64 - 1 }

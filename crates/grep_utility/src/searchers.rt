@@ -23,7 +23,7 @@ const FEW: usize = 7;
 pub struct Searchers {
     /// The matchers that decide.
     pub matchers: Vec<Matcher>,
-    /// Strings of which some stands on each line that some matcher matches, where they are known:
+    /// Strings, where they are known, of which some is on each line that some matcher matches:
     /// a line without them need not be shown to the matchers.
     pub needed: Option<Filter>,
 }
@@ -116,7 +116,7 @@ fn joined(alloc: Global, texts: &[u8], options: &Options) -> Result<Vec<Matcher>
 }
 
 /// Strings that the matchers need, where these are many and each needs some. Where memory is
-/// refused for them the search goes without.
+/// refused for them they are left out.
 fn needed_by(alloc: Global, matchers: &[Matcher]) -> Option<Filter>
     ensures { IfSome result (λ strings. AreNeeded strings (map matched_expression matchers.now)) }
 {

@@ -1,4 +1,4 @@
-//! What a command tells on standard error (XCU grep, STDERR), and its exit status.
+//! What a command reports on standard error (XCU grep, STDERR), and its exit status.
 ghost use Rattle.std.specs.Prelude.{◌≡◌, ℕ, [], ◌∷◌};
 ghost use Rattle.re_search.specs.Meters.{Steps};
 ghost use Rattle.grep_core.specs.Row.{output_line};
@@ -25,7 +25,7 @@ pub fn tell<M: CountedWrite>(messages: &mut M, text: &[u8])
     let _ = write_line(messages, text);
 }
 
-/// Tells of words that are refused. A write that fails is not tried again.
+/// Reports words that are refused. A write that fails is not tried again.
 pub fn tell_usage<M: CountedWrite>(messages: &mut M, fault: UsageFault)
     ensures { TellsLines (writer M.contents M.failures messages.old)
         (writer M.contents M.failures messages.new) (usage_texts fault) }
@@ -45,7 +45,7 @@ fn write_unread<M: CountedWrite>(messages: &mut M, fault: PatternsFault) -> Resu
     }
 }
 
-/// Tells of patterns that were not read. A write that fails is not tried again.
+/// Reports patterns that were not read. A write that fails is not tried again.
 pub fn tell_unread<M: CountedWrite>(messages: &mut M, fault: PatternsFault)
     ensures { TellsLines (writer M.contents M.failures messages.old)
         (writer M.contents M.failures messages.new) (told_of_patterns fault.entry ∷ []) }
@@ -53,7 +53,7 @@ pub fn tell_unread<M: CountedWrite>(messages: &mut M, fault: PatternsFault)
     let _ = write_unread(messages, fault);
 }
 
-/// The exit status of a search that came to its end.
+/// The exit status of a search that reached its end.
 fn number_of(status: Status) -> u8
     ensures { result ≡ status_number status }
 {
@@ -64,7 +64,7 @@ fn number_of(status: Status) -> u8
     }
 }
 
-/// Tells what cut a search short, but not where a message could not be written, and answers the
+/// Reports what cut a search short, but not where a message could not be written, and returns the
 /// exit status.
 pub fn end_search<M: CountedWrite>(messages: &mut M, found: Result<Status, RunFault>) -> u8
     ensures { (out : Writer) (failures : ℕ) (steps : Steps) → EndsAfter found

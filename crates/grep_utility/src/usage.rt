@@ -1,4 +1,4 @@
-//! What is told of words that are refused (XCU grep, STDERR).
+//! The messages on words that are refused (XCU grep, STDERR).
 ghost use Rattle.std.specs.Prelude.{[]};
 ghost use Rattle.grep_core.specs.Output.{written};
 ghost use Rattle.grep_core.specs.Row.{output_line};
@@ -41,7 +41,7 @@ fn write_unknown_option<M: CountedWrite>(messages: &mut M, letter: char) -> Resu
     write_line_behind(messages, b"grep: unknown option -", letter)
 }
 
-/// Writes the line that tells of the fault.
+/// Writes the line that reports the fault.
 #[tactic(auto, unfolding(crate::specs::Texts::fault_text))]
 fn write_fault<M: CountedWrite>(messages: &mut M, fault: UsageFault) -> Result<(), WriteFault>
     ensures { Writes M.contents M.failures messages.old messages.new
@@ -57,7 +57,7 @@ fn write_fault<M: CountedWrite>(messages: &mut M, fault: UsageFault) -> Result<(
     }
 }
 
-/// Writes how the command is used, but not behind want of memory.
+/// Writes how the command is used, unless the fault is out of memory.
 fn write_usage_behind<M: CountedWrite>(
     messages: &mut M,
     fault: UsageFault,
@@ -71,10 +71,10 @@ fn write_usage_behind<M: CountedWrite>(
     }
 }
 
-/// Writes the line that tells of the fault, and behind it how the command is used, but not where
-/// memory was wanted.
+/// Writes the line that reports the fault, and after it how the command is used, unless the fault
+/// is out of memory.
 ///
-/// `WriteFault` comes where a write fails. It is not tried again.
+/// Returns `WriteFault` where a write fails. It is not tried again.
 pub fn write_usage_fault<M: CountedWrite>(
     messages: &mut M,
     fault: UsageFault,

@@ -83,7 +83,7 @@ fn set(options: &mut Options, flag: Flag)
     }
 }
 
-/// Whether the option for the second syntax may stand behind that for the first, or behind none.
+/// Whether the option for the second syntax may follow that for the first, or none.
 fn goes_with(before: Syntax, syntax: Syntax) -> bool
     ensures { result ≡ may_follow before syntax }
 {
@@ -126,7 +126,7 @@ impl Request {
 
     /// Without `-e` and `-f` the first operand is the pattern list.
     ///
-    /// `NoPattern` comes where there is none, `Memory` where a growth is refused.
+    /// Returns `NoPattern` where there is none, and `Memory` where a growth is refused.
     fn complete(mut self) -> Result<Request, UsageFault>
         ensures { MatchResult result
             (λ request. completed (asked self) ≡ Ok (asked request))
@@ -170,7 +170,7 @@ impl Draft {
         }
     }
 
-    /// Adds what the words ask for, up to their first fault, of which it tells as
+    /// Adds what the words ask for, up to their first fault, which it returns as
     /// [`Draft::add`] does.
     fn add_words(&mut self, alloc: Global, words: &[String]) -> Result<(), UsageFault>
         ensures { MatchResult result
@@ -188,8 +188,8 @@ impl Draft {
 
     /// Adds what an option or an operand asks for.
     ///
-    /// `TwoSyntaxes` comes where one of `-E` and `-F` follows the other, `Memory` where a growth is
-    /// refused.
+    /// Returns `TwoSyntaxes` where one of `-E` and `-F` follows the other, and `Memory` where a
+    /// growth is refused.
     fn add(&mut self, alloc: Global, piece: Piece) -> Result<(), UsageFault>
         ensures { MatchResult result
             (λ _. (first_fault self.old.request.syntax (piece_of (Ok piece.entry) ∷ []) ≡ None)
@@ -214,7 +214,7 @@ impl Draft {
 
     /// What all words ask for.
     ///
-    /// `NoPattern` comes where there is no pattern, `Memory` where a growth is refused.
+    /// Returns `NoPattern` where there is no pattern, and `Memory` where a growth is refused.
     fn complete(mut self) -> Result<Request, UsageFault>
         ensures { MatchResult result
             (λ request. completed (with_context (context_of self.around) (asked self.request))
@@ -229,11 +229,11 @@ impl Draft {
 
 /// Reads the words that follow the name of the command.
 ///
-/// The first fault from the left is told: `UnknownOption` where a character of a group of options
-/// is none, `MissingArgument` where nothing follows an option that has an argument, `BadNumber`
-/// where that of `-A`, `-B` or `-C` is no number, `TwoSyntaxes` where one of `-E` and `-F` follows
-/// the other; else `NoPattern` where there is no `-e`, no `-f` and no operand. `Memory` comes where
-/// a growth is refused.
+/// The first fault from the left is returned: `UnknownOption` where a character of a group of
+/// options is none, `MissingArgument` where nothing follows an option that has an argument,
+/// `BadNumber` where that of `-A`, `-B` or `-C` is no number, `TwoSyntaxes` where one of `-E` and
+/// `-F` follows the other; else `NoPattern` where there is no `-e`, no `-f` and no operand.
+/// `Memory` is returned where a growth is refused.
 pub fn read_words(alloc: Global, words: &[String]) -> Result<Request, UsageFault>
     ensures { AreRead (texts_of words.now) result }
 {

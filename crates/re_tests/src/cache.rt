@@ -11,7 +11,7 @@ use std::test::Fail;
 // A pattern in extended syntax, whether the whole line has to be matched, what the line repeats and
 // how often, whether it is matched, how many entries the cache may have, the steps of two searches
 // of the line (built and reused of the first, then of the second), and how many entries the cache
-// has behind them.
+// has after them.
 type Row = (
     &'static [u8],
     bool,
@@ -110,7 +110,7 @@ fn rows() -> &'static [Row] {
     &ROWS
 }
 
-// A text so many times.
+// A text repeated this number of times.
 fn repeated(alloc: Global, text: &[u8], times: usize) -> Result<Vec<u8>, AllocError> {
     let mut line = Vec::new(alloc);
     'times: for _ in 0..times {
@@ -119,7 +119,7 @@ fn repeated(alloc: Global, text: &[u8], times: usize) -> Result<Vec<u8>, AllocEr
     Ok(line)
 }
 
-// Searches the line once more, compares the answer, and gives the steps.
+// Searches the line once more, compares the answer, and returns the steps.
 fn searched(rt: &impl Abort, matcher: &mut Matcher, line: &[u8], row: &Row) -> Meter {
     let mut meter = fresh_meter();
     let is_selected = matcher.is_match(line, &mut meter);
@@ -177,24 +177,24 @@ fn pairs_that_are_held_are_reused(rt: HostRuntime) -> Result<(), Fail> {
     Ok(())
 }
 
-// A request for so many bytes and N more has the N-th request behind it refused.
+// A request for this number of bytes and N more has the N-th request after it refused.
 const REFUSE: usize = 9_000_000;
 
-// A request for so many bytes is refused where one was since the last command, and ends that
+// A request for this number of bytes is refused where one was since the last command, and ends that
 // command.
 const WAS_REFUSED: usize = 8_000_000;
 
 // How many requests two searches of a row make at most.
 const MOST: usize = 2_000;
 
-// A request for so many bytes.
+// Makes a request for this number of bytes.
 fn ask(alloc: Global, bytes: usize) -> Result<usize, AllocError> {
     let mut mark = Vec::with_capacity(alloc, bytes)?;
     mark.push(b'.')?;
     Ok(mark.len())
 }
 
-// Searches the line once more: each byte that is gone over counts one step of either kind.
+// Searches the line once more: each byte that is passed counts one step of either kind.
 fn assert_gone_over(rt: &impl Abort, matcher: &mut Matcher, line: &[u8], row: &Row) {
     let meter = searched(rt, matcher, line, row);
     let steps = meter.built().saturating_add(meter.reused());

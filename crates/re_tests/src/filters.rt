@@ -4,8 +4,8 @@ use re_syntax::split_file;
 use std::alloc::Global;
 use std::test::Fail;
 
-// Extended expressions one a line, a line, and whether one of the strings that they need stands on
-// it; none where they are not known to need some.
+// Extended expressions one a line, a line, and whether one of the strings that they need is on it;
+// none where they are not known to need some.
 type Row = (&'static [u8], &'static [u8], Option<bool>);
 
 static ROWS: [Row; 4] = [

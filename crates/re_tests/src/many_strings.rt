@@ -40,7 +40,8 @@ fn parts_of(
     Ok(found)
 }
 
-// Asserts whether the set selects the line, in one step more than the line has bytes, and its parts.
+// Asserts whether the set selects the line, in one step more than the line has bytes, and its
+// parts.
 fn assert_line(
     rt: &impl Abort,
     alloc: Global,

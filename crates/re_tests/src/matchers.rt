@@ -108,14 +108,14 @@ static NEEDED: [Search; 14] = [
         Some((1, 3)),
         0,
     ),
-    // Under a whole line it has to stand at the line's beginning.
+    // Where the whole line is matched it has to be at the line's beginning.
     (BEGUN, b"cab", false, 0, None, 0),
     (BEGUN_BY_SETS, b"aqj", false, 0, None, 0),
     // Runs of sets, and a choice of strings.
     (SETS, b"ccaabcy", true, 0, Some((5, 7)), 0),
     (SOME_SETS, b"q-z1x", false, 0, None, 0),
     (BRANCHES, b"que zeb juk", false, 0, None, 0),
-    // A set that is repeated is needed so often as it has to be.
+    // A repeated set is needed as often as it is repeated at least.
     (DATE, b"2026-1-25", false, 0, None, 0),
     (DATE, b"12026-111", true, 1, Some((1, 8)), 0),
     (AT_LEAST, b"44-2x2", false, 0, None, 0),
@@ -197,20 +197,21 @@ fn a_long_line_takes_no_step_where_nothing_can_begin(rt: HostRuntime) -> Result<
     Ok(())
 }
 
-// A pattern, a block, which lacks its last newline, where its first line begins that may be matched,
-// or after the last one, and how many of its lines are matched, where that is known without a step.
+// A pattern, a block, which lacks its last newline, where its first line begins that may be
+// matched, or after the last one, and how many of its lines are matched, where that is known
+// without a step.
 type Block = (Pattern, &'static [u8], usize, Option<u64>);
 
 static BLOCKS: [Block; 12] = [
-    // The string has to stand at a line's beginning where each whole line begins with it.
+    // The string has to be at a line's beginning where each whole line begins with it.
     (BEGUN, b"ca\nba\nab\na", 6, None),
     (BEGUN_BY_SETS, b"aqj\nqj", 4, None),
-    // Elsewhere it may stand anywhere.
+    // Elsewhere it may be anywhere.
     ((Syntax::Basic, b"ab*", false, false), b"b\nca\nab", 2, None),
     // A run of large sets is looked for over blocks, and a single blank.
     (WIDE, b"ab cdefghi\nab cdefghij", 11, None),
     (BLANK, b"ab\na b", 3, None),
-    // A string with a newline stands on two lines, and in none.
+    // A string with a newline is on two lines, and in none.
     (
         (Syntax::Fixed, b"1\n2", true, true),
         b"a1\n2\n1\n2",
@@ -218,9 +219,9 @@ static BLOCKS: [Block; 12] = [
         None,
     ),
     ((Syntax::Fixed, b"a\nb", false, false), b"a\nb", 0, None),
-    // The empty string stands in each line.
+    // The empty string is in each line.
     ((Syntax::Fixed, b"", false, false), b"a\nb", 0, None),
-    // A line counts once, however often and wherever the string stands in it.
+    // A line counts once, however often and wherever the string is in it.
     (
         (Syntax::Fixed, b"a", false, false),
         b"b\naba\nba",

@@ -18,7 +18,7 @@ fn fixed(alloc: Global, texts: &[&[u8]], whole: bool) -> Result<Vec<Fixed>, Allo
     Ok(matchers)
 }
 
-/// The places of a part's first byte and behind its last.
+/// The places of a part's first byte and after its last.
 pub(crate) fn ends_of(part: Option<Span>) -> Option<(usize, usize)> {
     let Span { start, end } = part?;
     Some((start, end))
@@ -30,7 +30,7 @@ pub(crate) fn assert_steps(rt: &impl Abort, meter: &Meter, built: u64, reused: u
     assert_eq!(rt; meter.reused(), reused, "{line:?}");
 }
 
-// All parts of the line, each as the places of its first byte and behind its last.
+// All parts of the line, each as the places of its first byte and after its last.
 fn all_parts<M: LineMatch>(
     alloc: Global,
     matchers: &mut [M],
@@ -99,7 +99,8 @@ fn several_texts_have_their_parts(rt: HostRuntime) -> Result<(), Fail> {
     Ok(())
 }
 
-// For a text, whether the whole line has to be matched, a line and a place: the part, and the steps.
+// For a text, whether the whole line has to be matched, a line and a place: the part, and the
+// steps.
 type Search = (
     &'static [u8],
     bool,
@@ -149,19 +150,19 @@ fn a_text_is_found_in_so_many_steps(rt: HostRuntime) -> Result<(), Fail> {
 }
 
 // For texts and a block, which lacks its last newline: where the first line begins that some text
-// may match, or behind the last one.
+// may match, or after the last one.
 type Look = (&'static [&'static [u8]], &'static [u8], usize);
 
 static LOOKS: [Look; 7] = [
     // One text is looked for in the whole block.
     (&[b"x"], b"a\nbx\nx", 2),
-    // Of several the least place counts, whichever comes first.
+    // Of several texts the least place counts, in any order of the texts.
     (&[b"x", b"y", b"z"], b"ab\ncz\ndy\nex", 3),
     (&[b"z", b"y", b"x"], b"ab\ncz\ndy\nex", 3),
     (&[b"x", b"y"], b"a\nb\nc", 6),
-    // A text with a newline stands on no line, but may stand on two.
+    // A text with a newline is on no line, but may be on two.
     (&[b"x", b"b\nc"], b"a\nx\nab\ncd", 2),
-    // The empty text stands on each line, before what another one passes.
+    // The empty text is on each line, before what another one passes.
     (&[b"x", b""], b"a\nx", 0),
     // Of no text at all no line is matched.
     (&[], b"a\nb", 4),

@@ -25,7 +25,7 @@ fn is_refused(rt: &HostRuntime, text: &[u8], kind: FaultKind, at: usize) -> bool
 }
 
 static READ: [(&[u8], &[Shape]); 17] = [
-    // Anchors and stars go by their place.
+    // What an anchor or a star means depends on its place.
     (b"", &[Empty]),
     (b"^*a", &[Cat(3), Begin, STAR, A]),
     (b"\\(^*\\)", &[Cat(2), Begin, STAR]),
@@ -102,7 +102,7 @@ fn deep() -> &'static [Copied] {
     &DEEP
 }
 
-/// Whether what the copies come to is read, or has its fault.
+/// Whether the text of the copies is read, or has its fault.
 fn is_told(rt: &HostRuntime, row: Copied) -> Result<bool, Fail> {
     let (first, count, second, others, last, fault) = row;
     let text = copies(rt, first, count, second, others, last)?;

@@ -1,7 +1,7 @@
 //! What bracket expressions are read as, and why others are refused.
 use re_syntax::{ByteSet, FaultKind, PatternFault, Tree, read_bracket};
 
-/// Whether the byte stands in one of these ranges.
+/// Whether the byte is in one of these ranges.
 fn is_in_some(ranges: &[(u8, u8)], byte: u8) -> bool {
     for (low, high) in ranges {
         if *low <= byte && byte <= *high {

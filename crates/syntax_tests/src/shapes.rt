@@ -2,9 +2,9 @@
 use re_syntax::{ByteSet, FaultKind, Tree};
 use std::test::Fail;
 
-/// What a node of a tree should be: a byte alone, an anchor, so many in order, so
-/// many to choose from, or one repeated. A whole tree is its nodes, each before those that are in
-/// it.
+/// What a node of a tree should be: a byte alone, an anchor, a number of nodes in order, a number
+/// of nodes to choose from, or one repeated. A whole tree is its nodes, each before those that are
+/// in it.
 #[derive(Clone, Copy, Drop)]
 pub enum Shape {
     Empty,
@@ -26,7 +26,8 @@ fn has_exactly(set: &ByteSet, first: u8, last: u8) -> bool {
     true
 }
 
-/// The place behind the nodes of the tree, which is at most so deep, where they stand at a place.
+/// The place after the nodes of the tree, where they are at a place and the tree is at most this
+/// deep.
 #[cycle(nodes_behind)]
 fn nodes_behind(tree: &Tree, shapes: &[Shape], at: usize, depth: u16) -> Option<usize> {
     if depth == 0 {
@@ -79,8 +80,8 @@ pub fn is_tree(tree: &Tree, shapes: &[Shape]) -> bool {
     nodes_behind(tree, shapes, 0, 1000) == Some(shapes.len())
 }
 
-/// A text, how often it stands, another text and how often that one does, and a last text; the
-/// fault of what they come to, none where it is read.
+/// A text and its number of copies, another text and its number of copies, and a last text; the
+/// fault of these one after the other, none where they are read.
 pub type Copied = (
     &'static [u8],
     usize,
@@ -90,7 +91,7 @@ pub type Copied = (
     Option<(FaultKind, usize)>,
 );
 
-/// So many copies of one text and so many of another, and a last text.
+/// This number of copies of one text, that number of another, and a last text.
 pub fn copies(
     rt: &HostRuntime,
     first: &[u8],

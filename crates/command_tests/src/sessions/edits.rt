@@ -5,7 +5,7 @@ use re_search::{Meter, Syntax};
 use re_syntax::split_file;
 use std::alloc::{AllocError, Global};
 
-/// An edit. Lines are given one after the other, each with a newline behind it; a bar stands for a
+/// An edit. Lines are given one after the other, each with a newline after it; a bar means a
 /// newline within a line.
 #[derive(Clone, Copy, Debug, Drop)]
 pub enum Edit {

@@ -9,7 +9,7 @@ use std::alloc::Global;
 use std::process::Abort;
 use std::test::Fail;
 
-/// An edit; its answer; the report, the messages and the exit status behind it; how many steps it
+/// An edit; its answer; the report, the messages and the exit status after it; how many steps it
 /// takes at most.
 pub type Row = (Edit, Answer, &'static [u8], &'static [u8], u8, u64);
 

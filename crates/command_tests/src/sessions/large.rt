@@ -1,4 +1,4 @@
-//! Sessions with as many patterns as there may be, and with patterns as large as they may be.
+//! Sessions with the greatest number of patterns, and with patterns of the greatest size.
 use super::edits::Answer;
 use super::harness::{DONE, STATES, TOO_MANY_PATTERNS};
 use grep_core::Flag::IgnoreCase;
@@ -34,7 +34,7 @@ fn too_large(place: usize) -> Answer {
     Err(EditFault::Pattern(place, PatternFault { kind, at: 0 }))
 }
 
-/// Sets `-i` in a session that has a pattern and then a fixed string of so many letters.
+/// Sets `-i` in a session that has a pattern and then a fixed string of this number of letters.
 fn folded(alloc: Global, letters: usize, meter: &mut Meter) -> Result<Answer, Fail> {
     let mut session = Session::new(alloc, STATES);
     let text = vec![in alloc; b'a'; letters]?;

@@ -28,7 +28,7 @@ const UNCLOSED_BRACKET: Answer = Err(EditFault::Pattern(
     },
 ));
 
-/// Only the line that comes in is searched.
+/// Only the line that is added is searched.
 static ONE_LINE_COMES: [Row; 3] = [
     (AddFile("f", b"ab\nc\n"), DONE, b"", b"", 1, 0),
     (AddPatterns(b"a"), DONE, b"ab\n", b"", 0, 5),
@@ -106,7 +106,7 @@ static BRANCHES: [Row; 3] = [
     (SetFlag(OnlyMatching, true), DONE, b"a\n", b"", 0, ANY),
 ];
 
-/// Parts that are kept go with their lines, through splices and files that go.
+/// Parts that are kept stay with their lines, through splices and files that are dropped.
 static PARTS: [Row; 12] = [
     (SetSyntax(Extended), DONE, b"", b"", 1, ANY),
     (SetFlag(OnlyMatching, true), DONE, b"", b"", 1, ANY),
@@ -158,7 +158,7 @@ const NONE_AROUND: Option<Context> = Some(Context {
     after: 0,
 });
 
-/// Lines around selected ones are shown, also where lines go.
+/// Lines around selected ones are shown, also where lines are removed.
 static ONE_FILE: [Row; 10] = [
     (AddFile("h", b"a\nb\nc\nd\ne\nf\na\n"), DONE, b"", b"", 1, 0),
     (AddPatterns(b"a"), DONE, b"a\na\n", b"", 0, ANY),
@@ -181,7 +181,7 @@ static ONE_FILE: [Row; 10] = [
 
 const CANNOT_OPEN: &[u8] = b"grep: m: cannot open\n";
 
-/// A line with a newline is refused, for which a bar stands, and for other reasons before.
+/// A line with a newline, which a bar means, is refused; other reasons take precedence over it.
 static NEWLINES: [Row; 8] = [
     (AddFile("f", b"a\nb|c\n"), LINE_HAS_NEWLINE, b"", b"", 1, 0),
     (AddMissing("m"), DONE, b"", CANNOT_OPEN, 2, 0),

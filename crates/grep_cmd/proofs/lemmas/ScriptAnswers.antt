@@ -74,7 +74,7 @@ pub answered_in_time : {T : Type 0} (answer : Result T EditFault) → answer_for
 answered_in_time (Ok done) = λ e. let no : ⊥ = cc in no
 answered_in_time (Err fault) = λ e. let no : ⊥ = cc in no
 
--- an edit that needs no memory isn't refused for want of it
+-- an edit that needs no memory isn't refused as out of memory
 pub not_for_memory : {T : Type 0} (answer : Result T EditFault) → IfErr answer (λ f. f ≢ fault.Memory) → answer ≢ Err fault.Memory
 not_for_memory (Ok done) h = λ e. let no : ⊥ = cc in no
 not_for_memory (Err f) h = λ e. h (let same : f ≡ fault.Memory = cc in same)
@@ -89,12 +89,12 @@ module _ {W : Type 0} (contents : W → Option Text) (failures : W → ℕ) (old
 -- ---- the lines that a command takes
 
 module _ {R : Type 0} (remaining : R → Option Text) (failures : R → ℕ) (reader : R) (handed : List Text) where
-  -- a line behind those that were taken
+  -- a line after those that were taken
   pub one_more_taken : (now : Numbered R) (taken : List Text) (line : Text) → HasHanded remaining failures reader now ((handed ++ taken) ++ line ∷ [])
       → HasHanded remaining failures reader now (handed ++ (taken ++ line ∷ []))
   one_more_taken now taken line h = subst (HasHanded remaining failures reader now) (append_assoc handed taken (line ∷ [])) h
 
-  -- where no further line came fewer were taken than were counted
+  -- where no further line was read, fewer lines were taken than the command counts
   pub takes_fewer : (count : ℕ) (now : Numbered R) (taken : List Text) (fault : ScriptFault) → length taken < count → ReadsNext remaining failures reader (handed ++ taken) now (Err fault)
       → TakesLines remaining failures reader handed count now (Err fault)
   takes_fewer count now taken Read few h = (taken, few, h)
@@ -147,7 +147,7 @@ module _ {R W : Type 0} (remaining : R → Option Text) (failures : R → ℕ) (
 
 module _ {R W : Type 0} (remaining : R → Option Text) (failures : R → ℕ) (reader : R) (handed : List Text) (line : Text) (now : Numbered R) (before : Inputs)
     (contents : W → Option Text) (write_failures : W → ℕ) (old new : W) where
-  -- not all lines came that it counts
+  -- not all lines that it counts were read
   pub answers_lost : (count : ℕ) (edit : List Text → Edit) (f : ScriptFault) → line_command line ≡ Some (counts count edit) → TakesLines remaining failures reader handed count now (Err f)
       → FlushesFor contents write_failures old new f → AnswersLine remaining failures reader handed line now before before contents write_failures old new (Err f)
   answers_lost count edit Read is t sent = (record { taken = t.0; wants = rw is t.1; stands = t.2 }, sent)

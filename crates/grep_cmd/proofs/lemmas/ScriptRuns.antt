@@ -1,4 +1,4 @@
--- How a run of a script goes on and ends.
+-- How a run of a script continues and ends.
 use Rattle.std.proofs.Common.{◌≡◌, ℕ, ◌<◌, ◌≤◌, true, false, List, [], ◌∷◌, ◌++◌, length, Option, Result, Ok, Err, arith, inl, inr, refl, sym, ap, ◌∙◌, subst, append_assoc, append-nil}
 use Rattle.std.proofs.lemmas.List.{length-append}
 use Rattle.std.specs.List.{list_any}
@@ -26,19 +26,19 @@ use Rattle.grep_cmd.proofs.lemmas.ScriptSteps.{done_push, done_steps, done_alone
 abbrev script_of : List Text → Ending → File
 script_of lines ending = record { name = []; lines = lines; ending = ending }
 
--- a command line and the lines that it takes, behind others
+-- a command line and the lines that it takes, after others
 line_then : (handed : List Text) (line : Text) (taken : List Text) → (handed ++ line ∷ []) ++ taken ≡ handed ++ line ∷ taken
 line_then handed line taken = append_assoc handed (line ∷ []) taken
 
 module _ {R W : Type 0} (remaining : R → Option Text) (failures : R → ℕ) (contents : W → Option Text) (write_failures : W → ℕ) (reader : R) (old : W) where
-  -- what a reader stands for is a script
+  -- the lines of a reader, with their ending, are a script
   reads : (now : Numbered R) (lines : List Text) (ending : Ending) → StandsAs remaining failures reader now lines ending
       → ReadsScript (remaining reader) (remaining now.lines.reader) (failures reader) (failures now.lines.reader) (script_of lines ending)
   reads now lines ending stands =
       let s = stands [] in
       record { reading = s.reading; is_reading = s.is_reading; is_left = s.is_left; is_file = sym s.file; counted = s.counted }
 
-  -- what it has handed out is the beginning of one
+  -- the lines that it has handed out are the beginning of one
   begins : (now : Numbered R) (handed : List Text) → HasHanded remaining failures reader now handed
       → (file : File) × BeginsScript (remaining reader) (failures reader) (failures now.lines.reader) file × ((more : List Text) × (file.lines ≡ handed ++ more))
   begins now handed h =
@@ -79,7 +79,7 @@ module _ {R W : Type 0} (remaining : R → Option Text) (failures : R → ℕ) (
   }
 
   module _ (now : Numbered R) (inputs : Inputs) (mid : W) (ending : ScriptEnd) (s : AnsweredSoFar remaining failures contents write_failures reader old now inputs mid ending) where
-    -- the steps so far, of a script that goes on
+    -- the steps so far, of a script that continues
     answers_so_far : (file : File) (rest : List Text) → file.lines ≡ s.handed ++ rest → AnswersScript file s.replies rest
     answers_so_far file rest is = record {
       steps = s.steps;
@@ -132,7 +132,7 @@ module _ {R W : Type 0} (remaining : R → Option Text) (failures : R → ℕ) (
             goes = goes_same old mid new (written [] s.replies) s.goes flushed;
           }
 
-      -- what was gathered could not be sent
+      -- what was buffered could not be sent
       pub stops_sending : (others : List Text) → HasHanded remaining failures reader next (s.handed ++ others) → StopsWithin contents write_failures mid new []
           → StopsWriting contents write_failures (remaining reader) (remaining next.lines.reader) (failures reader) (failures next.lines.reader) old new
       stops_sending others handed stops =
@@ -209,7 +209,7 @@ module _ {R W : Type 0} (remaining : R → Option Text) (failures : R → ℕ) (
         ended = sym (end_refused s.replies (truncated ∷ []) refl);
       }
 
-      -- a read failed before all lines had come
+      -- a read failed before all lines were read
       pub cut_within : LosesLines remaining failures reader (s.handed ++ line ∷ []) line next inputs after → GoesOut contents write_failures sent new []
           → IsCut contents write_failures (remaining reader) (remaining next.lines.reader) (failures reader) (failures next.lines.reader) old new
       cut_within l goes = record {
@@ -223,7 +223,7 @@ module _ {R W : Type 0} (remaining : R → Option Text) (failures : R → ℕ) (
         goes = goes_same old mid new (written [] s.replies) s.goes (goes_same mid sent new [] flushed goes);
       }
 
-      -- the lines go on
+      -- more lines were handed out
       pub grows : (taken : List Text) → HasHanded remaining failures reader next ((s.handed ++ line ∷ []) ++ taken) → (now.number < next.number) × (next.number ≤ most_lines)
       grows taken h =
           let longer = ap length (line_then s.handed line taken) ∙ length-append s.handed (line ∷ taken) in
@@ -280,7 +280,7 @@ module _ {W : Type 0} (contents : W → Option Text) (failures : W → ℕ) (kno
   stops_on_same : (bytes : Text) → GoesOut contents failures old mid bytes → StopsWithin contents failures mid new [] → StopsWithin contents failures old new bytes
   stops_on_same bytes first second = subst (StopsWithin contents failures old new) (append-nil bytes) (stops_later contents failures old mid new bytes [] first second)
 
-  -- what was gathered was sent behind a run, or that failed
+  -- what was buffered was sent after a run, or that failed
   pub sends_behind : (ended result : Result ScriptEnd ScriptFault) → ScriptGives contents failures known left failed_before failed old mid ended → FlushesBehind contents failures mid new ended result
       → ScriptGives contents failures known left failed_before failed old new result
   sends_behind (Ok end) result e (inl (sent, is)) =

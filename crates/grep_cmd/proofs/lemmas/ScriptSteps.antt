@@ -17,7 +17,7 @@ done_push lines [] line taken step none is = (line, taken, [], ap (λ ls. ls ++ 
 done_push lines (s ∷ steps) line taken step (l, t, more, cut, does, rest) is =
     (l, t, more ++ line ∷ taken, ap (λ ls. ls ++ line ∷ taken) cut ∙ ap (λ ls. l ∷ ls) (append_assoc t more (line ∷ taken)), does, done_push more steps line taken step rest is)
 
--- the steps that are done, and those of the lines behind them
+-- the steps that are done, and those of the lines after them
 pub done_steps : (ending : Ending) (lines rest left : List Text) (steps tail : List Step) → AreDone lines steps → Steps ending rest tail left → Steps ending (lines ++ rest) (steps ++ tail) left
 done_steps ending lines rest left [] tail none next = subst (λ ls. Steps ending (ls ++ rest) tail left) (sym none) next
 done_steps ending lines rest left (s ∷ steps) tail (l, t, more, cut, does, others) next =

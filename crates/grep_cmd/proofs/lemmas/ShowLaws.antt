@@ -56,7 +56,7 @@ module _ {W : Type 0} (contents : W → Option Text) (failures : W → ℕ) (inp
         (writes_err contents failures [] a c _ r is (stops_later contents failures a b c (written (codes "o ") out) (written (codes "e ") told ++ output_line [] (status_line status)) went
         (stops_early contents failures b c (written (codes "e ") told) (output_line [] (status_line status)) s)))
 
-    -- output and messages went out, and the status as the last call answers
+    -- output and messages were written, and the status as the last call returns
     pub shows_all : {T E : Type 0} (c d : W) (r : Result T E) → GoesOut contents failures b c (written (codes "e ") told) → Writes contents failures c d (output_line [] (status_line status)) r → Shows contents failures inputs a d r
     shows_all c d r g w =
         shows_with a d r

@@ -31,7 +31,7 @@ was_refused Truncated = true
 
 module _ {R : Type 0} (remaining : R → Option Text) (failures : R → ℕ) (reader : R)
     (handed : List Text) where
-  -- behind these lines one more was handed out, or they are all, or a read failed; else nothing is
+  -- after these lines one more was handed out, or they are all, or a read failed; else nothing is
   -- lost
   abbrev pub ReadsNext : Numbered R → Result Bool ScriptFault → Type 0
   ReadsNext now (Ok true) = HasHanded remaining failures reader now (handed ++ now.lines.line ∷ [])
@@ -39,8 +39,7 @@ module _ {R : Type 0} (remaining : R → Option Text) (failures : R → ℕ) (re
   ReadsNext now (Err Read) = StandsAs remaining failures reader now handed broken
   ReadsNext now (Err fault) = HasHanded remaining failures reader now handed
 
-  -- behind these lines as many were taken as were counted; or fewer are left; or a read failed
-  -- before
+  -- after these lines the counted number was taken; or fewer are left; or a read failed before
   abbrev pub TakesLines : ℕ → Numbered R → Result (Option (List Text)) ScriptFault → Type 0
   TakesLines count now (Ok (Some taken)) =
       (length taken ≡ count) × HasHanded remaining failures reader now (handed ++ taken)
@@ -54,7 +53,7 @@ module _ {R : Type 0} (remaining : R → Option Text) (failures : R → ℕ) (re
       (taken : List Text) × HasHanded remaining failures reader now (handed ++ taken)
 
 module _ {W : Type 0} (contents : W → Option Text) (failures : W → ℕ) (old new : W) where
-  -- what was gathered was sent, or that failed
+  -- what was buffered was sent, or that failed
   abbrev pub FlushesFor : ScriptFault → Type 0
   FlushesFor Write = StopsWithin contents failures old new []
   FlushesFor fault = GoesOut contents failures old new []
@@ -70,8 +69,8 @@ module _ {W : Type 0} (contents : W → Option Text) (failures : W → ℕ) (old
   Replied reply answer (Err Write) = StopsWithin contents failures old new (written [] reply)
   Replied reply answer (Err fault) = ⊥
 
-  -- behind a run that ended so what was gathered was sent, or that failed; where a write failed
-  -- before none is tried again
+  -- after a run that ended so what was buffered was sent, or that failed; where a write failed
+  -- before, none is tried again
   abbrev pub FlushesBehind : Result ScriptEnd ScriptFault → Result ScriptEnd ScriptFault → Type 0
   FlushesBehind (Err Write) result = (new ≡ old) × (result ≡ Err Write)
   FlushesBehind ended result =
@@ -96,7 +95,7 @@ module _ {R : Type 0} (remaining : R → Option Text) (failures : R → ℕ) (re
     pub wants : WantsMore (line_command line) taken
     pub stands : StandsAs remaining failures reader now (handed ++ taken) whole
 
-  -- a read failed before all lines had come that the command counts
+  -- a read failed before all lines that the command counts were read
   pub record LosesLines : Type 0 where
     pub taken : List Text
     pub wants : WantsMore (line_command line) taken

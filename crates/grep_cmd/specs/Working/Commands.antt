@@ -1,4 +1,4 @@
--- What a command that was read stands for.
+-- What a command that was read means.
 use Rattle.std.specs.Prelude.{List}
 use Rattle.re_syntax.specs.Bytes.{Text}
 use Rattle.re_syntax.specs.Lines.{joined}

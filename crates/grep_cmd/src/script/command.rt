@@ -34,13 +34,13 @@ pub enum LineEdit {
 pub enum CountedEdit {
     /// The lines are those of a file of this name.
     AddFile(Vec<u8>),
-    /// The lines come into a file, in the place of others.
+    /// The lines are added to a file, in the place of others.
     Splice {
         /// The number of the file.
         file: usize,
-        /// The first line that goes.
+        /// The first line that is removed.
         start: usize,
-        /// How many lines go.
+        /// How many lines are removed.
         removed: usize,
     },
     /// The lines are patterns.
@@ -51,7 +51,7 @@ pub enum CountedEdit {
 #[derive(Drop)]
 pub enum Command {
     Edit(LineEdit),
-    /// An edit that takes so many of the next lines.
+    /// An edit that takes this number of the next lines.
     Counted(usize, CountedEdit),
     /// The report.
     Show,
@@ -198,7 +198,7 @@ fn read_syntax_command(words: LineWords<'_>) -> Option<Command>
     Some(Command::Edit(LineEdit::SetSyntax(syntax)))
 }
 
-/// `off`, behind `context`
+/// `off`, after `context`
 fn read_no_context(word: &[u8]) -> Option<Command>
     ensures { option_map meant result ≡ no_context word.now }
 {
@@ -208,7 +208,7 @@ fn read_no_context(word: &[u8]) -> Option<Command>
     None
 }
 
-/// `BEFORE AFTER`, behind `context`
+/// `BEFORE AFTER`, after `context`
 fn read_numbers_of_lines(before: &[u8], after: &[u8]) -> Option<Command>
     ensures { option_map meant result ≡ context_from (number_of before.now) (number_of after.now) }
 {

@@ -12,7 +12,7 @@ use grep_core::{
 };
 use std::alloc::{AllocError, Global};
 
-/// Hands out the next line of a script, and answers whether there was one. Where it has to be read,
+/// Hands out the next line of a script, and returns whether there was one. Where it has to be read,
 /// all replies are sent before.
 pub fn next_line<R: CountedRead, W: CountedWrite>(
     lines: &mut NumberedLines<R>,
@@ -35,7 +35,7 @@ pub fn next_line<R: CountedRead, W: CountedWrite>(
     }
 }
 
-/// Puts a copy of the line behind the others.
+/// Puts a copy of the line after the others.
 fn push_line(alloc: Global, lines: &mut Vec<Vec<u8>>, line: &[u8]) -> Result<(), AllocError>
     ensures { IfOk result
         (λ _. map (λ l. l.items) lines.new.items ≡ map (λ l. l.items) lines.old.items ++ line.now ∷
@@ -47,8 +47,8 @@ fn push_line(alloc: Global, lines: &mut Vec<Vec<u8>>, line: &[u8]) -> Result<(),
     Ok(())
 }
 
-/// The next lines, as many as were counted; none where fewer follow. Memory is asked for by the
-/// lines that came, and not by the count.
+/// The counted number of next lines; none where fewer follow. Memory is requested for the lines
+/// that were read, and not by the count.
 pub fn take_lines<R: CountedRead, W: CountedWrite>(
     alloc: Global,
     lines: &mut NumberedLines<R>,
@@ -78,7 +78,7 @@ pub fn take_lines<R: CountedRead, W: CountedWrite>(
     Ok(Some(taken))
 }
 
-/// Adds a line, behind a newline where it is not the first.
+/// Adds a line, after a newline where it is not the first.
 fn add_line(text: &mut Vec<u8>, first: bool, line: &[u8]) -> Result<(), AllocError>
     ensures { IfOk result
         (λ _. text.new.items ≡ text.old.items ++ (if first then line.now else newline ∷ line.now)) }

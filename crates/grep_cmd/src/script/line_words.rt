@@ -22,7 +22,7 @@ impl<'a> Model for LineWords<'a> {
     ghost view = { λ w. words_of_rest w.rest };
 }
 
-/// The words of a line, parted by single spaces: one more than there are spaces.
+/// The words of a line, separated by single spaces: one more than there are spaces.
 pub fn words_of(line: &[u8]) -> LineWords<'_>
     ensures { result ≡ words_of line.now }
 {

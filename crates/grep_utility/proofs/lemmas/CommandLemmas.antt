@@ -33,11 +33,11 @@ use Rattle.grep_utility.specs.Patterns.{behind_all, GivePatterns, FirstUnread}
 use Rattle.grep_utility.specs.Texts.{too_many_patterns, pattern_refused, fault_text, usage_texts}
 use Rattle.grep_utility.specs.Words.{Asked, PatternsFrom, read, OrMemory}
 
--- a test that a kind of refusal is want of memory says that it isn't
+-- a kind of fault that fails the test for out of memory is another kind
 pub kind_differs : (kind : FaultKind) (test : Bool) → test ≡ sameb the_type kind Memory → test ≡ false → kind ≡ Memory → ⊥
 kind_differs kind test is fails same = false≢true (sym fails ∙ is ∙ ap (λ k. sameb the_type k Memory) same)
 
--- what is refused but not for want of memory is the first that is refused
+-- a fault of patterns other than out of memory is that of the first refused pattern
 pub not_memory : (syntax : Syntax) (fold : Bool) (texts : List Text) (place : ℕ) (fault : PatternFault) → (fault.kind ≡ Memory → ⊥) → IsOutOfMemory fault ⊎ IsFirstRefused syntax fold texts place fault
     → IsFirstRefused syntax fold texts place fault
 not_memory syntax fold texts place fault differs (inl is) = absurd (differs (ap (λ (f : PatternFault). f.kind) is))

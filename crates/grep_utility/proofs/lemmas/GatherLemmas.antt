@@ -1,4 +1,4 @@
--- The patterns that were gathered, one more line of a file at a time.
+-- The buffered patterns, with one more line of a file at a time.
 use Rattle.std.proofs.Common.{◌≡◌, ℕ, ◌-◌, ◌<◌, true, false, List, [], ◌∷◌, ◌++◌, All, Option, Ok, Err, refl, sym, ap, subst, ◌∙◌, append_assoc, append-nil, arith}
 use Rattle.std.proofs.lemmas.List.{length_push}
 use Rattle.std.proofs.lemmas.List.Elements.{All-push, All-append}
@@ -14,7 +14,7 @@ use Rattle.grep_core.specs.Working.Numbered.{Numbered, HasHanded, NextIs}
 use Rattle.grep_core.proofs.lemmas.NumberedLemmas.{has_handed_none}
 use Rattle.grep_utility.specs.Working.Gathered.{Adds, AddsLines}
 
--- texts behind others
+-- two lists of texts, one after the other
 pub terminated-append : (ts us : List Text) → terminated (ts ++ us) ≡ terminated ts ++ terminated us
 terminated-append [] us = refl
 terminated-append (t ∷ ts) us = ap (λ l. t ++ newline ∷ l) (terminated-append ts us) ∙ sym (append_assoc t (newline ∷ terminated ts) (terminated us))

@@ -1,4 +1,5 @@
--- The number that a word is, one digit after the other; and the number of lines, of which none is above the greatest.
+-- The number that a word is, one digit after the other; and the number of lines, which is at most
+-- the greatest.
 use Rattle.std.proofs.Common.{◌≡◌, ℕ, zero, suc, ◌+◌, ◌-◌, ◌*◌, ◌^◌, ◌<◌, ◌≤◌, min, [], ◌∷◌, ◌++◌, length, take, drop, get_or, IsTrue, Some, None, refl, sym, ap, ◌∙◌, arith, take-append-drop, nat_lt, nat_le, ◌&&◌, Bool, true, false, subst}
 use Rattle.std.proofs.lemmas.Bool.{and_parts, and_from, cond-true, cond-false, false_from_ne_true, ltb-true, ltb-false, lt-ltb}
 use Rattle.std.specs.List.{list_all}
@@ -91,7 +92,7 @@ number_of-larger t i v d h is digit many =
     let last = (digit_some (get_or t i 0) d digit).1 in
     none_since t (λ all few. absurd (omega (arith, step, front, few, is, many, last)))
 
--- what is kept of a number is enough to go on
+-- the capped value so far and the next digit are enough for the next capped value
 capped_next : (most n v d w u : ℕ) → v ≡ min n most → w ≡ min (min (v * 10) most + d) most → n * 10 + d ≡ u → w ≡ min u most
 capped_next most n v d w u is sum next = omega (arith, is, sum, next)
 

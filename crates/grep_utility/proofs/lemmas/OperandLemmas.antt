@@ -8,7 +8,7 @@ use Rattle.grep_core.specs.Sources.{source_at}
 use Rattle.grep_utility.specs.Folder.{Folder, display_name, source_named, after_use, sources_named}
 use Rattle.grep_utility.specs.Working.Operands.{StandsAt}
 
--- there are as many sources as words
+-- the number of sources is that of the words
 pub length-sources_named : (folder : Folder) (words : List Text) → length (sources_named folder words) ≡ length words
 length-sources_named folder [] = refl
 length-sources_named folder (word ∷ words) = ap suc (length-sources_named (after_use folder word) words)
@@ -19,17 +19,17 @@ name-sources_named folder [] k h = absurd (let no : ⊥ = omega (arith, h) in no
 name-sources_named folder (word ∷ words) zero h = refl
 name-sources_named folder (word ∷ words) (suc k) h = name-sources_named (after_use folder word) words k (omega (arith, h))
 
--- at the start they stand at the first word
+-- at the start the next word is the first
 pub StandsAt-start : (folder : Folder) (words : List Text) → StandsAt folder folder words 0
 StandsAt-start folder words = refl
 
--- the element at a place is the first behind those before it
+-- the element at a place is the first after those before it
 at_place : (sources : List Source) (k : ℕ) → k < length sources → (first : Source) (rest : List Source) → drop k sources ≡ first ∷ rest → (source_at sources k ≡ first) × (drop (suc k) sources ≡ rest)
 at_place [] k h first rest is = absurd (let no : ⊥ = omega (arith, h) in no)
 at_place (s ∷ sources) zero h first rest is = let heads : s ≡ first = cc in let tails : sources ≡ rest = cc in (heads, tails)
 at_place (s ∷ sources) (suc k) h first rest is = at_place sources k (omega (arith, h)) first rest is
 
--- the next word names the source at its place, and behind its use they stand at the place behind
+-- the next word names the source at its place; after its use the word after it is the next
 pub StandsAt-next : (start now : Folder) (words : List Text) (k : ℕ) → k < length words → StandsAt start now words k
     → (source_at (sources_named start words) k ≡ source_named now (get_or words k [])) × StandsAt start (after_use now (get_or words k [])) words (k + 1)
 StandsAt-next start now words k h s =

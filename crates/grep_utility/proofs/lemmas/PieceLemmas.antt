@@ -33,12 +33,12 @@ module _ (behind : Option Wanting → List Piece) (c : ℕ) (a : Argument) (take
       by [] e = absurd (more (sym (ap length e)))
       by (d ∷ ds) e = rw (takes, group) (ap (λ u. with_argument c a u ∷ behind None) e)
 
-  -- the argument is behind the group
+  -- the argument is after the group
   pub group-wants : (t : Text) → length t ≡ 0 → group behind (c ∷ chars t) ≡ behind (Some (record { letter = c; argument = a }))
   group-wants t none = ap (λ cs. group behind (c ∷ cs)) (no_chars t none) ∙ rw (takes, group) refl
 
 module _ (words : List Text) (w : Wanting) (letters : Option (Bor Text)) (rest : Bor Text) (are : letters ≡ Some rest) (none : length rest.now ≡ 0) where
-  -- the pieces of words behind a group
+  -- the pieces of words after a group
   behind_group : pieces_from letters words ≡ pieces words None
   behind_group = ap (λ l. pieces_from l words) are ∙ group-end (pieces words) rest.now none
 

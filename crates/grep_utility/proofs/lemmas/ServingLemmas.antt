@@ -57,7 +57,7 @@ joined_serves syntax options texts matchers each some joined =
       readable = λ i d h. strings_readable syntax options.ignore_case _ (each i d h);
     })
 
--- what holds of a value that is there holds behind a reference to it
+-- what holds of a value that is there holds through a reference to it
 pub behind_reference : {T : Type 0} (P : T → Type 0) (borrowed : Option (Bor T)) (o : Option T) → option_copied borrowed ≡ o → IfSome o P → IfSome borrowed (λ b. P b.now)
 behind_reference P None o same h = tt
 behind_reference P (Some b) o same h = subst (λ x. IfSome x P) (sym same) h

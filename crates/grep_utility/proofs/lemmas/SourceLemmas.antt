@@ -71,7 +71,7 @@ list_added folder old new text is =
 
 -- ---- all sources
 
--- what some sources give is had once what is left of them is
+-- the patterns of all sources are the texts so far and those of the sources that are left
 pub record SourcesSoFar (start : Folder) (all : List PatternsFrom) (now : Folder) (left : List PatternsFrom) (bytes : Text) : Type 0 where
   pub texts : List Text
   pub adds : Adds [] bytes texts

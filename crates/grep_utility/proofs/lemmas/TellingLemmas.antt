@@ -1,4 +1,4 @@
--- What is told, whether or not a write fails.
+-- What is reported, whether or not a write fails.
 use Rattle.std.proofs.Common.{◌≡◌, ℕ, List, [], ◌∷◌, ◌++◌, Option, Result, Ok, Err, inl, inr, refl, sym, ap, ◌∙◌, append_assoc}
 use Rattle.re_syntax.specs.Bytes.{Text}
 use Rattle.re_search.specs.Meters.{Steps}
@@ -20,12 +20,12 @@ module _ {W : Type 0} (contents : W → Option Text) (failures : W → ℕ) (old
   tells_lines texts (Ok done) h = inl (record { written_all = h.written; none_failed = h.none_failed })
   tells_lines texts (Err fault) h = inr (record { front = h.front; rest = h.rest; cut = h.cut; written_front = h.written }, h.counted)
 
--- a command that tells of a want ends so
+-- a command that gives up writes its messages and ends with status 2
 pub gives_up : (out old new : Writer) (n : ℕ) (steps : Steps) (texts : List Text) → TellsLines old new texts
     → GivesUp (record { out = out; messages = old; source_failures = n; steps = steps }) (record { out = out; messages = new; source_failures = n; steps = steps }) texts 0 2
 gives_up out old new n steps texts told = record { is_error = refl; none_written = refl; told = told; counted = refl; no_step = refl }
 
--- the pieces of a line, one behind the other
+-- the pieces of a line, one after the other
 pub line_of_pieces : (front kind_front kind at place end : Text) → (front ++ (kind_front ++ kind)) ++ ((at ++ place) ++ end) ≡ ((((front ++ kind_front) ++ kind) ++ at) ++ place) ++ end
 line_of_pieces front kind_front kind at place end =
     let all = (front ++ kind_front) ++ kind in

@@ -1,4 +1,4 @@
--- What a request without pieces comes to, and one with all of them.
+-- What a request asks for without pieces, and with all of them.
 use Rattle.std.proofs.Common.{◌≡◌, List, Result, Ok, Err, None, MatchResult, sym, ◌∙◌, subst}
 use Rattle.re_syntax.specs.Bytes.{Text}
 use Rattle.grep_utility.specs.declared.words.Request.{Request}

@@ -1,4 +1,4 @@
--- How patterns are gathered: one behind the other, each followed by a newline.
+-- How patterns are buffered: one after the other, each followed by a newline.
 use Rattle.std.specs.Prelude.{◌≡◌, ℕ, Bool, List, ◌++◌, All, Option, Result, Ok, Err, if◌then◌else◌}
 use Rattle.re_syntax.specs.Bytes.{Text}
 use Rattle.re_syntax.specs.Lines.{terminated, HasNoNewline}
@@ -50,7 +50,8 @@ abbrev pub AddsSource : Folder → PatternsFrom → Text → Text → Type 0
 AddsSource folder source old new =
     (texts : List Text) × GivesPatterns folder source (Ok texts) × Adds old new texts
 
--- reading stops, by this law, at a file that is not read; nothing failed where memory was wanting
+-- reading stops, by this law, at a file that is not read; or it is out of memory, and no read
+-- failed
 module _ (Stops : Unread → Type 0) (failed_before failed : ℕ) where
   abbrev pub StopsBy : Text → Type 0
   StopsBy message =
@@ -62,7 +63,7 @@ module _ (Stops : Unread → Type 0) (failed_before failed : ℕ) where
   StopsFor (fault.Broken word) = StopsBy (read_error (display_name word.now))
   StopsFor fault.Memory = failed ≡ failed_before
 
--- the line that tells of the fault
+-- the line that reports the fault
 abbrev pub told_of_patterns : PatternsFault → Text
 told_of_patterns (fault.Missing word) = cannot_open (display_name word.now)
 told_of_patterns (fault.Broken word) = read_error (display_name word.now)

@@ -28,12 +28,12 @@ IsWord word Operand = word_of word ≡ an_operand
 IsWord word EndOfOptions = word_of word ≡ ends_options
 IsWord word (Group letter rest) = word_of word ≡ a_group (letter ∷ chars rest.now)
 
--- the pieces of words, where these letters of a group are left before them, or `--` came
+-- the pieces of words, where these letters of a group are left before them, or `--` was read
 abbrev pub pieces_from : Option (Bor Text) → List Text → List Piece
 pieces_from None words = map operand words
 pieces_from (Some letters) words = group (pieces words) (chars letters.now)
 
--- no letter of a group is left, and no `--` came
+-- no letter of a group is left, and no `--` was read
 abbrev pub AreUsedUp : Option (Bor Text) → Type 0
 AreUsedUp None = ⊥
 AreUsedUp (Some letters) = chars letters.now ≡ []

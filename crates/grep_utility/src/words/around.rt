@@ -7,7 +7,7 @@ use grep_core::Context;
 /// On which side of selected lines an option has lines shown.
 #[derive(Clone, Copy, PartialEq, Eq, Debug, Drop)]
 pub enum Side {
-    /// `-A`: behind them.
+    /// `-A`: after them.
     After,
     /// `-B`: before them.
     Before,

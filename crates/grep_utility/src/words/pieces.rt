@@ -39,12 +39,12 @@ pub enum Piece<'a> {
     List(&'a str),
     /// The name of a pattern file.
     File(&'a str),
-    /// So many lines are shown on a side of selected ones.
+    /// This number of lines is shown on a side of selected ones.
     Around(Side, u64),
     Operand(&'a str),
 }
 
-/// What a word is, as long as no `--` came before it.
+/// What a word is, where no `--` is before it.
 #[derive(Clone, Copy, Drop)]
 enum Word<'a> {
     Operand,
@@ -81,8 +81,8 @@ pub fn meaning_of_option(letter: char) -> Option<Meaning>
     })
 }
 
-/// The option of this letter with its argument. `BadNumber` comes where the argument of `-A`, `-B`
-/// or `-C` is no number.
+/// The option of this letter with its argument. Returns `BadNumber` where the argument of `-A`,
+/// `-B` or `-C` is no number.
 fn with_argument(letter: char, argument: Argument, text: &str) -> Result<Piece<'_>, UsageFault>
     ensures { piece_of result ≡ with_argument letter argument text.now }
 {
@@ -131,7 +131,7 @@ fn kind_of_word(word: &str) -> Word<'_>
 #[derive(Drop)]
 pub struct WordPieces<'a> {
     words: &'a [String],
-    /// What is left of a group of options; `None` behind `--`.
+    /// What is left of a group of options; `None` after `--`.
     letters: Option<&'a str>,
 }
 
@@ -156,7 +156,7 @@ impl<'a> WordPieces<'a> {
         Some(word.as_str())
     }
 
-    /// The next word as an operand, where `--` came before it.
+    /// The next word as an operand, after a `--`.
     fn operand(&mut self) -> Option<Result<Piece<'a>, UsageFault>>
         requires { self.old.letters ≡ None }
         ensures { YieldsFirstBy piece_of pieces_left self.old result self.new }

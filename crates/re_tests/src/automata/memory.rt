@@ -6,21 +6,21 @@ use re_auto::{Automaton, Mode, Starts, StateSet, fresh_meter};
 use re_syntax::{fold, read_extended};
 use std::alloc::{AllocError, Global};
 
-/// A request for so many bytes has the next request behind it refused.
+/// A request for this number of bytes has the next request after it refused.
 const REFUSE: usize = 9_000_001;
 
-/// A request for so many bytes is refused where one was since the last command, and ends that
-/// command.
+/// A request for this number of bytes is refused where one was since the last command, and ends
+/// that command.
 const WAS_REFUSED: usize = 8_000_000;
 
-/// A request for so many bytes.
+/// Makes a request for this number of bytes.
 fn ask(alloc: Global, bytes: usize) -> Result<usize, AllocError> {
     let mut mark = Vec::with_capacity(alloc, bytes)?;
     mark.push(b'.')?;
     Ok(mark.len())
 }
 
-/// The automaton of an expression whose letters stand for both cases.
+/// The automaton of an expression whose letters match both cases.
 fn folded(rt: &HostRuntime, text: &[u8]) -> Option<Automaton> {
     let tree = read_extended(rt.alloc(), text).ok()?;
     ask(rt.alloc(), REFUSE).ok()?;

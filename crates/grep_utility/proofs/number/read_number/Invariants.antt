@@ -3,6 +3,6 @@ use Rattle.re_syntax.specs.Intervals.{value}
 use Rattle.grep_utility.proofs.lemmas.NumberLemmas.{AreDigitsTo}
 use Rattle.grep_utility.proofs.number.read_number.Given as goal
 
--- so many digits were read
+-- the digits before this place were read
 abbrev pub invariant-loop-byte : goal.invariant-loop-byte
 invariant-loop-byte l = AreDigitsTo l.word l.byte-index × (l.value ≡ value (take l.byte-index l.word)) × (l.value < 2 ^ 64)

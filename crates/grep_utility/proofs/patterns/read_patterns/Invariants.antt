@@ -5,7 +5,7 @@ use Rattle.grep_utility.specs.Words.{given_source}
 use Rattle.grep_utility.proofs.lemmas.SourceLemmas.{SourcesSoFar}
 use Rattle.grep_utility.proofs.patterns.read_patterns.Given as goal
 
--- so many sources were read, and nothing failed
+-- the sources before this one were read, and nothing failed
 abbrev pub invariant-loop-source : goal.invariant-loop-source
 invariant-loop-source g l = record {
   so_far : SourcesSoFar (g.F.Files.folder l.fn.files) (map given_source l.fn.sources) (g.F.Files.folder l.files) (map given_source (drop l.source-index l.sources)) l.texts.items;

@@ -4,7 +4,7 @@ use Rattle.grep_core.specs.Written.{GoesOut}
 use Rattle.grep_core.specs.Working.Numbered.{HasHanded}
 use Rattle.grep_cmd.proofs.script.counted.take_lines.Given as goal
 
--- so many lines were taken
+-- these lines were taken, at most the counted number
 abbrev pub invariant-loop-alloc : goal.invariant-loop-alloc
 invariant-loop-alloc g l =
     ((reader : _) (handed : List Text) → HasHanded g.R.CountedRead.remaining g.R.CountedRead.failures reader l.fn.lines handed

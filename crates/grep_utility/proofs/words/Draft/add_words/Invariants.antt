@@ -4,7 +4,7 @@ use Rattle.grep_utility.specs.Words.{asked, pieces, reads_on, texts_of}
 use Rattle.grep_utility.specs.Working.Pieces.{pieces_left}
 use Rattle.grep_utility.proofs.words.Draft.add_words.Given as goal
 
--- the request so far and the pieces that are left come to what the words ask for
+-- the request so far with the pieces that are left is what the words ask for
 abbrev pub invariant-loop-piece : goal.invariant-loop-piece
 invariant-loop-piece l =
     (goal.iterator-loop-piece).can_next l.piece-iterator × (goal.iterator-loop-piece).is_finite l.piece-iterator
