@@ -38,7 +38,7 @@ MOST_WORDS = {
 }
 """How many words pages have at most, by the pattern of their names."""
 
-NOT_YET = {"editors/emacs/README.md"}
+NOT_YET: set[str] = set()
 """The patterns whose pages are still too long. A page that gets there loses its place here."""
 
 COUNTS = {"docs/EVIDENCE.md", "docs/PERFORMANCE.md", "docs/PROVING.md"}
