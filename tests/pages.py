@@ -1,5 +1,6 @@
 """Cases of the pages of the repository: links and anchors, the number of words, numbers that a script
-counts, names of contracts, manual pages. They run no program, and need git.
+counts, names of contracts, examples, manual pages. They need git, and run the programs for the examples
+in README alone.
 """
 
 from __future__ import annotations
@@ -45,7 +46,8 @@ COUNTS = {"docs/EVIDENCE.md", "docs/PERFORMANCE.md", "docs/PROVING.md"}
 """The pages that may name counts of functions, edits, cases and runs."""
 
 case = Cases("grep", "pages.py")
-cases = all_of(case)
+occur_case = Cases("occur", "pages.py")
+cases = all_of(case, occur_case)
 """All cases of this file."""
 
 
@@ -159,6 +161,76 @@ def contracts(bench: Bench) -> Verdict:
         for name in re.findall(r"`([^`]+)`", row):
             named += name.split("::")
     return judged([name for name in named if name not in known] if named else ["no contract is named"])
+
+
+# Examples
+
+EXAMPLES = REPOSITORY / "crates" / "examples" / "src"
+"""The crate that compiles and runs the code of the pages."""
+
+Example = tuple[str, str]
+"""The name of a page, and code that it shows."""
+
+
+def shown_examples() -> set[Example]:
+    """The code of the pages: what they show as `rust`."""
+    return {(page, code) for page, text in pages().items()
+            for code in re.findall(r"^```rust\n(.*?)^```$", text, re.MULTILINE | re.DOTALL)}
+
+
+def tested_examples() -> set[Example]:
+    """The code of the crate `examples` that stands between the name of a page and `// end`."""
+    return {example for file in EXAMPLES.glob("**/*.rt")
+            for example in re.findall(r"^// (\S+\.md)\n(.*?)^// end$", file.read_text(encoding="utf-8"),
+                                      re.MULTILINE | re.DOTALL)}
+
+
+@case("The code that the pages show is that of the crate `examples`.")
+def examples(bench: Bench) -> Verdict:
+    shown, tested = shown_examples(), tested_examples()
+    if not tested:
+        return judged(["the crate has no example"])
+    untested = [f"{page}: no test has the code {code}" for page, code in sorted(shown - tested)]
+    unseen = [f"{page}: the page doesn't show the code {code}" for page, code in sorted(tested - shown)]
+    return judged(untested + unseen)
+
+
+@case("Each page with a heading `Example` shows code.")
+def headed_examples(bench: Bench) -> Verdict:
+    shown = {page for page, _ in shown_examples()}
+    return judged([page for page, text in pages().items() if "\n## Example\n" in text and page not in shown])
+
+
+def shell_examples(program: str) -> list[tuple[str, bytes]]:
+    """The commands of README that run a program, each with what it shows."""
+    text = (REPOSITORY / "README.md").read_text(encoding="utf-8")
+    found = re.findall(r"^    \$ (.*)\n((?:    (?!\$ ).*\n)*)", text, re.MULTILINE)
+    return [(command, re.sub("^    ", "", shown, flags=re.MULTILINE).encode())
+            for command, shown in found if f"build/{program}" in command]
+
+
+def shell_verdict(bench: Bench) -> Verdict:
+    """Each command of README that runs the program has to show what the page says."""
+    build = bench.folder / "build"
+    build.mkdir()
+    (build / bench.name).symlink_to(bench.program)
+    wanted = shell_examples(bench.name)
+    if not wanted:
+        return judged(["there is no command"])
+    given = [subprocess.run(["sh", "-c", command], cwd=bench.folder, stdin=subprocess.DEVNULL,
+                            stdout=subprocess.PIPE, stderr=subprocess.STDOUT, timeout=SECONDS, check=False).stdout
+             for command, _ in wanted]
+    return Verdict(Answer(b"".join(shown for _, shown in wanted)), Answer(b"".join(given)))
+
+
+@case("The commands in README that run grep show what the page says.")
+def grep_commands(bench: Bench) -> Verdict:
+    return shell_verdict(bench)
+
+
+@occur_case("The commands in README that run occur show what the page says.")
+def occur_commands(bench: Bench) -> Verdict:
+    return shell_verdict(bench)
 
 
 # Manual pages

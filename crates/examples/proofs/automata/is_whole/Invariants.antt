@@ -1,0 +1,9 @@
+use Rattle.re_syntax.specs.Expression.{expression_of}
+use Rattle.re_auto.specs.Working.StateSets.{IsMadeFor}
+use Rattle.examples.proofs.automata.is_whole.Given as goal
+
+abbrev pub invariant-loop-byte : goal.invariant-loop-byte
+invariant-loop-byte l = record {
+  now : IsMadeFor (expression_of l.automaton) l.now;
+  next : IsMadeFor (expression_of l.automaton) l.next;
+}

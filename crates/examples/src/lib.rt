@@ -1,0 +1,17 @@
+//! The code that the pages show: nothing but examples, each with a test.
+#![tactic(auto)]
+
+#[cfg(test)]
+mod automata;
+#[cfg(test)]
+mod lines;
+#[cfg(test)]
+mod matchers;
+#[cfg(test)]
+mod scripts;
+#[cfg(test)]
+mod sessions;
+#[cfg(test)]
+mod trees;
+#[cfg(test)]
+mod utility;
