@@ -1,5 +1,8 @@
 //! Searches and commands with their output, messages and exit status.
 use crate::harness::{Row, assert_command, assert_search, folder, read_by};
+use grep_cmd::MemoryFile;
+use std::alloc::Global;
+use std::process::Abort;
 use std::test::Fail;
 
 const A_255: &[u8] = b"aaaaaaaaaaaaaaaaaaaaaaaaaaaaaaaaaaaaaaaaaaaaaaaaaaaaaaaaaaaaaaaa\
@@ -91,18 +94,29 @@ fn of_files() -> &'static [Row<'static>] {
     &OF_FILES
 }
 
+/// Searches and commands give these rows, where reads of standard input give at most `step` bytes.
+fn assert_rows(
+    rt: &impl Abort,
+    alloc: Global,
+    rows: &'static [Row<'static>],
+    files: &[MemoryFile<'static>],
+    step: usize,
+) -> Result<(), Fail> {
+    for row in rows {
+        assert_search(rt, alloc, *row, files, step)?;
+        assert_command(rt, alloc, *row, files, step)?;
+    }
+    Ok(())
+}
+
 #[test]
 fn searches_give_their_rows(rt: HostRuntime) -> Result<(), Fail> {
-    let alloc = rt.alloc();
     for step in [1, usize::MAX] {
         let folder = folder().map(|file| read_by(file, step));
         let files = folder.as_slice();
-        for rows in [of_input(), of_strings(), of_files()] {
-            for row in rows {
-                assert_search(&rt, alloc, *row, files, step)?;
-                assert_command(&rt, alloc, *row, files, step)?;
-            }
-        }
+        assert_rows(&rt, rt.alloc(), of_input(), files, step)?;
+        assert_rows(&rt, rt.alloc(), of_strings(), files, step)?;
+        assert_rows(&rt, rt.alloc(), of_files(), files, step)?;
     }
     Ok(())
 }
