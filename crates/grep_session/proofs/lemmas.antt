@@ -18,6 +18,7 @@ pub mod LineSteps
 pub mod AroundSteps
 pub mod FileSteps
 pub mod KeptLaws
+pub mod LookingLemmas
 pub mod AroundKept
 pub mod KeptOutput
 pub mod HeadlineLaws

@@ -9,4 +9,5 @@ pub mod Again
 pub mod Effects
 pub mod Dropping
 pub mod Report
+pub mod Looking
 pub mod Changed

@@ -13,6 +13,7 @@ mod fault;
 mod finding;
 mod findings;
 mod found;
+mod hit;
 mod kept;
 mod laws;
 mod lines;
@@ -25,6 +26,7 @@ mod splicing;
 mod verdicts;
 
 pub use fault::EditFault;
+pub use hit::Hit;
 pub use laws::{accepted_edits_decide, edits_are_determined};
 pub use re_search::Meter;
 pub use session::Session;

@@ -12,6 +12,7 @@ ghost use Rattle.grep_session.specs.Touched.{TakesSteps, NeedsNoMemory, Touches,
 ghost use Rattle.grep_session.specs.Touched.{parts_alone, all_lines};
 ghost use Rattle.grep_session.specs.Working.Again.{ReadsAgain, AreReadable, read_as};
 
+mod looking;
 mod reporting;
 
 use crate::change::Change;

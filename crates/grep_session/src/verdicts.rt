@@ -1,5 +1,6 @@
 //! What is known of files and lines without a search, from what is kept of them.
-ghost use Rattle.std.specs.Prelude.{◌≡◌};
+ghost use Rattle.std.specs.Prelude.{◌≡◌, length};
+ghost use Rattle.grep_session.specs.Working.Kept.{kept_file};
 ghost use Rattle.grep_session.specs.Working.Report.{end_of, is_selected, some_selected};
 ghost use Rattle.grep_session.specs.Working.Report.{has_selected};
 
@@ -30,6 +31,16 @@ impl KeptFile {
         match &self.lines {
             Some(_) => FileEnd::Whole,
             None => FileEnd::Missing,
+        }
+    }
+
+    /// How many lines the file has, where it could be opened.
+    pub fn line_count(&self) -> usize
+        ensures { result ≡ length (kept_file self.now).lines }
+    {
+        match &self.lines {
+            Some(lines) => lines.len(),
+            None => 0,
         }
     }
 

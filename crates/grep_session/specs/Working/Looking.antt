@@ -1,0 +1,9 @@
+-- What is kept of a line for an editor.
+use Rattle.std.specs.Prelude.{List, [], if◌then◌else◌}
+use Rattle.re_search.specs.declared.span.Span.{Span}
+use Rattle.grep_core.specs.declared.options.Options.{Options}
+use Rattle.grep_session.specs.declared.kept.KeptLine.{KeptLine}
+
+-- under `-o` the parts that are kept of a line are told, and else none
+abbrev pub told_spans : Options → KeptLine → List Span
+told_spans options line = if options.only_matching then line.found.spans else []

@@ -1,0 +1,67 @@
+//! What a reader of a session sees of it: its files and their lines, and which lines an editor
+//! lists. No line is searched and no memory is taken.
+ghost use Rattle.std.specs.Prelude.{◌≡◌, ◌<◌, List, [], length, map, get_or, MatchBool};
+ghost use Rattle.std.specs.Prelude.{MatchOption};
+ghost use Rattle.re_syntax.specs.Expression.{Expression};
+ghost use Rattle.grep_core.specs.Files.{AreMeant, Selected};
+ghost use Rattle.grep_core.specs.Run.{file_at};
+ghost use Rattle.grep_session.specs.Edits.{option_of};
+ghost use Rattle.grep_session.specs.Working.Kept.{span_places};
+ghost use Rattle.grep_session.specs.Told.{PartsTold};
+
+use crate::choosing::{is_same, option_of};
+use crate::hit::Hit;
+use crate::session::Session;
+use grep_core::Flag;
+use re_search::Syntax;
+
+impl Session {
+    /// How many files there are.
+    pub fn file_count(&self) -> usize
+        ensures { result ≡ length self.now.files }
+    {
+        self.files.len()
+    }
+
+    /// How many lines file `k` has; none where it cannot be opened or is not there.
+    pub fn line_count(&self, k: usize) -> usize
+        ensures { result ≡ length (file_at self.now.files k).lines }
+    {
+        let Some(file) = self.files.get(k) else {
+            return 0;
+        };
+        file.line_count()
+    }
+
+    /// Line `place` of file `k` as an editor lists it, where grep selects it; both are numbered
+    /// from 0. Its parts are told under `-o`.
+    pub fn hit(&self, k: usize, place: usize) -> Option<Hit<'_>>
+        requires { place < length (file_at self.now.files k).lines }
+        ensures { (es : List Expression) →
+            AreMeant self.now.syntax self.now.options self.now.patterns es →
+            let line = get_or (file_at self.now.files k).lines place [] in
+            MatchOption result (Selected es self.now.options line → ⊥)
+            (λ hit. Selected es self.now.options line × (hit.text.now ≡ line) ×
+            PartsTold es self.now.options line (map span_places hit.parts.now)) }
+    {
+        let Some(lines) = &self.files[k].lines else {
+            return None;
+        };
+        lines[place].hit(&self.options)
+    }
+
+    /// Whether an option is set so.
+    pub fn has_option(&self, flag: Flag, on: bool) -> bool
+        ensures { MatchBool result (option_of flag self.now.options ≡ on)
+            (option_of flag self.now.options ≡ on → ⊥) }
+    {
+        option_of(&self.options, flag) == on
+    }
+
+    /// Whether the patterns are read in this syntax.
+    pub fn has_syntax(&self, syntax: Syntax) -> bool
+        ensures { MatchBool result (syntax ≡ self.now.syntax) (syntax ≡ self.now.syntax → ⊥) }
+    {
+        is_same(syntax, self.syntax)
+    }
+}
