@@ -1,0 +1,304 @@
+-- What each edit leaves: marks that fit, and views that follow.
+use Rattle.std.proofs.Common.{◌≡◌, ℕ, ◌+◌, ◌-◌, ◌<◌, ◌≤◌, Bool, List, [], ◌∷◌, ◌++◌, length, map, take, drop, get_or, Option, Result, Ok, Err, refl, ◌⊎◌, sym, ap, subst, ◌∙◌, inl, inr, arith}
+use Rattle.std.proofs.Math.ListN.{set}
+use Rattle.std.proofs.lemmas.List.{drop_all, append-nil, length-append, get_or_read}
+use Rattle.std.proofs.lemmas.List.Edits.{remove-append_right}
+use Rattle.std.specs.Result.{IfOk, IfErr}
+use Rattle.std.proofs.lemmas.Bool.{cases_lt}
+use Rattle.std.specs.Prelude.{slice_set}
+use Rattle.std.specs.List.{AllZip, remove, splice}
+use Rattle.re_syntax.specs.declared.syntax.Syntax.{Syntax}
+use Rattle.re_syntax.specs.Bytes.{Text}
+use Rattle.re_syntax.specs.Lines.{list_of}
+use Rattle.re_syntax.specs.Expression.{Expression}
+use Rattle.grep_core.specs.declared.options.Flag.{Flag}
+use Rattle.grep_core.specs.declared.options.Flag.TheVariants.{Count, IgnoreCase, FilesWithMatches, LineNumber, OnlyMatching, Quiet, NoMessages, InvertMatch, LineRegexp}
+use Rattle.grep_core.specs.declared.options.Context.{Context}
+use Rattle.grep_core.specs.declared.options.Options.{Options}
+use Rattle.grep_core.specs.Choose.{IfHolds}
+use Rattle.grep_core.specs.Files.{File, Inputs, AreMeant, Selected}
+use Rattle.grep_core.specs.Run.{file_at}
+use Rattle.grep_session.specs.declared.fault.EditFault.{EditFault}
+use Rattle.grep_session.specs.declared.fault.EditFault.TheVariants.{NoSuchFile, FileIsMissing, OutOfRange, LineHasNewline, NoSuchPattern, Pattern, TooManyPatterns, Memory}
+use Rattle.grep_session.specs.Edits.{Edit, AddFile, AddMissing, DropFile, Splice, AddPatterns, DropPattern, SetFlag, SetSyntax, SetContext, Applies, EditGives, Reads, HasPlace, option_of, with_option, with_files, with_patterns, with_context, whole_file, missing_file, spliced}
+use Rattle.grep_session.specs.Told.{PartsTold}
+use Rattle.grep_live.specs.declared.mark.Mark.{Mark}
+use Rattle.grep_live.specs.Lists.{AllThree}
+use Rattle.grep_live.specs.Hits.{Hit, View, HitsFrom}
+use Rattle.grep_live.specs.Changes.{AreWithin, hits_before, hits_from}
+use Rattle.grep_live.specs.Marks.{Watched, whole_mark, new_mark, mark_at, touched, lost, marks_by_flag, MarksAfter, MarksGiven}
+use Rattle.grep_live.specs.Following.{FollowsFile, Follows, view_after, view_given, Carries}
+use Rattle.grep_live.specs.Working.Fits.{Fits, AreFit}
+use Rattle.grep_live.proofs.lemmas.ListLemmas.{zip-append, zip-remove, zip-set, zip-map, zip-at, zip-length, three-append, three-remove, three-set, three-map, three-weaker}
+use Rattle.grep_live.proofs.lemmas.HitLemmas.{before_none, hits_from_none}
+use Rattle.grep_live.proofs.lemmas.MarkLemmas.{fits_touched, length-splice, spliced_front, spliced_back}
+
+-- ---- outcomes
+
+-- two new inputs that are the same outcome
+same_inputs : {E : Type 0} (a b : Inputs) → ◌≡◌ {A = Result Inputs E} (Ok a) (Ok b) → a ≡ b
+same_inputs a b e = cc
+
+not_refused : {E : Type 0} (a : Inputs) (f : E) → ◌≡◌ {A = Result Inputs E} (Ok a) (Err f) → ⊥
+not_refused a f e = cc
+
+-- an accepted edit that is refused where P does not hold
+accepted_if : {E P : Type 0} (a b : Inputs) (f : E) → IfHolds P (◌≡◌ {A = Result Inputs E} (Ok a) (Ok b)) (◌≡◌ {A = Result Inputs E} (Ok a) (Err f)) → P × (a ≡ b)
+accepted_if a b f (inl (p, e)) = (p, same_inputs a b e)
+accepted_if a b f (inr (p, e)) = absurd (not_refused a f e)
+
+-- an accepted edit that is refused where P holds
+accepted_unless : {E P Q : Type 0} (a : Inputs) (f : E) → IfHolds P (◌≡◌ {A = Result Inputs E} (Ok a) (Err f)) Q → (P → ⊥) × Q
+accepted_unless a f (inl (p, e)) = absurd (not_refused a f e)
+accepted_unless a f (inr (p, q)) = (p, q)
+
+accepted_read : (syntax : Syntax) (fold : Bool) (texts : List Text) (a b : Inputs) → Reads syntax fold texts b (Ok a) → a ≡ b
+accepted_read syntax fold texts a b (inl (readable, e)) = same_inputs a b e
+accepted_read syntax fold texts a b (inr (unreadable, (place, fault, first, e))) = absurd (not_refused a (Pattern place fault) e)
+
+-- the value that an option has
+with_same : (flag : Flag) (options : Options) → with_option flag (option_of flag options) options ≡ options
+with_same Count options = refl
+with_same IgnoreCase options = refl
+with_same FilesWithMatches options = refl
+with_same LineNumber options = refl
+with_same OnlyMatching options = refl
+with_same Quiet options = refl
+with_same NoMessages options = refl
+with_same InvertMatch options = refl
+with_same LineRegexp options = refl
+
+-- ---- one file
+
+-- no line behind the last has a hit
+nothing_behind : (es : List Expression) (options : Options) (first : ℕ) (lines : List Text) (hits : List Hit) → length lines ≤ first → hits ≡ [] → HitsFrom es options first (drop first lines) hits
+nothing_behind es options first lines hits l e = subst (λ (t : List Text). HitsFrom es options first t hits) (sym (drop_all first lines l)) e
+
+-- a list of which nothing is wanted but that it is in order
+lost_file : (i j : Inputs) (file : File) (mark : Mark) (hits : List Hit) → FollowsFile i file mark hits → FollowsFile j file (lost mark) hits
+lost_file i j file mark hits f = record {
+  in_order = f.in_order;
+  in_front = (λ es meant. before_none 0 0 mark.told hits f.in_order (omega arith));
+  behind = (λ es meant. nothing_behind es j.options (length file.lines - 0) file.lines (hits_from (mark.told - 0) (length file.lines - 0) hits) (omega arith) (hits_from_none 0 (mark.told - 0) mark.told (length file.lines - 0) hits f.in_order (omega arith)));
+}
+
+-- the list of a file of which nothing was told
+new_file : (i : Inputs) (file : File) → FollowsFile i file new_mark []
+new_file i file = record {
+  in_order = tt;
+  in_front = (λ es meant. refl);
+  behind = (λ es meant. nothing_behind es i.options (length file.lines - 0) file.lines [] (omega arith) refl);
+}
+
+-- the list of a file of which some lines gave way
+spliced_file : (i : Inputs) (file : File) (mark : Mark) (hits : List Hit) (come : List Text) (start count : ℕ) → start + count ≤ length file.lines → Fits (length file.lines) mark → FollowsFile i file mark hits →
+    FollowsFile i (record file { lines = splice file.lines start (start + count) come }) (touched start (length file.lines - (start + count)) mark) hits
+spliced_file i file mark hits come start count within fits f = record {
+  in_order = f.in_order;
+  in_front = (λ es meant. spliced_front (Selected es i.options) (PartsTold es i.options) file.lines come start count mark hits within (f.in_front es meant));
+  behind = (λ es meant. spliced_back (Selected es i.options) (PartsTold es i.options) file.lines come start count mark hits within fits (f.behind es meant));
+}
+
+-- the same under inputs for which the patterns mean the same and lines have the same hits
+same_file : (i j : Inputs) → ((es : List Expression) → AreMeant j.syntax j.options j.patterns es → AreMeant i.syntax i.options i.patterns es) →
+    ((es : List Expression) (n : ℕ) (lines : List Text) (hits : List Hit) → HitsFrom es i.options n lines hits → HitsFrom es j.options n lines hits) →
+    (file : File) (mark : Mark) (hits : List Hit) → FollowsFile i file mark hits → FollowsFile j file mark hits
+same_file i j back same file mark hits f = record {
+  in_order = f.in_order;
+  in_front = (λ es meant. same es 0 (take mark.front file.lines) (hits_before mark.front hits) (f.in_front es (back es meant)));
+  behind = (λ es meant. let first = length file.lines - mark.back in same es first (drop first file.lines) (hits_from (mark.told - mark.back) first hits) (f.behind es (back es meant)));
+}
+
+fits_lost : (file : File) (mark : Mark) → Fits (length file.lines) mark → Fits (length file.lines) (lost mark)
+fits_lost file mark fits = inr (omega arith, omega arith)
+
+-- ---- all files
+
+abbrev Fit : File → Mark → Type 0
+Fit file mark = Fits (length file.lines) mark
+
+-- what is left is right: marks that fit, and what an editor then has follows
+abbrev IsLeft : Watched → Watched → (View → View) → Type 0
+IsLeft old new change = AreFit new.inputs.files new.marks × ((view : View) → Follows old view → Follows new (change view))
+
+module _ (old : Watched) (fit : AreFit old.inputs.files old.marks) where
+  -- views under other inputs with the same files
+  same_views : (inputs : Inputs) → ((es : List Expression) → AreMeant inputs.syntax inputs.options inputs.patterns es → AreMeant old.inputs.syntax old.inputs.options old.inputs.patterns es) →
+      ((es : List Expression) (n : ℕ) (lines : List Text) (hits : List Hit) → HitsFrom es old.inputs.options n lines hits → HitsFrom es inputs.options n lines hits) →
+      (view : View) → Follows old view → AllThree (FollowsFile inputs) old.inputs.files old.marks view
+  same_views inputs back same view h = three-weaker (FollowsFile old.inputs) (FollowsFile inputs) (same_file old.inputs inputs back same) old.inputs.files old.marks view h
+
+  left_added : (file : File) → IsLeft old (record { inputs = with_files (old.inputs.files ++ file ∷ []) old.inputs; marks = old.marks ++ new_mark ∷ [] }) (λ view. view ++ [] ∷ [])
+  left_added file =
+      let inputs = with_files (old.inputs.files ++ file ∷ []) old.inputs in (
+        zip-append Fit old.inputs.files old.marks file new_mark fit (inr (omega arith, omega arith)),
+        (λ view h. three-append (FollowsFile inputs) old.inputs.files old.marks view file new_mark [] (same_views inputs (λ es m. m) (λ es n l hits x. x) view h) (new_file inputs file)),
+      )
+
+  left_dropped : (k : ℕ) → IsLeft old (record { inputs = with_files (remove old.inputs.files k) old.inputs; marks = remove old.marks k }) (λ view. remove view k)
+  left_dropped k =
+      let inputs = with_files (remove old.inputs.files k) old.inputs in (
+        zip-remove Fit old.inputs.files old.marks k fit,
+        (λ view h. three-remove (FollowsFile inputs) old.inputs.files old.marks view k (same_views inputs (λ es m. m) (λ es n l hits x. x) view h)),
+      )
+
+  left_spliced : (k start count : ℕ) (come : List Text) → k < length old.inputs.files → start + count ≤ length (file_at old.inputs.files k).lines →
+      IsLeft old (record { inputs = with_files (spliced old.inputs.files k start count come) old.inputs; marks = slice_set old.marks k (touched start (length (file_at old.inputs.files k).lines - (start + count)) (mark_at old.marks k)) }) (λ view. view)
+  left_spliced k start count come inside within =
+      let inputs = with_files (spliced old.inputs.files k start count come) old.inputs in
+      let file = file_at old.inputs.files k in
+      let none = file_at [] k in
+      let mark = mark_at old.marks k in
+      let new_file = record file { lines = splice file.lines start (start + count) come } in
+      let new_mark_there = touched start (length file.lines - (start + count)) mark in
+      let fits : Fits (length file.lines) mark = zip-at Fit old.inputs.files old.marks k none new_mark inside fit in
+      let longer : start + (length file.lines - (start + count)) ≤ length (splice file.lines start (start + count) come) = omega (arith, length-splice file.lines come start count within) in (
+        zip-set Fit old.inputs.files old.marks k new_file new_mark_there fit (fits_touched (length file.lines) (length (splice file.lines start (start + count) come)) start count mark fits within longer),
+        (λ view h. three-set (FollowsFile inputs) old.inputs.files old.marks view k new_file none new_mark_there new_mark (λ hits f. spliced_file inputs file mark hits come start count within fits f) (same_views inputs (λ es m. m) (λ es n l hits x. x) view h)),
+      )
+
+  left_lost : (inputs : Inputs) → inputs.files ≡ old.inputs.files → IsLeft old (record { inputs = inputs; marks = map lost old.marks }) (λ view. view)
+  left_lost inputs same = (
+    subst (λ files. AreFit files (map lost old.marks)) (sym same) (zip-map Fit lost fits_lost old.inputs.files old.marks fit),
+    (λ view h. subst (λ files. AllThree (FollowsFile inputs) files (map lost old.marks) view) (sym same) (three-map (FollowsFile old.inputs) (FollowsFile inputs) lost (lost_file old.inputs inputs) old.inputs.files old.marks view h)),
+  )
+
+  -- an option by which no list changes
+  left_option : (flag : Flag) (on : Bool) → IsLeft old (record { inputs = record old.inputs { options = with_option flag on old.inputs.options }; marks = marks_by_flag flag old.marks }) (λ view. view)
+  left_option Count on = (fit, same_views (record old.inputs { options = with_option Count on old.inputs.options }) (λ es m. m) (λ es n l hits x. x))
+  left_option FilesWithMatches on = (fit, same_views (record old.inputs { options = with_option FilesWithMatches on old.inputs.options }) (λ es m. m) (λ es n l hits x. x))
+  left_option LineNumber on = (fit, same_views (record old.inputs { options = with_option LineNumber on old.inputs.options }) (λ es m. m) (λ es n l hits x. x))
+  left_option Quiet on = (fit, same_views (record old.inputs { options = with_option Quiet on old.inputs.options }) (λ es m. m) (λ es n l hits x. x))
+  left_option NoMessages on = (fit, same_views (record old.inputs { options = with_option NoMessages on old.inputs.options }) (λ es m. m) (λ es n l hits x. x))
+  left_option IgnoreCase on = left_lost (record old.inputs { options = with_option IgnoreCase on old.inputs.options }) refl
+  left_option OnlyMatching on = left_lost (record old.inputs { options = with_option OnlyMatching on old.inputs.options }) refl
+  left_option InvertMatch on = left_lost (record old.inputs { options = with_option InvertMatch on old.inputs.options }) refl
+  left_option LineRegexp on = left_lost (record old.inputs { options = with_option LineRegexp on old.inputs.options }) refl
+
+  -- nothing is another
+  left_same : IsLeft old old (λ view. view)
+  left_same = (fit, (λ view h. h))
+
+  left_flag : (flag : Flag) (on : Bool) (marks : List Mark) → MarksAfter (SetFlag flag on) old marks → IsLeft old (record { inputs = record old.inputs { options = with_option flag on old.inputs.options }; marks = marks }) (λ view. view)
+  left_flag flag on marks (inl (same, e)) =
+      let options : with_option flag on old.inputs.options ≡ old.inputs.options = ap (λ b. with_option flag b old.inputs.options) (sym same) ∙ with_same flag old.inputs.options in
+      subst (λ (w : Watched). IsLeft old w (λ view. view)) (λ i. record { inputs = record old.inputs { options = sym options i }; marks = sym e i }) left_same
+  left_flag flag on marks (inr (other, e)) =
+      subst (λ (m : List Mark). IsLeft old (record { inputs = record old.inputs { options = with_option flag on old.inputs.options }; marks = m }) (λ view. view)) (sym e) (left_option flag on)
+
+  left_syntax : (syntax : Syntax) (marks : List Mark) → MarksAfter (SetSyntax syntax) old marks → IsLeft old (record { inputs = record old.inputs { syntax = syntax }; marks = marks }) (λ view. view)
+  left_syntax syntax marks (inl (same, e)) =
+      subst (λ (w : Watched). IsLeft old w (λ view. view)) (λ i. record { inputs = record old.inputs { syntax = sym same i }; marks = sym e i }) left_same
+  left_syntax syntax marks (inr (other, e)) =
+      subst (λ (m : List Mark). IsLeft old (record { inputs = record old.inputs { syntax = syntax }; marks = m }) (λ view. view)) (sym e) (left_lost (record old.inputs { syntax = syntax }) refl)
+
+  -- where inputs and marks are these
+  as_these : (new these : Watched) (change : View → View) → new.inputs ≡ these.inputs → new.marks ≡ these.marks → IsLeft old these change → IsLeft old new change
+  as_these new these change i m left = subst (λ (w : Watched). IsLeft old w change) (λ j. record { inputs = sym i j; marks = sym m j }) left
+
+  left_accepted : (edit : Edit) (new : Watched) → Applies edit old.inputs (Ok new.inputs) → MarksAfter edit old new.marks → IsLeft old new (view_after edit)
+  left_accepted (AddFile name lines) new a m =
+      let file = whole_file name lines in
+      as_these new (record { inputs = with_files (old.inputs.files ++ file ∷ []) old.inputs; marks = old.marks ++ new_mark ∷ [] }) (λ view. view ++ [] ∷ []) (accepted_if new.inputs (with_files (old.inputs.files ++ file ∷ []) old.inputs) LineHasNewline a).1 m (left_added file)
+  left_accepted (AddMissing name) new a m =
+      let file = missing_file name in
+      as_these new (record { inputs = with_files (old.inputs.files ++ file ∷ []) old.inputs; marks = old.marks ++ new_mark ∷ [] }) (λ view. view ++ [] ∷ []) (same_inputs new.inputs (with_files (old.inputs.files ++ file ∷ []) old.inputs) a) m (left_added file)
+  left_accepted (DropFile k) new a m =
+      as_these new (record { inputs = with_files (remove old.inputs.files k) old.inputs; marks = remove old.marks k }) (λ view. remove view k) (accepted_if new.inputs (with_files (remove old.inputs.files k) old.inputs) NoSuchFile a).1 m (left_dropped k)
+  left_accepted (Splice k start count lines) new a m =
+      let file = accepted_unless new.inputs NoSuchFile a in
+      let opened = accepted_unless new.inputs FileIsMissing file.1 in
+      let place = accepted_unless new.inputs OutOfRange opened.1 in
+      let put = accepted_if new.inputs (with_files (spliced old.inputs.files k start count lines) old.inputs) LineHasNewline place.1 in
+      let inside : k < length old.inputs.files = elim (cases_lt k (length old.inputs.files)) [ inl h ↦ h | inr h ↦ absurd (file.0 h) ] in
+      let within : start + count ≤ length (file_at old.inputs.files k).lines = elim (cases_lt (length (file_at old.inputs.files k).lines) (start + count)) [ inl h ↦ absurd (place.0 h) | inr h ↦ h ] in
+      as_these new (record { inputs = with_files (spliced old.inputs.files k start count lines) old.inputs; marks = slice_set old.marks k (touched start (length (file_at old.inputs.files k).lines - (start + count)) (mark_at old.marks k)) }) (λ view. view) put.1 m (left_spliced k start count lines inside within)
+  left_accepted (AddPatterns list) new a m =
+      let few = accepted_unless new.inputs TooManyPatterns a in
+      let inputs = with_patterns (old.inputs.patterns ++ list_of list) old.inputs in
+      as_these new (record { inputs = inputs; marks = map lost old.marks }) (λ view. view) (accepted_read old.inputs.syntax old.inputs.options.ignore_case (list_of list) new.inputs inputs few.1) m (left_lost inputs refl)
+  left_accepted (DropPattern p) new a m =
+      let inputs = with_patterns (remove old.inputs.patterns p) old.inputs in
+      as_these new (record { inputs = inputs; marks = map lost old.marks }) (λ view. view) (accepted_if new.inputs inputs NoSuchPattern a).1 m (left_lost inputs refl)
+  left_accepted (SetFlag flag on) new a m =
+      let inputs = record old.inputs { options = with_option flag on old.inputs.options } in
+      as_these new (record { inputs = inputs; marks = new.marks }) (λ view. view) (accepted_read old.inputs.syntax (with_option flag on old.inputs.options).ignore_case old.inputs.patterns new.inputs inputs a) refl (left_flag flag on new.marks m)
+  left_accepted (SetSyntax syntax) new a m =
+      let inputs = record old.inputs { syntax = syntax } in
+      as_these new (record { inputs = inputs; marks = new.marks }) (λ view. view) (accepted_read syntax old.inputs.options.ignore_case old.inputs.patterns new.inputs inputs a) refl (left_syntax syntax new.marks m)
+  left_accepted (SetContext context) new a m =
+      let inputs = with_context context old.inputs in
+      as_these new (record { inputs = inputs; marks = old.marks }) (λ view. view) (same_inputs new.inputs inputs a) m
+      (fit, same_views inputs (λ es m. m) (λ es n l hits x. x))
+
+-- a refused edit leaves the inputs
+refused_same : (T : Type 0) (edit : Edit) (old new : Inputs) (fault : EditFault) → EditGives {T = T} edit old new (Err fault) → new ≡ old
+refused_same T edit old new NoSuchFile g = g.1
+refused_same T edit old new FileIsMissing g = g.1
+refused_same T edit old new OutOfRange g = g.1
+refused_same T edit old new LineHasNewline g = g.1
+refused_same T edit old new NoSuchPattern g = g.1
+refused_same T edit old new (Pattern place fault) g = g.1
+refused_same T edit old new TooManyPatterns g = g.1
+refused_same T edit old new Memory g = g
+
+-- what an edit leaves where its inputs and marks are right
+pub carried : (T : Type 0) (edit : Edit) (old new : Watched) (result : Result T EditFault) → AreFit old.inputs.files old.marks → EditGives edit old.inputs new.inputs result → MarksGiven edit old new.marks result →
+    AreFit new.inputs.files new.marks × Carries edit old new result
+carried T edit old new (Ok done) fit g m =
+    let left = left_accepted old fit edit new g m in
+    (left.0, record { marks = m; follows = left.1 })
+carried T edit old new (Err fault) fit g m =
+    let left = as_these old fit new old (λ view. view) (refused_same T edit old.inputs new.inputs fault g) m (left_same old fit) in
+    (left.0, record { marks = m; follows = left.1 })
+
+-- ---- what the code needs besides
+
+-- a file that is dropped, or in which lines give way, is there
+pub dropped_inside : (k : ℕ) (old new : Inputs) → Applies (DropFile k) old (Ok new) → k < length old.files
+dropped_inside k old new a = (accepted_if new (with_files (remove old.files k) old) NoSuchFile a).0
+
+pub spliced_inside : (k start count : ℕ) (lines : List Text) (old new : Inputs) → Applies (Splice k start count lines) old (Ok new) → k < length old.files
+spliced_inside k start count lines old new a =
+    let file = accepted_unless new NoSuchFile a in
+    elim (cases_lt k (length old.files)) [ inl h ↦ h | inr h ↦ absurd (file.0 h) ]
+
+-- there are as many marks as files
+pub as_many : (files : List File) (marks : List Mark) → AreFit files marks → length files ≡ length marks
+as_many files marks fit = zip-length Fit files marks fit
+
+-- what the files are behind one that is added
+pub added_file : (name : Text) (lines : List Text) (old new : Inputs) → Applies (AddFile name lines) old (Ok new) → new ≡ with_files (old.files ++ whole_file name lines ∷ []) old
+added_file name lines old new a = (accepted_if new (with_files (old.files ++ whole_file name lines ∷ []) old) LineHasNewline a).1
+
+pub added_missing : (name : Text) (old new : Inputs) → Applies (AddMissing name) old (Ok new) → new ≡ with_files (old.files ++ missing_file name ∷ []) old
+added_missing name old new a = same_inputs new (with_files (old.files ++ missing_file name ∷ []) old) a
+
+-- the last file taken out again
+taken_back : (file : File) (old between after : Inputs) → between ≡ with_files (old.files ++ file ∷ []) old → after ≡ with_files (remove between.files (length between.files - 1)) between → after ≡ old
+taken_back file old between after b a =
+    let n = length old.files in
+    let last : length (old.files ++ file ∷ []) - 1 ≡ n = omega (arith, length-append old.files (file ∷ [])) in
+    let zeroed : n - n ≡ 0 = omega arith in
+    let gone : remove (old.files ++ file ∷ []) n ≡ old.files = remove-append_right old.files (file ∷ []) n n refl (omega arith) ∙ ap (λ i. old.files ++ remove (file ∷ []) i) zeroed ∙ append-nil old.files in
+    a ∙ (λ i. with_files (remove (b i).files (length (b i).files - 1)) (b i)) ∙ ap (λ i. with_files (remove (old.files ++ file ∷ []) i) old) last ∙ ap (λ files. with_files files old) gone
+
+-- a file was added, and its mark; or it was taken out again
+pub marked_last : (edit : Edit) (file : File) (old : Watched) (between after : Inputs) (marks : List Mark) (result : Result (Unit {0}) EditFault) → AreFit old.inputs.files old.marks → ((m : List Mark) → m ≡ old.marks ++ new_mark ∷ [] → MarksAfter edit old m) → Applies edit old.inputs (Ok between) →
+    between ≡ with_files (old.inputs.files ++ file ∷ []) old.inputs → IfOk result (λ _. (after ≡ between) × (marks ≡ old.marks ++ new_mark ∷ [])) →
+    IfErr result (λ fault. (fault ≡ Memory) × (after ≡ with_files (remove between.files (length between.files - 1)) between) × (marks ≡ old.marks)) →
+    AreFit after.files marks × Carries edit old (record { inputs = after; marks = marks }) result
+marked_last edit file old between after marks (Ok done) fit marked applies is ok err =
+    carried (Unit {0}) edit old (record { inputs = after; marks = marks }) (Ok done) fit (subst (λ (i : Inputs). Applies edit old.inputs (Ok i)) (sym ok.0) applies) (marked marks ok.1)
+marked_last edit file old between after marks (Err fault) fit marked applies is ok err =
+    let same : after ≡ old.inputs = taken_back file old.inputs between after is err.1 in
+    let gives : EditGives {T = Unit {0}} edit old.inputs after (Err fault) = subst (λ (f : EditFault). EditGives {T = Unit {0}} edit old.inputs after (Err f)) (sym err.0) same in
+    carried (Unit {0}) edit old (record { inputs = after; marks = marks }) (Err fault) fit gives err.2
+
+-- the mark of a file in which lines gave way
+pub touched_is : (marks : List Mark) (k start count lines behind rest : ℕ) (mark new : Mark) → k < length marks → new ≡ touched start behind mark → mark ≡ get_or marks k mark → behind ≡ rest - count → rest ≡ lines - start →
+    slice_set marks k new ≡ slice_set marks k (touched start (lines - (start + count)) (mark_at marks k))
+touched_is marks k start count lines behind rest mark new inside is at b r =
+    let there : mark ≡ mark_at marks k = get_or_read marks k mark inside at new_mark in
+    let far : behind ≡ lines - (start + count) = omega arith in
+    ap (slice_set marks k) (is ∙ (λ i. touched start (far i) (there i)))

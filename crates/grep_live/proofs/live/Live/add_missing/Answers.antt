@@ -1,0 +1,23 @@
+use Rattle.std.proofs.Common.{subst}
+use Rattle.grep_session.specs.Edits.{AddMissing, missing_file}
+use Rattle.grep_live.specs.Marks.{Watched}
+use Rattle.grep_live.specs.Following.{Carries}
+use Rattle.grep_live.specs.Working.Fits.{watched_of}
+use Rattle.grep_live.proofs.lemmas.CarryLemmas.{marked_last, added_missing}
+use Rattle.grep_live.proofs.live.Live.add_missing.Goals as goal
+
+pub invariant_of-self-2 : goal.invariant_of-self-2
+invariant_of-self-2 c =
+    let s = c.self.inside in
+    let name = c.args.name.items in
+    (marked_last (AddMissing name) (missing_file name) (watched_of s) c.add_missing.new.self c.mark_last.new.session c.mark_last.new.marks.items c.mark_last.result c.self.invariant (λ m e. e) c.in-Ok.ensures.gives
+    (added_missing name s.session c.add_missing.new.self c.in-Ok.ensures.gives) c.mark_last.ensures.ok c.mark_last.ensures.err).0
+
+pub returns-clause-carries : goal.returns-clause-carries
+returns-clause-carries c =
+    let s = c.self.inside in
+    let name = c.args.name.items in
+    let new : Watched = record { inputs = c.mark_last.new.session; marks = c.mark_last.new.marks.items } in
+    subst (λ (old : Watched). Carries (AddMissing name) old new c.mark_last.result) c.self.view_is
+    (marked_last (AddMissing name) (missing_file name) (watched_of s) c.add_missing.new.self c.mark_last.new.session c.mark_last.new.marks.items c.mark_last.result c.self.invariant (λ m e. e) c.in-Ok.ensures.gives
+    (added_missing name s.session c.add_missing.new.self c.in-Ok.ensures.gives) c.mark_last.ensures.ok c.mark_last.ensures.err).1

@@ -1,0 +1,38 @@
+use Rattle.std.proofs.Common.{ℕ, ◌<◌, ◌∷◌, [], length, map, get_or, subst, sym, arith}
+use Rattle.std.proofs.Math.ListN.{get_or-map}
+use Rattle.std.proofs.lemmas.List.{length-map}
+use Rattle.re_search.specs.declared.span.Span.{Span}
+use Rattle.grep_core.specs.Written.{GoesOut, StopsWithin}
+use Rattle.grep_session.specs.Working.Kept.{span_places}
+use Rattle.grep_session.proofs.lemmas.Writing.{writes_err}
+use Rattle.grep_live.specs.Rows.{part_text, more_parts}
+use Rattle.grep_live.proofs.lemmas.Pushing.{each_none, each_on, each_stops, each_all}
+use Rattle.grep_live.proofs.rows.write_more_parts.Goals as goal
+
+pub loop-part-init : goal.loop-part-init
+loop-part-init g c = each_none g.W.CountedWrite.contents g.W.CountedWrite.failures (λ part. 44 ∷ part_text part) (map span_places c.args.parts.now) c.args.out.now
+
+pub loop-part-preserved : goal.loop-part-preserved
+loop-part-preserved g c =
+    let parts = c.args.parts.now in
+    let i = c.loop-part.part-index in
+    let d : Span = record { start = 0; end = 0 } in
+    let inside : i < length (map span_places parts) = omega (arith, length-map parts span_places) in
+    let went : GoesOut g.W.CountedWrite.contents g.W.CountedWrite.failures c.loop-part.out c.write_part_behind.new.out (44 ∷ part_text (get_or (map span_places parts) i (span_places d))) =
+    subst (λ (p : ℕ × ℕ). GoesOut g.W.CountedWrite.contents g.W.CountedWrite.failures c.loop-part.out c.write_part_behind.new.out (44 ∷ part_text p)) (sym (get_or-map span_places parts i d)) c.in_ok-write_part_behind.ensures in
+    each_on g.W.CountedWrite.contents g.W.CountedWrite.failures (λ part. 44 ∷ part_text part) (map span_places parts) c.args.out.now c.loop-part.out c.write_part_behind.new.out i (span_places d) inside c.loop-part.invariant went
+
+pub returns-in_err-write_part_behind : goal.returns-in_err-write_part_behind
+returns-in_err-write_part_behind g c =
+    let parts = c.args.parts.now in
+    let i = c.loop-part.part-index in
+    let d : Span = record { start = 0; end = 0 } in
+    let inside : i < length (map span_places parts) = omega (arith, length-map parts span_places) in
+    let stopped : StopsWithin g.W.CountedWrite.contents g.W.CountedWrite.failures c.loop-part.out c.write_part_behind.new.out (44 ∷ part_text (get_or (map span_places parts) i (span_places d))) =
+    subst (λ (p : ℕ × ℕ). StopsWithin g.W.CountedWrite.contents g.W.CountedWrite.failures c.loop-part.out c.write_part_behind.new.out (44 ∷ part_text p)) (sym (get_or-map span_places parts i d)) c.in_err-write_part_behind.ensures in
+    writes_err g.W.CountedWrite.contents g.W.CountedWrite.failures [] _ _ (more_parts (map span_places parts)) c.from_residual.result c.from_residual.ensures.0
+    (each_stops g.W.CountedWrite.contents g.W.CountedWrite.failures (λ part. 44 ∷ part_text part) (map span_places parts) c.args.out.now c.loop-part.out c.write_part_behind.new.out i (span_places d) inside c.loop-part.invariant stopped)
+
+pub returns : goal.returns
+returns g c =
+    each_all g.W.CountedWrite.contents g.W.CountedWrite.failures (λ part. 44 ∷ part_text part) (map span_places c.args.parts.now) c.args.out.now c.loop-part.out c.loop-part.part-index (omega (arith, length-map c.args.parts.now span_places)) c.loop-part.invariant

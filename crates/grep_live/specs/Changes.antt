@@ -1,0 +1,69 @@
+-- Changes: what an editor is told of a file, and what it makes of the list that it has.
+use Rattle.std.specs.Prelude.{◌≡◌, ℕ, ◌+◌, ◌-◌, ◌<◌, ◌≤◌, nat_lt, nat_le, nat_eq, ◌&&◌, Bool}
+use Rattle.std.specs.Prelude.{if◌then◌else◌, List, [], ◌∷◌, ◌++◌, map, length, slice_range}
+use Rattle.std.specs.List.{filter}
+use Rattle.re_syntax.specs.Expression.{Expression}
+use Rattle.grep_core.specs.declared.options.Options.{Options}
+use Rattle.grep_core.specs.Files.{File}
+use Rattle.grep_live.specs.declared.mark.Mark.{Mark}
+use Rattle.grep_live.specs.Hits.{Hit, View, HitsFrom}
+
+-- ---- what an editor does
+
+-- the hits before a place
+abbrev pub hits_before : ℕ → List Hit → List Hit
+hits_before place hits = filter (λ hit. nat_lt hit.place place) hits
+
+-- a hit, where the line at `from` comes to stand at `to`
+abbrev pub moved : ℕ → ℕ → Hit → Hit
+moved from to hit = record hit { place = to + (hit.place - from) }
+
+-- the hits from a place on, where the line there comes to stand at `to`
+abbrev pub hits_from : ℕ → ℕ → List Hit → List Hit
+hits_from from to hits = map (moved from to) (filter (λ hit. nat_le from hit.place) hits)
+
+-- from `front` on `removed` lines gave way to `added` lines, in which these hits come
+abbrev pub spliced_hits : ℕ → ℕ → ℕ → List Hit → List Hit → List Hit
+spliced_hits front removed added come old =
+    hits_before front old ++ (come ++ hits_from (front + removed) (front + added) old)
+
+-- ---- what it is told
+
+-- from line `front` on `removed` lines gave way to `added` lines, and these are the hits in them
+pub record Change : Type 0 where
+  pub front : ℕ
+  pub removed : ℕ
+  pub added : ℕ
+  pub come : List Hit
+
+-- nothing is told of a file in which nothing gave way to anything
+abbrev pub is_idle : Change → Bool
+is_idle change = nat_eq change.removed 0 && nat_eq change.added 0
+
+-- the list of a file behind a change
+abbrev pub after : Change → List Hit → List Hit
+after change hits =
+    if is_idle change then hits
+    else spliced_hits change.front change.removed change.added change.come hits
+
+-- the lists of all files, each behind its change
+abbrev pub all_after : List Change → View → View
+all_after [] view = []
+all_after (change ∷ changes) [] = []
+all_after (change ∷ changes) (hits ∷ view) = after change hits ∷ all_after changes view
+
+-- what is told of a file by its mark: all lines but those untouched at its front and at its back,
+-- as many as it had when it was told last, gave way to those that it has
+pub record IsChange (es : List Expression) (options : Options) (file : File) (mark : Mark)
+    (change : Change) : Type 0 where
+  pub is_front : change.front ≡ mark.front
+  pub is_removed : change.removed ≡ mark.told - mark.front - mark.back
+  pub is_added : change.added ≡ length file.lines - mark.front - mark.back
+  pub are_hits : HitsFrom es options change.front
+      (slice_range file.lines change.front (change.front + change.added)) change.come
+
+-- hits in the order of their places, from a first place on and before an end
+abbrev pub AreWithin : ℕ → ℕ → List Hit → Type 0
+AreWithin first behind [] = Unit {0}
+AreWithin first behind (hit ∷ more) =
+    (first ≤ hit.place) × (hit.place < behind) × AreWithin (hit.place + 1) behind more

@@ -1,0 +1,41 @@
+-- Hits: the selected lines of files, as an editor lists them.
+use Rattle.std.specs.Prelude.{◌≡◌, ℕ, List, [], ◌∷◌}
+use Rattle.std.specs.List.{enumerate_from, AllZip}
+use Rattle.re_syntax.specs.Bytes.{Text}
+use Rattle.re_syntax.specs.Expression.{Expression}
+use Rattle.grep_core.specs.declared.options.Options.{Options}
+use Rattle.grep_core.specs.Choose.{IfHolds, EachGives}
+use Rattle.grep_core.specs.Files.{File, Selected}
+use Rattle.grep_session.specs.Told.{PartsTold}
+
+-- a selected line: its place in its file, from 0, its text, and where those of its parts stand in
+-- it that are told, each from its first byte to the place behind its last
+pub record Hit : Type 0 where
+  pub place : ℕ
+  pub text : Text
+  pub parts : List (ℕ × ℕ)
+
+-- what an editor has of files: a list of hits for each of them, in order
+abbrev pub View : Type 0
+View = List (List Hit)
+
+module _ (es : List Expression) (options : Options) where
+  -- the hits of one line, which has this place: one where it is selected, and else none
+  abbrev pub HitOf : ℕ × Text → List Hit → Type 0
+  HitOf line hits =
+      IfHolds (Selected es options line.1)
+      ((parts : List (ℕ × ℕ)) × PartsTold es options line.1 parts ×
+      (hits ≡ record { place = line.0; text = line.1; parts = parts } ∷ []))
+      (hits ≡ [])
+
+  -- the hits of lines, the first of which has this place
+  abbrev pub HitsFrom : ℕ → List Text → List Hit → Type 0
+  HitsFrom first lines hits = EachGives HitOf (enumerate_from first lines) hits
+
+  -- the hits of a file's lines
+  abbrev pub Hits : List Text → List Hit → Type 0
+  Hits lines hits = HitsFrom 0 lines hits
+
+  -- the hits of each file
+  abbrev pub AreHits : List File → View → Type 0
+  AreHits files view = AllZip (λ file hits. Hits file.lines hits) files view

@@ -1,0 +1,11 @@
+-- Three lists beside each other.
+use Rattle.std.specs.Prelude.{List, [], ◌∷◌, ⊤}
+
+-- R holds of the elements at each place of three lists, which are as long
+abbrev pub AllThree : {A B C : Type 0} → (A → B → C → Type 0) → List A → List B → List C → Type 0
+AllThree R [] [] [] = ⊤
+AllThree R [] [] (z ∷ zs) = ⊥
+AllThree R [] (y ∷ ys) zs = ⊥
+AllThree R (x ∷ xs) [] zs = ⊥
+AllThree R (x ∷ xs) (y ∷ ys) [] = ⊥
+AllThree R (x ∷ xs) (y ∷ ys) (z ∷ zs) = R x y z × AllThree R xs ys zs

@@ -1,0 +1,70 @@
+-- How changes and pages are written (occur(1), REPLIES).
+use Rattle.std.specs.Prelude.{ℕ, ◌+◌, List, [], ◌∷◌, ◌++◌, map, length, take, drop, codes}
+use Rattle.std.specs.Prelude.{if◌then◌else◌}
+use Rattle.std.specs.List.{flat_map}
+use Rattle.std.specs.Fmt.{decimal}
+use Rattle.re_syntax.specs.Bytes.{Text}
+use Rattle.grep_live.specs.Hits.{Hit, View}
+use Rattle.grep_live.specs.Changes.{Change, is_idle}
+
+-- numbers, each behind a space
+abbrev pub spaced : List ℕ → Text
+spaced numbers = flat_map (λ number. codes " " ++ decimal number) numbers
+
+-- a part: where it starts and ends
+abbrev pub part_text : ℕ × ℕ → Text
+part_text part = decimal part.0 ++ (codes "-" ++ decimal part.1)
+
+-- the parts behind a first one, each behind a comma
+abbrev pub more_parts : List (ℕ × ℕ) → Text
+more_parts parts = flat_map (λ part. codes "," ++ part_text part) parts
+
+-- the parts of a line, or a hyphen where none are told
+abbrev pub parts_text : List (ℕ × ℕ) → Text
+parts_text [] = codes "-"
+parts_text (part ∷ parts) = part_text part ++ more_parts parts
+
+-- a word, numbers, the parts of a line and the line
+abbrev pub hit_text : Text → List ℕ → List (ℕ × ℕ) → Text → Text
+hit_text word numbers parts line =
+    word ++ (spaced numbers ++ (codes " " ++ (parts_text parts ++ (codes " " ++ line))))
+
+-- r PLACE PARTS TEXT
+abbrev pub hit_row : Hit → Text
+hit_row hit = hit_text (codes "r") (hit.place ∷ []) hit.parts hit.text
+
+-- h K FRONT REMOVED ADDED COUNT
+abbrev pub change_row : ℕ → Change → Text
+change_row k change =
+    codes "h"
+    ++ spaced (k ∷ change.front ∷ change.removed ∷ change.added ∷ length change.come ∷ [])
+
+-- what is told of file k: nothing, or how many lines gave way, and each hit among those that came
+abbrev pub change_rows : ℕ → Change → List Text
+change_rows k change =
+    if is_idle change then [] else change_row k change ∷ map hit_row change.come
+
+-- what is told of files, the first of which has this number
+abbrev pub changes_rows : ℕ → List Change → List Text
+changes_rows k [] = []
+changes_rows k (change ∷ more) = change_rows k change ++ changes_rows (k + 1) more
+
+-- ---- pages
+
+-- the hits of files one after the other, each with the number of its file, which is this of the
+-- first
+abbrev pub all_hits : ℕ → View → List (ℕ × Hit)
+all_hits k [] = []
+all_hits k (hits ∷ view) = map (λ hit. (k, hit)) hits ++ all_hits (k + 1) view
+
+-- hits TOTAL
+abbrev pub total_row : ℕ → Text
+total_row total = codes "hits" ++ spaced (total ∷ [])
+
+-- p K PLACE PARTS TEXT
+abbrev pub page_row : ℕ × Hit → Text
+page_row (k, hit) = hit_text (codes "p") (k ∷ hit.place ∷ []) hit.parts hit.text
+
+-- of all hits, which are numbered from 0, so many from a first on
+abbrev pub page_rows : ℕ → ℕ → List (ℕ × Hit) → List Text
+page_rows first count all = map page_row (take count (drop first all))

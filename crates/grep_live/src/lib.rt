@@ -1,0 +1,9 @@
+//! A session that an editor watches: what it is told after edits, and a page of the hits.
+#![tactic(auto)]
+
+mod live;
+mod mark;
+mod rows;
+
+pub use live::Live;
+pub use mark::Mark;

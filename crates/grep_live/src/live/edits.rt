@@ -1,0 +1,270 @@
+//! The edits of a session that an editor watches. Each does what it does to any session, with the
+//! same answers, steps and need of memory, and marks what it touches.
+ghost use Rattle.std.specs.Prelude.{◌≡◌, ◌≢◌, ◌<◌, ◌-◌, ◌++◌, ◌∷◌, [], map, length, Ok, IfErr, IfOk};
+ghost use Rattle.std.specs.Prelude.{OnErr};
+ghost use Rattle.std.specs.List.{remove};
+ghost use Rattle.grep_session.specs.declared.fault.EditFault.TheVariants.{Memory};
+ghost use Rattle.grep_session.specs.Edits.{Edit, AddFile, AddMissing, DropFile, Splice};
+ghost use Rattle.grep_session.specs.Edits.{AddPatterns, DropPattern, SetFlag, SetSyntax};
+ghost use Rattle.grep_session.specs.Edits.{SetContext, EditGives, with_files};
+ghost use Rattle.grep_session.specs.Touched.{TakesSteps, NeedsNoMemory};
+ghost use Rattle.grep_live.specs.Marks.{new_mark, marks_by_flag};
+ghost use Rattle.grep_live.specs.Following.{Carries};
+
+use crate::live::Live;
+use crate::mark::{Mark, lose_all};
+use grep_core::{Context, Flag};
+use grep_session::{EditFault, Meter, Session};
+use re_search::Syntax;
+use std::alloc::AllocError;
+
+impl Live {
+    /// Puts a file behind the others.
+    ///
+    /// # Errors
+    ///
+    /// `EditFault::LineHasNewline`, or `EditFault::Memory`.
+    pub fn add_file(
+        &mut self,
+        name: Vec<u8>,
+        lines: Vec<Vec<u8>>,
+        meter: &mut Meter,
+    ) -> Result<(), EditFault>
+        ensures gives { EditGives (AddFile name.items (map (λ line. line.items) lines.items))
+            self.old.inputs self.new.inputs result }
+        ensures carries { Carries (AddFile name.items (map (λ line. line.items) lines.items))
+            self.old self.new result }
+        ensures steps { TakesSteps (AddFile name.items (map (λ line. line.items) lines.items))
+            self.old.inputs meter.old meter.new }
+        ensures memory { NeedsNoMemory (AddFile name.items (map (λ line. line.items) lines.items))
+            self.old.inputs → IfErr result (λ fault. fault ≢ Memory) }
+    {
+        match self.session.add_file(name, lines, meter) {
+            Ok(()) => {}
+            Err(fault) => return Err(fault),
+        }
+        mark_last(&mut self.session, &mut self.marks)
+    }
+
+    /// Puts a file that cannot be opened behind the others.
+    ///
+    /// # Errors
+    ///
+    /// `EditFault::Memory`.
+    pub fn add_missing(&mut self, name: Vec<u8>) -> Result<(), EditFault>
+        ensures gives { EditGives (AddMissing name.items) self.old.inputs self.new.inputs result }
+        ensures carries { Carries (AddMissing name.items) self.old self.new result }
+        ensures memory { NeedsNoMemory (AddMissing name.items) self.old.inputs →
+            IfErr result (λ fault. fault ≢ Memory) }
+    {
+        match self.session.add_missing(name) {
+            Ok(()) => {}
+            Err(fault) => return Err(fault),
+        }
+        mark_last(&mut self.session, &mut self.marks)
+    }
+
+    /// Takes file `k` out; later files move up.
+    ///
+    /// # Errors
+    ///
+    /// `EditFault::NoSuchFile`.
+    pub fn drop_file(&mut self, k: usize) -> Result<(), EditFault>
+        ensures gives { EditGives (DropFile k) self.old.inputs self.new.inputs result }
+        ensures carries { Carries (DropFile k) self.old self.new result }
+        ensures memory { NeedsNoMemory (DropFile k) self.old.inputs →
+            IfErr result (λ fault. fault ≢ Memory) }
+    {
+        match self.session.drop_file(k) {
+            Ok(()) => {}
+            Err(fault) => return Err(fault),
+        }
+        self.marks.remove(k);
+        Ok(())
+    }
+
+    /// In file `k`, puts lines in the place of `count` lines from line `start` on. The new lines
+    /// alone are searched, and without any no memory is asked for.
+    ///
+    /// # Errors
+    ///
+    /// `EditFault::NoSuchFile`, `EditFault::FileIsMissing`, `EditFault::OutOfRange`,
+    /// `EditFault::LineHasNewline`, or `EditFault::Memory`.
+    pub fn splice(
+        &mut self,
+        k: usize,
+        start: usize,
+        count: usize,
+        lines: Vec<Vec<u8>>,
+        meter: &mut Meter,
+    ) -> Result<(), EditFault>
+        ensures gives { EditGives (Splice k start count (map (λ line. line.items) lines.items))
+            self.old.inputs self.new.inputs result }
+        ensures carries { Carries (Splice k start count (map (λ line. line.items) lines.items))
+            self.old self.new result }
+        ensures steps { TakesSteps (Splice k start count (map (λ line. line.items) lines.items))
+            self.old.inputs meter.old meter.new }
+        ensures memory { NeedsNoMemory (Splice k start count (map (λ line. line.items) lines.items))
+            self.old.inputs → IfErr result (λ fault. fault ≢ Memory) }
+    {
+        let there = self.session.line_count(k);
+        match self.session.splice(k, start, count, lines, meter) {
+            Ok(()) => {}
+            Err(fault) => return Err(fault),
+        }
+        let behind = there.saturating_sub(start).saturating_sub(count);
+        self.marks[k].touch(start, behind);
+        Ok(())
+    }
+
+    /// Adds the patterns of a list behind the others. The new patterns alone are searched for, and
+    /// under `-o` the parts of the lines that one of them matches.
+    ///
+    /// # Errors
+    ///
+    /// `EditFault::TooManyPatterns`, `EditFault::Pattern` with the place in the list of the first
+    /// text that is no pattern, or `EditFault::Memory`.
+    pub fn add_patterns(&mut self, list: &[u8], meter: &mut Meter) -> Result<(), EditFault>
+        ensures gives { EditGives (AddPatterns list.now) self.old.inputs self.new.inputs result }
+        ensures carries { Carries (AddPatterns list.now) self.old self.new result }
+        ensures steps { TakesSteps (AddPatterns list.now) self.old.inputs meter.old meter.new }
+        ensures memory { NeedsNoMemory (AddPatterns list.now) self.old.inputs →
+            IfErr result (λ fault. fault ≢ Memory) }
+    {
+        match self.session.add_patterns(list, meter) {
+            Ok(()) => {}
+            Err(fault) => return Err(fault),
+        }
+        lose_all(&mut self.marks);
+        Ok(())
+    }
+
+    /// Takes pattern `p` out; later patterns move up. Under `-o` the lines that it matched are
+    /// searched for their parts; else no memory is asked for.
+    ///
+    /// # Errors
+    ///
+    /// `EditFault::NoSuchPattern`, or `EditFault::Memory`.
+    pub fn drop_pattern(&mut self, p: usize, meter: &mut Meter) -> Result<(), EditFault>
+        ensures gives { EditGives (DropPattern p) self.old.inputs self.new.inputs result }
+        ensures carries { Carries (DropPattern p) self.old self.new result }
+        ensures steps { TakesSteps (DropPattern p) self.old.inputs meter.old meter.new }
+        ensures memory { NeedsNoMemory (DropPattern p) self.old.inputs →
+            IfErr result (λ fault. fault ≢ Memory) }
+    {
+        match self.session.drop_pattern(p, meter) {
+            Ok(()) => {}
+            Err(fault) => return Err(fault),
+        }
+        lose_all(&mut self.marks);
+        Ok(())
+    }
+
+    /// Sets an option. One by which other lines may be selected, or other parts told, touches all
+    /// lines, unless it is set so already.
+    ///
+    /// # Errors
+    ///
+    /// `EditFault::Pattern` with the number of the first pattern that is too large where both cases
+    /// of its letters are alike, by `-i` alone; or `EditFault::Memory`.
+    pub fn set_flag(&mut self, flag: Flag, on: bool, meter: &mut Meter) -> Result<(), EditFault>
+        ensures gives { EditGives (SetFlag flag on) self.old.inputs self.new.inputs result }
+        ensures carries { Carries (SetFlag flag on) self.old self.new result }
+        ensures steps { TakesSteps (SetFlag flag on) self.old.inputs meter.old meter.new }
+        ensures memory { NeedsNoMemory (SetFlag flag on) self.old.inputs →
+            IfErr result (λ fault. fault ≢ Memory) }
+    {
+        let same = self.session.has_option(flag, on);
+        match self.session.set_flag(flag, on, meter) {
+            Ok(()) => {}
+            Err(fault) => return Err(fault),
+        }
+        if same {
+            return Ok(());
+        }
+        lose_by_flag(flag, &mut self.marks);
+        Ok(())
+    }
+
+    /// Sets the syntax in which the patterns are read.
+    ///
+    /// # Errors
+    ///
+    /// `EditFault::Pattern` with the number of the first pattern that is none in this syntax, or
+    /// `EditFault::Memory`.
+    pub fn set_syntax(&mut self, syntax: Syntax, meter: &mut Meter) -> Result<(), EditFault>
+        ensures gives { EditGives (SetSyntax syntax) self.old.inputs self.new.inputs result }
+        ensures carries { Carries (SetSyntax syntax) self.old self.new result }
+        ensures steps { TakesSteps (SetSyntax syntax) self.old.inputs meter.old meter.new }
+        ensures memory { NeedsNoMemory (SetSyntax syntax) self.old.inputs →
+            IfErr result (λ fault. fault ≢ Memory) }
+    {
+        let same = self.session.has_syntax(syntax);
+        match self.session.set_syntax(syntax, meter) {
+            Ok(()) => {}
+            Err(fault) => return Err(fault),
+        }
+        if same {
+            return Ok(());
+        }
+        lose_all(&mut self.marks);
+        Ok(())
+    }
+
+    /// Sets how many lines are shown around selected ones, or that none are. Nothing is searched,
+    /// nothing is touched, and no memory is asked for.
+    pub fn set_context(&mut self, context: Option<Context>)
+        ensures gives { EditGives {T = Unit {0}} (SetContext context) self.old.inputs
+            self.new.inputs (Ok tt) }
+        ensures carries { Carries {T = Unit {0}} (SetContext context) self.old self.new (Ok tt) }
+    {
+        self.session.set_context(context);
+    }
+}
+
+/// Puts a mark behind the others.
+fn push_mark(marks: &mut Vec<Mark>) -> Result<(), AllocError>
+    ensures ok { IfOk result (λ _. marks.new.items ≡ marks.old.items ++ new_mark ∷ []) }
+    ensures err { OnErr result (marks.new.items ≡ marks.old.items) }
+{
+    marks.push(Mark::new())?;
+    Ok(())
+}
+
+/// Puts the mark of the last file behind the others; without memory for it that file goes.
+fn mark_last(session: &mut Session, marks: &mut Vec<Mark>) -> Result<(), EditFault>
+    requires { 0 < length session.old.files }
+    ensures ok { IfOk result (λ _. (session.new ≡ session.old) ×
+        (marks.new.items ≡ marks.old.items ++ new_mark ∷ [])) }
+    ensures err { IfErr result (λ fault. (fault ≡ Memory) ×
+        (session.new ≡
+        with_files (remove session.old.files (length session.old.files - 1)) session.old) ×
+        (marks.new.items ≡ marks.old.items)) }
+{
+    match push_mark(marks) {
+        Ok(()) => return Ok(()),
+        Err(_) => {}
+    }
+    let last = session.file_count() - 1;
+    match session.drop_file(last) {
+        Ok(()) => Err(EditFault::Memory),
+        Err(_) => Err(EditFault::Memory),
+    }
+}
+
+/// By these options other lines may be selected, or other parts told.
+fn lose_by_flag(flag: Flag, marks: &mut Vec<Mark>)
+    ensures { marks.new.items ≡ marks_by_flag flag marks.old.items }
+{
+    match flag {
+        Flag::IgnoreCase => lose_all(marks),
+        Flag::OnlyMatching => lose_all(marks),
+        Flag::InvertMatch => lose_all(marks),
+        Flag::LineRegexp => lose_all(marks),
+        Flag::Count => {}
+        Flag::FilesWithMatches => {}
+        Flag::LineNumber => {}
+        Flag::Quiet => {}
+        Flag::NoMessages => {}
+    }
+}

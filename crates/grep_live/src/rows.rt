@@ -1,0 +1,176 @@
+//! Rows of numbers and of hits.
+ghost use Rattle.std.specs.Prelude.{◌≡◌, ◌++◌, [], map, codes};
+ghost use Rattle.std.specs.Fmt.{decimal};
+ghost use Rattle.grep_core.specs.Row.{output_line};
+ghost use Rattle.grep_core.specs.Written.{Writes};
+ghost use Rattle.grep_session.specs.Working.Kept.{span_places};
+ghost use Rattle.grep_live.specs.Rows.{spaced, part_text, more_parts, parts_text, hit_text};
+
+use grep_core::{CountedWrite, WriteFault, push_all, write_decimal, write_line};
+use grep_session::Hit;
+use re_search::Span;
+
+/// Writes a number behind something.
+#[tactic(auto, using(grep_core::proofs::lemmas::RowLemmas::writing))]
+fn write_number<W: CountedWrite>(
+    out: &mut W,
+    before: &[u8],
+    number: usize,
+) -> Result<(), WriteFault>
+    ensures { Writes W.contents W.failures out.old out.new (before.now ++ decimal number) result }
+{
+    push_all(out, before)?;
+    write_decimal(out, number as u64)
+}
+
+/// Writes numbers, each behind a space.
+fn write_numbers<W: CountedWrite>(out: &mut W, numbers: &[usize]) -> Result<(), WriteFault>
+    ensures { Writes W.contents W.failures out.old out.new (spaced numbers.now) result }
+{
+    for number in numbers {
+        write_number(out, b" ", *number)?;
+    }
+    Ok(())
+}
+
+/// Writes where a part starts and ends.
+#[tactic(auto, using(grep_core::proofs::lemmas::RowLemmas::writing))]
+fn write_part<W: CountedWrite>(out: &mut W, part: Span) -> Result<(), WriteFault>
+    ensures { Writes W.contents W.failures out.old out.new (part_text (span_places part)) result }
+{
+    write_decimal(out, part.start as u64)?;
+    write_number(out, b"-", part.end)
+}
+
+/// Writes a part behind something.
+#[tactic(auto, using(grep_core::proofs::lemmas::RowLemmas::writing))]
+fn write_part_behind<W: CountedWrite>(
+    out: &mut W,
+    before: &[u8],
+    part: Span,
+) -> Result<(), WriteFault>
+    ensures { Writes W.contents W.failures out.old out.new
+        (before.now ++ part_text (span_places part)) result }
+{
+    push_all(out, before)?;
+    write_part(out, part)
+}
+
+/// Writes the parts behind a first one.
+fn write_more_parts<W: CountedWrite>(out: &mut W, parts: &[Span]) -> Result<(), WriteFault>
+    ensures { Writes W.contents W.failures out.old out.new
+        (more_parts (map span_places parts.now)) result }
+{
+    for part in parts {
+        write_part_behind(out, b",", *part)?;
+    }
+    Ok(())
+}
+
+/// Writes the parts of a line, or a hyphen where there are none.
+#[tactic(auto, using(grep_core::proofs::lemmas::RowLemmas::writing))]
+fn write_parts<W: CountedWrite>(out: &mut W, parts: &[Span]) -> Result<(), WriteFault>
+    ensures { Writes W.contents W.failures out.old out.new
+        (parts_text (map span_places parts.now)) result }
+{
+    let Some((first, rest)) = parts.split_first() else {
+        return push_all(out, b"-");
+    };
+    write_part(out, *first)?;
+    write_more_parts(out, rest)
+}
+
+/// Writes a word and numbers.
+#[tactic(auto, using(grep_core::proofs::lemmas::RowLemmas::writing))]
+fn write_word<W: CountedWrite>(
+    out: &mut W,
+    word: &[u8],
+    numbers: &[usize],
+) -> Result<(), WriteFault>
+    ensures { Writes W.contents W.failures out.old out.new (word.now ++ spaced numbers.now) result }
+{
+    push_all(out, word)?;
+    write_numbers(out, numbers)
+}
+
+/// Writes the margin, a word and numbers.
+#[tactic(auto, using(grep_core::proofs::lemmas::RowLemmas::writing))]
+fn write_head<W: CountedWrite>(
+    out: &mut W,
+    margin: &[u8],
+    word: &[u8],
+    numbers: &[usize],
+) -> Result<(), WriteFault>
+    ensures { Writes W.contents W.failures out.old out.new
+        (margin.now ++ (word.now ++ spaced numbers.now)) result }
+{
+    push_all(out, margin)?;
+    write_word(out, word, numbers)
+}
+
+/// Writes a row of a word and numbers.
+#[tactic(auto, using(grep_core::proofs::lemmas::RowLemmas::writing))]
+pub fn write_number_row<W: CountedWrite>(
+    out: &mut W,
+    margin: &[u8],
+    word: &[u8],
+    numbers: &[usize],
+) -> Result<(), WriteFault>
+    ensures { Writes W.contents W.failures out.old out.new
+        (output_line margin.now (word.now ++ spaced numbers.now)) result }
+{
+    write_head(out, margin, word, numbers)?;
+    push_all(out, b"\n")
+}
+
+/// Writes a line behind something, and a newline.
+#[tactic(auto, using(grep_core::proofs::lemmas::RowLemmas::writing))]
+fn write_text<W: CountedWrite>(out: &mut W, before: &[u8], text: &[u8]) -> Result<(), WriteFault>
+    ensures { Writes W.contents W.failures out.old out.new
+        (before.now ++ output_line [] text.now) result }
+{
+    push_all(out, before)?;
+    write_line(out, text)
+}
+
+/// Writes the parts of a hit and its line, and a newline.
+#[tactic(auto, using(grep_core::proofs::lemmas::RowLemmas::writing))]
+fn write_parted<W: CountedWrite>(out: &mut W, parts: &[Span], text: &[u8]) -> Result<(), WriteFault>
+    ensures { Writes W.contents W.failures out.old out.new
+        (parts_text (map span_places parts.now) ++ (codes " " ++ output_line [] text.now)) result }
+{
+    write_parts(out, parts)?;
+    write_text(out, b" ", text)
+}
+
+/// The same behind something.
+#[tactic(auto, using(grep_core::proofs::lemmas::RowLemmas::writing))]
+fn write_rest<W: CountedWrite>(
+    out: &mut W,
+    before: &[u8],
+    parts: &[Span],
+    text: &[u8],
+) -> Result<(), WriteFault>
+    ensures { Writes W.contents W.failures out.old out.new
+        (before.now ++ (parts_text (map span_places parts.now)
+        ++ (codes " " ++ output_line [] text.now))) result }
+{
+    push_all(out, before)?;
+    write_parted(out, parts, text)
+}
+
+/// Writes the row of a hit: a word, numbers, its parts and its line.
+pub fn write_hit_row<W: CountedWrite>(
+    out: &mut W,
+    margin: &[u8],
+    word: &[u8],
+    numbers: &[usize],
+    hit: Hit<'_>,
+) -> Result<(), WriteFault>
+    ensures { Writes W.contents W.failures out.old out.new (output_line margin.now
+        (hit_text word.now numbers.now (map span_places hit.entry.parts.now) hit.entry.text.now))
+        result }
+{
+    write_head(out, margin, word, numbers)?;
+    write_rest(out, b" ", hit.parts, hit.text)
+}
