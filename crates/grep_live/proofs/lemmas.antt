@@ -4,3 +4,6 @@ pub mod MarkLemmas
 pub mod CarryLemmas
 pub mod LostLemmas
 pub mod Pushing
+pub mod ListingLemmas
+pub mod TellingLemmas
+pub mod CatchLemmas

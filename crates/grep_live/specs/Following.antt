@@ -1,5 +1,5 @@
 -- What an editor has right, and that edits leave it so.
-use Rattle.std.specs.Prelude.{ℕ, ◌-◌, List, [], ◌∷◌, ◌++◌, length, take, drop, Result, Ok, Err}
+use Rattle.std.specs.Prelude.{◌-◌, List, [], ◌∷◌, ◌++◌, length, take, drop, Result, Ok, Err}
 use Rattle.std.specs.List.{remove}
 use Rattle.re_syntax.specs.Expression.{Expression}
 use Rattle.grep_core.specs.Files.{File, Inputs, AreMeant}

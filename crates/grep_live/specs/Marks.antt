@@ -6,7 +6,7 @@ use Rattle.grep_core.specs.declared.options.Flag.{Flag}
 use Rattle.grep_core.specs.declared.options.Flag.TheVariants.{IgnoreCase, OnlyMatching}
 use Rattle.grep_core.specs.declared.options.Flag.TheVariants.{InvertMatch, LineRegexp}
 use Rattle.grep_core.specs.Choose.{IfHolds}
-use Rattle.grep_core.specs.Files.{Inputs, File}
+use Rattle.grep_core.specs.Files.{Inputs}
 use Rattle.grep_core.specs.Run.{file_at}
 use Rattle.grep_session.specs.declared.fault.EditFault.{EditFault}
 use Rattle.grep_session.specs.Edits.{Edit, AddFile, AddMissing, DropFile, Splice, AddPatterns}

@@ -3,7 +3,7 @@ use Rattle.std.specs.Prelude.{◌≡◌, ℕ, List, ◌∷◌, map, length, Opti
 use Rattle.re_syntax.specs.Bytes.{Text}
 use Rattle.re_syntax.specs.Expression.{Expression}
 use Rattle.grep_core.specs.declared.status.Status.{Status}
-use Rattle.grep_core.specs.Files.{File, Inputs, AreMeant}
+use Rattle.grep_core.specs.Files.{Inputs, AreMeant}
 use Rattle.grep_core.specs.Messages.{StatusOf}
 use Rattle.grep_core.specs.Output.{written}
 use Rattle.grep_core.specs.Written.{Writes}

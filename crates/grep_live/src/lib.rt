@@ -4,6 +4,7 @@
 mod live;
 mod mark;
 mod rows;
+mod telling;
 
 pub use live::Live;
 pub use mark::Mark;

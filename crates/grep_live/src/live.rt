@@ -6,6 +6,7 @@ ghost use Rattle.grep_live.specs.Following.{Follows};
 
 mod edits;
 mod passing;
+mod telling;
 
 use crate::mark::Mark;
 use grep_session::Session;

@@ -1,5 +1,5 @@
 -- Lists of which a relation holds place by place.
-use Rattle.std.proofs.Common.{◌≡◌, ℕ, zero, suc, ◌+◌, ◌<◌, List, [], ◌∷◌, ◌++◌, length, map, take, drop, get_or, refl, sym, ap, subst, ◌∙◌, arith}
+use Rattle.std.proofs.Common.{◌≡◌, ℕ, zero, suc, ◌<◌, List, [], ◌∷◌, ◌++◌, length, map, get_or, refl, ap, arith}
 use Rattle.std.proofs.Math.ListN.{set}
 use Rattle.std.specs.List.{AllZip, remove}
 use Rattle.grep_live.specs.Lists.{AllThree}
@@ -89,3 +89,19 @@ three-weaker R Q step [] (b ∷ ys) zs h = absurd h
 three-weaker R Q step (a ∷ xs) [] zs h = absurd h
 three-weaker R Q step (a ∷ xs) (b ∷ ys) [] h = absurd h
 three-weaker R Q step (a ∷ xs) (b ∷ ys) (c ∷ zs) h = (step a b c h.0, three-weaker R Q step xs ys zs h.1)
+
+module _ {A B C : Type 0} (R : A → B → C → Type 0) where
+  pub three-length : (xs : List A) (ys : List B) (zs : List C) → AllThree R xs ys zs → (length xs ≡ length ys) × (length ys ≡ length zs)
+  three-length [] [] [] h = (refl, refl)
+  three-length [] [] (c ∷ zs) h = absurd h
+  three-length [] (b ∷ ys) zs h = absurd h
+  three-length (a ∷ xs) [] zs h = absurd h
+  three-length (a ∷ xs) (b ∷ ys) [] h = absurd h
+  three-length (a ∷ xs) (b ∷ ys) (c ∷ zs) h = let more = three-length xs ys zs h.1 in (ap suc more.0, ap suc more.1)
+
+  pub three-at : (xs : List A) (ys : List B) (zs : List C) (k : ℕ) (x : A) (y : B) (z : C) → k < length xs → AllThree R xs ys zs → R (get_or xs k x) (get_or ys k y) (get_or zs k z)
+  three-at [] ys zs k x y z l h = absurd (omega arith)
+  three-at (a ∷ xs) [] zs k x y z l h = absurd h
+  three-at (a ∷ xs) (b ∷ ys) [] k x y z l h = absurd h
+  three-at (a ∷ xs) (b ∷ ys) (c ∷ zs) zero x y z l h = h.0
+  three-at (a ∷ xs) (b ∷ ys) (c ∷ zs) (suc k) x y z l h = three-at xs ys zs k x y z (omega arith) h.1

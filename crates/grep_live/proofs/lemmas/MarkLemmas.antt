@@ -1,16 +1,15 @@
 -- What an edit leaves of what a view has right, and what a change makes of it.
-use Rattle.std.proofs.Common.{◌≡◌, ℕ, zero, suc, ◌+◌, ◌-◌, ◌<◌, ◌≤◌, Bool, true, false, cond, List, [], ◌∷◌, ◌++◌, length, map, take, drop, min, refl, ◌⊎◌, sym, ap, subst, ◌∙◌, inl, inr, arith, append-nil, append_assoc}
-use Rattle.std.proofs.lemmas.List.{take-take, drop-drop, take-append-le, length-take-le, take-append-drop, take_all, length-append, length-drop, drop_all}
+use Rattle.std.proofs.Common.{◌≡◌, ℕ, ◌+◌, ◌-◌, ◌≤◌, Bool, true, false, List, ◌++◌, length, take, drop, min, refl, sym, ap, subst, ◌∙◌, inl, inr, arith, append_assoc}
+use Rattle.std.proofs.lemmas.List.{take-take, drop-drop, take-append-le, length-take-le, take-append-drop, take_all, length-append, length-drop}
 use Rattle.std.proofs.Math.Seq.{drop-append-add}
-use Rattle.std.proofs.lemmas.Bool.{cases_lt}
 use Rattle.std.proofs.lemmas.Bool.Decides.{nat_tests}
 use Rattle.std.specs.Prelude.{nat_eq, ◌&&◌, if◌then◌else◌}
 use Rattle.std.specs.List.{splice}
 use Rattle.re_syntax.specs.Bytes.{Text}
 use Rattle.grep_live.specs.declared.mark.Mark.{Mark}
 use Rattle.grep_live.specs.Hits.{Hit}
-use Rattle.grep_live.specs.Changes.{AreWithin, hits_before, hits_from, spliced_hits, Change, after}
-use Rattle.grep_live.specs.Marks.{whole_mark, touched, lost}
+use Rattle.grep_live.specs.Changes.{AreWithin, hits_before, hits_from, spliced_hits, after}
+use Rattle.grep_live.specs.Marks.{touched}
 use Rattle.grep_live.specs.Working.Fits.{Fits}
 use Rattle.grep_live.proofs.lemmas.HitLemmas.{By, first_hits, last_hits, joined_hits, before_before, before_all, from_from, cut_and_joined}
 
@@ -158,3 +157,9 @@ module _ (S : Text → Type 0) (P : Text → List (ℕ × ℕ) → Type 0) where
       by_idle removed added r a false e =
           subst (λ m. By S P 0 lines (spliced_hits mark.front m added come hits)) (sym r)
           (subst (λ m. By S P 0 lines (spliced_hits mark.front (mark.told - mark.front - mark.back) m come hits)) (sym a) (joined_now mark.front mark.back mark.told lines come hits t n front back between))
+
+pub fits_front : (lines : ℕ) (mark : Mark) → Fits lines mark → mark.front ≤ lines
+fits_front lines mark (inl e) =
+    let front : mark.front ≡ lines = ap (λ m. m.front) e in
+    omega arith
+fits_front lines mark (inr (a, b)) = omega arith

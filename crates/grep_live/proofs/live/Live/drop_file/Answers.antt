@@ -1,4 +1,4 @@
-use Rattle.std.proofs.Common.{ℕ, ◌<◌, Ok, length, arith, subst}
+use Rattle.std.proofs.Common.{Ok, arith, subst}
 use Rattle.grep_session.specs.Edits.{DropFile}
 use Rattle.grep_live.specs.Marks.{Watched}
 use Rattle.grep_live.specs.Following.{Carries}

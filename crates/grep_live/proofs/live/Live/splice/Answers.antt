@@ -1,7 +1,7 @@
-use Rattle.std.proofs.Common.{◌≡◌, ℕ, ◌+◌, ◌-◌, ◌<◌, Ok, length, map, arith, slice_set, subst}
+use Rattle.std.proofs.Common.{◌≡◌, ℕ, ◌-◌, ◌<◌, Ok, length, map, arith, slice_set, subst}
 use Rattle.grep_core.specs.Run.{file_at}
 use Rattle.grep_session.specs.Edits.{Splice}
-use Rattle.grep_live.specs.Marks.{Watched, touched, mark_at}
+use Rattle.grep_live.specs.Marks.{Watched}
 use Rattle.grep_live.specs.Following.{Carries}
 use Rattle.grep_live.specs.Working.Fits.{watched_of}
 use Rattle.grep_live.proofs.lemmas.CarryLemmas.{carried, spliced_inside, as_many, touched_is}

@@ -1,0 +1,9 @@
+use Rattle.std.proofs.Common.{◌+◌, ◌≤◌}
+use Rattle.grep_live.proofs.lemmas.TellingLemmas.{Counts}
+use Rattle.grep_live.proofs.telling.count_hits.Given as goal
+
+abbrev pub invariant-loop-place : goal.invariant-loop-place
+invariant-loop-place l = record {
+  few : l.count + l.from ≤ l.place;
+  counted : Counts l.session l.k l.from l.to l.place l.count;
+}
