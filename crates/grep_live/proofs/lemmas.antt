@@ -7,3 +7,4 @@ pub mod Pushing
 pub mod ListingLemmas
 pub mod TellingLemmas
 pub mod CatchLemmas
+pub mod PageLemmas

@@ -1,5 +1,5 @@
 -- What an editor is told, and what it has right after that.
-use Rattle.std.specs.Prelude.{◌≡◌, ℕ, List, ◌∷◌, map, length, Option, Result, IfOk, MatchResult}
+use Rattle.std.specs.Prelude.{◌≡◌, ℕ, ◌-◌, ◌^◌, min, List, ◌∷◌, map, length, Option, Result, IfOk, MatchResult}
 use Rattle.re_syntax.specs.Bytes.{Text}
 use Rattle.re_syntax.specs.Expression.{Expression}
 use Rattle.grep_core.specs.declared.status.Status.{Status}
@@ -36,8 +36,8 @@ module _ {W : Type 0} (contents : W → Option Text) (failures : W → ℕ) (mar
     pub follows : IfOk result
         (λ _. (view : View) → Follows old view → Follows new (all_after changes view))
 
-  -- how many hits there are was told, and those of them from a first on, at most so many; or a
-  -- write failed and a beginning of that went out
+  -- how many hits there are was told, where it is no more than a u64 holds, and those of them from
+  -- a first on, at most so many; or a write failed and a beginning of that went out
   pub record ShowsPage {E : Type 0} (inputs : Inputs) (first count : ℕ)
       (result : Result Status E) : Type 0 where
     pub es : List Expression
@@ -46,5 +46,6 @@ module _ {W : Type 0} (contents : W → Option Text) (failures : W → ℕ) (mar
     pub are_hits : AreHits es inputs.options inputs.files view
     pub wrote : Writes contents failures begun ended
         (written margin
-        (total_row (length (all_hits 0 view)) ∷ page_rows first count (all_hits 0 view))) result
+        (total_row (min (length (all_hits 0 view)) (2 ^ 64 - 1)) ∷
+        page_rows first count (all_hits 0 view))) result
     pub is_status : IfOk result (StatusOf es inputs.options inputs.files)

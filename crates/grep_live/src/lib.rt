@@ -3,6 +3,8 @@
 
 mod live;
 mod mark;
+mod page;
+mod paging;
 mod rows;
 mod telling;
 

@@ -1,7 +1,8 @@
 //! What an editor is told. No line is searched and no memory is taken.
-ghost use Rattle.grep_live.specs.Telling.{TellsChanges};
+ghost use Rattle.grep_live.specs.Telling.{TellsChanges, ShowsPage};
 
 use crate::live::Live;
+use crate::paging::write_hits_page;
 use crate::telling::{mark_told, write_changes};
 use grep_core::{CountedWrite, Status, WriteFault};
 
@@ -28,6 +29,33 @@ impl Live {
             Err(fault) => return Err(fault),
         }
         mark_told(&self.session, &mut self.marks);
+        Ok(status)
+    }
+
+    /// Writes how many lines of all files are listed, and a row for each of at most so many of them
+    /// from a first one on, all files one after the other, numbered from 0, each row behind the
+    /// margin; and answers the status of grep. A number above the greatest `u64` is told as that.
+    /// Nothing counts as told by it.
+    ///
+    /// # Errors
+    ///
+    /// `WriteFault` comes where a write fails, which the writer counts; what went out is a
+    /// beginning. It is not tried again.
+    pub fn page<W: CountedWrite>(
+        &self,
+        first: usize,
+        count: usize,
+        margin: &[u8],
+        out: &mut W,
+    ) -> Result<Status, WriteFault>
+        ensures { ShowsPage W.contents W.failures margin.now out.old out.new self.now.inputs first
+            count result }
+    {
+        let status = self.session.status();
+        match write_hits_page(&self.session, first, count, margin, out) {
+            Ok(()) => {}
+            Err(fault) => return Err(fault),
+        }
         Ok(status)
     }
 }

@@ -1,0 +1,24 @@
+use Rattle.std.proofs.Common.{ℕ, ◌<◌, ◌≤◌, [], length, get_or, arith, subst, sym}
+use Rattle.grep_live.specs.Working.Listing.{HitsBetween}
+use Rattle.grep_live.proofs.lemmas.PageLemmas.{files_none, files_on, files_all, hits_at, view_long}
+use Rattle.grep_live.proofs.paging.count_all.Goals as goal
+
+pub loop-k-init : goal.loop-k-init
+loop-k-init c = λ es meant view are. files_none view
+
+pub loop-k-preserved : goal.loop-k-preserved
+loop-k-preserved c =
+    let session = c.args.session.now in
+    let k = c.loop-k.k in
+    λ es meant view are.
+    let there : k < length session.files = omega (arith, c.loop-k-test.true, c.file_count-k-end.ensures) in
+    let inside : k < length view = omega (arith, there, view_long es session view are) in
+    let hits = subst (λ (n : ℕ). HitsBetween es session k 0 n (get_or view k [])) (sym c.line_count.ensures) (hits_at es session view k there are) in
+    files_on view k c.loop-k.total c.count_hits-count.result c.saturating_add-total.result inside (c.loop-k.invariant es meant view are) (c.count_hits-count.ensures es meant (get_or view k []) hits) c.saturating_add-total.ensures
+
+pub returns : goal.returns
+returns c =
+    let session = c.args.session.now in
+    λ es meant view are.
+    let past : length view ≤ c.loop-k.k = omega (arith, c.loop-k-test.false, c.file_count-k-end.ensures, view_long es session view are) in
+    files_all view c.loop-k.k c.loop-k.total past (c.loop-k.invariant es meant view are)
