@@ -4,7 +4,7 @@ use Rattle.std.specs.Prelude.{bytes_eq, Option, Result, Ok, Err, ◌⊎◌}
 use Rattle.std.specs.List.{list_any}
 use Rattle.std.specs.Fmt.{decimal}
 use Rattle.re_syntax.specs.Bytes.{Text}
-use Rattle.grep_core.specs.Files.{Inputs, File, whole, broken}
+use Rattle.grep_core.specs.Files.{File, whole, broken}
 use Rattle.grep_core.specs.Output.{written}
 use Rattle.grep_core.specs.Reading.{Reading, IsReadingOf, AreLeft, open_source, file_of}
 use Rattle.grep_core.specs.Reading.{failures_of}
@@ -12,14 +12,18 @@ use Rattle.grep_core.specs.Run.{count_more}
 use Rattle.grep_core.specs.Written.{GoesOut, StopsWithin}
 use Rattle.grep_session.specs.declared.fault.EditFault.{EditFault}
 use Rattle.grep_session.specs.declared.fault.EditFault.TheVariants as fault
-use Rattle.grep_session.specs.Edits.{Edit, EditGives, no_inputs}
+use Rattle.grep_session.specs.Edits.{Edit, EditGives}
 use Rattle.grep_session.specs.Touched.{NeedsNoMemory}
 use Rattle.grep_cmd.specs.declared.script.ScriptEnd.{ScriptEnd}
 use Rattle.grep_cmd.specs.declared.script.ScriptEnd.TheVariants.{Clean, Refused}
 use Rattle.grep_cmd.specs.declared.script.ScriptFault.{ScriptFault}
 use Rattle.grep_cmd.specs.declared.script.ScriptFault.TheVariants.{Read, Write, Memory}
-use Rattle.grep_cmd.specs.Script.{Step, does, reports, is_bad, is_truncated, Steps, IsUnfinished}
+use Rattle.grep_live.specs.Marks.{Watched, not_told}
+use Rattle.grep_live.specs.Following.{Carries}
+use Rattle.grep_cmd.specs.Script.{Step, does, reports, tells_changes, shows_page, is_bad}
+use Rattle.grep_cmd.specs.Script.{is_truncated, Steps, IsUnfinished}
 use Rattle.grep_cmd.specs.Show.{AreShown}
+use Rattle.grep_cmd.specs.Tells.{AreTold, ArePaged}
 use Rattle.grep_utility.specs.Texts.{kind_name}
 
 -- ---- replies
@@ -56,25 +60,29 @@ abbrev pub is_refusal : Text → Bool
 is_refusal line = bytes_eq (take 8 line) (codes "refused ")
 
 -- an edit was answered so; where it needs no memory it was not refused as out of memory
-pub record IsAnswered (edit : Edit) (before after : Inputs)
+pub record IsAnswered (edit : Edit) (before after : Watched)
     (answer : Result (Unit {0}) EditFault) : Type 0 where
-  pub gives : EditGives edit before after answer
-  pub named : NeedsNoMemory edit before → answer ≢ Err fault.Memory
+  pub gives : EditGives edit before.inputs after.inputs answer
+  pub carries : Carries edit before after answer
+  pub named : NeedsNoMemory edit before.inputs → answer ≢ Err fault.Memory
 
--- the reply to a step, and what it makes of the inputs
-abbrev pub RepliesTo : Step → Inputs → List Text → Inputs → Type 0
+-- the reply to a step, and what it makes of the session
+abbrev pub RepliesTo : Step → Watched → List Text → Watched → Type 0
 RepliesTo (does edit) before reply after =
     (answer : Result (Unit {0}) EditFault) × IsAnswered edit before after answer ×
     (reply ≡ reply_to answer ∷ [])
-RepliesTo reports before reply after = AreShown before reply × (after ≡ before)
+RepliesTo reports before reply after = AreShown before.inputs reply × (after ≡ before)
+RepliesTo tells_changes before reply after = AreTold before after reply
+RepliesTo (shows_page first count) before reply after =
+    ArePaged before.inputs first count reply × (after ≡ before)
 RepliesTo is_bad before reply after = (reply ≡ bad_command ∷ []) × (after ≡ before)
 RepliesTo is_truncated before reply after = (reply ≡ truncated ∷ []) × (after ≡ before)
 
--- the replies to some steps, one after the other, and what these make of the inputs
-abbrev pub Replies : List Step → Inputs → List Text → Inputs → Type 0
+-- the replies to some steps, one after the other, and what these make of the session
+abbrev pub Replies : List Step → Watched → List Text → Watched → Type 0
 Replies [] before replies after = (replies ≡ []) × (after ≡ before)
 Replies (step ∷ steps) before replies after =
-    (reply : List Text) × (between : Inputs) × (rest : List Text) ×
+    (reply : List Text) × (between : Watched) × (rest : List Text) ×
     RepliesTo step before reply between × Replies steps between rest after ×
     (replies ≡ reply ++ rest)
 
@@ -89,8 +97,8 @@ end_for replies = if list_any is_refusal replies then Refused else Clean
 pub record AnswersScript (file : File) (replies rest : List Text) : Type 0 where
   pub steps : List Step
   pub are_steps : Steps file.ending file.lines steps rest
-  pub after : Inputs
-  pub are_replies : Replies steps no_inputs replies after
+  pub after : Watched
+  pub are_replies : Replies steps not_told replies after
 
 -- a script that was read is a file: what its reader had left before and has now, and how often its
 -- reads had failed before and have now

@@ -2,7 +2,7 @@
 ghost use Rattle.std.specs.Prelude.{◌≡◌, ◌≢◌, ◌≤◌, [], Err};
 ghost use Rattle.re_syntax.specs.Profile.{most_states};
 ghost use Rattle.grep_core.specs.declared.input.lines.Stage.{Stage};
-ghost use Rattle.grep_session.specs.Edits.{no_inputs};
+ghost use Rattle.grep_live.specs.Marks.{not_told};
 ghost use Rattle.grep_cmd.specs.declared.script.ScriptFault.{ScriptFault};
 ghost use Rattle.grep_cmd.specs.Replies.{ScriptGives};
 ghost use Rattle.grep_cmd.specs.Working.Answered.{FlushesBehind};
@@ -17,7 +17,7 @@ use crate::script::answer::answer_command;
 use crate::script::counted::next_line;
 use crate::script::reply::Answer;
 use grep_core::{CountedRead, CountedWrite, NumberedLines, WriteFault};
-use grep_session::Session;
+use grep_live::Live;
 use re_auto::{Meter, fresh_meter};
 use std::alloc::Global;
 
@@ -45,11 +45,11 @@ pub enum ScriptFault {
 fn answer_all<R: CountedRead, W: CountedWrite>(
     alloc: Global,
     lines: &mut NumberedLines<R>,
-    session: &mut Session,
+    session: &mut Live,
     meter: &mut Meter,
     out: &mut W,
 ) -> Result<ScriptEnd, ScriptFault>
-    requires new_session { session.old ≡ no_inputs }
+    requires new_session { session.old ≡ not_told }
     requires none_ahead { lines.old.lines.ahead ≡ [] }
     requires still_open { lines.old.lines.stage ≡ Stage.Open }
     requires none_numbered { lines.old.number ≡ 0 }
@@ -125,7 +125,7 @@ pub fn run_script<R: CountedRead, W: CountedWrite>(
         Ok(lines) => lines,
         Err(_reader) => return send_replies(Err(ScriptFault::Memory), writer),
     };
-    let mut session = Session::new(alloc, states);
+    let mut session = Live::new(alloc, states);
     let mut meter = fresh_meter();
     let ended = answer_all(alloc, &mut lines, &mut session, &mut meter, writer);
     let _reader = lines.into_reader();

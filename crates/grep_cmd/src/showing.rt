@@ -1,11 +1,12 @@
-//! The reply to `show`, as the script of the program `occur` has it.
+//! The replies to `show`, `changes` and `page`, as the script of the program `occur` has them.
 ghost use Rattle.grep_core.specs.Row.{output_line};
 ghost use Rattle.grep_core.specs.Written.{Writes};
 ghost use Rattle.std.specs.Prelude.{[]};
 ghost use Rattle.grep_cmd.specs.Show.{Shows, status_line};
+ghost use Rattle.grep_cmd.specs.Tells.{TellsAll, ShowsHits};
 
 use grep_core::{CountedWrite, Status, WriteFault, write_line};
-use grep_session::Session;
+use grep_live::Live;
 
 /// Writes the line of the status.
 fn write_status<W: CountedWrite>(status: Status, out: &mut W) -> Result<(), WriteFault>
@@ -21,10 +22,32 @@ fn write_status<W: CountedWrite>(status: Status, out: &mut W) -> Result<(), Writ
 
 /// Writes the output lines of the session after `o `, then the message lines after `e `, then the
 /// status.
-pub fn show<W: CountedWrite>(session: &Session, out: &mut W) -> Result<(), WriteFault>
-    ensures { Shows W.contents W.failures session.now out.old out.new result }
+pub fn show<W: CountedWrite>(session: &Live, out: &mut W) -> Result<(), WriteFault>
+    ensures { Shows W.contents W.failures session.now.inputs out.old out.new result }
 {
     let status = session.report(b"o ", out)?;
     session.messages(b"e ", out)?;
+    write_status(status, out)
+}
+
+/// Writes what changed of each file, then the status.
+pub fn tell_changes<W: CountedWrite>(session: &mut Live, out: &mut W) -> Result<(), WriteFault>
+    ensures { TellsAll W.contents W.failures out.old out.new session.old session.new result }
+{
+    let status = session.changes(b"", out)?;
+    write_status(status, out)
+}
+
+/// Writes how many hits there are and so many of them from a first one on, then the status.
+pub fn show_page<W: CountedWrite>(
+    session: &Live,
+    first: usize,
+    count: usize,
+    out: &mut W,
+) -> Result<(), WriteFault>
+    ensures { ShowsHits W.contents W.failures out.old out.new session.now.inputs first count
+        result }
+{
+    let status = session.page(first, count, b"", out)?;
     write_status(status, out)
 }

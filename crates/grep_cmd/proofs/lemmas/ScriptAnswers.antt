@@ -1,5 +1,5 @@
 -- What is taken and answered for one command of a script.
-use Rattle.std.proofs.Common.{◌≡◌, ◌≢◌, ℕ, ◌+◌, ◌<◌, false, ◌||◌, List, [], ◌∷◌, ◌++◌, length, get_or, take, nat_eq, if◌then◌else◌, Option, Some, Result, Ok, Err, IfErr, inl, inr, refl, sym, ap, ◌∙◌, subst, append_assoc, append-nil, codes, arith}
+use Rattle.std.proofs.Common.{◌≡◌, ◌≢◌, ℕ, ◌+◌, ◌<◌, false, ◌||◌, List, [], ◌∷◌, ◌++◌, length, map, min, get_or, take, drop, true, ◌-◌, ◌^◌, IfOk, nat_eq, if◌then◌else◌, Option, Some, Result, Ok, Err, IfErr, inl, inr, refl, sym, ap, ◌∙◌, subst, append_assoc, append-nil, codes, arith}
 use Rattle.std.proofs.lemmas.Bool.{false_from_ne_true, eqb-true}
 use Rattle.std.proofs.lemmas.List.{take_more, length-take}
 use Rattle.std.proofs.lemmas.List.Folds.{list_any-append}
@@ -21,7 +21,12 @@ use Rattle.grep_cmd.specs.declared.script.ScriptFault.{ScriptFault}
 use Rattle.grep_cmd.specs.declared.script.ScriptFault.TheVariants.{Read, Write, Memory}
 use Rattle.grep_cmd.specs.declared.script.reply.Answer.{Answer}
 use Rattle.grep_cmd.specs.declared.script.reply.Answer.TheVariants.{Accepted, Refused, Truncated}
+use Rattle.grep_live.specs.Hits.{Hit}
+use Rattle.grep_live.specs.Changes.{Change, is_idle}
+use Rattle.grep_live.specs.Marks.{Watched}
+use Rattle.grep_live.specs.Rows.{hit_row, change_row, change_rows, changes_rows, total_row, page_row, page_rows, all_hits}
 use Rattle.grep_cmd.specs.Show.{AreShown, behind, status_line}
+use Rattle.grep_cmd.specs.Tells.{AreTold, ArePaged}
 use Rattle.grep_cmd.specs.Script.{Step, counts, IsStep, line_command}
 use Rattle.grep_cmd.specs.Replies.{RepliesTo, reply_to, truncated, is_refusal}
 use Rattle.grep_cmd.specs.Working.Answered.{ReadsNext, TakesLines, FlushesFor, Replied, DoesStep, WantsLines, AnswersLine, answer_for, was_refused}
@@ -70,6 +75,38 @@ shown_is_no_refusal inputs shown s =
     ap (list_any is_refusal) s.is ∙ list_any-append is_refusal (behind (codes "o ") s.out) _ ∙ ap (λ b. b || list_any is_refusal (behind (codes "e ") s.told ++ status_line s.status ∷ [])) out
     ∙ list_any-append is_refusal (behind (codes "e ") s.told) (status_line s.status ∷ []) ∙ ap (λ b. b || list_any is_refusal (status_line s.status ∷ [])) told ∙ none_status s.status
 
+-- rows of hits refuse nothing
+none_hits : (hits : List Hit) → list_any is_refusal (map hit_row hits) ≡ false
+none_hits [] = refl
+none_hits (hit ∷ hits) = none_hits hits
+
+none_change : (k : ℕ) (change : Change) → list_any is_refusal (change_rows k change) ≡ false
+none_change k change = by_idle (is_idle change)
+  where
+    by_idle : (idle : _) → list_any is_refusal (if idle then [] else change_row k change ∷ map hit_row change.come) ≡ false
+    by_idle true = refl
+    by_idle false = none_hits change.come
+
+none_changes : (k : ℕ) (changes : List Change) → list_any is_refusal (changes_rows k changes) ≡ false
+none_changes k [] = refl
+none_changes k (change ∷ changes) =
+    list_any-append is_refusal (change_rows k change) (changes_rows (k + 1) changes) ∙ ap (λ b. b || list_any is_refusal (changes_rows (k + 1) changes)) (none_change k change) ∙ none_changes (k + 1) changes
+
+none_numbered : (hits : List (ℕ × Hit)) → list_any is_refusal (map page_row hits) ≡ false
+none_numbered [] = refl
+none_numbered ((k, hit) ∷ hits) = none_numbered hits
+
+-- what is told of changes, and a page, refuse nothing
+pub told_is_no_refusal : (before after : Watched) (told : List Text) → AreTold before after told → list_any is_refusal told ≡ false
+told_is_no_refusal before after told t =
+    ap (list_any is_refusal) t.is ∙ list_any-append is_refusal (changes_rows 0 t.changes) (status_line t.status ∷ []) ∙ ap (λ b. b || list_any is_refusal (status_line t.status ∷ [])) (none_changes 0 t.changes) ∙ none_status t.status
+
+pub page_is_no_refusal : (inputs : Inputs) (first count : ℕ) (told : List Text) → ArePaged inputs first count told → list_any is_refusal told ≡ false
+page_is_no_refusal inputs first count told t =
+    let all = all_hits 0 t.view in
+    ap (list_any is_refusal) t.is ∙ list_any-append is_refusal (total_row (min (length all) (2 ^ 64 - 1)) ∷ page_rows first count all) (status_line t.status ∷ [])
+    ∙ ap (λ b. b || list_any is_refusal (status_line t.status ∷ [])) (none_numbered (take count (drop first all))) ∙ none_status t.status
+
 pub answered_in_time : {T : Type 0} (answer : Result T EditFault) → answer_for answer ≢ Truncated
 answered_in_time (Ok done) = λ e. let no : ⊥ = cc in no
 answered_in_time (Err fault) = λ e. let no : ⊥ = cc in no
@@ -103,7 +140,7 @@ module _ {R : Type 0} (remaining : R → Option Text) (failures : R → ℕ) (re
 
 -- ---- one command
 
-module _ {R W : Type 0} (remaining : R → Option Text) (failures : R → ℕ) (reader : R) (handed : List Text) (line : Text) (now : Numbered R) (before after : Inputs)
+module _ {R W : Type 0} (remaining : R → Option Text) (failures : R → ℕ) (reader : R) (handed : List Text) (line : Text) (now : Numbered R) (before after : Watched)
     (contents : W → Option Text) (write_failures : W → ℕ) (old mid new : W) (flushed : GoesOut contents write_failures old mid []) where
   abbrev Answers : Result Answer ScriptFault → Type 0
   Answers = AnswersLine remaining failures reader handed line now before after contents write_failures old new
@@ -118,12 +155,22 @@ module _ {R W : Type 0} (remaining : R → Option Text) (failures : R → ℕ) (
   answers_step reply Refused (Ok Accepted) d none apart h = absurd (let no : ⊥ = cc (h.0) in no)
   answers_step reply Refused (Ok Truncated) d none apart h = absurd (let no : ⊥ = cc (h.0) in no)
   answers_step reply Truncated r d none apart h = absurd (apart refl)
-  answers_step reply Accepted (Err Write) d none apart h = inr (inl (reply, d, stops_later contents write_failures old mid new [] (written [] reply) flushed h))
-  answers_step reply Refused (Err Write) d none apart h = inr (inl (reply, d, stops_later contents write_failures old mid new [] (written [] reply) flushed h))
+  answers_step reply Accepted (Err Write) d none apart h = inr (inl (after, reply, d, stops_later contents write_failures old mid new [] (written [] reply) flushed h))
+  answers_step reply Refused (Err Write) d none apart h = inr (inl (after, reply, d, stops_later contents write_failures old mid new [] (written [] reply) flushed h))
   answers_step reply Accepted (Err Read) d none apart h = absurd h
   answers_step reply Refused (Err Read) d none apart h = absurd h
   answers_step reply Accepted (Err Memory) d none apart h = absurd h
   answers_step reply Refused (Err Memory) d none apart h = absurd h
+
+  -- what changed was told, and that was left
+  pub answers_told : (reply : List Text) (left : Watched) (r : Result Answer ScriptFault) → DoesStep remaining failures reader handed line now before left reply
+      → list_any is_refusal reply ≡ false → IfOk r (λ _. after ≡ left) → Replied contents write_failures mid new reply Accepted r → Answers r
+  answers_told reply left (Ok Accepted) d none e h = (reply, subst (λ (w : Watched). DoesStep remaining failures reader handed line now before w reply) (sym e) d, goes_on contents write_failures old mid new [] (written [] reply) flushed h.1, none)
+  answers_told reply left (Ok Refused) d none e h = absurd (let no : ⊥ = cc (h.0) in no)
+  answers_told reply left (Ok Truncated) d none e h = absurd (let no : ⊥ = cc (h.0) in no)
+  answers_told reply left (Err Write) d none e h = inr (inl (left, reply, d, stops_later contents write_failures old mid new [] (written [] reply) flushed h))
+  answers_told reply left (Err Read) d none e h = absurd h
+  answers_told reply left (Err Memory) d none e h = absurd h
 
   -- a command for which its line is enough
   pub does_alone : (step : Step) (reply : List Text) → HasHanded remaining failures reader now handed → IsStep (line_command line) [] step → RepliesTo step before reply after
@@ -145,7 +192,7 @@ module _ {R W : Type 0} (remaining : R → Option Text) (failures : R → ℕ) (
   answers_truncated (Err Read) w h = absurd h
   answers_truncated (Err Memory) w h = absurd h
 
-module _ {R W : Type 0} (remaining : R → Option Text) (failures : R → ℕ) (reader : R) (handed : List Text) (line : Text) (now : Numbered R) (before : Inputs)
+module _ {R W : Type 0} (remaining : R → Option Text) (failures : R → ℕ) (reader : R) (handed : List Text) (line : Text) (now : Numbered R) (before : Watched)
     (contents : W → Option Text) (write_failures : W → ℕ) (old new : W) where
   -- not all lines that it counts were read
   pub answers_lost : (count : ℕ) (edit : List Text → Edit) (f : ScriptFault) → line_command line ≡ Some (counts count edit) → TakesLines remaining failures reader handed count now (Err f)

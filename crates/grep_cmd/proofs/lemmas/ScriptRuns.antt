@@ -3,7 +3,7 @@ use Rattle.std.proofs.Common.{◌≡◌, ℕ, ◌<◌, ◌≤◌, true, false, L
 use Rattle.std.proofs.lemmas.List.{length-append}
 use Rattle.std.specs.List.{list_any}
 use Rattle.re_syntax.specs.Bytes.{Text}
-use Rattle.grep_core.specs.Files.{File, Inputs, Ending, whole, broken}
+use Rattle.grep_core.specs.Files.{File, Ending, whole, broken}
 use Rattle.grep_core.specs.Output.{written}
 use Rattle.grep_core.specs.Reading.{file_of, most_lines}
 use Rattle.grep_core.specs.Written.{GoesOut, StopsWithin}
@@ -13,7 +13,7 @@ use Rattle.grep_core.proofs.lemmas.HandedLemmas.{begins_with}
 use Rattle.grep_core.proofs.lemmas.NumberedLemmas.{has_handed_none}
 use Rattle.grep_core.proofs.lemmas.RowLemmas.{goes_nowhere, goes_on, stops_later}
 use Rattle.grep_core.proofs.lemmas.WriterLaws.{written-append}
-use Rattle.grep_session.specs.Edits.{no_inputs}
+use Rattle.grep_live.specs.Marks.{Watched, not_told}
 use Rattle.grep_cmd.specs.declared.script.ScriptFault.{ScriptFault}
 use Rattle.grep_cmd.specs.declared.script.ScriptFault.TheVariants.{Read, Write, Memory}
 use Rattle.grep_cmd.specs.declared.script.ScriptEnd.{ScriptEnd}
@@ -66,7 +66,7 @@ module _ {R W : Type 0} (remaining : R → Option Text) (failures : R → ℕ) (
   stops_same a b c bytes first second = subst (StopsWithin contents write_failures a c) (append-nil bytes) (stops_later contents write_failures a b c bytes [] first second)
 
   -- no line was handed out
-  pub so_far_none : (now : Numbered R) → HasHanded remaining failures reader now [] → AnsweredSoFar remaining failures contents write_failures reader old now no_inputs old Clean
+  pub so_far_none : (now : Numbered R) → HasHanded remaining failures reader now [] → AnsweredSoFar remaining failures contents write_failures reader old now not_told old Clean
   so_far_none now h = record {
     handed = [];
     has_handed = h;
@@ -78,7 +78,7 @@ module _ {R W : Type 0} (remaining : R → Option Text) (failures : R → ℕ) (
     ended = refl;
   }
 
-  module _ (now : Numbered R) (inputs : Inputs) (mid : W) (ending : ScriptEnd) (s : AnsweredSoFar remaining failures contents write_failures reader old now inputs mid ending) where
+  module _ (now : Numbered R) (inputs : Watched) (mid : W) (ending : ScriptEnd) (s : AnsweredSoFar remaining failures contents write_failures reader old now inputs mid ending) where
     -- the steps so far, of a script that continues
     answers_so_far : (file : File) (rest : List Text) → file.lines ≡ s.handed ++ rest → AnswersScript file s.replies rest
     answers_so_far file rest is = record {
@@ -155,7 +155,7 @@ module _ {R W : Type 0} (remaining : R → Option Text) (failures : R → ℕ) (
 
     -- ---- a command line was handed out
 
-    module _ (line : Text) (sent : W) (flushed : GoesOut contents write_failures mid sent []) (next : Numbered R) (after : Inputs) (new : W) where
+    module _ (line : Text) (sent : W) (flushed : GoesOut contents write_failures mid sent []) (next : Numbered R) (after : Watched) (new : W) where
       abbrev Does : List Text → Type 0
       Does reply = DoesStep remaining failures reader (s.handed ++ line ∷ []) line next inputs after reply
 
@@ -171,7 +171,7 @@ module _ {R W : Type 0} (remaining : R → Option Text) (failures : R → ℕ) (
         steps = s.steps ++ d.step ∷ [];
         are_done = done_push s.handed s.steps line d.taken d.step s.are_done d.is_step;
         replies = s.replies ++ reply;
-        are_replies = replies_push s.steps d.step no_inputs inputs after s.replies reply s.are_replies d.replies_to;
+        are_replies = replies_push s.steps d.step not_told inputs after s.replies reply s.are_replies d.replies_to;
         goes = goes_both old mid sent new s.replies reply s.goes flushed goes;
         ended = is;
       }
@@ -190,7 +190,7 @@ module _ {R W : Type 0} (remaining : R → Option Text) (failures : R → ℕ) (
         steps = s.steps ++ is_truncated ∷ [];
         are_steps = rw is (done_steps file.ending s.handed (line ∷ w.taken) [] s.steps (is_truncated ∷ []) s.are_done (inr (ends, w.wants, refl, refl, refl)));
         after = inputs;
-        are_replies = replies_push s.steps is_truncated no_inputs inputs inputs s.replies (truncated ∷ []) s.are_replies (refl, refl);
+        are_replies = replies_push s.steps is_truncated not_told inputs inputs s.replies (truncated ∷ []) s.are_replies (refl, refl);
       }
 
       reads_all : (taken : List Text) (kind : Ending) → StandsAs remaining failures reader next ((s.handed ++ line ∷ []) ++ taken) kind
@@ -230,9 +230,9 @@ module _ {R W : Type 0} (remaining : R → Option Text) (failures : R → ℕ) (
           (omega (arith, longer, h.counted, s.has_handed.counted), omega (arith, h.counted, h.few))
 
       -- a write failed within the reply
-      pub stops_replying : (reply : List Text) → Does reply → StopsWithin contents write_failures sent new (written [] reply)
+      pub stops_replying : (then : Watched) (reply : List Text) → DoesStep remaining failures reader (s.handed ++ line ∷ []) line next inputs then reply → StopsWithin contents write_failures sent new (written [] reply)
           → StopsWriting contents write_failures (remaining reader) (remaining next.lines.reader) (failures reader) (failures next.lines.reader) old new
-      stops_replying reply d stops =
+      stops_replying then reply d stops =
           let handed = subst (HasHanded remaining failures reader next) (line_then s.handed line d.taken) d.has_handed in
           let b = begins next (s.handed ++ line ∷ d.taken) handed in
           record {
@@ -243,8 +243,8 @@ module _ {R W : Type 0} (remaining : R → Option Text) (failures : R → ℕ) (
             answers = record {
               steps = s.steps ++ d.step ∷ [];
               are_steps = rw b.2.1 (done_alone b.0.ending (s.handed ++ line ∷ d.taken) b.2.0 (s.steps ++ d.step ∷ []) (done_push s.handed s.steps line d.taken d.step s.are_done d.is_step));
-              after = after;
-              are_replies = replies_push s.steps d.step no_inputs inputs after s.replies reply s.are_replies d.replies_to;
+              after = then;
+              are_replies = replies_push s.steps d.step not_told inputs then s.replies reply s.are_replies d.replies_to;
             };
             stops = stops_both old mid sent new s.replies reply s.goes flushed stops;
           }
@@ -268,7 +268,7 @@ module _ {R W : Type 0} (remaining : R → Option Text) (failures : R → ℕ) (
           runs_out next new (line ∷ h.0.taken) (subst (HasHanded remaining failures reader next) (line_then s.handed line h.0.taken) h.0.has_handed) (goes_same mid sent new [] flushed h.1)
       answer_fails Write (inl h) =
           stops_sending next new (line ∷ h.0.taken) (subst (HasHanded remaining failures reader next) (line_then s.handed line h.0.taken) h.0.has_handed) (stops_same mid sent new [] flushed h.1)
-      answer_fails Write (inr (inl h)) = stops_replying h.0 h.1 h.2
+      answer_fails Write (inr (inl h)) = stops_replying h.0 h.1 h.2 h.3
       answer_fails Write (inr (inr h)) = stops_truncated h.0 h.1
 
 -- ---- the end
@@ -311,4 +311,4 @@ unfolding so_far_none
 runs_out_at_once {R} remaining failures contents write_failures reader out =
     let now : Numbered R = record { lines = record { reader = reader; ahead = []; line = []; stage = Open }; number = 0 } in
     let none = has_handed_none remaining failures now refl refl refl in
-    runs_out remaining failures contents write_failures reader out now no_inputs out Clean (so_far_none remaining failures contents write_failures reader out now none) now out [] none (goes_nowhere contents write_failures out)
+    runs_out remaining failures contents write_failures reader out now not_told out Clean (so_far_none remaining failures contents write_failures reader out now none) now out [] none (goes_nowhere contents write_failures out)

@@ -4,7 +4,8 @@ use Rattle.std.proofs.lemmas.Bool.{or_right}
 use Rattle.std.proofs.lemmas.List.Folds.{list_any-append}
 use Rattle.std.specs.List.{list_any}
 use Rattle.re_syntax.specs.Bytes.{Text}
-use Rattle.grep_core.specs.Files.{Inputs, Ending}
+use Rattle.grep_core.specs.Files.{Ending}
+use Rattle.grep_live.specs.Marks.{Watched}
 use Rattle.grep_cmd.specs.declared.script.ScriptEnd.TheVariants.{Clean, Refused}
 use Rattle.grep_cmd.specs.Script.{Step, IsStep, line_command, Steps}
 use Rattle.grep_cmd.specs.Replies.{RepliesTo, Replies, is_refusal, end_for}
@@ -28,7 +29,7 @@ pub done_alone : (ending : Ending) (lines rest : List Text) (steps : List Step) 
 done_alone ending lines rest steps done = subst (λ ss. Steps ending (lines ++ rest) ss rest) (append-nil steps) (done_steps ending lines rest rest steps [] done refl)
 
 -- one more reply
-pub replies_push : (steps : List Step) (step : Step) (before between after : Inputs) (replies reply : List Text) → Replies steps before replies between → RepliesTo step between reply after
+pub replies_push : (steps : List Step) (step : Step) (before between after : Watched) (replies reply : List Text) → Replies steps before replies between → RepliesTo step between reply after
     → Replies (steps ++ step ∷ []) before (replies ++ reply) after
 replies_push [] step before between after replies reply (none, same) h =
     (reply, after, [], subst (λ i. RepliesTo step i reply after) same h, (refl, refl), ap (λ rs. rs ++ reply) none ∙ sym (append-nil reply))

@@ -3,7 +3,7 @@ use Rattle.std.specs.Prelude.{◌≡◌, ℕ, ◌<◌, Bool, true, false, List, 
 use Rattle.std.specs.Prelude.{Some, None, Result, Ok, Err, ◌⊎◌}
 use Rattle.std.specs.List.{list_any}
 use Rattle.re_syntax.specs.Bytes.{Text}
-use Rattle.grep_core.specs.Files.{Inputs, whole, broken}
+use Rattle.grep_core.specs.Files.{whole, broken}
 use Rattle.grep_core.specs.Output.{written}
 use Rattle.grep_core.specs.Written.{GoesOut, StopsWithin}
 use Rattle.grep_core.specs.Working.Numbered.{Numbered, HasHanded, StandsAs}
@@ -15,7 +15,7 @@ use Rattle.grep_cmd.specs.declared.script.reply.Answer.{Answer}
 use Rattle.grep_cmd.specs.declared.script.reply.Answer.TheVariants.{Accepted, Refused, Truncated}
 use Rattle.grep_cmd.specs.Script.{Step, IsStep, WantsMore, line_command}
 use Rattle.grep_cmd.specs.Replies.{RepliesTo, Replies, truncated, is_refusal, end_for}
-use Rattle.grep_session.specs.Edits.{no_inputs}
+use Rattle.grep_live.specs.Marks.{Watched, not_told}
 
 -- how an edit was answered
 abbrev pub answer_for : {T : Type 0} → Result T EditFault → Answer
@@ -80,14 +80,20 @@ module _ {W : Type 0} (contents : W → Option Text) (failures : W → ℕ) (old
 -- ---- one command
 
 module _ {R : Type 0} (remaining : R → Option Text) (failures : R → ℕ) (reader : R)
-    (handed : List Text) (line : Text) (now : Numbered R) (before after : Inputs) where
-  -- a command was done, with this reply
-  pub record DoesStep (reply : List Text) : Type 0 where
+    (handed : List Text) (line : Text) (now : Numbered R) (before : Watched) where
+  -- a command was done, which left this, with this reply
+  pub record DoesStep (after : Watched) (reply : List Text) : Type 0 where
     pub taken : List Text
     pub step : Step
     pub has_handed : HasHanded remaining failures reader now (handed ++ taken)
     pub is_step : IsStep (line_command line) taken step
     pub replies_to : RepliesTo step before reply after
+
+module _ {R : Type 0} (remaining : R → Option Text) (failures : R → ℕ) (reader : R)
+    (handed : List Text) (line : Text) (now : Numbered R) (before after : Watched) where
+  -- what the command leaves and its reply, where it was done
+  abbrev pub Does : Watched → List Text → Type 0
+  Does then reply = DoesStep remaining failures reader handed line now before then reply
 
   -- fewer lines follow than the command counts
   pub record WantsLines : Type 0 where
@@ -111,14 +117,14 @@ module _ {R : Type 0} (remaining : R → Option Text) (failures : R → ℕ) (re
     AnswersLine (Ok Truncated) =
         WantsLines × GoesOut contents write_failures old new (written [] (truncated ∷ []))
     AnswersLine (Ok answer) =
-        (reply : List Text) × DoesStep reply ×
+        (reply : List Text) × Does after reply ×
         GoesOut contents write_failures old new (written [] reply) ×
         (list_any is_refusal reply ≡ was_refused answer)
     AnswersLine (Err Read) = LosesLines × GoesOut contents write_failures old new []
     AnswersLine (Err Memory) = GivesUp × GoesOut contents write_failures old new []
     AnswersLine (Err Write) =
         (GivesUp × StopsWithin contents write_failures old new [])
-        ⊎ (((reply : List Text) × DoesStep reply ×
+        ⊎ (((then : Watched) × (reply : List Text) × Does then reply ×
         StopsWithin contents write_failures old new (written [] reply))
         ⊎ (WantsLines × StopsWithin contents write_failures old new (written [] (truncated ∷ []))))
 
@@ -134,13 +140,13 @@ AreDone lines (step ∷ steps) =
 module _ {R W : Type 0} (remaining : R → Option Text) (failures : R → ℕ)
     (contents : W → Option Text) (write_failures : W → ℕ) (reader : R) (old : W) where
   -- the lines handed out so far were answered
-  pub record AnsweredSoFar (now : Numbered R) (inputs : Inputs) (new : W)
+  pub record AnsweredSoFar (now : Numbered R) (watched : Watched) (new : W)
       (ending : ScriptEnd) : Type 0 where
     pub handed : List Text
     pub has_handed : HasHanded remaining failures reader now handed
     pub steps : List Step
     pub are_done : AreDone handed steps
     pub replies : List Text
-    pub are_replies : Replies steps no_inputs replies inputs
+    pub are_replies : Replies steps not_told replies watched
     pub goes : GoesOut contents write_failures old new (written [] replies)
     pub ended : ending ≡ end_for replies

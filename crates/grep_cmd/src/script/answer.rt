@@ -8,6 +8,9 @@ ghost use Rattle.grep_session.specs.Touched.{NeedsNoMemory};
 ghost use Rattle.grep_cmd.specs.Script.{line_command, counts};
 ghost use Rattle.grep_cmd.specs.declared.script.reply.Answer.{Answer};
 ghost use Rattle.grep_cmd.specs.Show.{AreShown};
+ghost use Rattle.grep_cmd.specs.Tells.{AreTold, ArePaged};
+ghost use Rattle.grep_live.specs.Marks.{Watched};
+ghost use Rattle.grep_live.specs.Following.{Carries};
 ghost use Rattle.grep_cmd.specs.Replies.{reply_to, bad_command, truncated};
 ghost use Rattle.grep_cmd.specs.Working.Answered.{AnswersLine, Replied, answer_for};
 ghost use Rattle.grep_cmd.specs.Working.Commands.{line_meant, counted_meant};
@@ -16,16 +19,18 @@ use crate::script::ScriptFault;
 use crate::script::command::{Command, CountedEdit, LineEdit, read_command};
 use crate::script::counted::{join_lines, take_lines};
 use crate::script::reply::{Answer, write_reply};
-use crate::showing::show;
+use crate::showing::{show, show_page, tell_changes};
 use grep_core::{CountedRead, CountedWrite, NumberedLines, WriteFault, write_line};
-use grep_session::{EditFault, Session};
+use grep_live::Live;
+use grep_session::EditFault;
 use re_auto::Meter;
 use std::alloc::{AllocError, Global};
 
 /// Makes an edit for which the command line is enough.
-fn make_edit(session: &mut Session, edit: LineEdit, meter: &mut Meter) -> Result<(), EditFault>
-    ensures gives { EditGives (line_meant edit) session.old session.new result }
-    ensures memory { NeedsNoMemory (line_meant edit) session.old →
+fn make_edit(session: &mut Live, edit: LineEdit, meter: &mut Meter) -> Result<(), EditFault>
+    ensures gives { EditGives (line_meant edit) session.old.inputs session.new.inputs result }
+    ensures carries { Carries (line_meant edit) session.old session.new result }
+    ensures memory { NeedsNoMemory (line_meant edit) session.old.inputs →
         IfErr result (λ fault. fault ≢ Memory) }
 {
     match edit {
@@ -45,17 +50,21 @@ fn make_edit(session: &mut Session, edit: LineEdit, meter: &mut Meter) -> Result
 /// which a growth may be refused.
 fn make_counted_edit(
     alloc: Global,
-    session: &mut Session,
+    session: &mut Live,
     edit: CountedEdit,
     lines: Vec<Vec<u8>>,
     meter: &mut Meter,
 ) -> Result<Result<(), EditFault>, AllocError>
     ensures gives { IfOk result
         (λ answer.
-        EditGives (counted_meant edit (map (λ l. l.items) lines.items)) session.old session.new
+        EditGives (counted_meant edit (map (λ l. l.items) lines.items)) session.old.inputs
+        session.new.inputs answer) }
+    ensures carries { IfOk result
+        (λ answer.
+        Carries (counted_meant edit (map (λ l. l.items) lines.items)) session.old session.new
         answer) }
     ensures memory { IfOk result
-        (λ answer. NeedsNoMemory (counted_meant edit (map (λ l. l.items) lines.items)) session.old →
+        (λ answer. NeedsNoMemory (counted_meant edit (map (λ l. l.items) lines.items)) session.old.inputs →
         IfErr answer (λ fault. fault ≢ Memory)) }
 {
     match edit {
@@ -109,11 +118,39 @@ fn reply_to_truncated<W: CountedWrite>(out: &mut W) -> Result<Answer, ScriptFaul
 }
 
 /// Writes the report.
-fn reply_to_show<W: CountedWrite>(session: &Session, out: &mut W) -> Result<Answer, ScriptFault>
-    ensures { (shown : List Text) × AreShown session.now shown ×
+fn reply_to_show<W: CountedWrite>(session: &Live, out: &mut W) -> Result<Answer, ScriptFault>
+    ensures { (shown : List Text) × AreShown session.now.inputs shown ×
         Replied W.contents W.failures out.old out.new shown Answer.Accepted result }
 {
     match show(session, out) {
+        Ok(()) => Ok(Answer::Accepted),
+        Err(WriteFault) => Err(ScriptFault::Write),
+    }
+}
+
+/// Writes what changed.
+fn reply_to_changes<W: CountedWrite>(session: &mut Live, out: &mut W) -> Result<Answer, ScriptFault>
+    ensures { (told : List Text) × (then : Watched) × AreTold session.old then told ×
+        Replied W.contents W.failures out.old out.new told Answer.Accepted result ×
+        IfOk result (λ _. session.new ≡ then) }
+{
+    match tell_changes(session, out) {
+        Ok(()) => Ok(Answer::Accepted),
+        Err(WriteFault) => Err(ScriptFault::Write),
+    }
+}
+
+/// Writes so many hits from a first one on.
+fn reply_to_page<W: CountedWrite>(
+    session: &Live,
+    first: usize,
+    count: usize,
+    out: &mut W,
+) -> Result<Answer, ScriptFault>
+    ensures { (told : List Text) × ArePaged session.now.inputs first count told ×
+        Replied W.contents W.failures out.old out.new told Answer.Accepted result }
+{
+    match show_page(session, first, count, out) {
         Ok(()) => Ok(Answer::Accepted),
         Err(WriteFault) => Err(ScriptFault::Write),
     }
@@ -125,7 +162,7 @@ fn answer_counted<R: CountedRead, W: CountedWrite>(
     lines: &mut NumberedLines<R>,
     count: usize,
     edit: CountedEdit,
-    session: &mut Session,
+    session: &mut Live,
     meter: &mut Meter,
     out: &mut W,
 ) -> Result<Answer, ScriptFault>
@@ -151,7 +188,7 @@ fn answer_counted<R: CountedRead, W: CountedWrite>(
 pub fn answer_command<R: CountedRead, W: CountedWrite>(
     alloc: Global,
     lines: &mut NumberedLines<R>,
-    session: &mut Session,
+    session: &mut Live,
     meter: &mut Meter,
     out: &mut W,
 ) -> Result<Answer, ScriptFault>
@@ -167,6 +204,8 @@ pub fn answer_command<R: CountedRead, W: CountedWrite>(
             answer_counted(alloc, lines, count, edit, session, meter, out)
         }
         Ok(Some(Command::Show)) => reply_to_show(session, out),
+        Ok(Some(Command::Changes)) => reply_to_changes(session, out),
+        Ok(Some(Command::Page(first, count))) => reply_to_page(session, first, count, out),
         Ok(None) => reply_to_bad_line(out),
         Err(_) => Err(ScriptFault::Memory),
     }

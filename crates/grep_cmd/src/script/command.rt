@@ -6,7 +6,8 @@ ghost use Rattle.grep_cmd.specs.Script.{missing_command, close_command, splice_c
 ghost use Rattle.grep_cmd.specs.Script.{patterns_command, drop_command, flag_command};
 ghost use Rattle.grep_cmd.specs.Script.{syntax_command, no_context, context_from};
 ghost use Rattle.grep_cmd.specs.Script.{context_command, show_command, unnamed_command};
-ghost use Rattle.grep_cmd.specs.Script.{line_command};
+ghost use Rattle.grep_cmd.specs.Script.{line_command, number_of, changes_command, page_command};
+ghost use Rattle.grep_cmd.specs.Script.{told_command};
 ghost use Rattle.grep_cmd.specs.Working.Commands.{meant};
 
 use crate::script::line_words::{LineWords, words_of};
@@ -55,6 +56,10 @@ pub enum Command {
     Counted(usize, CountedEdit),
     /// The report.
     Show,
+    /// What changed.
+    Changes,
+    /// So many hits from a first one on.
+    Page(usize, usize),
 }
 
 /// The name that the word is.
@@ -244,6 +249,40 @@ fn read_show(words: LineWords<'_>) -> Option<Command>
     }
 }
 
+/// `changes`
+fn read_changes(words: LineWords<'_>) -> Option<Command>
+    ensures { option_map meant result ≡ changes_command words.entry }
+{
+    let mut words = words;
+    match words.next() {
+        Some(_) => None,
+        None => Some(Command::Changes),
+    }
+}
+
+/// `page FIRST COUNT`
+fn read_page(words: LineWords<'_>) -> Option<Command>
+    ensures { option_map meant result ≡ page_command words.entry }
+{
+    let (first, count) = words.two()?;
+    let first = read_number(first)?;
+    let count = read_number(count)?;
+    Some(Command::Page(first, count))
+}
+
+/// The command of this word and those that follow it, where it tells what an editor lists.
+fn read_told(word: &[u8], words: LineWords<'_>) -> Option<Command>
+    ensures { option_map meant result ≡ told_command word.now words.entry }
+{
+    if word == b"changes".as_slice() {
+        return read_changes(words);
+    }
+    if word == b"page".as_slice() {
+        return read_page(words);
+    }
+    None
+}
+
 /// The command of this word and those that follow it, where it has no name in it.
 fn read_unnamed(word: &[u8], words: LineWords<'_>) -> Option<Command>
     ensures { option_map meant result ≡ unnamed_command word.now words.entry }
@@ -272,7 +311,7 @@ fn read_unnamed(word: &[u8], words: LineWords<'_>) -> Option<Command>
     if word == b"context".as_slice() {
         return read_context(words);
     }
-    None
+    read_told(word, words)
 }
 
 /// The command of a line, where it is one. A growth may be refused for its name.

@@ -32,7 +32,7 @@ returns-in-Ok-clause-answers g c =
       step = does (counted_meant c.args.edit taken);
       has_handed = t.1;
       is_step = rw is (t.0, refl);
-      replies_to = (c.in-Ok.answer, record { gives = c.in-Ok.ensures.gives; named = λ none. not_for_memory c.in-Ok.answer (c.in-Ok.ensures.memory none) }, refl);
+      replies_to = (c.in-Ok.answer, record { gives = c.in-Ok.ensures.gives; carries = c.in-Ok.ensures.carries; named = λ none. not_for_memory c.in-Ok.answer (c.in-Ok.ensures.memory none) }, refl);
     })
     (refused_as c.in-Ok.answer) (answered_in_time c.in-Ok.answer) c.reply_to_edit.ensures
 
