@@ -8,3 +8,4 @@ pub mod ListingLemmas
 pub mod TellingLemmas
 pub mod CatchLemmas
 pub mod PageLemmas
+pub mod SilentLemmas

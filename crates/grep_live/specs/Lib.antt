@@ -8,5 +8,7 @@ pub mod Changes
 pub mod Following
 pub mod Rows
 pub mod Telling
+-- what the public laws say of the definitions
+pub mod Laws
 -- what else contracts are said in
 pub mod Working

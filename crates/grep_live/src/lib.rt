@@ -1,6 +1,7 @@
 //! A session that an editor watches: what it is told after edits, and a page of the hits.
 #![tactic(auto)]
 
+mod laws;
 mod live;
 mod mark;
 mod page;
@@ -8,5 +9,6 @@ mod paging;
 mod rows;
 mod telling;
 
+pub use laws::told_is_silent;
 pub use live::Live;
 pub use mark::Mark;

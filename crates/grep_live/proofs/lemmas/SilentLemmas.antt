@@ -1,0 +1,31 @@
+-- Of files that were told nothing is told.
+use Rattle.std.proofs.Common.{◌≡◌, ℕ, ◌+◌, ◌-◌, Bool, true, List, [], ◌∷◌, ◌++◌, length, map, refl, sym, ap, ◌∙◌, arith, if◌then◌else◌}
+use Rattle.std.specs.Prelude.{nat_eq, ◌&&◌}
+use Rattle.re_syntax.specs.Expression.{Expression}
+use Rattle.grep_core.specs.declared.options.Options.{Options}
+use Rattle.grep_core.specs.Files.{File}
+use Rattle.grep_live.specs.Lists.{AllThree}
+use Rattle.grep_live.specs.Marks.{whole_mark}
+use Rattle.grep_live.specs.Changes.{Change, IsChange, is_idle}
+use Rattle.grep_live.specs.Rows.{hit_row, change_row, change_rows, changes_rows}
+use Rattle.grep_live.specs.Laws.{ToldIsSilent}
+
+module _ (es : List Expression) (options : Options) where
+  one_silent : (k : ℕ) (file : File) (change : Change) → IsChange es options file (whole_mark (length file.lines)) change → change_rows k change ≡ []
+  one_silent k file change c =
+      let removed : change.removed ≡ 0 = omega (arith, c.is_removed) in
+      let added : change.added ≡ 0 = omega (arith, c.is_added) in
+      let idle : is_idle change ≡ true = λ i. nat_eq (removed i) 0 && nat_eq (added i) 0 in
+      ap (λ b. if b then [] else change_row k change ∷ map hit_row change.come) idle
+
+  all_silent : (k : ℕ) (files : List File) (changes : List Change) → AllThree (IsChange es options) files (map (λ file. whole_mark (length file.lines)) files) changes → changes_rows k changes ≡ []
+  all_silent k [] [] c = refl
+  all_silent k [] (change ∷ changes) c = absurd c
+  all_silent k (file ∷ files) [] c = absurd c
+  all_silent k (file ∷ files) (change ∷ changes) c =
+      let first = one_silent k file change c.0 in
+      let rest = all_silent (k + 1) files changes c.1 in
+      λ i. first i ++ rest i
+
+pub told_is_silent : ToldIsSilent
+told_is_silent old es changes c = all_silent es old.inputs.options 0 old.inputs.files changes c
