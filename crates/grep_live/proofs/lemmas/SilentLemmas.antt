@@ -1,5 +1,5 @@
 -- Of files that were told nothing is told.
-use Rattle.std.proofs.Common.{◌≡◌, ℕ, ◌+◌, ◌-◌, Bool, true, List, [], ◌∷◌, ◌++◌, length, map, refl, sym, ap, ◌∙◌, arith, if◌then◌else◌}
+use Rattle.std.proofs.Common.{◌≡◌, ℕ, ◌+◌, true, List, [], ◌∷◌, ◌++◌, length, map, refl, ap, arith, if◌then◌else◌}
 use Rattle.std.specs.Prelude.{nat_eq, ◌&&◌}
 use Rattle.re_syntax.specs.Expression.{Expression}
 use Rattle.grep_core.specs.declared.options.Options.{Options}
