@@ -4,4 +4,4 @@ pub mod ScriptAnswers
 pub mod ScriptSteps
 pub mod ScriptRuns
 pub mod ShowLaws
-pub mod TellsLaws
+pub mod ListingLaws

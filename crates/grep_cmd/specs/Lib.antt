@@ -15,7 +15,7 @@ pub use Rattle.grep_utility.specs.Patterns
 pub use Rattle.grep_utility.specs.Command
 -- what the contract of the script, or of the session, rests on
 pub mod Show
-pub mod Tells
+pub mod Lists
 pub mod Script
 pub mod Replies
 -- what else contracts are said in: of this crate as a library, and of its private functions

@@ -18,12 +18,12 @@ use Rattle.grep_cmd.specs.declared.script.ScriptEnd.{ScriptEnd}
 use Rattle.grep_cmd.specs.declared.script.ScriptEnd.TheVariants.{Clean, Refused}
 use Rattle.grep_cmd.specs.declared.script.ScriptFault.{ScriptFault}
 use Rattle.grep_cmd.specs.declared.script.ScriptFault.TheVariants.{Read, Write, Memory}
-use Rattle.grep_live.specs.Marks.{Watched, not_told}
+use Rattle.grep_live.specs.Marks.{Watched, new_watched}
 use Rattle.grep_live.specs.Following.{Carries}
-use Rattle.grep_cmd.specs.Script.{Step, does, reports, tells_changes, shows_page, is_bad}
+use Rattle.grep_cmd.specs.Script.{Step, does, reports, reports_changes, reports_page, is_bad}
 use Rattle.grep_cmd.specs.Script.{is_truncated, Steps, IsUnfinished}
 use Rattle.grep_cmd.specs.Show.{AreShown}
-use Rattle.grep_cmd.specs.Tells.{AreTold, ArePaged}
+use Rattle.grep_cmd.specs.Lists.{ReportsChanges, ReportsPage}
 use Rattle.grep_utility.specs.Texts.{kind_name}
 
 -- ---- replies
@@ -72,9 +72,9 @@ RepliesTo (does edit) before reply after =
     (answer : Result (Unit {0}) EditFault) × IsAnswered edit before after answer ×
     (reply ≡ reply_to answer ∷ [])
 RepliesTo reports before reply after = AreShown before.inputs reply × (after ≡ before)
-RepliesTo tells_changes before reply after = AreTold before after reply
-RepliesTo (shows_page first count) before reply after =
-    ArePaged before.inputs first count reply × (after ≡ before)
+RepliesTo reports_changes before reply after = ReportsChanges before after reply
+RepliesTo (reports_page first count) before reply after =
+    ReportsPage before.inputs first count reply × (after ≡ before)
 RepliesTo is_bad before reply after = (reply ≡ bad_command ∷ []) × (after ≡ before)
 RepliesTo is_truncated before reply after = (reply ≡ truncated ∷ []) × (after ≡ before)
 
@@ -98,7 +98,7 @@ pub record AnswersScript (file : File) (replies rest : List Text) : Type 0 where
   pub steps : List Step
   pub are_steps : Steps file.ending file.lines steps rest
   pub after : Watched
-  pub are_replies : Replies steps not_told replies after
+  pub are_replies : Replies steps new_watched replies after
 
 -- a script that was read is a file: what its reader had left before and has now, and how often its
 -- reads had failed before and have now

@@ -52,14 +52,14 @@ syntax_of word =
 
 -- ---- commands
 
--- an edit, an edit with the number of next lines that it counts, the report, what changed, or so many
--- hits from a first one on
+-- an edit, an edit with the number of next lines that it counts, the report, what changed, or a page
+-- with the number of its first hit and of its hits
 pub data Command : Type 0 where
   edits : Edit → Command
   counts : ℕ → (List Text → Edit) → Command
   shows : Command
-  tells : Command
-  pages : ℕ → ℕ → Command
+  lists_changes : Command
+  lists_page : ℕ → ℕ → Command
 
 abbrev pub file_from : Option Text → Option ℕ → Option Command
 file_from (Some name) (Some count) = Some (counts count (AddFile name))
@@ -141,11 +141,11 @@ show_command _ = None
 
 -- `changes`
 abbrev pub changes_command : List Text → Option Command
-changes_command [] = Some tells
+changes_command [] = Some lists_changes
 changes_command _ = None
 
 abbrev pub page_from : Option ℕ → Option ℕ → Option Command
-page_from (Some first) (Some count) = Some (pages first count)
+page_from (Some first) (Some count) = Some (lists_page first count)
 page_from _ _ = None
 
 -- `page FIRST COUNT`
@@ -153,8 +153,8 @@ abbrev pub page_command : List Text → Option Command
 page_command (first ∷ count ∷ []) = page_from (number_of first) (number_of count)
 page_command _ = None
 
-abbrev pub told_command : Text → List Text → Option Command
-told_command word given =
+abbrev pub listing_command : Text → List Text → Option Command
+listing_command word given =
     if bytes_eq word (codes "changes") then changes_command given else
     if bytes_eq word (codes "page") then page_command given else None
 
@@ -167,7 +167,7 @@ unnamed_command word given =
     if bytes_eq word (codes "drop") then drop_command given else
     if bytes_eq word (codes "flag") then flag_command given else
     if bytes_eq word (codes "syntax") then syntax_command given else
-    if bytes_eq word (codes "context") then context_command given else told_command word given
+    if bytes_eq word (codes "context") then context_command given else listing_command word given
 
 -- the command of these words, where they are one
 unfoldable pub command_of : List Text → Option Command
@@ -186,8 +186,8 @@ line_command line = command_of (words_of line)
 pub data Step : Type 0 where
   does : Edit → Step
   reports : Step
-  tells_changes : Step
-  shows_page : ℕ → ℕ → Step
+  reports_changes : Step
+  reports_page : ℕ → ℕ → Step
   -- the line is no command
   is_bad : Step
   -- it counts more lines than follow
@@ -198,8 +198,8 @@ abbrev pub IsStep : Option Command → List Text → Step → Type 0
 IsStep (Some (edits edit)) taken step = (taken ≡ []) × (step ≡ does edit)
 IsStep (Some (counts count edit)) taken step = (length taken ≡ count) × (step ≡ does (edit taken))
 IsStep (Some shows) taken step = (taken ≡ []) × (step ≡ reports)
-IsStep (Some tells) taken step = (taken ≡ []) × (step ≡ tells_changes)
-IsStep (Some (pages first count)) taken step = (taken ≡ []) × (step ≡ shows_page first count)
+IsStep (Some lists_changes) taken step = (taken ≡ []) × (step ≡ reports_changes)
+IsStep (Some (lists_page first count)) taken step = (taken ≡ []) × (step ≡ reports_page first count)
 IsStep None taken step = (taken ≡ []) × (step ≡ is_bad)
 
 -- the lines are a command line that counts more lines than follow

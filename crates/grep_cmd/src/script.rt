@@ -2,7 +2,7 @@
 ghost use Rattle.std.specs.Prelude.{◌≡◌, ◌≢◌, ◌≤◌, [], Err};
 ghost use Rattle.re_syntax.specs.Profile.{most_states};
 ghost use Rattle.grep_core.specs.declared.input.lines.Stage.{Stage};
-ghost use Rattle.grep_live.specs.Marks.{not_told};
+ghost use Rattle.grep_live.specs.Marks.{new_watched};
 ghost use Rattle.grep_cmd.specs.declared.script.ScriptFault.{ScriptFault};
 ghost use Rattle.grep_cmd.specs.Replies.{ScriptGives};
 ghost use Rattle.grep_cmd.specs.Working.Answered.{FlushesBehind};
@@ -49,7 +49,7 @@ fn answer_all<R: CountedRead, W: CountedWrite>(
     meter: &mut Meter,
     out: &mut W,
 ) -> Result<ScriptEnd, ScriptFault>
-    requires new_session { session.old ≡ not_told }
+    requires new_session { session.old ≡ new_watched }
     requires none_ahead { lines.old.lines.ahead ≡ [] }
     requires still_open { lines.old.lines.stage ≡ Stage.Open }
     requires none_numbered { lines.old.number ≡ 0 }

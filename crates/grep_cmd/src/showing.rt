@@ -3,7 +3,7 @@ ghost use Rattle.grep_core.specs.Row.{output_line};
 ghost use Rattle.grep_core.specs.Written.{Writes};
 ghost use Rattle.std.specs.Prelude.{[]};
 ghost use Rattle.grep_cmd.specs.Show.{Shows, status_line};
-ghost use Rattle.grep_cmd.specs.Tells.{TellsAll, ShowsHits};
+ghost use Rattle.grep_cmd.specs.Lists.{WritesReport, WritesHits};
 
 use grep_core::{CountedWrite, Status, WriteFault, write_line};
 use grep_live::Live;
@@ -31,21 +31,21 @@ pub fn show<W: CountedWrite>(session: &Live, out: &mut W) -> Result<(), WriteFau
 }
 
 /// Writes what changed of each file, then the status.
-pub fn tell_changes<W: CountedWrite>(session: &mut Live, out: &mut W) -> Result<(), WriteFault>
-    ensures { TellsAll W.contents W.failures out.old out.new session.old session.new result }
+pub fn show_changes<W: CountedWrite>(session: &mut Live, out: &mut W) -> Result<(), WriteFault>
+    ensures { WritesReport W.contents W.failures out.old out.new session.old session.new result }
 {
     let status = session.changes(b"", out)?;
     write_status(status, out)
 }
 
-/// Writes how many hits there are and so many of them from a first one on, then the status.
+/// Writes the number of hits and at most `count` of them from number `first` on, then the status.
 pub fn show_page<W: CountedWrite>(
     session: &Live,
     first: usize,
     count: usize,
     out: &mut W,
 ) -> Result<(), WriteFault>
-    ensures { ShowsHits W.contents W.failures out.old out.new session.now.inputs first count
+    ensures { WritesHits W.contents W.failures out.old out.new session.now.inputs first count
         result }
 {
     let status = session.page(first, count, b"", out)?;

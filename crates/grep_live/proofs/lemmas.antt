@@ -5,7 +5,7 @@ pub mod CarryLemmas
 pub mod LostLemmas
 pub mod Pushing
 pub mod ListingLemmas
-pub mod TellingLemmas
+pub mod ChangesLemmas
 pub mod CatchLemmas
 pub mod PageLemmas
-pub mod SilentLemmas
+pub mod TwiceLemmas

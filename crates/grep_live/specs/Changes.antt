@@ -1,4 +1,4 @@
--- Changes: what an editor is told of a file, and what it makes of the list that it has.
+-- Changes: what is reported of a file, and the list that an editor makes of it.
 use Rattle.std.specs.Prelude.{◌≡◌, ℕ, ◌+◌, ◌-◌, ◌<◌, ◌≤◌, nat_lt, nat_le, nat_eq, ◌&&◌, Bool}
 use Rattle.std.specs.Prelude.{if◌then◌else◌, List, [], ◌∷◌, ◌++◌, map, length, slice_range}
 use Rattle.std.specs.List.{filter}
@@ -14,56 +14,56 @@ use Rattle.grep_live.specs.Hits.{Hit, View, HitsFrom}
 abbrev pub hits_before : ℕ → List Hit → List Hit
 hits_before place hits = filter (λ hit. nat_lt hit.place place) hits
 
--- a hit, where the line at `from` comes to stand at `to`
+-- a hit, where the line at `from` moves to `to`
 abbrev pub moved : ℕ → ℕ → Hit → Hit
 moved from to hit = record hit { place = to + (hit.place - from) }
 
--- the hits from a place on, where the line there comes to stand at `to`
+-- the hits from place `from` on, where the line there moves to `to`
 abbrev pub hits_from : ℕ → ℕ → List Hit → List Hit
 hits_from from to hits = map (moved from to) (filter (λ hit. nat_le from hit.place) hits)
 
--- from `front` on `removed` lines gave way to `added` lines, in which these hits come
+-- the hits after `removed` lines from `front` on were replaced by `added` lines with these hits
 abbrev pub spliced_hits : ℕ → ℕ → ℕ → List Hit → List Hit → List Hit
 spliced_hits front removed added come old =
     hits_before front old ++ (come ++ hits_from (front + removed) (front + added) old)
 
--- ---- what it is told
+-- ---- what is reported
 
--- from line `front` on `removed` lines gave way to `added` lines, and these are the hits in them
+-- from line `front` on `removed` lines were replaced by `added` lines, and these are their hits
 pub record Change : Type 0 where
   pub front : ℕ
   pub removed : ℕ
   pub added : ℕ
   pub come : List Hit
 
--- nothing is told of a file in which nothing gave way to anything
+-- nothing was removed and nothing added, so nothing is reported
 abbrev pub is_idle : Change → Bool
 is_idle change = nat_eq change.removed 0 && nat_eq change.added 0
 
--- the list of a file behind a change
+-- the list of a file after a change
 abbrev pub after : Change → List Hit → List Hit
 after change hits =
     if is_idle change then hits
     else spliced_hits change.front change.removed change.added change.come hits
 
--- the lists of all files, each behind its change
+-- the lists of all files, each after its change
 abbrev pub all_after : List Change → View → View
 all_after [] view = []
 all_after (change ∷ changes) [] = []
 all_after (change ∷ changes) (hits ∷ view) = after change hits ∷ all_after changes view
 
--- what is told of a file by its mark: all lines but those untouched at its front and at its back,
--- as many as it had when it was told last, gave way to those that it has
+-- the change of a file by its mark: of the known lines all but the untouched ones at the front and
+-- at the back were replaced by those that are there now
 pub record IsChange (es : List Expression) (options : Options) (file : File) (mark : Mark)
     (change : Change) : Type 0 where
   pub is_front : change.front ≡ mark.front
-  pub is_removed : change.removed ≡ mark.told - mark.front - mark.back
+  pub is_removed : change.removed ≡ mark.known - mark.front - mark.back
   pub is_added : change.added ≡ length file.lines - mark.front - mark.back
   pub are_hits : HitsFrom es options change.front
       (slice_range file.lines change.front (change.front + change.added)) change.come
 
--- hits in the order of their places, from a first place on and before an end
+-- hits in the order of their places, from place `first` on and before place `past`
 abbrev pub AreWithin : ℕ → ℕ → List Hit → Type 0
-AreWithin first behind [] = Unit {0}
-AreWithin first behind (hit ∷ more) =
-    (first ≤ hit.place) × (hit.place < behind) × AreWithin (hit.place + 1) behind more
+AreWithin first past [] = Unit {0}
+AreWithin first past (hit ∷ more) =
+    (first ≤ hit.place) × (hit.place < past) × AreWithin (hit.place + 1) past more

@@ -6,29 +6,29 @@ use Rattle.re_syntax.specs.Expression.{Expression}
 use Rattle.grep_core.specs.declared.options.Options.{Options}
 use Rattle.grep_core.specs.Choose.{IfHolds, EachGives}
 use Rattle.grep_core.specs.Files.{File, Selected}
-use Rattle.grep_session.specs.Told.{PartsTold}
+use Rattle.grep_session.specs.Listed.{ListedParts}
 
--- a selected line: its place in its file, from 0, its text, and where those of its parts stand in
--- it that are told, each from its first byte to the place behind its last
+-- a selected line: its place in its file, counted from 0, its text, and its listed parts, each from
+-- its first byte to the place after its last
 pub record Hit : Type 0 where
   pub place : ℕ
   pub text : Text
   pub parts : List (ℕ × ℕ)
 
--- what an editor has of files: a list of hits for each of them, in order
+-- the lists of an editor: one list of hits for each file, in order
 abbrev pub View : Type 0
 View = List (List Hit)
 
 module _ (es : List Expression) (options : Options) where
-  -- the hits of one line, which has this place: one where it is selected, and else none
+  -- the hits of one line, with its place: one where it is selected, and otherwise none
   abbrev pub HitOf : ℕ × Text → List Hit → Type 0
   HitOf line hits =
       IfHolds (Selected es options line.1)
-      ((parts : List (ℕ × ℕ)) × PartsTold es options line.1 parts ×
+      ((parts : List (ℕ × ℕ)) × ListedParts es options line.1 parts ×
       (hits ≡ record { place = line.0; text = line.1; parts = parts } ∷ []))
       (hits ≡ [])
 
-  -- the hits of lines, the first of which has this place
+  -- the hits of lines, the first of which has place `first`
   abbrev pub HitsFrom : ℕ → List Text → List Hit → Type 0
   HitsFrom first lines hits = EachGives HitOf (enumerate_from first lines) hits
 

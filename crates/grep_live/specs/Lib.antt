@@ -1,14 +1,14 @@
--- what these cite of the crates below
+-- definitions of the crates below that contracts of this one name
 pub use Rattle.grep_session.specs.Edits
--- what the contracts of a watched session rest on
+-- the definitions of a watched session
 pub mod Lists
 pub mod Hits
 pub mod Marks
 pub mod Changes
 pub mod Following
 pub mod Rows
-pub mod Telling
--- what the public laws say of the definitions
+pub mod Writing
+-- the public laws of the definitions
 pub mod Laws
--- what else contracts are said in
+-- what other contracts are stated with, of private functions
 pub mod Working

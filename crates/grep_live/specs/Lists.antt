@@ -1,7 +1,7 @@
 -- Three lists beside each other.
 use Rattle.std.specs.Prelude.{List, [], ◌∷◌, ⊤}
 
--- R holds of the elements at each place of three lists, which are as long
+-- three lists are of one length, and R holds of their elements at each place
 abbrev pub AllThree : {A B C : Type 0} → (A → B → C → Type 0) → List A → List B → List C → Type 0
 AllThree R [] [] [] = ⊤
 AllThree R [] [] (z ∷ zs) = ⊥

@@ -1,4 +1,4 @@
--- Marks: what edits left untouched of each file since an editor was told of it.
+-- Marks: which lines of each file edits left untouched since its changes were last reported.
 use Rattle.std.specs.Prelude.{◌≡◌, ℕ, ◌+◌, ◌-◌, min, List, [], ◌∷◌, ◌++◌, map, length, get_or}
 use Rattle.std.specs.Prelude.{slice_set, Result, Ok, Err}
 use Rattle.std.specs.List.{remove}
@@ -19,23 +19,23 @@ pub record Watched : Type 0 where
   pub inputs : Inputs
   pub marks : List Mark
 
--- a new one
-abbrev pub not_told : Watched
-not_told = record { inputs = no_inputs; marks = [] }
+-- a new session
+abbrev pub new_watched : Watched
+new_watched = record { inputs = no_inputs; marks = [] }
 
--- the mark of a file of so many lines that was told: all of them stand untouched at its front, and
--- all at its back
+-- the mark of a file that was reported with this number of lines: all of them are untouched at its
+-- front, and all at its back
 abbrev pub whole_mark : ℕ → Mark
-whole_mark lines = record { front = lines; back = lines; told = lines }
+whole_mark lines = record { front = lines; back = lines; known = lines }
 
--- the mark of a file that was not told yet
+-- the mark of a file that was not reported yet
 abbrev pub new_mark : Mark
-new_mark = record { front = 0; back = 0; told = 0 }
+new_mark = record { front = 0; back = 0; known = 0 }
 
 abbrev pub mark_at : List Mark → ℕ → Mark
 mark_at marks k = get_or marks k new_mark
 
--- no more than so many lines at the front, and so many at the back, are untouched
+-- at most `front` lines at the front and `back` lines at the back are untouched
 abbrev pub touched : ℕ → ℕ → Mark → Mark
 touched front back mark = record mark { front = min mark.front front; back = min mark.back back }
 
@@ -43,7 +43,7 @@ touched front back mark = record mark { front = min mark.front front; back = min
 abbrev pub lost : Mark → Mark
 lost mark = record mark { front = 0; back = 0 }
 
--- by an option that is set to something else other lines may be selected, or other parts told
+-- after a change of one of these options other lines may be selected, or other parts listed
 abbrev pub marks_by_flag : Flag → List Mark → List Mark
 marks_by_flag IgnoreCase marks = map lost marks
 marks_by_flag OnlyMatching marks = map lost marks
@@ -51,8 +51,8 @@ marks_by_flag InvertMatch marks = map lost marks
 marks_by_flag LineRegexp marks = map lost marks
 marks_by_flag _ marks = marks
 
--- the marks that an accepted edit leaves: of a splice the lines before it and behind it are
--- untouched; where other lines may be selected, or other parts told, none are
+-- the marks that an accepted edit leaves: of a splice the lines before it and after it are
+-- untouched; where other lines may be selected, or other parts listed, none are
 abbrev pub MarksAfter : Edit → Watched → List Mark → Type 0
 MarksAfter (AddFile name lines) old marks = marks ≡ old.marks ++ new_mark ∷ []
 MarksAfter (AddMissing name) old marks = marks ≡ old.marks ++ new_mark ∷ []

@@ -7,7 +7,7 @@ use Rattle.re_syntax.specs.Bytes.{Text}
 use Rattle.grep_live.specs.Hits.{Hit, View}
 use Rattle.grep_live.specs.Changes.{Change, is_idle}
 
--- numbers, each behind a space
+-- numbers, each after a space
 abbrev pub spaced : List ℕ → Text
 spaced numbers = flat_map (λ number. codes " " ++ decimal number) numbers
 
@@ -15,11 +15,11 @@ spaced numbers = flat_map (λ number. codes " " ++ decimal number) numbers
 abbrev pub part_text : ℕ × ℕ → Text
 part_text part = decimal part.0 ++ (codes "-" ++ decimal part.1)
 
--- the parts behind a first one, each behind a comma
+-- the parts after the first, each after a comma
 abbrev pub more_parts : List (ℕ × ℕ) → Text
 more_parts parts = flat_map (λ part. codes "," ++ part_text part) parts
 
--- the parts of a line, or a hyphen where none are told
+-- the listed parts of a line, or a hyphen where there are none
 abbrev pub parts_text : List (ℕ × ℕ) → Text
 parts_text [] = codes "-"
 parts_text (part ∷ parts) = part_text part ++ more_parts parts
@@ -39,20 +39,19 @@ change_row k change =
     codes "h"
     ++ spaced (k ∷ change.front ∷ change.removed ∷ change.added ∷ length change.come ∷ [])
 
--- what is told of file k: nothing, or how many lines gave way, and each hit among those that came
+-- the rows of file k: none, or the change and each hit among the added lines
 abbrev pub change_rows : ℕ → Change → List Text
 change_rows k change =
     if is_idle change then [] else change_row k change ∷ map hit_row change.come
 
--- what is told of files, the first of which has this number
+-- the rows of files, the first of which has number `k`
 abbrev pub changes_rows : ℕ → List Change → List Text
 changes_rows k [] = []
 changes_rows k (change ∷ more) = change_rows k change ++ changes_rows (k + 1) more
 
 -- ---- pages
 
--- the hits of files one after the other, each with the number of its file, which is this of the
--- first
+-- the hits of files in order, each with the number of its file; the first file has number `k`
 abbrev pub all_hits : ℕ → View → List (ℕ × Hit)
 all_hits k [] = []
 all_hits k (hits ∷ view) = map (λ hit. (k, hit)) hits ++ all_hits (k + 1) view
@@ -65,6 +64,6 @@ total_row total = codes "hits" ++ spaced (total ∷ [])
 abbrev pub page_row : ℕ × Hit → Text
 page_row (k, hit) = hit_text (codes "p") (k ∷ hit.place ∷ []) hit.parts hit.text
 
--- of all hits, which are numbered from 0, so many from a first on
+-- of all hits, numbered from 0, at most `count` from number `first` on
 abbrev pub page_rows : ℕ → ℕ → List (ℕ × Hit) → List Text
 page_rows first count all = map page_row (take count (drop first all))

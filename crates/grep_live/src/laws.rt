@@ -1,8 +1,8 @@
-//! Laws of the definitions, each the contract of a function that does nothing.
-ghost use Rattle.grep_live.specs.Laws.{ToldIsSilent};
+//! Laws of the definitions, as functions that do nothing.
+ghost use Rattle.grep_live.specs.Laws.{NothingTwice};
 
-/// Of files that were told as they are nothing is told.
-#[tactic(auto, using(crate::proofs::lemmas::SilentLemmas::told_is_silent))]
-pub fn told_is_silent()
-    ensures { ToldIsSilent }
+/// Of files whose changes were all reported, no row is written.
+#[tactic(auto, using(crate::proofs::lemmas::TwiceLemmas::nothing_twice))]
+pub fn nothing_twice()
+    ensures { NothingTwice }
 {}

@@ -1,14 +1,14 @@
-//! A session that an editor watches: what it is told after edits, and a page of the hits.
+//! A session that an editor watches: what changed since its last question, and pages of the hits.
 #![tactic(auto)]
 
+mod changing;
 mod laws;
 mod live;
 mod mark;
 mod page;
 mod paging;
 mod rows;
-mod telling;
 
-pub use laws::told_is_silent;
+pub use laws::nothing_twice;
 pub use live::Live;
 pub use mark::Mark;

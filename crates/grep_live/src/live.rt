@@ -1,20 +1,19 @@
 //! A session that an editor watches.
 ghost use Rattle.std.specs.Prelude.{◌≡◌, ◌≤◌, []};
 ghost use Rattle.re_syntax.specs.Profile.{most_states};
-ghost use Rattle.grep_live.specs.Marks.{not_told};
+ghost use Rattle.grep_live.specs.Marks.{new_watched};
 ghost use Rattle.grep_live.specs.Following.{Follows};
 
 mod edits;
-mod passing;
-mod telling;
+mod listing;
+mod reporting;
 
 use crate::mark::Mark;
 use grep_session::Session;
 use std::alloc::Global;
 use std::marker::Model;
 
-/// A session, and of each of its files what edits left untouched since an editor was told of it. A
-/// contract sees the inputs of grep and these marks.
+/// A session, and a mark for each of its files. A contract sees the inputs of grep and the marks.
 #[derive(Drop)]
 pub struct Live {
     session: Session,
@@ -34,12 +33,12 @@ impl Model for Live {
 }
 
 impl Live {
-    /// No file, no pattern, basic syntax, and no option; an editor that has nothing follows it.
-    /// Each pattern that is added may keep so many states.
+    /// A session with no file, no pattern, basic syntax, and no option. An editor without lists
+    /// follows it. Each added pattern may keep `states` states.
     pub fn new(alloc: Global, states: usize) -> Live
         requires some { 1 ≤ states }
         requires few { states ≤ most_states }
-        ensures is_new { result ≡ not_told }
+        ensures is_new { result ≡ new_watched }
         ensures followed { Follows result [] }
     {
         Live {

@@ -1,43 +1,43 @@
-//! What of a file edits left untouched since an editor was told of it.
+//! Marks: which lines of a file are as the editor knows them.
 ghost use Rattle.std.specs.Prelude.{◌≡◌, ◌-◌, map};
 ghost use Rattle.grep_live.specs.Marks.{whole_mark, new_mark, touched, lost};
 
-/// So many lines at the front of a file, and so many at its back, are as they were when an editor
-/// was told of the file last, and so many lines there were then.
+/// Which lines of a file are untouched since its changes were last reported: the number of lines at
+/// its front and at its back, and the number of lines that it had then.
 #[derive(Clone, Copy, PartialEq, Eq, Debug, Drop)]
 pub struct Mark {
-    /// The lines at the front.
+    /// The untouched lines at the front.
     pub front: usize,
-    /// The lines at the back.
+    /// The untouched lines at the back.
     pub back: usize,
-    /// The lines that there were.
-    pub told: usize,
+    /// The lines that the file had when its changes were last reported.
+    pub known: usize,
 }
 
 impl Mark {
-    /// Of a file of which nothing was told.
+    /// The mark of a file that was not reported yet.
     pub fn new() -> Mark
         ensures { result ≡ new_mark }
     {
         Mark {
             front: 0,
             back: 0,
-            told: 0,
+            known: 0,
         }
     }
 
-    /// Of a file of so many lines that was told as it is.
+    /// The mark of a file that was reported as it is, with this number of lines.
     pub fn whole(lines: usize) -> Mark
         ensures { result ≡ whole_mark lines }
     {
         Mark {
             front: lines,
             back: lines,
-            told: lines,
+            known: lines,
         }
     }
 
-    /// No more than so many lines at the front, and so many at the back, are untouched.
+    /// Leaves at most `front` lines at the front and `back` lines at the back untouched.
     pub fn touch(&mut self, front: usize, back: usize)
         ensures { self.new ≡ touched front back self.old }
     {
@@ -45,7 +45,7 @@ impl Mark {
         self.back = self.back.min(back);
     }
 
-    /// No line is untouched.
+    /// Leaves no line untouched.
     pub fn lose(&mut self)
         ensures { self.new ≡ lost self.old }
     {
@@ -53,16 +53,16 @@ impl Mark {
         self.back = 0;
     }
 
-    /// How many of the lines that there were gave way.
+    /// The number of known lines that were removed.
     pub fn removed(&self) -> usize
-        ensures { result ≡ self.now.told - self.now.front - self.now.back }
+        ensures { result ≡ self.now.known - self.now.front - self.now.back }
     {
-        self.told
+        self.known
             .saturating_sub(self.front)
             .saturating_sub(self.back)
     }
 
-    /// How many of so many lines came.
+    /// The number of lines that were added, of a file that has `lines` now.
     pub fn added(&self, lines: usize) -> usize
         ensures { result ≡ lines - self.now.front - self.now.back }
     {
@@ -70,7 +70,7 @@ impl Mark {
     }
 }
 
-/// No line of any of these files is untouched.
+/// Leaves no line of these files untouched.
 fn lose_each(marks: &mut [Mark])
     ensures { marks.new ≡ map lost marks.old }
 {
@@ -79,7 +79,7 @@ fn lose_each(marks: &mut [Mark])
     }
 }
 
-/// No line of any file is untouched.
+/// Leaves no line of any file untouched.
 pub fn lose_all(marks: &mut Vec<Mark>)
     ensures { marks.new.items ≡ map lost marks.old.items }
 {

@@ -9,16 +9,16 @@ use crate::rows::write_hit_row;
 use grep_core::{CountedWrite, WriteFault};
 use grep_session::Hit;
 
-/// How many hits are passed over yet, and how many are written at most.
+/// How many hits are still to be skipped, and how many more are written at most.
 #[derive(Drop)]
 pub struct Page {
-    /// The hits to be passed over.
+    /// The hits to be skipped.
     pub skip: usize,
     /// The hits to be written.
     pub left: usize,
 }
 
-/// Passes over a hit, or writes its row, or has written enough.
+/// Skips a hit, or writes its row, or does nothing where enough are written.
 pub fn show_hit<W: CountedWrite>(
     page: &mut Page,
     k: usize,

@@ -8,13 +8,13 @@ ghost use Rattle.grep_live.specs.Hits.{Hit, View, AreHits};
 ghost use Rattle.grep_live.specs.Rows.{all_hits, page_rows, total_row};
 ghost use Rattle.grep_live.specs.Working.Listing.{Mean, HitsBetween};
 
+use crate::changing::count_hits;
 use crate::page::{Page, show_hit};
 use crate::rows::write_number_row;
-use crate::telling::count_hits;
 use grep_core::{CountedWrite, WriteFault};
 use grep_session::Session;
 
-/// How many lines of all files an editor lists. The count stays at the greatest `usize`.
+/// The number of hits of all files, at most the greatest `usize`.
 pub fn count_all(session: &Session) -> usize
     ensures { (es : List Expression) → Mean session.now es → (view : View) →
         AreHits es session.now.options session.now.files view →
@@ -28,7 +28,7 @@ pub fn count_all(session: &Session) -> usize
     total
 }
 
-/// Writes the rows of the hits of file `k` that stand on the page.
+/// Writes the rows of the hits of file `k` that are on the page.
 fn show_file<W: CountedWrite>(
     session: &Session,
     k: usize,
@@ -55,7 +55,7 @@ fn show_file<W: CountedWrite>(
     Ok(())
 }
 
-/// Writes the rows of so many hits from a first one on, of all files one after the other.
+/// Writes the rows of at most `count` hits from number `first` on, of all files in order.
 pub fn write_page<W: CountedWrite>(
     session: &Session,
     first: usize,
@@ -78,7 +78,7 @@ pub fn write_page<W: CountedWrite>(
     Ok(())
 }
 
-/// Writes how many hits there are, and the rows of so many of them from a first one on.
+/// Writes the number of hits, and the rows of at most `count` of them from number `first` on.
 pub fn write_hits_page<W: CountedWrite>(
     session: &Session,
     first: usize,

@@ -10,7 +10,7 @@ use grep_core::{CountedWrite, WriteFault, push_all, write_decimal, write_line};
 use grep_session::Hit;
 use re_search::Span;
 
-/// Writes a number behind something.
+/// Writes some bytes and a number.
 #[tactic(auto, using(grep_core::proofs::lemmas::RowLemmas::writing))]
 fn write_number<W: CountedWrite>(
     out: &mut W,
@@ -23,7 +23,7 @@ fn write_number<W: CountedWrite>(
     write_decimal(out, number as u64)
 }
 
-/// Writes numbers, each behind a space.
+/// Writes numbers, each after a space.
 fn write_numbers<W: CountedWrite>(out: &mut W, numbers: &[usize]) -> Result<(), WriteFault>
     ensures { Writes W.contents W.failures out.old out.new (spaced numbers.now) result }
 {
@@ -42,9 +42,9 @@ fn write_part<W: CountedWrite>(out: &mut W, part: Span) -> Result<(), WriteFault
     write_number(out, b"-", part.end)
 }
 
-/// Writes a part behind something.
+/// Writes some bytes and where a part starts and ends.
 #[tactic(auto, using(grep_core::proofs::lemmas::RowLemmas::writing))]
-fn write_part_behind<W: CountedWrite>(
+fn write_next_part<W: CountedWrite>(
     out: &mut W,
     before: &[u8],
     part: Span,
@@ -56,13 +56,13 @@ fn write_part_behind<W: CountedWrite>(
     write_part(out, part)
 }
 
-/// Writes the parts behind a first one.
+/// Writes the parts after the first, each after a comma.
 fn write_more_parts<W: CountedWrite>(out: &mut W, parts: &[Span]) -> Result<(), WriteFault>
     ensures { Writes W.contents W.failures out.old out.new
         (more_parts (map span_places parts.now)) result }
 {
     for part in parts {
-        write_part_behind(out, b",", *part)?;
+        write_next_part(out, b",", *part)?;
     }
     Ok(())
 }
@@ -123,7 +123,7 @@ pub fn write_number_row<W: CountedWrite>(
     push_all(out, b"\n")
 }
 
-/// Writes a line behind something, and a newline.
+/// Writes some bytes, a line and a newline.
 #[tactic(auto, using(grep_core::proofs::lemmas::RowLemmas::writing))]
 fn write_text<W: CountedWrite>(out: &mut W, before: &[u8], text: &[u8]) -> Result<(), WriteFault>
     ensures { Writes W.contents W.failures out.old out.new
@@ -143,7 +143,7 @@ fn write_parted<W: CountedWrite>(out: &mut W, parts: &[Span], text: &[u8]) -> Re
     write_text(out, b" ", text)
 }
 
-/// The same behind something.
+/// Writes some bytes, the parts of a hit, its line and a newline.
 #[tactic(auto, using(grep_core::proofs::lemmas::RowLemmas::writing))]
 fn write_rest<W: CountedWrite>(
     out: &mut W,

@@ -4,8 +4,8 @@ pub use Rattle.grep_core.specs.Files
 pub mod Edits
 pub mod Touched
 pub mod Headline
--- what a reader of a session is told of a line
-pub mod Told
+-- what an editor lists of a line
+pub mod Listed
 -- the public laws of the definitions
 pub mod Laws
 -- what other contracts are stated with: of this crate as a library, and of its private functions

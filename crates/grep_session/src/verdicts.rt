@@ -34,7 +34,7 @@ impl KeptFile {
         }
     }
 
-    /// How many lines the file has, where it could be opened.
+    /// The number of lines of the file: none if it could not be opened.
     pub fn line_count(&self) -> usize
         ensures { result ≡ length (kept_file self.now).lines }
     {

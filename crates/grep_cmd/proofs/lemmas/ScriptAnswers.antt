@@ -26,7 +26,7 @@ use Rattle.grep_live.specs.Changes.{Change, is_idle}
 use Rattle.grep_live.specs.Marks.{Watched}
 use Rattle.grep_live.specs.Rows.{hit_row, change_row, change_rows, changes_rows, total_row, page_row, page_rows, all_hits}
 use Rattle.grep_cmd.specs.Show.{AreShown, behind, status_line}
-use Rattle.grep_cmd.specs.Tells.{AreTold, ArePaged}
+use Rattle.grep_cmd.specs.Lists.{ReportsChanges, ReportsPage}
 use Rattle.grep_cmd.specs.Script.{Step, counts, IsStep, line_command}
 use Rattle.grep_cmd.specs.Replies.{RepliesTo, reply_to, truncated, is_refusal}
 use Rattle.grep_cmd.specs.Working.Answered.{ReadsNext, TakesLines, FlushesFor, Replied, DoesStep, WantsLines, AnswersLine, answer_for, was_refused}
@@ -96,12 +96,12 @@ none_numbered : (hits : List (ℕ × Hit)) → list_any is_refusal (map page_row
 none_numbered [] = refl
 none_numbered ((k, hit) ∷ hits) = none_numbered hits
 
--- what is told of changes, and a page, refuse nothing
-pub told_is_no_refusal : (before after : Watched) (told : List Text) → AreTold before after told → list_any is_refusal told ≡ false
-told_is_no_refusal before after told t =
+-- the replies to `changes` and `page` refuse nothing
+pub changes_is_no_refusal : (before after : Watched) (told : List Text) → ReportsChanges before after told → list_any is_refusal told ≡ false
+changes_is_no_refusal before after told t =
     ap (list_any is_refusal) t.is ∙ list_any-append is_refusal (changes_rows 0 t.changes) (status_line t.status ∷ []) ∙ ap (λ b. b || list_any is_refusal (status_line t.status ∷ [])) (none_changes 0 t.changes) ∙ none_status t.status
 
-pub page_is_no_refusal : (inputs : Inputs) (first count : ℕ) (told : List Text) → ArePaged inputs first count told → list_any is_refusal told ≡ false
+pub page_is_no_refusal : (inputs : Inputs) (first count : ℕ) (told : List Text) → ReportsPage inputs first count told → list_any is_refusal told ≡ false
 page_is_no_refusal inputs first count told t =
     let all = all_hits 0 t.view in
     ap (list_any is_refusal) t.is ∙ list_any-append is_refusal (total_row (min (length all) (2 ^ 64 - 1)) ∷ page_rows first count all) (status_line t.status ∷ [])
@@ -162,15 +162,15 @@ module _ {R W : Type 0} (remaining : R → Option Text) (failures : R → ℕ) (
   answers_step reply Accepted (Err Memory) d none apart h = absurd h
   answers_step reply Refused (Err Memory) d none apart h = absurd h
 
-  -- what changed was told, and that was left
-  pub answers_told : (reply : List Text) (left : Watched) (r : Result Answer ScriptFault) → DoesStep remaining failures reader handed line now before left reply
+  -- the changes were written, and this was left
+  pub answers_changes : (reply : List Text) (left : Watched) (r : Result Answer ScriptFault) → DoesStep remaining failures reader handed line now before left reply
       → list_any is_refusal reply ≡ false → IfOk r (λ _. after ≡ left) → Replied contents write_failures mid new reply Accepted r → Answers r
-  answers_told reply left (Ok Accepted) d none e h = (reply, subst (λ (w : Watched). DoesStep remaining failures reader handed line now before w reply) (sym e) d, goes_on contents write_failures old mid new [] (written [] reply) flushed h.1, none)
-  answers_told reply left (Ok Refused) d none e h = absurd (let no : ⊥ = cc (h.0) in no)
-  answers_told reply left (Ok Truncated) d none e h = absurd (let no : ⊥ = cc (h.0) in no)
-  answers_told reply left (Err Write) d none e h = inr (inl (left, reply, d, stops_later contents write_failures old mid new [] (written [] reply) flushed h))
-  answers_told reply left (Err Read) d none e h = absurd h
-  answers_told reply left (Err Memory) d none e h = absurd h
+  answers_changes reply left (Ok Accepted) d none e h = (reply, subst (λ (w : Watched). DoesStep remaining failures reader handed line now before w reply) (sym e) d, goes_on contents write_failures old mid new [] (written [] reply) flushed h.1, none)
+  answers_changes reply left (Ok Refused) d none e h = absurd (let no : ⊥ = cc (h.0) in no)
+  answers_changes reply left (Ok Truncated) d none e h = absurd (let no : ⊥ = cc (h.0) in no)
+  answers_changes reply left (Err Write) d none e h = inr (inl (left, reply, d, stops_later contents write_failures old mid new [] (written [] reply) flushed h))
+  answers_changes reply left (Err Read) d none e h = absurd h
+  answers_changes reply left (Err Memory) d none e h = absurd h
 
   -- a command for which its line is enough
   pub does_alone : (step : Step) (reply : List Text) → HasHanded remaining failures reader now handed → IsStep (line_command line) [] step → RepliesTo step before reply after

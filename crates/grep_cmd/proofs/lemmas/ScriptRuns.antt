@@ -13,7 +13,7 @@ use Rattle.grep_core.proofs.lemmas.HandedLemmas.{begins_with}
 use Rattle.grep_core.proofs.lemmas.NumberedLemmas.{has_handed_none}
 use Rattle.grep_core.proofs.lemmas.RowLemmas.{goes_nowhere, goes_on, stops_later}
 use Rattle.grep_core.proofs.lemmas.WriterLaws.{written-append}
-use Rattle.grep_live.specs.Marks.{Watched, not_told}
+use Rattle.grep_live.specs.Marks.{Watched, new_watched}
 use Rattle.grep_cmd.specs.declared.script.ScriptFault.{ScriptFault}
 use Rattle.grep_cmd.specs.declared.script.ScriptFault.TheVariants.{Read, Write, Memory}
 use Rattle.grep_cmd.specs.declared.script.ScriptEnd.{ScriptEnd}
@@ -66,7 +66,7 @@ module _ {R W : Type 0} (remaining : R → Option Text) (failures : R → ℕ) (
   stops_same a b c bytes first second = subst (StopsWithin contents write_failures a c) (append-nil bytes) (stops_later contents write_failures a b c bytes [] first second)
 
   -- no line was handed out
-  pub so_far_none : (now : Numbered R) → HasHanded remaining failures reader now [] → AnsweredSoFar remaining failures contents write_failures reader old now not_told old Clean
+  pub so_far_none : (now : Numbered R) → HasHanded remaining failures reader now [] → AnsweredSoFar remaining failures contents write_failures reader old now new_watched old Clean
   so_far_none now h = record {
     handed = [];
     has_handed = h;
@@ -171,7 +171,7 @@ module _ {R W : Type 0} (remaining : R → Option Text) (failures : R → ℕ) (
         steps = s.steps ++ d.step ∷ [];
         are_done = done_push s.handed s.steps line d.taken d.step s.are_done d.is_step;
         replies = s.replies ++ reply;
-        are_replies = replies_push s.steps d.step not_told inputs after s.replies reply s.are_replies d.replies_to;
+        are_replies = replies_push s.steps d.step new_watched inputs after s.replies reply s.are_replies d.replies_to;
         goes = goes_both old mid sent new s.replies reply s.goes flushed goes;
         ended = is;
       }
@@ -190,7 +190,7 @@ module _ {R W : Type 0} (remaining : R → Option Text) (failures : R → ℕ) (
         steps = s.steps ++ is_truncated ∷ [];
         are_steps = rw is (done_steps file.ending s.handed (line ∷ w.taken) [] s.steps (is_truncated ∷ []) s.are_done (inr (ends, w.wants, refl, refl, refl)));
         after = inputs;
-        are_replies = replies_push s.steps is_truncated not_told inputs inputs s.replies (truncated ∷ []) s.are_replies (refl, refl);
+        are_replies = replies_push s.steps is_truncated new_watched inputs inputs s.replies (truncated ∷ []) s.are_replies (refl, refl);
       }
 
       reads_all : (taken : List Text) (kind : Ending) → StandsAs remaining failures reader next ((s.handed ++ line ∷ []) ++ taken) kind
@@ -244,7 +244,7 @@ module _ {R W : Type 0} (remaining : R → Option Text) (failures : R → ℕ) (
               steps = s.steps ++ d.step ∷ [];
               are_steps = rw b.2.1 (done_alone b.0.ending (s.handed ++ line ∷ d.taken) b.2.0 (s.steps ++ d.step ∷ []) (done_push s.handed s.steps line d.taken d.step s.are_done d.is_step));
               after = then;
-              are_replies = replies_push s.steps d.step not_told inputs then s.replies reply s.are_replies d.replies_to;
+              are_replies = replies_push s.steps d.step new_watched inputs then s.replies reply s.are_replies d.replies_to;
             };
             stops = stops_both old mid sent new s.replies reply s.goes flushed stops;
           }
@@ -311,4 +311,4 @@ unfolding so_far_none
 runs_out_at_once {R} remaining failures contents write_failures reader out =
     let now : Numbered R = record { lines = record { reader = reader; ahead = []; line = []; stage = Open }; number = 0 } in
     let none = has_handed_none remaining failures now refl refl refl in
-    runs_out remaining failures contents write_failures reader out now not_told out Clean (so_far_none remaining failures contents write_failures reader out now none) now out [] none (goes_nowhere contents write_failures out)
+    runs_out remaining failures contents write_failures reader out now new_watched out Clean (so_far_none remaining failures contents write_failures reader out now none) now out [] none (goes_nowhere contents write_failures out)

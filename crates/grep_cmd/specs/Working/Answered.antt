@@ -15,7 +15,7 @@ use Rattle.grep_cmd.specs.declared.script.reply.Answer.{Answer}
 use Rattle.grep_cmd.specs.declared.script.reply.Answer.TheVariants.{Accepted, Refused, Truncated}
 use Rattle.grep_cmd.specs.Script.{Step, IsStep, WantsMore, line_command}
 use Rattle.grep_cmd.specs.Replies.{RepliesTo, Replies, truncated, is_refusal, end_for}
-use Rattle.grep_live.specs.Marks.{Watched, not_told}
+use Rattle.grep_live.specs.Marks.{Watched, new_watched}
 
 -- how an edit was answered
 abbrev pub answer_for : {T : Type 0} → Result T EditFault → Answer
@@ -147,6 +147,6 @@ module _ {R W : Type 0} (remaining : R → Option Text) (failures : R → ℕ)
     pub steps : List Step
     pub are_done : AreDone handed steps
     pub replies : List Text
-    pub are_replies : Replies steps not_told replies watched
+    pub are_replies : Replies steps new_watched replies watched
     pub goes : GoesOut contents write_failures old new (written [] replies)
     pub ended : ending ≡ end_for replies

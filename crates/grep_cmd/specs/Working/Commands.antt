@@ -10,7 +10,7 @@ use Rattle.grep_cmd.specs.declared.script.command.CountedEdit.{CountedEdit}
 use Rattle.grep_cmd.specs.declared.script.command.CountedEdit.TheVariants as counted
 use Rattle.grep_cmd.specs.declared.script.command.Command as declared
 use Rattle.grep_cmd.specs.declared.script.command.Command.TheVariants as command
-use Rattle.grep_cmd.specs.Script.{Command, edits, counts, shows, tells, pages}
+use Rattle.grep_cmd.specs.Script.{Command, edits, counts, shows, lists_changes, lists_page}
 
 abbrev pub line_meant : LineEdit → Edit
 line_meant (line_edit.AddMissing name) = AddMissing name.items
@@ -29,5 +29,5 @@ abbrev pub meant : declared.Command → Command
 meant (command.Edit edit) = edits (line_meant edit)
 meant (command.Counted count edit) = counts count (counted_meant edit)
 meant command.Show = shows
-meant command.Changes = tells
-meant (command.Page first count) = pages first count
+meant command.Changes = lists_changes
+meant (command.Page first count) = lists_page first count

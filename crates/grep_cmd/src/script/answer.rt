@@ -8,7 +8,7 @@ ghost use Rattle.grep_session.specs.Touched.{NeedsNoMemory};
 ghost use Rattle.grep_cmd.specs.Script.{line_command, counts};
 ghost use Rattle.grep_cmd.specs.declared.script.reply.Answer.{Answer};
 ghost use Rattle.grep_cmd.specs.Show.{AreShown};
-ghost use Rattle.grep_cmd.specs.Tells.{AreTold, ArePaged};
+ghost use Rattle.grep_cmd.specs.Lists.{ReportsChanges, ReportsPage};
 ghost use Rattle.grep_live.specs.Marks.{Watched};
 ghost use Rattle.grep_live.specs.Following.{Carries};
 ghost use Rattle.grep_cmd.specs.Replies.{reply_to, bad_command, truncated};
@@ -19,7 +19,7 @@ use crate::script::ScriptFault;
 use crate::script::command::{Command, CountedEdit, LineEdit, read_command};
 use crate::script::counted::{join_lines, take_lines};
 use crate::script::reply::{Answer, write_reply};
-use crate::showing::{show, show_page, tell_changes};
+use crate::showing::{show, show_changes, show_page};
 use grep_core::{CountedRead, CountedWrite, NumberedLines, WriteFault, write_line};
 use grep_live::Live;
 use grep_session::EditFault;
@@ -130,25 +130,25 @@ fn reply_to_show<W: CountedWrite>(session: &Live, out: &mut W) -> Result<Answer,
 
 /// Writes what changed.
 fn reply_to_changes<W: CountedWrite>(session: &mut Live, out: &mut W) -> Result<Answer, ScriptFault>
-    ensures { (told : List Text) × (then : Watched) × AreTold session.old then told ×
-        Replied W.contents W.failures out.old out.new told Answer.Accepted result ×
+    ensures { (rows : List Text) × (then : Watched) × ReportsChanges session.old then rows ×
+        Replied W.contents W.failures out.old out.new rows Answer.Accepted result ×
         IfOk result (λ _. session.new ≡ then) }
 {
-    match tell_changes(session, out) {
+    match show_changes(session, out) {
         Ok(()) => Ok(Answer::Accepted),
         Err(WriteFault) => Err(ScriptFault::Write),
     }
 }
 
-/// Writes so many hits from a first one on.
+/// Writes a page of the hits.
 fn reply_to_page<W: CountedWrite>(
     session: &Live,
     first: usize,
     count: usize,
     out: &mut W,
 ) -> Result<Answer, ScriptFault>
-    ensures { (told : List Text) × ArePaged session.now.inputs first count told ×
-        Replied W.contents W.failures out.old out.new told Answer.Accepted result }
+    ensures { (rows : List Text) × ReportsPage session.now.inputs first count rows ×
+        Replied W.contents W.failures out.old out.new rows Answer.Accepted result }
 {
     match show_page(session, first, count, out) {
         Ok(()) => Ok(Answer::Accepted),

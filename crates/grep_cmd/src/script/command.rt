@@ -6,8 +6,8 @@ ghost use Rattle.grep_cmd.specs.Script.{missing_command, close_command, splice_c
 ghost use Rattle.grep_cmd.specs.Script.{patterns_command, drop_command, flag_command};
 ghost use Rattle.grep_cmd.specs.Script.{syntax_command, no_context, context_from};
 ghost use Rattle.grep_cmd.specs.Script.{context_command, show_command, unnamed_command};
-ghost use Rattle.grep_cmd.specs.Script.{line_command, number_of, changes_command, page_command};
-ghost use Rattle.grep_cmd.specs.Script.{told_command};
+ghost use Rattle.grep_cmd.specs.Script.{line_command, changes_command, page_command};
+ghost use Rattle.grep_cmd.specs.Script.{listing_command};
 ghost use Rattle.grep_cmd.specs.Working.Commands.{meant};
 
 use crate::script::line_words::{LineWords, words_of};
@@ -58,7 +58,7 @@ pub enum Command {
     Show,
     /// What changed.
     Changes,
-    /// So many hits from a first one on.
+    /// A page: the number of its first hit, and of its hits.
     Page(usize, usize),
 }
 
@@ -270,9 +270,9 @@ fn read_page(words: LineWords<'_>) -> Option<Command>
     Some(Command::Page(first, count))
 }
 
-/// The command of this word and those that follow it, where it tells what an editor lists.
-fn read_told(word: &[u8], words: LineWords<'_>) -> Option<Command>
-    ensures { option_map meant result ≡ told_command word.now words.entry }
+/// The command of this word and those that follow it, where it asks what an editor lists.
+fn read_listing(word: &[u8], words: LineWords<'_>) -> Option<Command>
+    ensures { option_map meant result ≡ listing_command word.now words.entry }
 {
     if word == b"changes".as_slice() {
         return read_changes(words);
@@ -311,7 +311,7 @@ fn read_unnamed(word: &[u8], words: LineWords<'_>) -> Option<Command>
     if word == b"context".as_slice() {
         return read_context(words);
     }
-    read_told(word, words)
+    read_listing(word, words)
 }
 
 /// The command of a line, where it is one. A growth may be refused for its name.

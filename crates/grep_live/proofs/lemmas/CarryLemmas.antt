@@ -20,7 +20,7 @@ use Rattle.grep_core.specs.Run.{file_at}
 use Rattle.grep_session.specs.declared.fault.EditFault.{EditFault}
 use Rattle.grep_session.specs.declared.fault.EditFault.TheVariants.{NoSuchFile, FileIsMissing, OutOfRange, LineHasNewline, NoSuchPattern, Pattern, TooManyPatterns, Memory}
 use Rattle.grep_session.specs.Edits.{Edit, AddFile, AddMissing, DropFile, Splice, AddPatterns, DropPattern, SetFlag, SetSyntax, SetContext, Applies, EditGives, Reads, option_of, with_option, with_files, with_patterns, with_context, whole_file, missing_file, spliced}
-use Rattle.grep_session.specs.Told.{PartsTold}
+use Rattle.grep_session.specs.Listed.{ListedParts}
 use Rattle.grep_live.specs.declared.mark.Mark.{Mark}
 use Rattle.grep_live.specs.Lists.{AllThree}
 use Rattle.grep_live.specs.Hits.{Hit, View, HitsFrom}
@@ -69,33 +69,33 @@ with_same LineRegexp options = refl
 
 -- ---- one file
 
--- no line behind the last has a hit
-nothing_behind : (es : List Expression) (options : Options) (first : ℕ) (lines : List Text) (hits : List Hit) → length lines ≤ first → hits ≡ [] → HitsFrom es options first (drop first lines) hits
-nothing_behind es options first lines hits l e = subst (λ (t : List Text). HitsFrom es options first t hits) (sym (drop_all first lines l)) e
+-- no line after the last has a hit
+nothing_after : (es : List Expression) (options : Options) (first : ℕ) (lines : List Text) (hits : List Hit) → length lines ≤ first → hits ≡ [] → HitsFrom es options first (drop first lines) hits
+nothing_after es options first lines hits l e = subst (λ (t : List Text). HitsFrom es options first t hits) (sym (drop_all first lines l)) e
 
--- a list of which nothing is wanted but that it is in order
+-- a list that has only to be in order
 lost_file : (i j : Inputs) (file : File) (mark : Mark) (hits : List Hit) → FollowsFile i file mark hits → FollowsFile j file (lost mark) hits
 lost_file i j file mark hits f = record {
   in_order = f.in_order;
-  in_front = (λ es meant. before_none 0 0 mark.told hits f.in_order (omega arith));
-  behind = (λ es meant. nothing_behind es j.options (length file.lines - 0) file.lines (hits_from (mark.told - 0) (length file.lines - 0) hits) (omega arith) (hits_from_none 0 (mark.told - 0) mark.told (length file.lines - 0) hits f.in_order (omega arith)));
+  in_front = (λ es meant. before_none 0 0 mark.known hits f.in_order (omega arith));
+  in_back = (λ es meant. nothing_after es j.options (length file.lines - 0) file.lines (hits_from (mark.known - 0) (length file.lines - 0) hits) (omega arith) (hits_from_none 0 (mark.known - 0) mark.known (length file.lines - 0) hits f.in_order (omega arith)));
 }
 
--- the list of a file of which nothing was told
+-- the list of a file that was not reported
 new_file : (i : Inputs) (file : File) → FollowsFile i file new_mark []
 new_file i file = record {
   in_order = tt;
   in_front = (λ es meant. refl);
-  behind = (λ es meant. nothing_behind es i.options (length file.lines - 0) file.lines [] (omega arith) refl);
+  in_back = (λ es meant. nothing_after es i.options (length file.lines - 0) file.lines [] (omega arith) refl);
 }
 
--- the list of a file of which some lines gave way
+-- the list of a file in which lines were replaced
 spliced_file : (i : Inputs) (file : File) (mark : Mark) (hits : List Hit) (come : List Text) (start count : ℕ) → start + count ≤ length file.lines → Fits (length file.lines) mark → FollowsFile i file mark hits →
     FollowsFile i (record file { lines = splice file.lines start (start + count) come }) (touched start (length file.lines - (start + count)) mark) hits
 spliced_file i file mark hits come start count within fits f = record {
   in_order = f.in_order;
-  in_front = (λ es meant. spliced_front (Selected es i.options) (PartsTold es i.options) file.lines come start count mark hits within (f.in_front es meant));
-  behind = (λ es meant. spliced_back (Selected es i.options) (PartsTold es i.options) file.lines come start count mark hits within fits (f.behind es meant));
+  in_front = (λ es meant. spliced_front (Selected es i.options) (ListedParts es i.options) file.lines come start count mark hits within (f.in_front es meant));
+  in_back = (λ es meant. spliced_back (Selected es i.options) (ListedParts es i.options) file.lines come start count mark hits within fits (f.in_back es meant));
 }
 
 -- the same under inputs for which the patterns mean the same and lines have the same hits
@@ -105,7 +105,7 @@ same_file : (i j : Inputs) → ((es : List Expression) → AreMeant j.syntax j.o
 same_file i j back same file mark hits f = record {
   in_order = f.in_order;
   in_front = (λ es meant. same es 0 (take mark.front file.lines) (hits_before mark.front hits) (f.in_front es (back es meant)));
-  behind = (λ es meant. let first = length file.lines - mark.back in same es first (drop first file.lines) (hits_from (mark.told - mark.back) first hits) (f.behind es (back es meant)));
+  in_back = (λ es meant. let first = length file.lines - mark.back in same es first (drop first file.lines) (hits_from (mark.known - mark.back) first hits) (f.in_back es (back es meant)));
 }
 
 fits_lost : (file : File) (mark : Mark) → Fits (length file.lines) mark → Fits (length file.lines) (lost mark)
@@ -253,7 +253,7 @@ carried T edit old new (Err fault) fit g m =
 
 -- ---- what the code needs besides
 
--- a file that is dropped, or in which lines give way, is there
+-- a file that is removed, or in which lines are replaced, is there
 pub dropped_inside : (k : ℕ) (old new : Inputs) → Applies (DropFile k) old (Ok new) → k < length old.files
 dropped_inside k old new a = (accepted_if new (with_files (remove old.files k) old) NoSuchFile a).0
 
@@ -266,14 +266,14 @@ spliced_inside k start count lines old new a =
 pub as_many : (files : List File) (marks : List Mark) → AreFit files marks → length files ≡ length marks
 as_many files marks fit = zip-length Fit files marks fit
 
--- what the files are behind one that is added
+-- the files after one was added
 pub added_file : (name : Text) (lines : List Text) (old new : Inputs) → Applies (AddFile name lines) old (Ok new) → new ≡ with_files (old.files ++ whole_file name lines ∷ []) old
 added_file name lines old new a = (accepted_if new (with_files (old.files ++ whole_file name lines ∷ []) old) LineHasNewline a).1
 
 pub added_missing : (name : Text) (old new : Inputs) → Applies (AddMissing name) old (Ok new) → new ≡ with_files (old.files ++ missing_file name ∷ []) old
 added_missing name old new a = same_inputs new (with_files (old.files ++ missing_file name ∷ []) old) a
 
--- the last file taken out again
+-- the last file is removed again
 taken_back : (file : File) (old between after : Inputs) → between ≡ with_files (old.files ++ file ∷ []) old → after ≡ with_files (remove between.files (length between.files - 1)) between → after ≡ old
 taken_back file old between after b a =
     let n = length old.files in
@@ -282,7 +282,7 @@ taken_back file old between after b a =
     let gone : remove (old.files ++ file ∷ []) n ≡ old.files = remove-append_right old.files (file ∷ []) n n refl (omega arith) ∙ ap (λ i. old.files ++ remove (file ∷ []) i) zeroed ∙ append-nil old.files in
     a ∙ (λ i. with_files (remove (b i).files (length (b i).files - 1)) (b i)) ∙ ap (λ i. with_files (remove (old.files ++ file ∷ []) i) old) last ∙ ap (λ files. with_files files old) gone
 
--- a file was added, and its mark; or it was taken out again
+-- a file was added with its mark, or it was removed again
 pub marked_last : (edit : Edit) (file : File) (old : Watched) (between after : Inputs) (marks : List Mark) (result : Result (Unit {0}) EditFault) → AreFit old.inputs.files old.marks → ((m : List Mark) → m ≡ old.marks ++ new_mark ∷ [] → MarksAfter edit old m) → Applies edit old.inputs (Ok between) →
     between ≡ with_files (old.inputs.files ++ file ∷ []) old.inputs → IfOk result (λ _. (after ≡ between) × (marks ≡ old.marks ++ new_mark ∷ [])) →
     IfErr result (λ fault. (fault ≡ Memory) × (after ≡ with_files (remove between.files (length between.files - 1)) between) × (marks ≡ old.marks)) →
@@ -294,10 +294,10 @@ marked_last edit file old between after marks (Err fault) fit marked applies is 
     let gives : EditGives {T = Unit {0}} edit old.inputs after (Err fault) = subst (λ (f : EditFault). EditGives {T = Unit {0}} edit old.inputs after (Err f)) (sym err.0) same in
     carried (Unit {0}) edit old (record { inputs = after; marks = marks }) (Err fault) fit gives err.2
 
--- the mark of a file in which lines gave way
-pub touched_is : (marks : List Mark) (k start count lines behind rest : ℕ) (mark new : Mark) → k < length marks → new ≡ touched start behind mark → mark ≡ get_or marks k mark → behind ≡ rest - count → rest ≡ lines - start →
+-- the mark of a file in which lines were replaced
+pub touched_is : (marks : List Mark) (k start count lines left rest : ℕ) (mark new : Mark) → k < length marks → new ≡ touched start left mark → mark ≡ get_or marks k mark → left ≡ rest - count → rest ≡ lines - start →
     slice_set marks k new ≡ slice_set marks k (touched start (lines - (start + count)) (mark_at marks k))
-touched_is marks k start count lines behind rest mark new inside is at b r =
+touched_is marks k start count lines left rest mark new inside is at b r =
     let there : mark ≡ mark_at marks k = get_or_read marks k mark inside at new_mark in
-    let far : behind ≡ lines - (start + count) = omega arith in
+    let far : left ≡ lines - (start + count) = omega arith in
     ap (slice_set marks k) (is ∙ (λ i. touched start (far i) (there i)))

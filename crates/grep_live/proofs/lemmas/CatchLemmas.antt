@@ -1,4 +1,4 @@
--- What is told makes the present of each view that follows, and it follows then.
+-- What is reported makes each view that follows the present hits, and it follows then.
 use Rattle.std.proofs.Common.{◌≡◌, ℕ, ◌+◌, ◌-◌, ◌<◌, ◌≤◌, List, [], ◌∷◌, ◌++◌, length, map, take, drop, get_or, Option, Result, Ok, Err, refl, sym, ap, subst, ◌∙◌, inl, arith}
 use Rattle.std.proofs.Math.ListN.{set}
 use Rattle.std.specs.Prelude.{slice_range}
@@ -14,7 +14,7 @@ use Rattle.grep_core.specs.Run.{file_at}
 use Rattle.grep_core.specs.Written.{Writes}
 use Rattle.grep_core.proofs.lemmas.LawsHold.{means_one}
 use Rattle.grep_session.specs.Headline.{IsStatusOfInputs}
-use Rattle.grep_session.specs.Told.{PartsTold}
+use Rattle.grep_session.specs.Listed.{ListedParts}
 use Rattle.grep_live.specs.declared.mark.Mark.{Mark}
 use Rattle.grep_live.specs.Lists.{AllThree}
 use Rattle.grep_live.specs.Hits.{Hit, View, HitsFrom, Hits, AreHits}
@@ -22,7 +22,7 @@ use Rattle.grep_live.specs.Marks.{Watched, whole_mark, new_mark, mark_at}
 use Rattle.grep_live.specs.Changes.{Change, IsChange, AreWithin, hits_before, hits_from, after, all_after}
 use Rattle.grep_live.specs.Following.{FollowsFile, Follows}
 use Rattle.grep_live.specs.Rows.{changes_rows}
-use Rattle.grep_live.specs.Telling.{all_told, TellsChanges}
+use Rattle.grep_live.specs.Writing.{all_known, WritesChanges}
 use Rattle.grep_live.specs.Working.Fits.{Fits, AreFit}
 use Rattle.grep_live.specs.Working.Listing.{Mean}
 use Rattle.grep_live.proofs.lemmas.ListLemmas.{zip-at, zip-length}
@@ -30,7 +30,7 @@ use Rattle.grep_live.proofs.lemmas.HitLemmas.{by_within, first_hits, last_hits}
 use Rattle.grep_live.proofs.lemmas.ListingLemmas.{HitsFrom-exist}
 use Rattle.grep_live.proofs.lemmas.MarkLemmas.{after_change, fits_front}
 
--- ---- marks of files that were told
+-- ---- marks of reported files
 
 whole_of : File → Mark
 whole_of file = whole_mark (length file.lines)
@@ -59,9 +59,9 @@ marked_all news old marks k is past same = is ∙ (λ i. take_all k news (omega 
 pub marked_at : (files : List File) (k lines : ℕ) (mark : Mark) → k < length files → mark ≡ whole_mark lines → lines ≡ length (file_at files k).lines → mark ≡ get_or (map (λ file. whole_mark (length file.lines)) files) k new_mark
 marked_at files k lines mark inside is long = is ∙ ap whole_mark long ∙ sym (get_or-map (λ (file : File). whole_mark (length file.lines)) files k (file_at [] k) new_mark inside)
 
-pub told_fit : (files : List File) → AreFit files (map (λ file. whole_mark (length file.lines)) files)
-told_fit [] = tt
-told_fit (file ∷ files) = (inl refl, told_fit files)
+pub known_fit : (files : List File) → AreFit files (map (λ file. whole_mark (length file.lines)) files)
+known_fit [] = tt
+known_fit (file ∷ files) = (inl refl, known_fit files)
 
 -- ---- changes
 
@@ -74,10 +74,10 @@ module _ (es : List Expression) (inputs : Inputs) where
       let added = length file.lines - mark.front - mark.back in
       let come = HitsFrom-exist es inputs.options mark.front (slice_range file.lines mark.front (mark.front + added)) in
       let more = changes_exist files marks fit.1 in
-      let change : Change = record { front = mark.front; removed = mark.told - mark.front - mark.back; added = added; come = come.0 } in
+      let change : Change = record { front = mark.front; removed = mark.known - mark.front - mark.back; added = added; come = come.0 } in
       (change ∷ more.0, (record { is_front = refl; is_removed = refl; is_added = refl; are_hits = come.1 }, more.1))
 
-  -- a view of one file that follows, behind its change
+  -- a view of one file that follows, after its change
   one_catches : (meant : Mean inputs es) (file : File) (mark : Mark) (change : Change) (hits : List Hit) → Fits (length file.lines) mark → IsChange es inputs.options file mark change → FollowsFile inputs file mark hits → Hits es inputs.options file.lines (after change hits)
   one_catches meant file mark change hits fits c f =
       let lines = file.lines in
@@ -86,9 +86,9 @@ module _ (es : List Expression) (inputs : Inputs) where
       subst (λ (n : ℕ). HitsFrom es inputs.options n (slice_range lines n (n + change.added)) change.come) c.is_front c.are_hits in
       let cut : (mark.front + change.added) - mark.front ≡ added = omega (arith, c.is_added) in
       let between : HitsFrom es inputs.options mark.front (take added (drop mark.front lines)) change.come = subst (λ (n : ℕ). HitsFrom es inputs.options mark.front (take n (drop mark.front lines)) change.come) cut moved in
-      let now : Hits es inputs.options lines (after (record { front = mark.front; removed = mark.told - mark.front - mark.back; added = added; come = change.come }) hits) =
-      after_change (Selected es inputs.options) (PartsTold es inputs.options) lines mark change.come hits fits f.in_order (f.in_front es meant) (f.behind es meant) between in
-      let is : change ≡ record { front = mark.front; removed = mark.told - mark.front - mark.back; added = added; come = change.come } = λ i. record { front = c.is_front i; removed = c.is_removed i; added = c.is_added i; come = change.come } in
+      let now : Hits es inputs.options lines (after (record { front = mark.front; removed = mark.known - mark.front - mark.back; added = added; come = change.come }) hits) =
+      after_change (Selected es inputs.options) (ListedParts es inputs.options) lines mark change.come hits fits f.in_order (f.in_front es meant) (f.in_back es meant) between in
+      let is : change ≡ record { front = mark.front; removed = mark.known - mark.front - mark.back; added = added; come = change.come } = λ i. record { front = c.is_front i; removed = c.is_removed i; added = c.is_added i; come = change.come } in
       subst (λ (d : Change). Hits es inputs.options lines (after d hits)) (sym is) now
 
   pub all_catch : (meant : Mean inputs es) (files : List File) (marks : List Mark) (changes : List Change) (view : View) → AreFit files marks → AllThree (IsChange es inputs.options) files marks changes → AllThree (FollowsFile inputs) files marks view →
@@ -109,7 +109,7 @@ module _ (es : List Expression) (inputs : Inputs) where
   one_follows meant file hits h =
       let n = length file.lines in
       let S = Selected es inputs.options in
-      let P = PartsTold es inputs.options in
+      let P = ListedParts es inputs.options in
       let same = λ (ds : List Expression) (m : Mean inputs ds). means_one inputs.syntax inputs.options inputs.patterns es ds meant m in
       let front = first_hits S P 0 n n file.lines hits (omega arith) h in
       let back = last_hits S P 0 (n - n) (n - n) (n - n) file.lines hits (omega arith) h in
@@ -117,7 +117,7 @@ module _ (es : List Expression) (inputs : Inputs) where
       record {
         in_order = subst (λ (m : ℕ). AreWithin 0 m hits) whole (by_within S P 0 file.lines hits h);
         in_front = (λ ds m. subst (λ (xs : List Expression). HitsFrom xs inputs.options 0 (take n file.lines) (hits_before n hits)) (same ds m) front);
-        behind = (λ ds m. subst (λ (xs : List Expression). HitsFrom xs inputs.options (n - n) (drop (n - n) file.lines) (hits_from (n - n) (n - n) hits)) (same ds m) back);
+        in_back = (λ ds m. subst (λ (xs : List Expression). HitsFrom xs inputs.options (n - n) (drop (n - n) file.lines) (hits_from (n - n) (n - n) hits)) (same ds m) back);
       }
 
   pub all_follow : (meant : Mean inputs es) (files : List File) (view : View) → AreHits es inputs.options files view → AllThree (FollowsFile inputs) files (map (λ file. whole_mark (length file.lines)) files) view
@@ -126,13 +126,13 @@ module _ (es : List Expression) (inputs : Inputs) where
   all_follow meant (file ∷ files) [] h = absurd h
   all_follow meant (file ∷ files) (hits ∷ view) h = (one_follows meant file hits h.0, all_follow meant files view h.1)
 
--- ---- what is told
+-- ---- what is reported
 
 module _ {W : Type 0} (contents : W → Option Text) (failures : W → ℕ) (margin : Text) (begun ended : W) (old new : Watched) (status : Status) where
-  pub tells_all : (E : Type 0) (result : Result Status E) → AreFit old.inputs.files old.marks → IsStatusOfInputs old.inputs status →
+  pub writes_all : (E : Type 0) (result : Result Status E) → AreFit old.inputs.files old.marks → IsStatusOfInputs old.inputs status →
       ((es : List Expression) → Mean old.inputs es → (changes : List Change) → AllThree (IsChange es old.inputs.options) old.inputs.files old.marks changes → Writes contents failures begun ended (written margin (changes_rows 0 changes)) result) →
-      MatchResult result (λ answer. (answer ≡ status) × (new ≡ all_told old)) (λ _. new ≡ old) → TellsChanges contents failures margin begun ended old new result
-  tells_all E (Ok answer) fit is wrote left =
+      MatchResult result (λ answer. (answer ≡ status) × (new ≡ all_known old)) (λ _. new ≡ old) → WritesChanges contents failures margin begun ended old new result
+  writes_all E (Ok answer) fit is wrote left =
       let es = is.gives.es in
       let meant = is.gives.are_meant in
       let changes = changes_exist es old.inputs old.inputs.files old.marks fit in
@@ -148,7 +148,7 @@ module _ {W : Type 0} (contents : W → Option Text) (failures : W → ℕ) (mar
         catches_up = catches;
         follows = (λ view f. subst (λ (w : Watched). Follows w (all_after changes.0 view)) (sym left.1) (all_follow es old.inputs meant old.inputs.files (all_after changes.0 view) (catches view f)));
       }
-  tells_all E (Err fault) fit is wrote left =
+  writes_all E (Err fault) fit is wrote left =
       let es = is.gives.es in
       let meant = is.gives.are_meant in
       let changes = changes_exist es old.inputs old.inputs.files old.marks fit in

@@ -21,7 +21,7 @@ before_yes b hit more h = ap (λ t. cond t (hit ∷ hits_before b more) (hits_be
 before_no : (b : ℕ) (hit : Hit) (more : List Hit) → b ≤ hit.place → hits_before b (hit ∷ more) ≡ hits_before b more
 before_no b hit more h = ap (λ t. cond t (hit ∷ hits_before b more) (hits_before b more)) (le-ltb hit.place b h)
 
--- the hits from a place on, where they stand
+-- the hits from a place on, not moved
 abbrev from_place : ℕ → List Hit → List Hit
 from_place from hits = filter (λ hit. nat_le from hit.place) hits
 
@@ -40,7 +40,7 @@ pub within_wider : (a b c d : ℕ) (hits : List Hit) → a ≤ b → c ≤ d →
 within_wider a b c d [] h k w = tt
 within_wider a b c d (hit ∷ more) h k w = (omega (arith, w.0), omega (arith, w.1), within_wider (hit.place + 1) (hit.place + 1) c d more (omega arith) k w.2)
 
--- all stand before the end
+-- all are before the end
 pub before_all : (a b c : ℕ) (hits : List Hit) → AreWithin a c hits → c ≤ b → hits_before b hits ≡ hits
 before_all a b c [] w h = refl
 before_all a b c (hit ∷ more) w h = before_yes b hit more (omega (arith, w.1)) ∙ ap (λ l. hit ∷ l) (before_all (hit.place + 1) b c more w.2 h)
@@ -57,7 +57,7 @@ from_none : (a b c : ℕ) (hits : List Hit) → AreWithin a c hits → c ≤ b �
 from_none a b c [] w h = refl
 from_none a b c (hit ∷ more) w h = from_no b hit more (omega (arith, w.1)) ∙ from_none (hit.place + 1) b c more w.2 h
 
--- none stands from a place on
+-- none is from a place on
 pub hits_from_none : (a b c m : ℕ) (hits : List Hit) → AreWithin a c hits → c ≤ b → hits_from b m hits ≡ []
 hits_from_none a b c m hits w h = ap (map (moved b m)) (from_none a b c hits w h)
 
@@ -112,7 +112,7 @@ from_from f a j m (hit ∷ more) = by_place (from_from f a j m more) (cases_lt h
         ∙ (λ i. moved_twice f a j m hit q i ∷ rest i)
         ∙ ap (map (moved (f + j) m)) (sym (from_yes (f + j) hit more q))
 
--- hits that stay where they stand
+-- hits that stay at their places
 moved_nowhere : (b c : ℕ) (hits : List Hit) → AreWithin b c hits → map (moved b b) hits ≡ hits
 moved_nowhere b c [] w = refl
 moved_nowhere b c (hit ∷ more) w =
@@ -136,7 +136,7 @@ pub cut_and_joined : (a b c : ℕ) (hits : List Hit) → AreWithin a c hits → 
 cut_and_joined a b c hits w =
     ap (λ l. hits_before b hits ++ l) (moved_nowhere b c (from_place b hits) (from_within a b c hits w)) ∙ split_at a b c hits w
 
--- ---- the hits of lines: S says which lines are selected, and P which parts are told of one
+-- ---- the hits of lines: S says which lines are selected, and P which parts are listed of one
 
 module _ (S : Text → Type 0) (P : Text → List (ℕ × ℕ) → Type 0) where
   abbrev pub HitBy : ℕ × Text → List Hit → Type 0
@@ -156,7 +156,7 @@ module _ (S : Text → Type 0) (P : Text → List (ℕ × ℕ) → Type 0) where
       wide w = within_wider (n + 1) (n + 1) ((n + 1) + length lines) (n + suc (length lines)) rest (omega arith) (omega arith) w
 
       by_first : AreWithin (n + 1) ((n + 1) + length lines) rest → HitBy (n, line) front → AreWithin n (n + suc (length lines)) hits
-      by_first w (inl (selected, (parts, told, is))) =
+      by_first w (inl (selected, (parts, known, is))) =
           subst (AreWithin n (n + suc (length lines))) (sym (joined ∙ ap (λ l. l ++ rest) is)) (omega arith, omega arith, wide w)
       by_first w (inr (passed, is)) =
           subst (AreWithin n (n + suc (length lines))) (sym (joined ∙ ap (λ l. l ++ rest) is))
@@ -164,11 +164,11 @@ module _ (S : Text → Type 0) (P : Text → List (ℕ × ℕ) → Type 0) where
 
   -- a hit of one line, moved with it
   one_moved : (n a b m : ℕ) (line : Text) (hits : List Hit) → m ≡ b + (n - a) → HitBy (n, line) hits → HitBy (m, line) (map (moved a b) hits)
-  one_moved n a b m line hits e (inl (selected, (parts, told, is))) =
-      inl (selected, (parts, told, ap (map (moved a b)) is ∙ (λ i. record { place = sym e i; text = line; parts = parts } ∷ [])))
+  one_moved n a b m line hits e (inl (selected, (parts, known, is))) =
+      inl (selected, (parts, known, ap (map (moved a b)) is ∙ (λ i. record { place = sym e i; text = line; parts = parts } ∷ [])))
   one_moved n a b m line hits e (inr (passed, is)) = inr (passed, ap (map (moved a b)) is)
 
-  -- lines that come to stand elsewhere
+  -- lines that move
   pub by_moved : (n a b m : ℕ) (lines : List Text) (hits : List Hit) → a ≤ n → m ≡ b + (n - a) → By n lines hits → By m lines (map (moved a b) hits)
   by_moved n a b m [] hits l e h = ap (map (moved a b)) h
   by_moved n a b m (line ∷ lines) hits l e (front, rest, first, more, joined) = (
@@ -179,14 +179,14 @@ module _ (S : Text → Type 0) (P : Text → List (ℕ × ℕ) → Type 0) where
     ap (map (moved a b)) joined ∙ map-append (moved a b) front rest,
   )
 
-  -- a hit of one line, where what is cut off begins behind it
+  -- a hit of one line, where what is cut off begins after it
   one_before : (n b : ℕ) (line : Text) (hits : List Hit) → n < b → HitBy (n, line) hits → HitBy (n, line) (hits_before b hits)
-  one_before n b line hits l (inl (selected, (parts, told, is))) =
-      inl (selected, (parts, told, ap (hits_before b) is ∙ before_yes b (record { place = n; text = line; parts = parts }) [] l))
+  one_before n b line hits l (inl (selected, (parts, known, is))) =
+      inl (selected, (parts, known, ap (hits_before b) is ∙ before_yes b (record { place = n; text = line; parts = parts }) [] l))
   one_before n b line hits l (inr (passed, is)) = inr (passed, ap (hits_before b) is)
 
   one_from : (n b : ℕ) (line : Text) (hits : List Hit) → n < b → HitBy (n, line) hits → from_place b hits ≡ []
-  one_from n b line hits l (inl (selected, (parts, told, is))) = ap (from_place b) is ∙ from_no b (record { place = n; text = line; parts = parts }) [] l
+  one_from n b line hits l (inl (selected, (parts, known, is))) = ap (from_place b) is ∙ from_no b (record { place = n; text = line; parts = parts }) [] l
   one_from n b line hits l (inr (passed, is)) = ap (from_place b) is
 
   -- the hits of the first lines
@@ -201,7 +201,7 @@ module _ (S : Text → Type 0) (P : Text → List (ℕ × ℕ) → Type 0) where
     ap (hits_before b) joined ∙ filter-append (λ hit. nat_lt hit.place b) front rest,
   )
 
-  -- the hits of the last lines, where these come to stand elsewhere
+  -- the hits of the last lines, where these move
   pub last_hits : (n j b m : ℕ) (lines : List Text) (hits : List Hit) → b ≡ n + j → By n lines hits → By m (drop j lines) (hits_from b m hits)
   last_hits n zero b m lines hits e h =
       let all : from_place b hits ≡ hits = from_all n b (n + length lines) hits (by_within n lines hits h) (omega arith) in
@@ -212,7 +212,7 @@ module _ (S : Text → Type 0) (P : Text → List (ℕ × ℕ) → Type 0) where
       let same : from_place b hits ≡ from_place b rest = ap (from_place b) joined ∙ filter-append (λ hit. nat_le b hit.place) front rest ∙ ap (λ l. l ++ from_place b rest) none in
       subst (λ l. By m (drop j lines) (map (moved b m) l)) (sym same) (last_hits (n + 1) j b m lines rest (omega arith) more)
 
-  -- the hits of lines and of those behind them
+  -- the hits of lines and of those after them
   pub joined_hits : (n m : ℕ) (xs ys : List Text) (us vs : List Hit) → m ≡ n + length xs → By n xs us → By m ys vs → By n (xs ++ ys) (us ++ vs)
   joined_hits n m xs ys us vs e h k =
       let there : By (n + length xs) ys vs = subst (λ p. By p ys vs) e k in

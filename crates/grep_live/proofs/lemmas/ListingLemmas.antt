@@ -14,12 +14,12 @@ use Rattle.grep_core.specs.Files.{Inputs, Selected}
 use Rattle.grep_core.specs.Run.{file_at}
 use Rattle.grep_core.proofs.lemmas.ChooseLaws.{EachGives-exist}
 use Rattle.grep_core.proofs.lemmas.Decided.{dec_selected}
-use Rattle.grep_session.specs.Told.{PartsTold}
+use Rattle.grep_session.specs.Listed.{ListedParts}
 use Rattle.grep_session.specs.Working.Kept.{span_places}
 use Rattle.grep_live.specs.Hits.{Hit, HitOf, HitsFrom}
 use Rattle.grep_live.specs.Working.Listing.{HitsBetween}
 
--- lines from a place on are the one there and those behind it
+-- lines from a place on are the one there and those after it
 slice_next : (lines : List Text) (place to : ℕ) → place < to → to ≤ length lines → slice_range lines place to ≡ get_or lines place [] ∷ slice_range lines (place + 1) to
 slice_next lines place to h l =
     let more : to - place ≡ suc (to - (place + 1)) = omega arith in
@@ -29,15 +29,15 @@ slice_next lines place to h l =
 module _ (es : List Expression) (options : Options) where
   -- ---- there are some, and no others
 
-  told-exist : (line : Text) → (parts : List (ℕ × ℕ)) × PartsTold es options line parts
-  told-exist line = by_flag options.only_matching
+  listed-exist : (line : Text) → (parts : List (ℕ × ℕ)) × ListedParts es options line parts
+  listed-exist line = by_flag options.only_matching
     where
       by_flag : (asked : Bool) → (parts : List (ℕ × ℕ)) × MatchBool asked (AreParts es line options.line_regexp parts) (parts ≡ [])
       by_flag true = AreParts-exist es line options.line_regexp
       by_flag false = ([], refl)
 
-  told-unique : (line : Text) (ps qs : List (ℕ × ℕ)) → PartsTold es options line ps → PartsTold es options line qs → ps ≡ qs
-  told-unique line ps qs p q = by_flag options.only_matching p q
+  listed-unique : (line : Text) (ps qs : List (ℕ × ℕ)) → ListedParts es options line ps → ListedParts es options line qs → ps ≡ qs
+  listed-unique line ps qs p q = by_flag options.only_matching p q
     where
       by_flag : (asked : Bool) → MatchBool asked (AreParts es line options.line_regexp ps) (ps ≡ []) → MatchBool asked (AreParts es line options.line_regexp qs) (qs ≡ []) → ps ≡ qs
       by_flag true p q = ArePartsFrom-unique es line options.line_regexp ps qs 0 p q
@@ -47,41 +47,41 @@ module _ (es : List Expression) (options : Options) where
   HitOf-exist line = by_verdict (dec_selected es options line.1)
     where
       by_verdict : Dec (Selected es options line.1) → (hits : List Hit) × HitOf es options line hits
-      by_verdict (yes s) = let told = told-exist line.1 in (record { place = line.0; text = line.1; parts = told.0 } ∷ [], inl (s, (told.0, told.1, refl)))
+      by_verdict (yes s) = let known = listed-exist line.1 in (record { place = line.0; text = line.1; parts = known.0 } ∷ [], inl (s, (known.0, known.1, refl)))
       by_verdict (no s) = ([], inr (s, refl))
 
   pub HitsFrom-exist : (first : ℕ) (lines : List Text) → (hits : List Hit) × HitsFrom es options first lines hits
   HitsFrom-exist first lines = EachGives-exist _ HitOf-exist (enumerate_from first lines)
 
-  -- ---- a line by what a session answers of it
+  -- ---- a line by what a session returns for it
 
   module _ {H : Type 0} (text : H → Text) (parts : H → List Span) (place : ℕ) (line : Text) (found : Option H) (hits : List Hit)
-      (answers : MatchOption found (Selected es options line → ⊥) (λ hit. Selected es options line × (text hit ≡ line) × PartsTold es options line (map span_places (parts hit)))) (is_hit : HitOf es options (place, line) hits) where
+      (answers : MatchOption found (Selected es options line → ⊥) (λ hit. Selected es options line × (text hit ≡ line) × ListedParts es options line (map span_places (parts hit)))) (is_hit : HitOf es options (place, line) hits) where
     pub none_here : found ≡ None → hits ≡ []
     none_here e = by_case is_hit
       where
         none : Selected es options line → ⊥
-        none = subst (λ (f : Option H). MatchOption f (Selected es options line → ⊥) (λ hit. Selected es options line × (text hit ≡ line) × PartsTold es options line (map span_places (parts hit)))) e answers
+        none = subst (λ (f : Option H). MatchOption f (Selected es options line → ⊥) (λ hit. Selected es options line × (text hit ≡ line) × ListedParts es options line (map span_places (parts hit)))) e answers
 
         by_case : HitOf es options (place, line) hits → hits ≡ []
-        by_case (inl (selected, told)) = absurd (none selected)
+        by_case (inl (selected, known)) = absurd (none selected)
         by_case (inr (passed, is)) = is
 
     pub one_here : (hit : H) → found ≡ Some hit → hits ≡ record { place = place; text = text hit; parts = map span_places (parts hit) } ∷ []
     one_here hit e = by_case is_hit
       where
-        some : Selected es options line × (text hit ≡ line) × PartsTold es options line (map span_places (parts hit))
-        some = subst (λ (f : Option H). MatchOption f (Selected es options line → ⊥) (λ hit. Selected es options line × (text hit ≡ line) × PartsTold es options line (map span_places (parts hit)))) e answers
+        some : Selected es options line × (text hit ≡ line) × ListedParts es options line (map span_places (parts hit))
+        some = subst (λ (f : Option H). MatchOption f (Selected es options line → ⊥) (λ hit. Selected es options line × (text hit ≡ line) × ListedParts es options line (map span_places (parts hit)))) e answers
 
         by_case : HitOf es options (place, line) hits → hits ≡ record { place = place; text = text hit; parts = map span_places (parts hit) } ∷ []
-        by_case (inl (selected, (ps, told, is))) =
-            let same : ps ≡ map span_places (parts hit) = told-unique line ps (map span_places (parts hit)) told some.2 in
+        by_case (inl (selected, (ps, known, is))) =
+            let same : ps ≡ map span_places (parts hit) = listed-unique line ps (map span_places (parts hit)) known some.2 in
             is ∙ (λ i. record { place = place; text = sym some.1 i; parts = same i } ∷ [])
         by_case (inr (passed, is)) = absurd (passed some.0)
 
 -- ---- one line after the other
 
--- the hits of the next line, and those of the lines behind it
+-- the hits of the next line, and those of the lines after it
 pub record Next (es : List Expression) (inputs : Inputs) (k place to : ℕ) (left : List Hit) : Type 0 where
   pub here : List Hit
   pub rest : List Hit
@@ -95,7 +95,7 @@ next_hits es inputs k place to left h l hits =
     let next : HitsFrom es inputs.options place (get_or lines place [] ∷ slice_range lines (place + 1) to) left = subst (λ t. HitsFrom es inputs.options place t left) (slice_next lines place to h l) hits in
     record { here = next.0; rest = next.1; is_here = next.2; is_rest = next.3; joined = next.4 }
 
--- behind the last line there are none
+-- after the last line there are none
 pub no_more : (es : List Expression) (inputs : Inputs) (k place to : ℕ) (left : List Hit) → to ≤ place → HitsBetween es inputs k place to left → left ≡ []
 no_more es inputs k place to left h hits =
     let none : to - place ≡ 0 = omega arith in

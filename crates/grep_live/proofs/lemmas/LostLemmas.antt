@@ -1,4 +1,4 @@
--- Marks that are lost one after the other.
+-- Marks that are lost one by one.
 use Rattle.std.proofs.Common.{◌≡◌, ℕ, ◌+◌, ◌<◌, ◌≤◌, List, [], ◌∷◌, ◌++◌, length, map, take, drop, get_or, sym, ap, ◌∙◌, arith, append_assoc, append-nil}
 use Rattle.std.proofs.Math.ListN.{set}
 use Rattle.std.proofs.lemmas.List.{drop_more, take_more, map-append, length-map, length-take-le, get_or_at, set_at, take_all, drop_all}

@@ -13,7 +13,7 @@ use Rattle.grep_session.specs.Headline.{IsStatusOfInputs}
 use Rattle.grep_session.proofs.lemmas.Writing.{drop-next, WrittenUpTo, none_written, written_on, all_written, broken_off}
 use Rattle.grep_live.specs.Hits.{Hit, View, HitsFrom, AreHits}
 use Rattle.grep_live.specs.Rows.{total_row, page_row, page_rows, all_hits}
-use Rattle.grep_live.specs.Telling.{ShowsPage}
+use Rattle.grep_live.specs.Writing.{WritesPage}
 use Rattle.grep_live.specs.Working.Listing.{Mean, HitsBetween}
 use Rattle.grep_live.proofs.lemmas.ListingLemmas.{HitsFrom-exist, Next, no_more}
 use Rattle.grep_live.proofs.lemmas.ListLemmas.{zip-at, zip-length}
@@ -28,7 +28,7 @@ take-none : (A : Type 0) (n : ℕ) → ◌≡◌ {A = List A} (take n []) []
 take-none A zero = refl
 take-none A (suc n) = refl
 
--- so many elements from a place on, of a list and those behind it
+-- `count` elements from a place on, of a list and the elements after it
 part_append : (A : Type 0) (s l : ℕ) (xs ys : List A) → take l (drop s (xs ++ ys)) ≡ take l (drop s xs) ++ take (l - (length xs - s)) (drop (s - length xs) ys)
 part_append A s l [] ys =
     let none : ◌≡◌ {A = List A} (take l (drop s [])) [] = ap (take l) (drop-none A s) ∙ take-none A l in
@@ -73,7 +73,7 @@ one_shown (suc s) l x h k = absurd (omega arith)
 -- ---- the hits of one file
 
 module _ (inputs : Inputs) (k first count : ℕ) {W : Type 0} (contents : W → Option Text) (failures : W → ℕ) (margin : Text) where
-  -- so many hits were passed or shown, and these are left
+  -- this number of hits was skipped or shown, and these are left
   pub record ShownUpTo (old now : W) (es : List Expression) (place skip left : ℕ) (all : List Hit) : Type 0 where
     pub rest : List Hit
     pub are_rest : HitsBetween es inputs k place (length (file_at inputs.files k).lines) rest
@@ -168,7 +168,7 @@ next_file view k inside = ap (all_hits k) (drop-next view k [] inside)
 pub view_long : (es : List Expression) (inputs : Inputs) (view : View) → AreHits es inputs.options inputs.files view → length inputs.files ≡ length view
 view_long es inputs view are = zip-length (λ (file : File) (hits : List Hit). HitsFrom es inputs.options 0 file.lines hits) inputs.files view are
 
--- so many were counted in the first files
+-- this number was counted in the first files
 pub record CountedFiles (view : View) (k total : ℕ) : Type 0 where
   pub passed : ℕ
   pub counted : passed + length (all_hits k (drop k view)) ≡ length (all_hits 0 view)
@@ -224,7 +224,7 @@ module _ {W : Type 0} (contents : W → Option Text) (failures : W → ℕ) (mar
   pub shows_page : (E : Type 0) (result : Result Status E) → IsStatusOfInputs inputs status →
       ((es : List Expression) → Mean inputs es → (view : View) → AreHits es inputs.options inputs.files view →
       Writes contents failures begun ended (written margin (total_row (min (length (all_hits 0 view)) (2 ^ 64 - 1)) ∷ page_rows first count (all_hits 0 view))) result) →
-      IfOk result (λ answer. answer ≡ status) → ShowsPage contents failures margin begun ended inputs first count result
+      IfOk result (λ answer. answer ≡ status) → WritesPage contents failures margin begun ended inputs first count result
   shows_page E (Ok answer) is wrote e =
       let es = is.gives.es in
       let meant = is.gives.are_meant in

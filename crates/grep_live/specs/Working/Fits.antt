@@ -6,17 +6,17 @@ use Rattle.grep_live.specs.declared.mark.Mark.{Mark}
 use Rattle.grep_live.specs.declared.live.Live.TheInside.{Inside}
 use Rattle.grep_live.specs.Marks.{Watched, whole_mark}
 
--- a file of so many lines was told and nothing of it was touched; or what is untouched at its front
--- and at its back lies apart, both in what was told and in what it has
+-- no line of the file is touched; or the untouched lines at its front and at its back do not
+-- overlap, neither in the known lines nor in the present ones
 abbrev pub Fits : ℕ → Mark → Type 0
 Fits lines mark =
     (mark ≡ whole_mark lines)
-    ⊎ ((mark.front + mark.back ≤ mark.told) × (mark.front + mark.back ≤ lines))
+    ⊎ ((mark.front + mark.back ≤ mark.known) × (mark.front + mark.back ≤ lines))
 
 abbrev pub AreFit : List File → List Mark → Type 0
 AreFit files marks = AllZip (λ file mark. Fits (length file.lines) mark) files marks
 
--- what contracts see of a watched session
+-- the view of a watched session
 abbrev pub watched_of : Inside → Watched
 watched_of live = record { inputs = live.session; marks = live.marks.items }
 

@@ -9,7 +9,7 @@ use Rattle.grep_live.specs.Hits.{Hit, HitsFrom}
 abbrev pub Mean : Inputs → List Expression → Type 0
 Mean inputs es = AreMeant inputs.syntax inputs.options inputs.patterns es
 
--- the hits among the lines of file k from a place to the place behind the last of them
+-- the hits among the lines of file k from place `from` to place `to`
 abbrev pub HitsBetween : List Expression → Inputs → ℕ → ℕ → ℕ → List Hit → Type 0
 HitsBetween es inputs k from to hits =
     HitsFrom es inputs.options from (slice_range (file_at inputs.files k).lines from to) hits

@@ -1,5 +1,5 @@
-//! The edits of a session that an editor watches. Each does what it does to any session, with the
-//! same answers, steps and need of memory, and marks what it touches.
+//! The edits of a session that an editor watches. Each does what the same edit of a session does,
+//! with its answers, steps and need of memory, and marks what it touches.
 ghost use Rattle.std.specs.Prelude.{◌≡◌, ◌≢◌, ◌<◌, ◌-◌, ◌++◌, ◌∷◌, [], map, length, Ok, IfErr, IfOk};
 ghost use Rattle.std.specs.Prelude.{OnErr};
 ghost use Rattle.std.specs.List.{remove};
@@ -19,7 +19,7 @@ use re_search::Syntax;
 use std::alloc::AllocError;
 
 impl Live {
-    /// Puts a file behind the others.
+    /// Adds a file after the others.
     ///
     /// # Errors
     ///
@@ -46,7 +46,7 @@ impl Live {
         mark_last(&mut self.session, &mut self.marks)
     }
 
-    /// Puts a file that cannot be opened behind the others.
+    /// Adds a file that cannot be opened after the others.
     ///
     /// # Errors
     ///
@@ -64,7 +64,7 @@ impl Live {
         mark_last(&mut self.session, &mut self.marks)
     }
 
-    /// Takes file `k` out; later files move up.
+    /// Removes file `k`; later files move up.
     ///
     /// # Errors
     ///
@@ -83,8 +83,8 @@ impl Live {
         Ok(())
     }
 
-    /// In file `k`, puts lines in the place of `count` lines from line `start` on. The new lines
-    /// alone are searched, and without any no memory is asked for.
+    /// Replaces `count` lines of file `k` from line `start` on by others, which alone are searched.
+    /// Without new lines no memory is asked for.
     ///
     /// # Errors
     ///
@@ -112,12 +112,12 @@ impl Live {
             Ok(()) => {}
             Err(fault) => return Err(fault),
         }
-        let behind = there.saturating_sub(start).saturating_sub(count);
-        self.marks[k].touch(start, behind);
+        let left = there.saturating_sub(start).saturating_sub(count);
+        self.marks[k].touch(start, left);
         Ok(())
     }
 
-    /// Adds the patterns of a list behind the others. The new patterns alone are searched for, and
+    /// Adds the patterns of a list after the others. The new patterns alone are searched for, and
     /// under `-o` the parts of the lines that one of them matches.
     ///
     /// # Errors
@@ -139,7 +139,7 @@ impl Live {
         Ok(())
     }
 
-    /// Takes pattern `p` out; later patterns move up. Under `-o` the lines that it matched are
+    /// Removes pattern `p`; later patterns move up. Under `-o` the lines that it matched are
     /// searched for their parts; else no memory is asked for.
     ///
     /// # Errors
@@ -160,13 +160,13 @@ impl Live {
         Ok(())
     }
 
-    /// Sets an option. One by which other lines may be selected, or other parts told, touches all
-    /// lines, unless it is set so already.
+    /// Sets an option. `i`, `o`, `v` and `x` touch all lines where they change: other lines may be
+    /// selected then, or other parts listed.
     ///
     /// # Errors
     ///
-    /// `EditFault::Pattern` with the number of the first pattern that is too large where both cases
-    /// of its letters are alike, by `-i` alone; or `EditFault::Memory`.
+    /// `EditFault::Pattern` with the number of the first pattern that is too large with `-i`; or
+    /// `EditFault::Memory`.
     pub fn set_flag(&mut self, flag: Flag, on: bool, meter: &mut Meter) -> Result<(), EditFault>
         ensures gives { EditGives (SetFlag flag on) self.old.inputs self.new.inputs result }
         ensures carries { Carries (SetFlag flag on) self.old self.new result }
@@ -190,7 +190,7 @@ impl Live {
     ///
     /// # Errors
     ///
-    /// `EditFault::Pattern` with the number of the first pattern that is none in this syntax, or
+    /// `EditFault::Pattern` with the number of the first text that is no pattern of this syntax, or
     /// `EditFault::Memory`.
     pub fn set_syntax(&mut self, syntax: Syntax, meter: &mut Meter) -> Result<(), EditFault>
         ensures gives { EditGives (SetSyntax syntax) self.old.inputs self.new.inputs result }
@@ -211,8 +211,8 @@ impl Live {
         Ok(())
     }
 
-    /// Sets how many lines are shown around selected ones, or that none are. Nothing is searched,
-    /// nothing is touched, and no memory is asked for.
+    /// Sets how many lines are shown around selected ones, or that none are. No line is searched or
+    /// touched, and no memory is asked for.
     pub fn set_context(&mut self, context: Option<Context>)
         ensures gives { EditGives {T = Unit {0}} (SetContext context) self.old.inputs
             self.new.inputs (Ok tt) }
@@ -222,7 +222,7 @@ impl Live {
     }
 }
 
-/// Puts a mark behind the others.
+/// Adds a new mark after the others.
 fn push_mark(marks: &mut Vec<Mark>) -> Result<(), AllocError>
     ensures ok { IfOk result (λ _. marks.new.items ≡ marks.old.items ++ new_mark ∷ []) }
     ensures err { OnErr result (marks.new.items ≡ marks.old.items) }
@@ -231,7 +231,7 @@ fn push_mark(marks: &mut Vec<Mark>) -> Result<(), AllocError>
     Ok(())
 }
 
-/// Puts the mark of the last file behind the others; without memory for it that file goes.
+/// Adds a new mark for the last file. Without memory for it that file is removed.
 fn mark_last(session: &mut Session, marks: &mut Vec<Mark>) -> Result<(), EditFault>
     requires { 0 < length session.old.files }
     ensures ok { IfOk result (λ _. (session.new ≡ session.old) ×
@@ -252,7 +252,7 @@ fn mark_last(session: &mut Session, marks: &mut Vec<Mark>) -> Result<(), EditFau
     }
 }
 
-/// By these options other lines may be selected, or other parts told.
+/// Leaves no line untouched where other lines may be selected, or other parts listed.
 fn lose_by_flag(flag: Flag, marks: &mut Vec<Mark>)
     ensures { marks.new.items ≡ marks_by_flag flag marks.old.items }
 {

@@ -1,4 +1,4 @@
--- What an editor is told of a line, where what is kept of it is right.
+-- The hit of a line, where what is kept of it is right.
 use Rattle.std.proofs.Common.{◌≡◌, ℕ, ◌<◌, Bool, true, false, List, [], length, map, get_or, Option, None, Some, MatchBool, MatchOption, All, IfSome, ◌≤◌, ◌⊎◌, inl, inr, refl, sym, ap, subst, ◌∙◌, arith}
 use Rattle.std.specs.Prelude.{⊤, if◌then◌else◌}
 use Rattle.std.proofs.lemmas.Bool.{false≢true, cases_lt}
@@ -13,31 +13,31 @@ use Rattle.grep_core.specs.Files.{File, Selected}
 use Rattle.grep_core.specs.Run.{file_at}
 use Rattle.grep_session.specs.declared.kept.KeptLine.{KeptLine}
 use Rattle.grep_session.specs.declared.kept.KeptFile.{KeptFile}
-use Rattle.grep_session.specs.Told.{PartsTold}
+use Rattle.grep_session.specs.Listed.{ListedParts}
 use Rattle.grep_session.specs.Working.Kept.{line_text, span_places, kept_lines, kept_file, file_with, IsKept, IsFileKept}
-use Rattle.grep_session.specs.Working.Looking.{told_spans}
+use Rattle.grep_session.specs.Working.Looking.{listed_spans}
 use Rattle.grep_session.specs.Working.Report.{is_selected}
 use Rattle.grep_session.proofs.lemmas.KeptLaws.{selected_told}
 
 module _ (es : List Expression) (options : Options) where
-  -- the parts that are told are those of the line
-  parts_told : (line : KeptLine) → IsKept es options line → PartsTold es options (line_text line) (map span_places (told_spans options line))
-  parts_told line k = by_flag options.only_matching k.parts
+  -- the listed parts are those of the line
+  parts_listed : (line : KeptLine) → IsKept es options line → ListedParts es options (line_text line) (map span_places (listed_spans options line))
+  parts_listed line k = by_flag options.only_matching k.parts
     where
       by_flag : (asked : Bool) → MatchBool asked (AreParts es (line_text line) options.line_regexp (map span_places line.found.spans)) ⊤ →
           MatchBool asked (AreParts es (line_text line) options.line_regexp (map span_places (if asked then line.found.spans else []))) (map span_places (if asked then line.found.spans else []) ≡ [])
       by_flag true h = h
       by_flag false h = refl
 
-  -- what is told of a line
-  pub line_told : {H : Type 0} (text : H → Text) (parts : H → List Span) (line : KeptLine) (result : Option H) → IsKept es options line
-      → MatchOption result (is_selected options line ≡ false) (λ hit. (is_selected options line ≡ true) × (text hit ≡ line_text line) × (parts hit ≡ told_spans options line))
-      → MatchOption result (Selected es options (line_text line) → ⊥) (λ hit. Selected es options (line_text line) × (text hit ≡ line_text line) × PartsTold es options (line_text line) (map span_places (parts hit)))
-  line_told text parts line None k h = λ s. false≢true (sym h ∙ (selected_told es options line k).1 s)
-  line_told text parts line (Some hit) k h = (
+  -- the hit of a line
+  pub line_listed : {H : Type 0} (text : H → Text) (parts : H → List Span) (line : KeptLine) (result : Option H) → IsKept es options line
+      → MatchOption result (is_selected options line ≡ false) (λ hit. (is_selected options line ≡ true) × (text hit ≡ line_text line) × (parts hit ≡ listed_spans options line))
+      → MatchOption result (Selected es options (line_text line) → ⊥) (λ hit. Selected es options (line_text line) × (text hit ≡ line_text line) × ListedParts es options (line_text line) (map span_places (parts hit)))
+  line_listed text parts line None k h = λ s. false≢true (sym h ∙ (selected_told es options line k).1 s)
+  line_listed text parts line (Some hit) k h = (
     (selected_told es options line k).0 h.0,
     h.1,
-    subst (λ spans. PartsTold es options (line_text line) (map span_places spans)) (sym h.2) (parts_told line k),
+    subst (λ spans. ListedParts es options (line_text line) (map span_places spans)) (sym h.2) (parts_listed line k),
   )
 
 -- ---- a line of a file
@@ -53,7 +53,7 @@ there files k place h = by_place (cases_lt k (length files))
         let bad : place < 0 = subst (λ (f : File). place < length f.lines) none h in
         absurd (omega (arith, bad))
 
--- the file for which one that is kept stands
+-- the file of one that is kept
 file_is : (files : List KeptFile) (k place : ℕ) (file : KeptFile) (kept : Option (List KeptLine)) → place < length (file_at (map kept_file files) k).lines → file ≡ get_or files k file → kept_lines file ≡ kept → file_at (map kept_file files) k ≡ file_with file.name.items kept
 file_is files k place file kept h at is =
     get_or-map kept_file files k file (file_at [] k) (there files k place h) ∙ ap kept_file (sym at) ∙ ap (file_with file.name.items) is
@@ -64,13 +64,13 @@ no_line files k place file h at is =
     let bad : place < 0 = subst (λ (f : File). place < length f.lines) (file_is files k place file None h at is) h in
     omega (arith, bad)
 
--- what is told of a line of a file
-pub hit_told : (es : List Expression) (options : Options) (files : List KeptFile) (k place : ℕ) (file : KeptFile) (lines : List KeptLine) (line : KeptLine) {H : Type 0} (text : H → Text) (parts : H → List Span) (result : Option H) →
+-- the hit of a line of a file
+pub hit_listed : (es : List Expression) (options : Options) (files : List KeptFile) (k place : ℕ) (file : KeptFile) (lines : List KeptLine) (line : KeptLine) {H : Type 0} (text : H → Text) (parts : H → List Span) (result : Option H) →
     All (IsFileKept es options) files → place < length (file_at (map kept_file files) k).lines → file ≡ get_or files k file → kept_lines file ≡ Some lines → line ≡ get_or lines place line
-    → MatchOption result (is_selected options line ≡ false) (λ hit. (is_selected options line ≡ true) × (text hit ≡ line_text line) × (parts hit ≡ told_spans options line))
+    → MatchOption result (is_selected options line ≡ false) (λ hit. (is_selected options line ≡ true) × (text hit ≡ line_text line) × (parts hit ≡ listed_spans options line))
     → let there = get_or (file_at (map kept_file files) k).lines place [] in
-    MatchOption result (Selected es options there → ⊥) (λ hit. Selected es options there × (text hit ≡ there) × PartsTold es options there (map span_places (parts hit)))
-hit_told es options files k place file lines line text parts result kept h at is here told =
+    MatchOption result (Selected es options there → ⊥) (λ hit. Selected es options there × (text hit ≡ there) × ListedParts es options there (map span_places (parts hit)))
+hit_listed es options files k place file lines line text parts result kept h at is here told =
     let file_there = file_is files k place file (Some lines) h at is in
     let inside : place < length lines = omega (arith, subst (λ (f : File). place < length f.lines) file_there h, length-map lines line_text) in
     let kept_there : IfSome (kept_lines file) (All (IsKept es options)) = subst (λ (f : KeptFile). IsFileKept es options f) (sym at) (All-get_or (IsFileKept es options) files k file (there files k place h) kept) in
@@ -78,5 +78,5 @@ hit_told es options files k place file lines line text parts result kept h at is
     let line_kept : IsKept es options line = subst (IsKept es options) (sym here) (All-get_or (IsKept es options) lines place line inside all) in
     let same : get_or (file_at (map kept_file files) k).lines place [] ≡ line_text line =
     ap (λ (f : File). get_or f.lines place []) file_there ∙ get_or-map line_text lines place line [] inside ∙ ap line_text (sym here) in
-    subst (λ t. MatchOption result (Selected es options t → ⊥) (λ hit. Selected es options t × (text hit ≡ t) × PartsTold es options t (map span_places (parts hit)))) (sym same)
-    (line_told es options text parts line result line_kept told)
+    subst (λ t. MatchOption result (Selected es options t → ⊥) (λ hit. Selected es options t × (text hit ≡ t) × ListedParts es options t (map span_places (parts hit)))) (sym same)
+    (line_listed es options text parts line result line_kept told)

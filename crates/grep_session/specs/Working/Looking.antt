@@ -4,6 +4,6 @@ use Rattle.re_search.specs.declared.span.Span.{Span}
 use Rattle.grep_core.specs.declared.options.Options.{Options}
 use Rattle.grep_session.specs.declared.kept.KeptLine.{KeptLine}
 
--- under `-o` the parts that are kept of a line are told, and else none
-abbrev pub told_spans : Options → KeptLine → List Span
-told_spans options line = if options.only_matching then line.found.spans else []
+-- under `-o` the parts that are kept of a line are listed, and otherwise none
+abbrev pub listed_spans : Options → KeptLine → List Span
+listed_spans options line = if options.only_matching then line.found.spans else []

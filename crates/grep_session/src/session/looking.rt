@@ -1,5 +1,5 @@
-//! What a reader of a session sees of it: its files and their lines, and which lines an editor
-//! lists. No line is searched and no memory is taken.
+//! What a session holds: its files and their lines, and which lines an editor lists. No line is
+//! searched and no memory is asked for.
 ghost use Rattle.std.specs.Prelude.{◌≡◌, ◌<◌, List, [], length, map, get_or, MatchBool};
 ghost use Rattle.std.specs.Prelude.{MatchOption};
 ghost use Rattle.re_syntax.specs.Expression.{Expression};
@@ -7,7 +7,7 @@ ghost use Rattle.grep_core.specs.Files.{AreMeant, Selected};
 ghost use Rattle.grep_core.specs.Run.{file_at};
 ghost use Rattle.grep_session.specs.Edits.{option_of};
 ghost use Rattle.grep_session.specs.Working.Kept.{span_places};
-ghost use Rattle.grep_session.specs.Told.{PartsTold};
+ghost use Rattle.grep_session.specs.Listed.{ListedParts};
 
 use crate::choosing::{is_same, option_of};
 use crate::hit::Hit;
@@ -16,14 +16,14 @@ use grep_core::Flag;
 use re_search::Syntax;
 
 impl Session {
-    /// How many files there are.
+    /// The number of files.
     pub fn file_count(&self) -> usize
         ensures { result ≡ length self.now.files }
     {
         self.files.len()
     }
 
-    /// How many lines file `k` has; none where it cannot be opened or is not there.
+    /// The number of lines of file `k`: none if it cannot be opened or is not there.
     pub fn line_count(&self, k: usize) -> usize
         ensures { result ≡ length (file_at self.now.files k).lines }
     {
@@ -34,7 +34,7 @@ impl Session {
     }
 
     /// Line `place` of file `k` as an editor lists it, where grep selects it; both are numbered
-    /// from 0. Its parts are told under `-o`.
+    /// from 0. Its parts are listed under `-o`.
     pub fn hit(&self, k: usize, place: usize) -> Option<Hit<'_>>
         requires { place < length (file_at self.now.files k).lines }
         ensures { (es : List Expression) →
@@ -42,7 +42,7 @@ impl Session {
             let line = get_or (file_at self.now.files k).lines place [] in
             MatchOption result (Selected es self.now.options line → ⊥)
             (λ hit. Selected es self.now.options line × (hit.text.now ≡ line) ×
-            PartsTold es self.now.options line (map span_places hit.parts.now)) }
+            ListedParts es self.now.options line (map span_places hit.parts.now)) }
     {
         let Some(lines) = &self.files[k].lines else {
             return None;
@@ -50,7 +50,7 @@ impl Session {
         lines[place].hit(&self.options)
     }
 
-    /// Whether an option is set so.
+    /// Whether an option has this value.
     pub fn has_option(&self, flag: Flag, on: bool) -> bool
         ensures { MatchBool result (option_of flag self.now.options ≡ on)
             (option_of flag self.now.options ≡ on → ⊥) }

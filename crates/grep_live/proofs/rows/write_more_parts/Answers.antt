@@ -18,20 +18,20 @@ loop-part-preserved g c =
     let i = c.loop-part.part-index in
     let d : Span = record { start = 0; end = 0 } in
     let inside : i < length (map span_places parts) = omega (arith, length-map parts span_places) in
-    let went : GoesOut g.W.CountedWrite.contents g.W.CountedWrite.failures c.loop-part.out c.write_part_behind.new.out (44 ∷ part_text (get_or (map span_places parts) i (span_places d))) =
-    subst (λ (p : ℕ × ℕ). GoesOut g.W.CountedWrite.contents g.W.CountedWrite.failures c.loop-part.out c.write_part_behind.new.out (44 ∷ part_text p)) (sym (get_or-map span_places parts i d)) c.in_ok-write_part_behind.ensures in
-    each_on g.W.CountedWrite.contents g.W.CountedWrite.failures (λ part. 44 ∷ part_text part) (map span_places parts) c.args.out.now c.loop-part.out c.write_part_behind.new.out i (span_places d) inside c.loop-part.invariant went
+    let went : GoesOut g.W.CountedWrite.contents g.W.CountedWrite.failures c.loop-part.out c.write_next_part.new.out (44 ∷ part_text (get_or (map span_places parts) i (span_places d))) =
+    subst (λ (p : ℕ × ℕ). GoesOut g.W.CountedWrite.contents g.W.CountedWrite.failures c.loop-part.out c.write_next_part.new.out (44 ∷ part_text p)) (sym (get_or-map span_places parts i d)) c.in_ok-write_next_part.ensures in
+    each_on g.W.CountedWrite.contents g.W.CountedWrite.failures (λ part. 44 ∷ part_text part) (map span_places parts) c.args.out.now c.loop-part.out c.write_next_part.new.out i (span_places d) inside c.loop-part.invariant went
 
-pub returns-in_err-write_part_behind : goal.returns-in_err-write_part_behind
-returns-in_err-write_part_behind g c =
+pub returns-in_err-write_next_part : goal.returns-in_err-write_next_part
+returns-in_err-write_next_part g c =
     let parts = c.args.parts.now in
     let i = c.loop-part.part-index in
     let d : Span = record { start = 0; end = 0 } in
     let inside : i < length (map span_places parts) = omega (arith, length-map parts span_places) in
-    let stopped : StopsWithin g.W.CountedWrite.contents g.W.CountedWrite.failures c.loop-part.out c.write_part_behind.new.out (44 ∷ part_text (get_or (map span_places parts) i (span_places d))) =
-    subst (λ (p : ℕ × ℕ). StopsWithin g.W.CountedWrite.contents g.W.CountedWrite.failures c.loop-part.out c.write_part_behind.new.out (44 ∷ part_text p)) (sym (get_or-map span_places parts i d)) c.in_err-write_part_behind.ensures in
+    let stopped : StopsWithin g.W.CountedWrite.contents g.W.CountedWrite.failures c.loop-part.out c.write_next_part.new.out (44 ∷ part_text (get_or (map span_places parts) i (span_places d))) =
+    subst (λ (p : ℕ × ℕ). StopsWithin g.W.CountedWrite.contents g.W.CountedWrite.failures c.loop-part.out c.write_next_part.new.out (44 ∷ part_text p)) (sym (get_or-map span_places parts i d)) c.in_err-write_next_part.ensures in
     writes_err g.W.CountedWrite.contents g.W.CountedWrite.failures [] _ _ (more_parts (map span_places parts)) c.from_residual.result c.from_residual.ensures.0
-    (each_stops g.W.CountedWrite.contents g.W.CountedWrite.failures (λ part. 44 ∷ part_text part) (map span_places parts) c.args.out.now c.loop-part.out c.write_part_behind.new.out i (span_places d) inside c.loop-part.invariant stopped)
+    (each_stops g.W.CountedWrite.contents g.W.CountedWrite.failures (λ part. 44 ∷ part_text part) (map span_places parts) c.args.out.now c.loop-part.out c.write_next_part.new.out i (span_places d) inside c.loop-part.invariant stopped)
 
 pub returns : goal.returns
 returns g c =

@@ -1,11 +1,11 @@
 use Rattle.std.proofs.Common.{◌≡◌, Some, None, refl, rules, [], ◌∷◌}
 use Rattle.grep_core.proofs.lemmas.RowLemmas.{goes_nowhere}
 use Rattle.grep_cmd.specs.declared.script.reply.Answer.TheVariants.{Accepted, Refused}
-use Rattle.grep_cmd.specs.Script.{does, reports, tells_changes, shows_page, is_bad, edits, shows, tells, pages, line_command}
+use Rattle.grep_cmd.specs.Script.{does, reports, reports_changes, reports_page, is_bad, edits, shows, lists_changes, lists_page, line_command}
 use Rattle.grep_cmd.specs.Replies.{reply_to, bad_command}
 use Rattle.grep_cmd.specs.Working.Answered.{answer_for}
 use Rattle.grep_cmd.specs.Working.Commands.{line_meant}
-use Rattle.grep_cmd.proofs.lemmas.ScriptAnswers.{answers_step, does_alone, refused_as, answered_in_time, not_for_memory, shown_is_no_refusal, told_is_no_refusal, page_is_no_refusal, answers_told}
+use Rattle.grep_cmd.proofs.lemmas.ScriptAnswers.{answers_step, does_alone, refused_as, answered_in_time, not_for_memory, shown_is_no_refusal, changes_is_no_refusal, page_is_no_refusal, answers_changes}
 use Rattle.grep_cmd.proofs.script.answer.answer_command.Goals as goal
 
 pub returns-in-Ok-Some-Edit-clause-answers : goal.returns-in-Ok-Some-Edit-clause-answers
@@ -43,24 +43,24 @@ returns-in-Ok-None-clause-answers g c =
 
 pub returns-in-Ok-Some-Changes-clause-answers : goal.returns-in-Ok-Some-Changes-clause-answers
 returns-in-Ok-Some-Changes-clause-answers g c =
-    let is : line_command c.args.lines.now.lines.line ≡ Some tells = search rules in
+    let is : line_command c.args.lines.now.lines.line ≡ Some lists_changes = search rules in
     let flushed = goes_nowhere g.W.CountedWrite.contents g.W.CountedWrite.failures c.args.out.now in
     let t = c.reply_to_changes.ensures in
     λ reader handed h.
     let done = does_alone g.R.CountedRead.remaining g.R.CountedRead.failures reader handed c.args.lines.now.lines.line c.args.lines.now c.args.session.now t.1 g.W.CountedWrite.contents g.W.CountedWrite.failures c.args.out.now c.args.out.now c.reply_to_changes.new.out flushed
-    tells_changes t.0 h (rw is (refl, refl)) t.2 in
-    answers_told g.R.CountedRead.remaining g.R.CountedRead.failures reader handed c.args.lines.now.lines.line c.args.lines.now c.args.session.now c.reply_to_changes.new.session g.W.CountedWrite.contents g.W.CountedWrite.failures c.args.out.now c.args.out.now c.reply_to_changes.new.out flushed
-    t.0 t.1 c.reply_to_changes.result done (told_is_no_refusal c.args.session.now t.1 t.0 t.2) t.4 t.3
+    reports_changes t.0 h (rw is (refl, refl)) t.2 in
+    answers_changes g.R.CountedRead.remaining g.R.CountedRead.failures reader handed c.args.lines.now.lines.line c.args.lines.now c.args.session.now c.reply_to_changes.new.session g.W.CountedWrite.contents g.W.CountedWrite.failures c.args.out.now c.args.out.now c.reply_to_changes.new.out flushed
+    t.0 t.1 c.reply_to_changes.result done (changes_is_no_refusal c.args.session.now t.1 t.0 t.2) t.4 t.3
 
 pub returns-in-Ok-Some-Page-clause-answers : goal.returns-in-Ok-Some-Page-clause-answers
 returns-in-Ok-Some-Page-clause-answers g c =
     let first = c.in-Ok-Some-Page.first in
     let count = c.in-Ok-Some-Page.count in
-    let is : line_command c.args.lines.now.lines.line ≡ Some (pages first count) = search rules in
+    let is : line_command c.args.lines.now.lines.line ≡ Some (lists_page first count) = search rules in
     let flushed = goes_nowhere g.W.CountedWrite.contents g.W.CountedWrite.failures c.args.out.now in
     let t = c.reply_to_page.ensures in
     λ reader handed h.
     let done = does_alone g.R.CountedRead.remaining g.R.CountedRead.failures reader handed c.args.lines.now.lines.line c.args.lines.now c.args.session.now c.args.session.now g.W.CountedWrite.contents g.W.CountedWrite.failures c.args.out.now c.args.out.now c.reply_to_page.new.out flushed
-    (shows_page first count) t.0 h (rw is (refl, refl)) (t.1, refl) in
+    (reports_page first count) t.0 h (rw is (refl, refl)) (t.1, refl) in
     answers_step g.R.CountedRead.remaining g.R.CountedRead.failures reader handed c.args.lines.now.lines.line c.args.lines.now c.args.session.now c.args.session.now g.W.CountedWrite.contents g.W.CountedWrite.failures c.args.out.now c.args.out.now c.reply_to_page.new.out flushed
     t.0 Accepted c.reply_to_page.result done (page_is_no_refusal c.args.session.now.inputs first count t.0 t.1) (λ e. let no : ⊥ = cc in no) t.2

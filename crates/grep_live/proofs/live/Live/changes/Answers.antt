@@ -8,11 +8,11 @@ use Rattle.grep_live.specs.Lists.{AllThree}
 use Rattle.grep_live.specs.Changes.{Change, IsChange}
 use Rattle.grep_live.specs.Marks.{Watched}
 use Rattle.grep_live.specs.Rows.{changes_rows}
-use Rattle.grep_live.specs.Telling.{TellsChanges, all_told}
+use Rattle.grep_live.specs.Writing.{WritesChanges, all_known}
 use Rattle.grep_live.specs.Working.Fits.{watched_of, AreFit}
 use Rattle.grep_live.specs.Working.Listing.{Mean}
 use Rattle.grep_live.proofs.lemmas.CarryLemmas.{as_many}
-use Rattle.grep_live.proofs.lemmas.CatchLemmas.{tells_all, told_fit}
+use Rattle.grep_live.proofs.lemmas.CatchLemmas.{writes_all, known_fit}
 use Rattle.grep_live.proofs.live.Live.changes.Goals as goal
 
 pub returns-in-Err : goal.returns-in-Err
@@ -20,21 +20,21 @@ returns-in-Err g c =
     let s = c.self.inside in
     let wrote = subst (λ (marks : List Mark). (es : List Expression) → Mean s.session es → (changes : List Change) → AllThree (IsChange es s.session.options) s.session.files marks changes →
     StopsWithin g.W.CountedWrite.contents g.W.CountedWrite.failures c.args.out.now c.write_changes.new.out (written c.args.margin.now (changes_rows 0 changes))) c.deref.ensures.value c.in-Err.ensures in
-    subst (λ (w : Watched). TellsChanges g.W.CountedWrite.contents g.W.CountedWrite.failures c.args.margin.now c.args.out.now c.write_changes.new.out w w (Err c.in-Err.fault)) c.self.view_is
-    (tells_all g.W.CountedWrite.contents g.W.CountedWrite.failures c.args.margin.now c.args.out.now c.write_changes.new.out (watched_of s) (watched_of s) c.status-status.result WriteFault (Err c.in-Err.fault) c.self.invariant c.status-status.ensures wrote refl)
+    subst (λ (w : Watched). WritesChanges g.W.CountedWrite.contents g.W.CountedWrite.failures c.args.margin.now c.args.out.now c.write_changes.new.out w w (Err c.in-Err.fault)) c.self.view_is
+    (writes_all g.W.CountedWrite.contents g.W.CountedWrite.failures c.args.margin.now c.args.out.now c.write_changes.new.out (watched_of s) (watched_of s) c.status-status.result WriteFault (Err c.in-Err.fault) c.self.invariant c.status-status.ensures wrote refl)
 
 pub mark_told-requires : goal.mark_told-requires
 mark_told-requires g c = sym (as_many c.self.inside.session.files c.self.inside.marks.items c.self.invariant)
 
 pub invariant_of-self : goal.invariant_of-self
-invariant_of-self g c = subst (AreFit c.self.inside.session.files) (sym c.mark_told.ensures) (told_fit c.self.inside.session.files)
+invariant_of-self g c = subst (AreFit c.self.inside.session.files) (sym c.mark_known.ensures) (known_fit c.self.inside.session.files)
 
 pub returns : goal.returns
 returns g c =
     let s = c.self.inside in
-    let new : Watched = record { inputs = s.session; marks = c.mark_told.new.marks.items } in
-    let told : new ≡ all_told (watched_of s) = ap (λ (m : List Mark). record { inputs = s.session; marks = m }) c.mark_told.ensures in
+    let new : Watched = record { inputs = s.session; marks = c.mark_known.new.marks.items } in
+    let known : new ≡ all_known (watched_of s) = ap (λ (m : List Mark). record { inputs = s.session; marks = m }) c.mark_known.ensures in
     let wrote = subst (λ (marks : List Mark). (es : List Expression) → Mean s.session es → (changes : List Change) → AllThree (IsChange es s.session.options) s.session.files marks changes →
     GoesOut g.W.CountedWrite.contents g.W.CountedWrite.failures c.args.out.now c.write_changes.new.out (written c.args.margin.now (changes_rows 0 changes))) c.deref.ensures.value c.in-Ok.ensures in
-    subst (λ (old : Watched). TellsChanges g.W.CountedWrite.contents g.W.CountedWrite.failures c.args.margin.now c.args.out.now c.write_changes.new.out {E = WriteFault} old new (Ok c.status-status.result)) c.self.view_is
-    (tells_all g.W.CountedWrite.contents g.W.CountedWrite.failures c.args.margin.now c.args.out.now c.write_changes.new.out (watched_of s) new c.status-status.result WriteFault (Ok c.status-status.result) c.self.invariant c.status-status.ensures wrote (refl, told))
+    subst (λ (old : Watched). WritesChanges g.W.CountedWrite.contents g.W.CountedWrite.failures c.args.margin.now c.args.out.now c.write_changes.new.out {E = WriteFault} old new (Ok c.status-status.result)) c.self.view_is
+    (writes_all g.W.CountedWrite.contents g.W.CountedWrite.failures c.args.margin.now c.args.out.now c.write_changes.new.out (watched_of s) new c.status-status.result WriteFault (Ok c.status-status.result) c.self.invariant c.status-status.ensures wrote (refl, known))

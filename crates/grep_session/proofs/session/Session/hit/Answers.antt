@@ -7,10 +7,10 @@ use Rattle.grep_core.specs.Run.{file_at}
 use Rattle.grep_core.proofs.lemmas.LawsHold.{means_one}
 use Rattle.grep_session.specs.declared.hit.Hit.{Hit}
 use Rattle.grep_session.specs.declared.kept.KeptFile.{KeptFile}
-use Rattle.grep_session.specs.Told.{PartsTold}
+use Rattle.grep_session.specs.Listed.{ListedParts}
 use Rattle.grep_session.specs.Working.Kept.{span_places, IsFileKept}
 use Rattle.grep_session.specs.Working.Sessions.{inputs_of}
-use Rattle.grep_session.proofs.lemmas.LookingLemmas.{no_line, hit_told}
+use Rattle.grep_session.proofs.lemmas.LookingLemmas.{no_line, hit_listed}
 use Rattle.grep_session.proofs.session.Session.hit.Goals as goal
 
 pub returns-in_default : goal.returns-in_default
@@ -28,10 +28,10 @@ returns c =
     (λ (i : Inputs). (es : List Expression) → AreMeant i.syntax i.options i.patterns es →
     MatchOption c.hit.result (Selected es i.options (get_or (file_at i.files c.args.k).lines c.args.place []) → ⊥)
     (λ (hit : Hit). Selected es i.options (get_or (file_at i.files c.args.k).lines c.args.place []) × (hit.text.now ≡ get_or (file_at i.files c.args.k).lines c.args.place []) ×
-    PartsTold es i.options (get_or (file_at i.files c.args.k).lines c.args.place []) (map span_places hit.parts.now)))
+    ListedParts es i.options (get_or (file_at i.files c.args.k).lines c.args.place []) (map span_places hit.parts.now)))
     c.self.view_is
     (λ es meant.
     let same : found ≡ es = means_one s.syntax s.options (inputs_of s).patterns found es c.self.invariant.matchers.meant meant in
     let kept : All (IsFileKept es s.options) s.files.items = subst (λ es. All (IsFileKept es s.options) s.files.items) same c.self.invariant.kept in
-    hit_told es s.options s.files.items c.args.k c.args.place c.index.result.now c.in-Some.lines.items c.index-2.result.now (λ (hit : Hit). hit.text.now) (λ (hit : Hit). hit.parts.now) c.hit.result kept there c.index.ensures
+    hit_listed es s.options s.files.items c.args.k c.args.place c.index.result.now c.in-Some.lines.items c.index-2.result.now (λ (hit : Hit). hit.text.now) (λ (hit : Hit). hit.parts.now) c.hit.result kept there c.index.ensures
     (ap (option_map (λ lines. lines.items)) c.in-Some.is) c.index-2.ensures c.hit.ensures)

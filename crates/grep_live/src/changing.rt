@@ -1,4 +1,4 @@
-//! What is told of the files of a session.
+//! What changed of the files of a session, as rows.
 ghost use Rattle.std.specs.Prelude.{◌≡◌, ◌-◌, ◌≤◌, ◌&&◌, ◌∷◌, List, length, map, nat_eq};
 ghost use Rattle.re_syntax.specs.Expression.{Expression};
 ghost use Rattle.grep_core.specs.Output.{written};
@@ -17,7 +17,7 @@ use crate::rows::{write_hit_row, write_number_row};
 use grep_core::{CountedWrite, WriteFault};
 use grep_session::Session;
 
-/// How many lines of file `k` from one place to another an editor lists.
+/// The number of hits among the lines of file `k` from place `from` to place `to`.
 pub fn count_hits(session: &Session, k: usize, from: usize, to: usize) -> usize
     requires { to ≤ length (file_at session.now.files k).lines }
     ensures { (es : List Expression) → Mean session.now es → (hits : List Hit) →
@@ -33,7 +33,7 @@ pub fn count_hits(session: &Session, k: usize, from: usize, to: usize) -> usize
     count
 }
 
-/// Writes a row for each line of file `k` from one place to another that an editor lists.
+/// Writes a row for each hit among the lines of file `k` from place `from` to place `to`.
 fn write_hits<W: CountedWrite>(
     session: &Session,
     k: usize,
@@ -56,15 +56,15 @@ fn write_hits<W: CountedWrite>(
     Ok(())
 }
 
-/// Whether nothing gave way to anything.
+/// Whether no line was removed and none was added.
 fn is_idle(removed: usize, added: usize) -> bool
     ensures { result ≡ (nat_eq removed 0 && nat_eq added 0) }
 {
     (removed == 0) & (added == 0)
 }
 
-/// Writes the rows of a change: how many lines of file `k` gave way from one place on, how many are
-/// there instead up to another, and the hits among those.
+/// Writes the rows of a change of file `k`: from place `front` on `removed` lines were replaced by
+/// those up to place `end`, and a row for each hit among the new ones.
 fn write_rows<W: CountedWrite>(
     session: &Session,
     k: usize,
@@ -91,7 +91,7 @@ fn write_rows<W: CountedWrite>(
     write_hits(session, k, front, end, margin, out)
 }
 
-/// Writes what is told of file `k` by its mark.
+/// Writes what changed of file `k`, by its mark.
 fn write_change<W: CountedWrite>(
     session: &Session,
     k: usize,
@@ -114,7 +114,7 @@ fn write_change<W: CountedWrite>(
     write_rows(session, k, removed, mark.front, end, margin, out)
 }
 
-/// Writes what is told of each file by its mark.
+/// Writes what changed of each file, by its mark.
 pub fn write_changes<W: CountedWrite>(
     session: &Session,
     marks: &[Mark],
@@ -133,7 +133,7 @@ pub fn write_changes<W: CountedWrite>(
     Ok(())
 }
 
-/// All lines of all files were told.
+/// Makes each mark whole: all lines of all files are known.
 fn mark_whole(session: &Session, marks: &mut [Mark])
     requires { length marks.old ≡ length session.now.files }
     ensures { marks.new ≡ map (λ file. whole_mark (length file.lines)) session.now.files }
@@ -143,8 +143,8 @@ fn mark_whole(session: &Session, marks: &mut [Mark])
     }
 }
 
-/// All lines of all files were told.
-pub fn mark_told(session: &Session, marks: &mut Vec<Mark>)
+/// Makes each mark whole: all lines of all files are known.
+pub fn mark_known(session: &Session, marks: &mut Vec<Mark>)
     requires { length marks.old.items ≡ length session.now.files }
     ensures { marks.new.items ≡ map (λ file. whole_mark (length file.lines)) session.now.files }
 {

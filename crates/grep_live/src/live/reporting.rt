@@ -1,17 +1,17 @@
-//! What grep writes of a session that an editor watches, and its status, as of any session.
+//! What grep writes for a session that an editor watches, and its status.
 ghost use Rattle.grep_session.specs.Headline.{ReportsInputs, TellsInputs, IsStatusOfInputs};
 
 use crate::live::Live;
 use grep_core::{CountedWrite, Status, WriteFault};
 
 impl Live {
-    /// Writes what grep writes to standard output (XCU grep, STDOUT), each line behind the margin,
-    /// and answers its status. No line is searched and no memory is taken.
+    /// Writes what grep writes to standard output (XCU grep, STDOUT), each line after the margin,
+    /// and returns its status. No line is searched and no memory is asked for.
     ///
     /// # Errors
     ///
-    /// `WriteFault` comes where a write fails, which the writer counts; what went out is a
-    /// beginning. It is not tried again.
+    /// `WriteFault` if a write fails, which the writer counts. A beginning was written. The write
+    /// is not tried again.
     pub fn report<W: CountedWrite>(&self, margin: &[u8], out: &mut W) -> Result<Status, WriteFault>
         ensures { ReportsInputs W.contents W.failures self.now.inputs margin.now out.old out.new
             result }
@@ -19,13 +19,13 @@ impl Live {
         self.session.report(margin, out)
     }
 
-    /// Writes what grep writes to standard error about files (XCU grep, STDERR), each line behind
-    /// the margin. No line is searched and no memory is taken.
+    /// Writes what grep writes to standard error about files (XCU grep, STDERR), each line after
+    /// the margin. No line is searched and no memory is asked for.
     ///
     /// # Errors
     ///
-    /// `WriteFault` comes where a write fails, which the writer counts; what went out is a
-    /// beginning. It is not tried again.
+    /// `WriteFault` if a write fails, which the writer counts. A beginning was written. The write
+    /// is not tried again.
     pub fn messages<W: CountedWrite>(&self, margin: &[u8], out: &mut W) -> Result<(), WriteFault>
         ensures { TellsInputs W.contents W.failures self.now.inputs margin.now out.old out.new
             result }

@@ -19,7 +19,7 @@ use Rattle.grep_live.specs.Working.Listing.{Mean, HitsBetween}
 use Rattle.grep_live.proofs.lemmas.ListingLemmas.{Next, no_more}
 
 module _ (inputs : Inputs) (k from to : ℕ) where
-  -- so many were counted, and these are left
+  -- this number was counted, and these are left
   pub record CountedUpTo (es : List Expression) (place count : ℕ) (all : List Hit) : Type 0 where
     pub left : List Hit
     pub are_left : HitsBetween es inputs k place to left
@@ -82,14 +82,14 @@ module _ (inputs : Inputs) (k from to : ℕ) (es : List Expression) (all : List 
 
 -- ---- one change
 
--- a change by the numbers that are told of it
-pub record ToldAs (es : List Expression) (inputs : Inputs) (k front removed end : ℕ) (change : Change) : Type 0 where
+-- a change by the numbers that are written of it
+pub record ReportedAs (es : List Expression) (inputs : Inputs) (k front removed end : ℕ) (change : Change) : Type 0 where
   pub are_hits : HitsBetween es inputs k front end change.come
   pub is : change ≡ record { front = front; removed = removed; added = end - front; come = change.come }
 
-pub told_as : (es : List Expression) (inputs : Inputs) (k : ℕ) (mark : Mark) (front removed added end : ℕ) (change : Change) → IsChange es inputs.options (file_at inputs.files k) mark change → front ≡ mark.front → removed ≡ mark.told - mark.front - mark.back →
-    added ≡ length (file_at inputs.files k).lines - mark.front - mark.back → end ≡ front + added → ToldAs es inputs k front removed end change
-told_as es inputs k mark front removed added end change c f r a e =
+pub reported_as : (es : List Expression) (inputs : Inputs) (k : ℕ) (mark : Mark) (front removed added end : ℕ) (change : Change) → IsChange es inputs.options (file_at inputs.files k) mark change → front ≡ mark.front → removed ≡ mark.known - mark.front - mark.back →
+    added ≡ length (file_at inputs.files k).lines - mark.front - mark.back → end ≡ front + added → ReportedAs es inputs k front removed end change
+reported_as es inputs k mark front removed added end change c f r a e =
     let same_front : change.front ≡ front = c.is_front ∙ sym f in
     let same_end : change.front + change.added ≡ end = omega (arith, c.is_front, c.is_added) in
     let same_added : change.added ≡ end - front = omega (arith, c.is_added) in
@@ -100,11 +100,11 @@ told_as es inputs k mark front removed added end change c f r a e =
     }
 
 -- a change of nothing has no rows
-pub rows_idle : (es : List Expression) (inputs : Inputs) (k front removed end : ℕ) (change : Change) → ToldAs es inputs k front removed end change → (nat_eq removed 0 && nat_eq (end - front) 0) ≡ true → change_rows k change ≡ []
+pub rows_idle : (es : List Expression) (inputs : Inputs) (k front removed end : ℕ) (change : Change) → ReportedAs es inputs k front removed end change → (nat_eq removed 0 && nat_eq (end - front) 0) ≡ true → change_rows k change ≡ []
 rows_idle es inputs k front removed end change t idle =
     ap (change_rows k) t.is ∙ ap (λ b. if b then [] else change_row k (record { front = front; removed = removed; added = end - front; come = change.come }) ∷ map hit_row change.come) idle
 
-pub rows_busy : (es : List Expression) (inputs : Inputs) (k front removed end : ℕ) (change : Change) → ToldAs es inputs k front removed end change → (nat_eq removed 0 && nat_eq (end - front) 0) ≡ false →
+pub rows_busy : (es : List Expression) (inputs : Inputs) (k front removed end : ℕ) (change : Change) → ReportedAs es inputs k front removed end change → (nat_eq removed 0 && nat_eq (end - front) 0) ≡ false →
     change_rows k change ≡ change_row k (record { front = front; removed = removed; added = end - front; come = change.come }) ∷ map hit_row change.come
 rows_busy es inputs k front removed end change t busy =
     ap (change_rows k) t.is ∙ ap (λ b. if b then [] else change_row k (record { front = front; removed = removed; added = end - front; come = change.come }) ∷ map hit_row change.come) busy
@@ -114,24 +114,24 @@ rows_busy es inputs k front removed end change t busy =
 pub no_change : Change
 no_change = record { front = 0; removed = 0; added = 0; come = [] }
 
--- the rows of the changes from one on are those of that one and of those behind it
+-- the rows of the changes from one on are those of that one and of those after it
 pub next_rows : (k : ℕ) (changes : List Change) → k < length changes → changes_rows k (drop k changes) ≡ change_rows k (get_or changes k no_change) ++ changes_rows (k + 1) (drop (k + 1) changes)
 next_rows k changes h = ap (changes_rows k) (drop-next changes k no_change h)
 
 module _ (inputs : Inputs) (marks : List Mark) {W : Type 0} (contents : W → Option Text) (failures : W → ℕ) (margin : Text) where
-  -- the changes of the first files were told
-  abbrev pub ToldUpTo : W → W → ℕ → Type 0
-  ToldUpTo old now k = (es : List Expression) → Mean inputs es → (changes : List Change) → AllThree (IsChange es inputs.options) inputs.files marks changes → WrittenUpTo contents failures margin old now (changes_rows 0 changes) (changes_rows k (drop k changes))
+  -- the changes of the first files were written
+  abbrev pub ReportedUpTo : W → W → ℕ → Type 0
+  ReportedUpTo old now k = (es : List Expression) → Mean inputs es → (changes : List Change) → AllThree (IsChange es inputs.options) inputs.files marks changes → WrittenUpTo contents failures margin old now (changes_rows 0 changes) (changes_rows k (drop k changes))
 
-  pub told_on : (es : List Expression) (changes : List Change) (a b c : W) (k : ℕ) → k < length changes → WrittenUpTo contents failures margin a b (changes_rows 0 changes) (changes_rows k (drop k changes)) →
+  pub reported_on : (es : List Expression) (changes : List Change) (a b c : W) (k : ℕ) → k < length changes → WrittenUpTo contents failures margin a b (changes_rows 0 changes) (changes_rows k (drop k changes)) →
       GoesOut contents failures b c (written margin (change_rows k (get_or changes k no_change))) → WrittenUpTo contents failures margin a c (changes_rows 0 changes) (changes_rows (k + 1) (drop (k + 1) changes))
-  told_on es changes a b c k h s went =
+  reported_on es changes a b c k h s went =
       written_on contents failures margin a b c (changes_rows 0 changes) (changes_rows k (drop k changes)) (change_rows k (get_or changes k no_change)) (changes_rows (k + 1) (drop (k + 1) changes)) (next_rows k changes h) s went
 
-  pub told_stops : (es : List Expression) (changes : List Change) (a b c : W) (k : ℕ) → k < length changes → WrittenUpTo contents failures margin a b (changes_rows 0 changes) (changes_rows k (drop k changes)) →
+  pub reported_stops : (es : List Expression) (changes : List Change) (a b c : W) (k : ℕ) → k < length changes → WrittenUpTo contents failures margin a b (changes_rows 0 changes) (changes_rows k (drop k changes)) →
       StopsWithin contents failures b c (written margin (change_rows k (get_or changes k no_change))) → StopsWithin contents failures a c (written margin (changes_rows 0 changes))
-  told_stops es changes a b c k h s stopped =
+  reported_stops es changes a b c k h s stopped =
       broken_off contents failures margin a b c (changes_rows 0 changes) (changes_rows k (drop k changes)) (change_rows k (get_or changes k no_change)) (changes_rows (k + 1) (drop (k + 1) changes)) (next_rows k changes h) s stopped
 
-  pub told_all : (es : List Expression) (changes : List Change) (a b : W) (k : ℕ) → length changes ≤ k → WrittenUpTo contents failures margin a b (changes_rows 0 changes) (changes_rows k (drop k changes)) → GoesOut contents failures a b (written margin (changes_rows 0 changes))
-  told_all es changes a b k h s = all_written contents failures margin a b (changes_rows 0 changes) (changes_rows k (drop k changes)) (ap (changes_rows k) (drop_all k changes h)) s
+  pub reported_all : (es : List Expression) (changes : List Change) (a b : W) (k : ℕ) → length changes ≤ k → WrittenUpTo contents failures margin a b (changes_rows 0 changes) (changes_rows k (drop k changes)) → GoesOut contents failures a b (written margin (changes_rows 0 changes))
+  reported_all es changes a b k h s = all_written contents failures margin a b (changes_rows 0 changes) (changes_rows k (drop k changes)) (ap (changes_rows k) (drop_all k changes h)) s

@@ -6,8 +6,8 @@ use Rattle.grep_session.proofs.lemmas.Writing.{none_written, writes_err}
 use Rattle.grep_live.specs.Hits.{Hit}
 use Rattle.grep_live.specs.Rows.{hit_row}
 use Rattle.grep_live.proofs.lemmas.ListingLemmas.{next_hits, none_here, one_here}
-use Rattle.grep_live.proofs.lemmas.TellingLemmas.{listed_past, listed_one, listed_stops, listed_all}
-use Rattle.grep_live.proofs.telling.write_hits.Goals as goal
+use Rattle.grep_live.proofs.lemmas.ChangesLemmas.{listed_past, listed_one, listed_stops, listed_all}
+use Rattle.grep_live.proofs.changing.write_hits.Goals as goal
 
 pub loop-place-init : goal.loop-place-init
 loop-place-init g c = λ es meant all hits. record { left = all; are_left = hits; wrote = none_written g.W.CountedWrite.contents g.W.CountedWrite.failures c.args.margin.now c.args.out.now (map hit_row all) }

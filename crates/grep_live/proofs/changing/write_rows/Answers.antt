@@ -3,7 +3,7 @@ use Rattle.grep_core.specs.Row.{output_line}
 use Rattle.grep_core.specs.Written.{GoesOut, StopsWithin}
 use Rattle.grep_session.proofs.lemmas.Writing.{writes_err, one_went, one_stopped, stops_before, writes_behind}
 use Rattle.grep_live.specs.Rows.{spaced, hit_row}
-use Rattle.grep_live.proofs.telling.write_rows.Goals as goal
+use Rattle.grep_live.proofs.changing.write_rows.Goals as goal
 
 pub returns-in_err-write_number_row : goal.returns-in_err-write_number_row
 returns-in_err-write_number_row g c =

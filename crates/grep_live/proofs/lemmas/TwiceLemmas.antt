@@ -1,4 +1,4 @@
--- Of files that were told nothing is told.
+-- Of files whose changes were all reported no row is written.
 use Rattle.std.proofs.Common.{◌≡◌, ℕ, ◌+◌, true, List, [], ◌∷◌, ◌++◌, length, map, refl, ap, arith, if◌then◌else◌}
 use Rattle.std.specs.Prelude.{nat_eq, ◌&&◌}
 use Rattle.re_syntax.specs.Expression.{Expression}
@@ -8,7 +8,7 @@ use Rattle.grep_live.specs.Lists.{AllThree}
 use Rattle.grep_live.specs.Marks.{whole_mark}
 use Rattle.grep_live.specs.Changes.{Change, IsChange, is_idle}
 use Rattle.grep_live.specs.Rows.{hit_row, change_row, change_rows, changes_rows}
-use Rattle.grep_live.specs.Laws.{ToldIsSilent}
+use Rattle.grep_live.specs.Laws.{NothingTwice}
 
 module _ (es : List Expression) (options : Options) where
   one_silent : (k : ℕ) (file : File) (change : Change) → IsChange es options file (whole_mark (length file.lines)) change → change_rows k change ≡ []
@@ -27,5 +27,5 @@ module _ (es : List Expression) (options : Options) where
       let rest = all_silent (k + 1) files changes c.1 in
       λ i. first i ++ rest i
 
-pub told_is_silent : ToldIsSilent
-told_is_silent old es changes c = all_silent es old.inputs.options 0 old.inputs.files changes c
+pub nothing_twice : NothingTwice
+nothing_twice old es changes c = all_silent es old.inputs.options 0 old.inputs.files changes c

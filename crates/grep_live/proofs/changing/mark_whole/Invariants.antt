@@ -1,6 +1,6 @@
 use Rattle.std.proofs.Common.{◌≡◌, ◌++◌, length, map, take, drop}
 use Rattle.grep_live.specs.Marks.{whole_mark}
-use Rattle.grep_live.proofs.telling.mark_whole.Given as goal
+use Rattle.grep_live.proofs.changing.mark_whole.Given as goal
 
 -- the first are whole, and the others are as they were
 abbrev pub invariant-loop-k : goal.invariant-loop-k

@@ -5,9 +5,9 @@ use Rattle.grep_live.specs.Changes.{IsChange}
 use Rattle.grep_live.specs.Marks.{new_mark}
 use Rattle.grep_live.specs.Rows.{changes_rows}
 use Rattle.grep_live.proofs.lemmas.ListLemmas.{three-length, three-at}
-use Rattle.grep_live.proofs.lemmas.TellingLemmas.{no_change, told_on, told_stops, told_all}
+use Rattle.grep_live.proofs.lemmas.ChangesLemmas.{no_change, reported_on, reported_stops, reported_all}
 use Rattle.grep_live.proofs.lemmas.CatchLemmas.{marked_front}
-use Rattle.grep_live.proofs.telling.write_changes.Goals as goal
+use Rattle.grep_live.proofs.changing.write_changes.Goals as goal
 
 pub loop-k-init : goal.loop-k-init
 loop-k-init g c = λ es meant changes are. none_written g.W.CountedWrite.contents g.W.CountedWrite.failures c.args.margin.now c.args.out.now (changes_rows 0 changes)
@@ -25,7 +25,7 @@ returns-in_err-write_change g c =
     let inside : k < length changes = omega (arith, long.1, c.loop-k-test.true) in
     let change = three-at (IsChange es inputs.options) inputs.files marks changes k (file_at [] k) new_mark no_change (omega (arith, long.0, c.loop-k-test.true)) are in
     writes_err g.W.CountedWrite.contents g.W.CountedWrite.failures c.args.margin.now _ _ _ c.from_residual.result c.from_residual.ensures.0
-    (told_stops inputs marks g.W.CountedWrite.contents g.W.CountedWrite.failures c.args.margin.now es changes c.args.out.now c.loop-k.out c.write_change.new.out k inside (c.loop-k.invariant es meant changes are) (c.in_err-write_change.ensures es meant _ change))
+    (reported_stops inputs marks g.W.CountedWrite.contents g.W.CountedWrite.failures c.args.margin.now es changes c.args.out.now c.loop-k.out c.write_change.new.out k inside (c.loop-k.invariant es meant changes are) (c.in_err-write_change.ensures es meant _ change))
 
 pub loop-k-preserved : goal.loop-k-preserved
 loop-k-preserved g c =
@@ -36,7 +36,7 @@ loop-k-preserved g c =
     let long = three-length (IsChange es inputs.options) inputs.files marks changes are in
     let inside : k < length changes = omega (arith, long.1, c.loop-k-test.true) in
     let change = three-at (IsChange es inputs.options) inputs.files marks changes k (file_at [] k) new_mark no_change (omega (arith, long.0, c.loop-k-test.true)) are in
-    told_on inputs marks g.W.CountedWrite.contents g.W.CountedWrite.failures c.args.margin.now es changes c.args.out.now c.loop-k.out c.write_change.new.out k inside (c.loop-k.invariant es meant changes are) (c.in_ok-write_change.ensures es meant _ change)
+    reported_on inputs marks g.W.CountedWrite.contents g.W.CountedWrite.failures c.args.margin.now es changes c.args.out.now c.loop-k.out c.write_change.new.out k inside (c.loop-k.invariant es meant changes are) (c.in_ok-write_change.ensures es meant _ change)
 
 pub returns : goal.returns
 returns g c =
@@ -44,4 +44,4 @@ returns g c =
     let marks = c.args.marks.now in
     λ es meant changes are.
     let long = three-length (IsChange es inputs.options) inputs.files marks changes are in
-    told_all inputs marks g.W.CountedWrite.contents g.W.CountedWrite.failures c.args.margin.now es changes c.args.out.now c.loop-k.out c.loop-k.k (omega (arith, long.1, c.loop-k-test.false)) (c.loop-k.invariant es meant changes are)
+    reported_all inputs marks g.W.CountedWrite.contents g.W.CountedWrite.failures c.args.margin.now es changes c.args.out.now c.loop-k.out c.loop-k.k (omega (arith, long.1, c.loop-k-test.false)) (c.loop-k.invariant es meant changes are)

@@ -3,7 +3,7 @@ use Rattle.std.proofs.lemmas.List.{length-map}
 use Rattle.grep_core.specs.Files.{File}
 use Rattle.grep_live.specs.Marks.{whole_mark}
 use Rattle.grep_live.proofs.lemmas.CatchLemmas.{marked_at, marked_more, marked_all}
-use Rattle.grep_live.proofs.telling.mark_whole.Goals as goal
+use Rattle.grep_live.proofs.changing.mark_whole.Goals as goal
 
 pub loop-k-preserved : goal.loop-k-preserved
 loop-k-preserved c =

@@ -1,4 +1,4 @@
--- What an editor is told, and what it has right after that.
+-- What `changes` and `page` write, and which lists an editor has after that.
 use Rattle.std.specs.Prelude.{◌≡◌, ℕ, ◌-◌, ◌^◌, min, List, ◌∷◌, map, length, Option, Result, IfOk, MatchResult}
 use Rattle.re_syntax.specs.Bytes.{Text}
 use Rattle.re_syntax.specs.Expression.{Expression}
@@ -14,31 +14,31 @@ use Rattle.grep_live.specs.Changes.{Change, IsChange, all_after}
 use Rattle.grep_live.specs.Following.{Follows}
 use Rattle.grep_live.specs.Rows.{changes_rows, total_row, page_rows, all_hits}
 
--- everything was told
-abbrev pub all_told : Watched → Watched
-all_told old =
+-- all changes are reported
+abbrev pub all_known : Watched → Watched
+all_known old =
     record old { marks = map (λ file. whole_mark (length file.lines)) old.inputs.files }
 
 module _ {W : Type 0} (contents : W → Option Text) (failures : W → ℕ) (margin : Text)
     (begun ended : W) where
-  -- a change of each file was told, or a write failed and a beginning of them went out;
-  -- any view that followed is made by them what there is, and follows then
-  pub record TellsChanges {E : Type 0} (old new : Watched) (result : Result Status E) : Type 0 where
+  -- a change of each file was written, or a write failed and a beginning of them was written; any
+  -- view that followed becomes by them the present hits, and follows then
+  pub record WritesChanges {E : Type 0} (old new : Watched) (result : Result Status E) : Type 0 where
     pub es : List Expression
     pub are_meant : AreMeant old.inputs.syntax old.inputs.options old.inputs.patterns es
     pub changes : List Change
     pub are_changes : AllThree (IsChange es old.inputs.options) old.inputs.files old.marks changes
     pub wrote : Writes contents failures begun ended (written margin (changes_rows 0 changes)) result
     pub is_status : IfOk result (StatusOf es old.inputs.options old.inputs.files)
-    pub leaves : MatchResult result (λ _. new ≡ all_told old) (λ _. new ≡ old)
+    pub leaves : MatchResult result (λ _. new ≡ all_known old) (λ _. new ≡ old)
     pub catches_up : (view : View) → Follows old view →
         AreHits es old.inputs.options old.inputs.files (all_after changes view)
     pub follows : IfOk result
         (λ _. (view : View) → Follows old view → Follows new (all_after changes view))
 
-  -- how many hits there are was told, where it is no more than a u64 holds, and those of them from
-  -- a first on, at most so many; or a write failed and a beginning of that went out
-  pub record ShowsPage {E : Type 0} (inputs : Inputs) (first count : ℕ)
+  -- the number of hits was written, or the greatest u64, and at most `count` of them from number
+  -- `first` on; or a write failed and a beginning of that was written
+  pub record WritesPage {E : Type 0} (inputs : Inputs) (first count : ℕ)
       (result : Result Status E) : Type 0 where
     pub es : List Expression
     pub are_meant : AreMeant inputs.syntax inputs.options inputs.patterns es

@@ -1,4 +1,4 @@
--- What is told of changes, and a page, with the status behind.
+-- The replies to `changes` and `page`, with the status after them.
 use Rattle.std.proofs.Common.{◌≡◌, ℕ, List, [], ◌∷◌, ◌++◌, length, min, Option, Result, Ok, Err, IfOk, refl, sym, ap, subst, ◌∙◌, append-nil}
 use Rattle.std.specs.Prelude.{◌-◌, ◌^◌}
 use Rattle.std.specs.Result.{IsErr}
@@ -13,10 +13,10 @@ use Rattle.grep_session.proofs.lemmas.Writing.{if_ok, writes_err, writes_behind,
 use Rattle.grep_live.specs.Marks.{Watched}
 use Rattle.grep_live.specs.Changes.{all_after}
 use Rattle.grep_live.specs.Rows.{changes_rows, total_row, page_rows, all_hits}
-use Rattle.grep_live.specs.Telling.{TellsChanges, ShowsPage, all_told}
+use Rattle.grep_live.specs.Writing.{WritesChanges, WritesPage, all_known}
 use Rattle.grep_live.proofs.lemmas.CatchLemmas.{all_follow}
 use Rattle.grep_cmd.specs.Show.{status_line}
-use Rattle.grep_cmd.specs.Tells.{TellsAll, ShowsHits}
+use Rattle.grep_cmd.specs.Lists.{WritesReport, WritesHits}
 
 -- where nothing is said of the value
 either_way : {P : Type 0} {T E : Type 0} (r : Result T E) → P → IfOk r (λ _. P)
@@ -28,12 +28,12 @@ module _ {W : Type 0} (contents : W → Option Text) (failures : W → ℕ) wher
   one_line a b text r w = subst (λ bytes. Writes contents failures a b bytes r) (sym (append-nil (output_line [] text))) w
 
   -- a write failed within the changes
-  pub tells_front : (T E F : Type 0) (before after : Watched) (a b : W) (fault : F) (r : Result T E) → IsErr r → TellsChanges contents failures [] a b before after (Err fault) → TellsAll contents failures a b before after r
-  tells_front T E F before after a b fault r is t =
+  pub report_front : (T E F : Type 0) (before after : Watched) (a b : W) (fault : F) (r : Result T E) → IsErr r → WritesChanges contents failures [] a b before after (Err fault) → WritesReport contents failures a b before after r
+  report_front T E F before after a b fault r is t =
       let status = StatusOf-exist t.es before.inputs.options before.inputs.files in
       let rows = changes_rows 0 t.changes in (
         rows ++ status_line status.0 ∷ [],
-        all_told before,
+        all_known before,
         record {
           es = t.es;
           are_meant = t.are_meant;
@@ -47,15 +47,15 @@ module _ {W : Type 0} (contents : W → Option Text) (failures : W → ℕ) wher
           follows = (λ view f. all_follow t.es before.inputs t.are_meant before.inputs.files (all_after t.changes view) (t.catches_up view f));
         },
         writes_err contents failures [] a b _ r is (stops_before contents failures [] a b rows (status_line status.0 ∷ []) t.wrote),
-        if_ok (λ _. after ≡ all_told before) r is,
+        if_ok (λ _. after ≡ all_known before) r is,
       )
 
-  -- the changes were told, and the status as the last call answers
-  pub tells_whole : (T E F : Type 0) (before after : Watched) (a b c : W) (status : Status) (r : Result T E) → TellsChanges contents failures [] a b {E = F} before after (Ok status) → Writes contents failures b c (output_line [] (status_line status)) r → TellsAll contents failures a c before after r
-  tells_whole T E F before after a b c status r t w =
+  -- the changes were written, and the status by the last call
+  pub report_whole : (T E F : Type 0) (before after : Watched) (a b c : W) (status : Status) (r : Result T E) → WritesChanges contents failures [] a b {E = F} before after (Ok status) → Writes contents failures b c (output_line [] (status_line status)) r → WritesReport contents failures a c before after r
+  report_whole T E F before after a b c status r t w =
       let rows = changes_rows 0 t.changes in (
         rows ++ status_line status ∷ [],
-        all_told before,
+        all_known before,
         record {
           es = t.es;
           are_meant = t.are_meant;
@@ -73,7 +73,7 @@ module _ {W : Type 0} (contents : W → Option Text) (failures : W → ℕ) wher
       )
 
   -- a write failed within the page
-  pub shows_hits_front : (T E F : Type 0) (inputs : Inputs) (first count : ℕ) (a b : W) (fault : F) (r : Result T E) → IsErr r → ShowsPage contents failures [] a b inputs first count (Err fault) → ShowsHits contents failures a b inputs first count r
+  pub shows_hits_front : (T E F : Type 0) (inputs : Inputs) (first count : ℕ) (a b : W) (fault : F) (r : Result T E) → IsErr r → WritesPage contents failures [] a b inputs first count (Err fault) → WritesHits contents failures a b inputs first count r
   shows_hits_front T E F inputs first count a b fault r is t =
       let status = StatusOf-exist t.es inputs.options inputs.files in
       let all = all_hits 0 t.view in
@@ -83,8 +83,8 @@ module _ {W : Type 0} (contents : W → Option Text) (failures : W → ℕ) wher
         writes_err contents failures [] a b _ r is (stops_before contents failures [] a b rows (status_line status.0 ∷ []) t.wrote),
       )
 
-  pub shows_hits_whole : (T E F : Type 0) (inputs : Inputs) (first count : ℕ) (a b c : W) (status : Status) (r : Result T E) → ShowsPage contents failures [] a b {E = F} inputs first count (Ok status) → Writes contents failures b c (output_line [] (status_line status)) r →
-      ShowsHits contents failures a c inputs first count r
+  pub shows_hits_whole : (T E F : Type 0) (inputs : Inputs) (first count : ℕ) (a b c : W) (status : Status) (r : Result T E) → WritesPage contents failures [] a b {E = F} inputs first count (Ok status) → Writes contents failures b c (output_line [] (status_line status)) r →
+      WritesHits contents failures a c inputs first count r
   shows_hits_whole T E F inputs first count a b c status r t w =
       let all = all_hits 0 t.view in
       let rows = total_row (min (length all) (2 ^ 64 - 1)) ∷ page_rows first count all in (
