@@ -23,8 +23,8 @@ returns-in-Err g c =
     subst (λ (w : Watched). WritesChanges g.W.CountedWrite.contents g.W.CountedWrite.failures c.args.margin.now c.args.out.now c.write_changes.new.out w w (Err c.in-Err.fault)) c.self.view_is
     (writes_all g.W.CountedWrite.contents g.W.CountedWrite.failures c.args.margin.now c.args.out.now c.write_changes.new.out (watched_of s) (watched_of s) c.status-status.result WriteFault (Err c.in-Err.fault) c.self.invariant c.status-status.ensures wrote refl)
 
-pub mark_told-requires : goal.mark_told-requires
-mark_told-requires g c = sym (as_many c.self.inside.session.files c.self.inside.marks.items c.self.invariant)
+pub mark_known-requires : goal.mark_known-requires
+mark_known-requires g c = sym (as_many c.self.inside.session.files c.self.inside.marks.items c.self.invariant)
 
 pub invariant_of-self : goal.invariant_of-self
 invariant_of-self g c = subst (AreFit c.self.inside.session.files) (sym c.mark_known.ensures) (known_fit c.self.inside.session.files)
