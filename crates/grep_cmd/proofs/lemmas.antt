@@ -5,3 +5,6 @@ pub mod ScriptSteps
 pub mod ScriptRuns
 pub mod ShowLaws
 pub mod ListingLaws
+pub mod ReadingLaws
+pub mod HeldLaws
+pub mod EditorLaws

@@ -18,5 +18,7 @@ pub mod Show
 pub mod Lists
 pub mod Script
 pub mod Replies
+-- the law over a whole script: what an editor makes of its replies
+pub mod Editor
 -- what else contracts are said in: of this crate as a library, and of its private functions
 pub mod Working

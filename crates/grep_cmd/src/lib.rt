@@ -1,6 +1,7 @@
 //! Scripts of a session, and all of the utility grep: from bytes to bytes.
 #![tactic(auto)]
 
+mod laws;
 mod script;
 mod showing;
 
@@ -8,5 +9,6 @@ pub use grep_utility::{
     Content, FAILED, Files, MemoryFile, MemoryFiles, MemoryReader, OUT_OF_MEMORY, PatternSource,
     Request, USAGE, UsageFault, WRITE_ERROR, matchers_of, read_words, run_grep, write_usage_fault,
 };
+pub use laws::editors_follow;
 pub use script::{ScriptEnd, ScriptFault, run_script};
 pub use showing::show;

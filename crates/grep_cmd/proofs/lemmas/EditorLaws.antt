@@ -1,0 +1,267 @@
+-- The lists that an editor makes by the replies alone follow, and are the present hits.
+use Rattle.std.proofs.Common.{◌≡◌, ℕ, ◌+◌, ◌<◌, ◌≤◌, ◌^◌, ◌||◌, min, true, false, List, [], ◌∷◌, ◌++◌, length, map, take, drop, get_or, codes, Result, Ok, Err, refl, sym, ap, subst, ◌∙◌, inl, inr, arith, append_assoc, if◌then◌else◌}
+use Rattle.std.specs.Prelude.{◌-◌}
+use Rattle.std.specs.List.{list_any, sum_by}
+use Rattle.std.proofs.lemmas.Bool.{or_parts}
+use Rattle.std.proofs.lemmas.List.Elements.{All-nil}
+use Rattle.std.proofs.lemmas.List.Folds.{list_any-append}
+use Rattle.std.proofs.lemmas.List.Sums.{sum_by-cons}
+use Rattle.re_syntax.specs.Bytes.{Text}
+use Rattle.re_syntax.specs.Expression.{Expression}
+use Rattle.grep_core.specs.declared.status.Status.{Status}
+use Rattle.grep_core.specs.declared.status.Status.TheVariants as status
+use Rattle.grep_core.specs.Choose.{IfHolds}
+use Rattle.grep_core.specs.Files.{File, Inputs, AreMeant}
+use Rattle.grep_core.proofs.lemmas.LawsHold.{means_one}
+use Rattle.grep_session.specs.declared.fault.EditFault.{EditFault}
+use Rattle.grep_session.specs.Edits.{Edit}
+use Rattle.grep_live.specs.declared.mark.Mark.{Mark}
+use Rattle.grep_live.specs.Hits.{Hit, View, AreHits}
+use Rattle.grep_live.specs.Marks.{Watched, new_watched}
+use Rattle.grep_live.specs.Changes.{Change, IsChange, is_idle, all_after}
+use Rattle.grep_live.specs.Following.{FollowsFile, Follows, view_after}
+use Rattle.grep_live.specs.Rows.{hit_row, change_row, change_rows, changes_rows, total_row, page_row, page_rows, all_hits}
+use Rattle.grep_live.specs.Writing.{all_known}
+use Rattle.grep_live.proofs.lemmas.ListLemmas.{three-length}
+use Rattle.grep_cmd.specs.Script.{Step, does, reports, reports_changes, reports_page, is_bad, is_truncated}
+use Rattle.grep_cmd.specs.Show.{AreShown, behind, status_line}
+use Rattle.grep_cmd.specs.Lists.{ReportsChanges}
+use Rattle.grep_cmd.specs.Replies.{RepliesTo, Replies, IsAnswered, cause, reply_to}
+use Rattle.grep_cmd.specs.Editor.{IsHeld, bytes_of, brought, has_status, EndsWithStatus, IsOneReply, ReadsChanges, ListsAfter, ListsAfterAll, EditorsFollow}
+use Rattle.grep_cmd.proofs.lemmas.ReadingLaws.{first_same, rest_same, cut_same, one_reading}
+use Rattle.grep_cmd.proofs.lemmas.HeldLaws.{IsWithin, within_wider, within_after, within_known, changes_held}
+
+-- ---- where a reply ends
+
+has_it : (s : Status) → has_status (status_line s) ≡ true
+has_it status.Selected = refl
+has_it status.NoneSelected = refl
+has_it status.Error = refl
+
+ends_with : (rows : List Text) (s : Status) (lines : List Text) → lines ≡ rows ++ status_line s ∷ [] → list_any has_status rows ≡ false → EndsWithStatus lines
+ends_with rows s lines e none = (rows, status_line s, e, none, has_it s)
+
+none_behind : (margin : Text) (lines : List Text) → ((line : Text) → has_status (margin ++ line) ≡ false) → list_any has_status (behind margin lines) ≡ false
+none_behind margin [] f = refl
+none_behind margin (line ∷ lines) f = ap (λ x. x || list_any has_status (behind margin lines)) (f line) ∙ none_behind margin lines f
+
+-- two lists of which no line has the status
+none_joined : (xs ys : List Text) → list_any has_status xs ≡ false → list_any has_status ys ≡ false → list_any has_status (xs ++ ys) ≡ false
+none_joined xs ys p q = list_any-append has_status xs ys ∙ ap (λ b. b || list_any has_status ys) p ∙ q
+
+shown_ends : (inputs : Inputs) (shown : List Text) → AreShown inputs shown → EndsWithStatus shown
+shown_ends inputs shown s =
+    let out = none_behind (codes "o ") s.out (λ line. refl) in
+    let told = none_behind (codes "e ") s.told (λ line. refl) in
+    ends_with (behind (codes "o ") s.out ++ behind (codes "e ") s.told) s.status shown
+    (s.is ∙ sym (append_assoc (behind (codes "o ") s.out) (behind (codes "e ") s.told) (status_line s.status ∷ [])))
+    (none_joined (behind (codes "o ") s.out) (behind (codes "e ") s.told) out told)
+
+none_hits : (hits : List Hit) → list_any has_status (map hit_row hits) ≡ false
+none_hits [] = refl
+none_hits (hit ∷ hits) = none_hits hits
+
+none_change : (k : ℕ) (change : Change) → list_any has_status (change_rows k change) ≡ false
+none_change k change = by_idle (is_idle change)
+  where
+    by_idle : (idle : _) → list_any has_status (if idle then [] else change_row k change ∷ map hit_row change.come) ≡ false
+    by_idle true = refl
+    by_idle false = none_hits change.come
+
+none_changes : (k : ℕ) (changes : List Change) → list_any has_status (changes_rows k changes) ≡ false
+none_changes k [] = refl
+none_changes k (change ∷ changes) = none_joined (change_rows k change) (changes_rows (k + 1) changes) (none_change k change) (none_changes (k + 1) changes)
+
+none_numbered : (hits : List (ℕ × Hit)) → list_any has_status (map page_row hits) ≡ false
+none_numbered [] = refl
+none_numbered ((k, hit) ∷ hits) = none_numbered hits
+
+-- the reply to a step is taken whole
+is_one_reply : (step : Step) (before after : Watched) (reply : List Text) → RepliesTo step before reply after → IsOneReply step reply
+is_one_reply (does edit) before after reply r = ap length r.2
+is_one_reply reports before after reply r = shown_ends before.inputs reply r.0
+is_one_reply reports_changes before after reply r = ends_with (changes_rows 0 r.changes) r.status reply r.is (none_changes 0 r.changes)
+is_one_reply (reports_page first count) before after reply (r, same) =
+    let all = all_hits 0 r.view in
+    ends_with (total_row (min (length all) (2 ^ 64 - 1)) ∷ page_rows first count all) r.status reply r.is (none_numbered (take count (drop first all)))
+is_one_reply is_bad before after reply r = ap length r.0
+is_one_reply is_truncated before after reply r = ap length r.0
+
+-- ---- one reply after another
+
+-- lines up to the status are taken in one way
+rows_cut : (xs ys : List Text) (x y : Text) (s t : List Text) → list_any has_status xs ≡ false → list_any has_status ys ≡ false → has_status x ≡ true → has_status y ≡ true → xs ++ (x ∷ s) ≡ ys ++ (y ∷ t) → (xs ++ x ∷ [] ≡ ys ++ y ∷ []) × (s ≡ t)
+rows_cut [] [] x y s t nx ny hx hy e = let first = first_same x y s t e in ((λ i. first i ∷ []), rest_same x y s t e)
+rows_cut [] (z ∷ ys) x y s t nx ny hx hy e =
+    let no = (or_parts (has_status z) (list_any has_status ys) ny).0 in
+    let first = first_same x z s (ys ++ (y ∷ t)) e in
+    absurd (apart (sym hx ∙ ap has_status first ∙ no))
+  where
+    apart : true ≡ false → ⊥
+    apart p = cc
+rows_cut (w ∷ xs) [] x y s t nx ny hx hy e =
+    let no = (or_parts (has_status w) (list_any has_status xs) nx).0 in
+    let first = first_same w y (xs ++ (x ∷ s)) t e in
+    absurd (apart (sym hy ∙ ap has_status (sym first) ∙ no))
+  where
+    apart : true ≡ false → ⊥
+    apart p = cc
+rows_cut (w ∷ xs) (z ∷ ys) x y s t nx ny hx hy e =
+    let first = first_same w z (xs ++ (x ∷ s)) (ys ++ (y ∷ t)) e in
+    let more = rows_cut xs ys x y s t (or_parts (has_status w) (list_any has_status xs) nx).1 (or_parts (has_status z) (list_any has_status ys) ny).1 hx hy (rest_same w z (xs ++ (x ∷ s)) (ys ++ (y ∷ t)) e) in
+    ((λ i. first i ∷ more.0 i), more.1)
+
+status_cut : (a b s t : List Text) → EndsWithStatus a → EndsWithStatus b → a ++ s ≡ b ++ t → (a ≡ b) × (s ≡ t)
+status_cut a b s t (xs, x, is_a, nx, hx) (ys, y, is_b, ny, hy) e =
+    let left : a ++ s ≡ xs ++ (x ∷ s) = ap (λ (l : List Text). l ++ s) is_a ∙ append_assoc xs (x ∷ []) s in
+    let right : b ++ t ≡ ys ++ (y ∷ t) = ap (λ (l : List Text). l ++ t) is_b ∙ append_assoc ys (y ∷ []) t in
+    let both = rows_cut xs ys x y s t nx ny hx hy (sym left ∙ e ∙ right) in
+    (is_a ∙ both.0 ∙ sym is_b, both.1)
+
+reply_cut : (step : Step) (a b s t : List Text) → IsOneReply step a → IsOneReply step b → a ++ s ≡ b ++ t → (a ≡ b) × (s ≡ t)
+reply_cut (does edit) a b s t p q e = cut_same a b s t (p ∙ sym q) e
+reply_cut reports a b s t p q e = status_cut a b s t p q e
+reply_cut reports_changes a b s t p q e = status_cut a b s t p q e
+reply_cut (reports_page first count) a b s t p q e = status_cut a b s t p q e
+reply_cut is_bad a b s t p q e = cut_same a b s t (p ∙ sym q) e
+reply_cut is_truncated a b s t p q e = cut_same a b s t (p ∙ sym q) e
+
+-- ---- the lists after one reply
+
+refused_is_not_ok : (fault : EditFault) → reply_to {T = Unit {0}} (Err fault) ∷ [] ≡ codes "ok" ∷ [] → ⊥
+refused_is_not_ok fault e =
+    let line = first_same (codes "refused " ++ cause fault) (codes "ok") [] [] e in
+    let byte : ◌≡◌ {A = ℕ} 114 111 = ap (λ (l : Text). get_or l 0 0) line in
+    omega (arith, byte)
+
+module _ (before after : Watched) (reply : List Text) (view new : View) where
+  edit_follows : (edit : Edit) (answer : Result (Unit {0}) EditFault) → IsAnswered edit before after answer → reply ≡ reply_to answer ∷ [] → Follows before view → IfHolds (reply ≡ codes "ok" ∷ []) (new ≡ view_after edit view) (new ≡ view) → Follows after new
+  edit_follows edit (Ok done) a e f (inl (ok, n)) = subst (Follows after) (sym n) (a.carries.follows view f)
+  edit_follows edit (Ok done) a e f (inr (other, n)) = absurd (other e)
+  edit_follows edit (Err fault) a e f (inl (ok, n)) = absurd (refused_is_not_ok fault (sym e ∙ ok))
+  edit_follows edit (Err fault) a e f (inr (other, n)) = subst (Follows after) (sym n) (a.carries.follows view f)
+
+  -- the lists are those that the reported changes make
+  read_as : (r : ReportsChanges before after reply) → Follows before view → ListsAfter reports_changes reply view new → all_after r.changes view ≡ new
+  read_as r f (changes, reads, n) =
+      let files = (three-length (IsChange r.es before.inputs.options) before.inputs.files before.marks r.changes r.are_changes).1 in
+      let lists = (three-length (FollowsFile before.inputs) before.inputs.files before.marks view f).1 in
+      let long : length changes ≡ length r.changes = reads.one_each ∙ sym lists ∙ files in
+      let held = subst (λ (n : ℕ). n < 2 ^ 64) (sym reads.one_each) reads.held.0 in
+      sym (n ∙ one_reading changes r.changes reads.status r.status view long held reads.held.1 (sym reads.is ∙ r.is))
+
+  still : after ≡ before → new ≡ view → Follows before view → Follows after new
+  still same n f = subst (λ (w : Watched). Follows w new) (sym same) (subst (Follows before) (sym n) f)
+
+  step_follows : (step : Step) → RepliesTo step before reply after → Follows before view → ListsAfter step reply view new → Follows after new
+  step_follows (does edit) r f l = edit_follows edit r.0 r.1 r.2 f l
+  step_follows reports r f l = still r.1 l f
+  step_follows reports_changes r f l = subst (Follows after) (read_as r f l) (r.follows view f)
+  step_follows (reports_page first count) r f l = still r.1 l f
+  step_follows is_bad r f l = still r.1 l f
+  step_follows is_truncated r f l = still r.1 l f
+
+  step_present : RepliesTo reports_changes before reply after → Follows before view → ListsAfter reports_changes reply view new → (es : List Expression) → AreMeant after.inputs.syntax after.inputs.options after.inputs.patterns es → AreHits es after.inputs.options after.inputs.files new
+  step_present r f l es meant =
+      let one = means_one before.inputs.syntax before.inputs.options before.inputs.patterns r.es es r.are_meant (subst (λ (w : Watched). AreMeant w.inputs.syntax w.inputs.options w.inputs.patterns es) r.leaves meant) in
+      let hits = subst (AreHits r.es before.inputs.options before.inputs.files) (read_as r f l) (r.catches_up view f) in
+      let here = subst (λ (ds : List Expression). AreHits ds before.inputs.options before.inputs.files new) one hits in
+      subst (λ (w : Watched). AreHits es w.inputs.options w.inputs.files new) (sym r.leaves) here
+
+-- ---- all replies
+
+-- the state and the lists after the first reply, and the replies to come
+record After (step : Step) (steps : List Step) (before end : Watched) (view new : View) : Type 0 where
+  after : Watched
+  view_then : View
+  reply : List Text
+  rest : List Text
+  replies_to : RepliesTo step before reply after
+  lists : ListsAfter step reply view view_then
+  replies : Replies steps after rest end
+  lists_all : ListsAfterAll steps rest view_then new
+
+first_step : (step : Step) (steps : List Step) (before end : Watched) (replies : List Text) (view new : View) → Replies (step ∷ steps) before replies end → ListsAfterAll (step ∷ steps) replies view new → After step steps before end view new
+first_step step steps before end replies view new (reply, between, rest, r, more, e) (taken, view_then, left, split, one, l, lists) =
+    let same = reply_cut step taken reply left rest one (is_one_reply step before between reply r) (sym split ∙ e) in
+    record {
+      after = between;
+      view_then = view_then;
+      reply = reply;
+      rest = rest;
+      replies_to = r;
+      lists = subst (λ (lines : List Text). ListsAfter step lines view view_then) same.0 l;
+      replies = more;
+      lists_all = subst (λ (lines : List Text). ListsAfterAll steps lines view_then new) same.1 lists;
+    }
+
+follow_from : (steps : List Step) (before end : Watched) (replies : List Text) (view new : View) → Follows before view → Replies steps before replies end → ListsAfterAll steps replies view new → Follows end new
+follow_from [] before end replies view new f r l = still before end replies view new r.1 l.1 f
+follow_from (step ∷ steps) before end replies view new f r l =
+    let a = first_step step steps before end replies view new r l in
+    follow_from steps a.after end a.rest a.view_then new (step_follows before a.after a.reply view a.view_then step a.replies_to f a.lists) a.replies a.lists_all
+
+present_from : (steps : List Step) (before end : Watched) (replies : List Text) (view new : View) → Follows before view → Replies (steps ++ reports_changes ∷ []) before replies end → ListsAfterAll (steps ++ reports_changes ∷ []) replies view new →
+    (es : List Expression) → AreMeant end.inputs.syntax end.inputs.options end.inputs.patterns es → AreHits es end.inputs.options end.inputs.files new
+present_from [] before end replies view new f r l es meant =
+    let a = first_step reports_changes [] before end replies view new r l in
+    let here = step_present before a.after a.reply view a.view_then a.replies_to f a.lists es (subst (λ (w : Watched). AreMeant w.inputs.syntax w.inputs.options w.inputs.patterns es) a.replies.1 meant) in
+    subst (λ (w : Watched). AreHits es w.inputs.options w.inputs.files new) (sym a.replies.1)
+    (subst (AreHits es a.after.inputs.options a.after.inputs.files) (sym a.lists_all.1) here)
+present_from (step ∷ steps) before end replies view new f r l es meant =
+    let a = first_step step (steps ++ reports_changes ∷ []) before end replies view new r l in
+    present_from steps a.after end a.rest a.view_then new (step_follows before a.after a.reply view a.view_then step a.replies_to f a.lists) a.replies a.lists_all es meant
+
+-- ---- an editor can take all replies
+
+within_step : (n : ℕ) (step : Step) (before after : Watched) (reply : List Text) → IsWithin n before → RepliesTo step before reply after → IsWithin (n + brought step) after
+within_step n (does edit) before after reply w r = within_after n edit before after r.0 w r.1.gives r.1.carries.marks
+within_step n reports before after reply w r = subst (IsWithin (n + 1)) (sym r.1) (within_wider n (n + 1) (omega arith) before w)
+within_step n reports_changes before after reply w r = subst (IsWithin (n + 1)) (sym r.leaves) (within_wider n (n + 1) (omega arith) (all_known before) (within_known n before w))
+within_step n (reports_page first count) before after reply w r = subst (IsWithin (n + 1)) (sym r.1) (within_wider n (n + 1) (omega arith) before w)
+within_step n is_bad before after reply w r = subst (IsWithin (n + 1)) (sym r.1) (within_wider n (n + 1) (omega arith) before w)
+within_step n is_truncated before after reply w r = subst (IsWithin (n + 1)) (sym r.1) (within_wider n (n + 1) (omega arith) before w)
+
+module _ (n : ℕ) (held : IsHeld n) (before after : Watched) (reply : List Text) (view : View) where
+  can_edit : (edit : Edit) (answer : Result (Unit {0}) EditFault) → reply ≡ reply_to answer ∷ [] → (new : View) × ListsAfter (does edit) reply view new
+  can_edit edit (Ok done) e = (view_after edit view, inl (e, refl))
+  can_edit edit (Err fault) e = (view, inr (λ ok. refused_is_not_ok fault (sym e ∙ ok), refl))
+
+  can_read : IsWithin n before → Follows before view → (r : ReportsChanges before after reply) → ReadsChanges reply view r.changes
+  can_read w f r =
+      let files = three-length (IsChange r.es before.inputs.options) before.inputs.files before.marks r.changes r.are_changes in
+      let lists = three-length (FollowsFile before.inputs) before.inputs.files before.marks view f in
+      let all = changes_held r.es before.inputs.options n held before.inputs.files before.marks r.changes w.files w.marks r.are_changes in
+      record {
+        status = r.status;
+        is = r.is;
+        one_each = sym files.1 ∙ lists.1;
+        held = (omega (arith, held, w.few, lists.0, lists.1), all);
+      }
+
+  can_step : (step : Step) → IsWithin n before → Follows before view → RepliesTo step before reply after → (new : View) × ListsAfter step reply view new
+  can_step (does edit) w f r = can_edit edit r.0 r.2
+  can_step reports w f r = (view, refl)
+  can_step reports_changes w f r = (all_after r.changes view, (r.changes, can_read w f r, refl))
+  can_step (reports_page first count) w f r = (view, refl)
+  can_step is_bad w f r = (view, refl)
+  can_step is_truncated w f r = (view, refl)
+
+can_from : (steps : List Step) (n : ℕ) (before end : Watched) (replies : List Text) (view : View) → IsHeld (n + sum_by brought steps) → IsWithin n before → Follows before view → Replies steps before replies end → (new : View) × ListsAfterAll steps replies view new
+can_from [] n before end replies view held w f r = (view, (r.0, refl))
+can_from (step ∷ steps) n before end replies view held w f (reply, between, rest, r, more, e) =
+    let total = sum_by-cons brought step steps in
+    let here = can_step n (omega (arith, held)) before between reply view step w f r in
+    let next = step_follows before between reply view here.0 step r f here.1 in
+    let later = can_from steps (n + brought step) between end rest here.0 (omega (arith, held, total)) (within_step n step before between reply w r) next more in
+    (later.0, (reply, here.0, rest, e, is_one_reply step before between reply r, here.1, later.1))
+
+new_within : IsWithin 0 new_watched
+new_within = record { few = omega arith; files = All-nil (λ (file : File). bytes_of file.lines ≤ 0); marks = All-nil (λ (mark : Mark). (mark.front ≤ 0) × (mark.known ≤ 0)) }
+
+pub editors_follow : EditorsFollow
+editors_follow = record {
+  can = (λ steps replies after few r. can_from steps 0 new_watched after replies [] (omega (arith, few)) new_within tt r);
+  follow = (λ steps replies after view r l. follow_from steps new_watched after replies [] view tt r l);
+  present = (λ steps replies after view r l. present_from steps new_watched after replies [] view tt r l);
+}

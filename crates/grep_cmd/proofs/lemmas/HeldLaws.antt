@@ -1,0 +1,288 @@
+-- Where the steps of a script bring few bytes, the numbers of all changes can be held.
+use Rattle.std.proofs.Common.{◌≡◌, ℕ, zero, suc, ◌+◌, ◌-◌, ◌<◌, ◌≤◌, Bool, true, false, List, [], ◌∷◌, ◌++◌, length, map, take, drop, get_or, All, MatchBool, Result, Ok, Err, refl, sym, ap, subst, inl, inr, arith, length-append, length-set, length-drop, length-take}
+use Rattle.std.specs.Prelude.{slice_set, slice_range}
+use Rattle.std.specs.List.{remove, splice, sum_by}
+use Rattle.std.proofs.lemmas.Bool.{cases_lt}
+use Rattle.std.proofs.lemmas.List.{take-take}
+use Rattle.std.proofs.lemmas.List.Elements.{All-nil, All-cons, All-head, All-tail, All-append, All-set, All-weaker, All-take, All-drop, All-map, All-get_or}
+use Rattle.std.proofs.lemmas.List.Sums.{sum_by-append, sum_by-cons, sum_by-take-drop, sum_by-take-le, get_or-le-sum_by}
+use Rattle.re_syntax.specs.Bytes.{Text}
+use Rattle.re_syntax.specs.Lines.{list_of}
+use Rattle.re_syntax.specs.Expression.{Expression}
+use Rattle.re_syntax.specs.Parts.{ArePartsFrom, AreParts}
+use Rattle.re_syntax.specs.declared.syntax.Syntax.{Syntax}
+use Rattle.grep_core.specs.declared.options.Flag.{Flag}
+use Rattle.grep_core.specs.declared.options.Flag.TheVariants.{Count, IgnoreCase, FilesWithMatches, LineNumber, OnlyMatching, Quiet, NoMessages, InvertMatch, LineRegexp}
+use Rattle.grep_core.specs.declared.options.Options.{Options}
+use Rattle.grep_core.specs.Choose.{IfHolds}
+use Rattle.grep_core.specs.Files.{File, Inputs}
+use Rattle.grep_core.specs.Run.{file_at}
+use Rattle.grep_session.specs.declared.fault.EditFault.{EditFault}
+use Rattle.grep_session.specs.declared.fault.EditFault.TheVariants.{NoSuchFile, FileIsMissing, OutOfRange, LineHasNewline, NoSuchPattern, Pattern, TooManyPatterns, Memory}
+use Rattle.grep_session.specs.Edits.{Edit, AddFile, AddMissing, DropFile, Splice, AddPatterns, DropPattern, SetFlag, SetSyntax, SetContext, Applies, EditGives, Reads, with_files, with_patterns, with_option, with_context, spliced, whole_file, missing_file}
+use Rattle.grep_session.specs.Listed.{ListedParts}
+use Rattle.grep_live.specs.declared.mark.Mark.{Mark}
+use Rattle.grep_live.specs.Lists.{AllThree}
+use Rattle.grep_live.specs.Hits.{Hit, HitOf, HitsFrom}
+use Rattle.grep_live.specs.Marks.{Watched, whole_mark, new_mark, mark_at, touched, lost, marks_by_flag, MarksAfter, MarksGiven}
+use Rattle.grep_live.specs.Changes.{Change, IsChange}
+use Rattle.grep_live.specs.Writing.{all_known}
+use Rattle.grep_cmd.specs.Script.{does}
+use Rattle.grep_cmd.specs.Editor.{IsHeld, IsHeldHit, IsHeldChange, bytes_of, brought}
+
+get_or_past : {A : Type 0} (xs : List A) (k : ℕ) (d : A) → length xs ≤ k → get_or xs k d ≡ d
+get_or_past [] k d past = refl
+get_or_past (x ∷ xs) zero d past = absurd (omega (arith, past))
+get_or_past (x ∷ xs) (suc k) d past = get_or_past xs k d (omega (arith, past))
+
+-- ---- what is within a number
+
+abbrev FileWithin : ℕ → File → Type 0
+FileWithin n file = bytes_of file.lines ≤ n
+
+abbrev MarkWithin : ℕ → Mark → Type 0
+MarkWithin n mark = (mark.front ≤ n) × (mark.known ≤ n)
+
+pub record IsWithin (n : ℕ) (state : Watched) : Type 0 where
+  pub few : length state.inputs.files ≤ n
+  pub files : All (FileWithin n) state.inputs.files
+  pub marks : All (MarkWithin n) state.marks
+
+module _ (n m : ℕ) (more : n ≤ m) where
+  files_wider : (files : List File) → All (FileWithin n) files → All (FileWithin m) files
+  files_wider files within = All-weaker (FileWithin n) (FileWithin m) (λ file few. omega (arith, more, few)) files within
+
+  marks_wider : (marks : List Mark) → All (MarkWithin n) marks → All (MarkWithin m) marks
+  marks_wider marks within = All-weaker (MarkWithin n) (MarkWithin m) (λ mark few. (omega (arith, more, few.0), omega (arith, more, few.1))) marks within
+
+  pub within_wider : (state : Watched) → IsWithin n state → IsWithin m state
+  within_wider state w = record { few = omega (arith, more, w.few); files = files_wider state.inputs.files w.files; marks = marks_wider state.marks w.marks }
+
+-- ---- the files after an edit
+
+same_inputs : (a b : Inputs) → ◌≡◌ {A = Result Inputs EditFault} (Ok a) (Ok b) → a ≡ b
+same_inputs a b e = cc
+
+not_refused : (a : Inputs) (f : EditFault) → ◌≡◌ {A = Result Inputs EditFault} (Ok a) (Err f) → ⊥
+not_refused a f e = cc
+
+-- an accepted edit that is refused where P does not hold, or where it does
+accepted_if : {P : Type 0} (a b : Inputs) (f : EditFault) → IfHolds P (◌≡◌ {A = Result Inputs EditFault} (Ok a) (Ok b)) (◌≡◌ {A = Result Inputs EditFault} (Ok a) (Err f)) → a ≡ b
+accepted_if a b f (inl (p, e)) = same_inputs a b e
+accepted_if a b f (inr (p, e)) = absurd (not_refused a f e)
+
+accepted_unless : {P Q : Type 0} (a : Inputs) (f : EditFault) → IfHolds P (◌≡◌ {A = Result Inputs EditFault} (Ok a) (Err f)) Q → (P → ⊥) × Q
+accepted_unless a f (inl (p, e)) = absurd (not_refused a f e)
+accepted_unless a f (inr (p, q)) = (p, q)
+
+accepted_read : (syntax : Syntax) (fold : Bool) (texts : List Text) (a b : Inputs) → Reads syntax fold texts b (Ok a) → a ≡ b
+accepted_read syntax fold texts a b (inl (readable, e)) = same_inputs a b e
+accepted_read syntax fold texts a b (inr (unreadable, (place, fault, first, e))) = absurd (not_refused a (Pattern place fault) e)
+
+abbrev FilesWithin : ℕ → List File → Type 0
+FilesWithin n files = (length files ≤ n) × All (FileWithin n) files
+
+-- a splice has at most the bytes of both
+splice_within : (lines come : List Text) (start end : ℕ) → start ≤ end → bytes_of (splice lines start end come) ≤ bytes_of lines + bytes_of come
+splice_within lines come start end order =
+    let count = λ (line : Text). length line + 1 in
+    let front : sum_by count (take start lines) ≤ sum_by count (take end lines) =
+    subst (λ (l : List Text). sum_by count l ≤ sum_by count (take end lines)) (take-take start end lines order) (sum_by-take-le count (take end lines) start) in
+    omega (arith, front, sum_by-take-drop count lines end, sum_by-append count (take start lines) (come ++ drop end lines), sum_by-append count come (drop end lines))
+
+module _ (n : ℕ) (old new : Inputs) (within : FilesWithin n old.files) where
+  files_added : (file : File) (b : ℕ) → bytes_of file.lines ≤ b → new ≡ with_files (old.files ++ file ∷ []) old → FilesWithin (n + (1 + b)) new.files
+  files_added file b few is =
+      let wide = files_wider n (n + (1 + b)) (omega arith) old.files within.1 in
+      let one = All-cons (FileWithin (n + (1 + b))) file [] (omega (arith, few)) (All-nil (FileWithin (n + (1 + b)))) in
+      subst (λ (i : Inputs). FilesWithin (n + (1 + b)) i.files) (sym is)
+      (omega (arith, within.0, length-append old.files (file ∷ [])), All-append (FileWithin (n + (1 + b))) old.files (file ∷ []) wide one)
+
+  files_same : new.files ≡ old.files → FilesWithin (n + 1) new.files
+  files_same is = subst (FilesWithin (n + 1)) (sym is) (omega (arith, within.0), files_wider n (n + 1) (omega arith) old.files within.1)
+
+  files_dropped : (k : ℕ) → new ≡ with_files (remove old.files k) old → FilesWithin (n + 1) new.files
+  files_dropped k is =
+      let wide = files_wider n (n + 1) (omega arith) old.files within.1 in
+      subst (λ (i : Inputs). FilesWithin (n + 1) i.files) (sym is) (
+        omega (arith, within.0, length-append (take k old.files) (drop (suc k) old.files), length-take k old.files, length-drop (suc k) old.files),
+        All-append (FileWithin (n + 1)) (take k old.files) (drop (suc k) old.files) (All-take (FileWithin (n + 1)) k old.files wide) (All-drop (FileWithin (n + 1)) (suc k) old.files wide),
+      )
+
+  file_within : (k : ℕ) → bytes_of (file_at old.files k).lines ≤ n
+  file_within k = elim (cases_lt k (length old.files)) [
+    | inl inside ↦ All-get_or (FileWithin n) old.files k (file_at [] k) inside within.1
+    | inr outside ↦ subst (λ (file : File). bytes_of file.lines ≤ n) (sym (get_or_past old.files k (file_at [] k) outside)) (omega arith)
+  ]
+
+  files_spliced : (k start count : ℕ) (come : List Text) → new ≡ with_files (spliced old.files k start count come) old → FilesWithin (n + (1 + bytes_of come)) new.files
+  files_spliced k start count come is =
+      let m = n + (1 + bytes_of come) in
+      let wide = files_wider n m (omega arith) old.files within.1 in
+      let file = record (file_at old.files k) { lines = splice (file_at old.files k).lines start (start + count) come } in
+      let few : bytes_of file.lines ≤ m = omega (arith, splice_within (file_at old.files k).lines come start (start + count) (omega arith), file_within k) in
+      subst (λ (i : Inputs). FilesWithin m i.files) (sym is) (omega (arith, within.0, length-set old.files k file), All-set (FileWithin m) old.files k file few wide)
+
+  files_after : (edit : Edit) → Applies edit old (Ok new) → FilesWithin (n + brought (does edit)) new.files
+  files_after (AddFile name lines) a = files_added (whole_file name lines) (bytes_of lines) (omega arith) (accepted_if new (with_files (old.files ++ whole_file name lines ∷ []) old) LineHasNewline a)
+  files_after (AddMissing name) a = files_added (missing_file name) 0 (omega arith) (same_inputs new (with_files (old.files ++ missing_file name ∷ []) old) a)
+  files_after (DropFile k) a = files_dropped k (accepted_if new (with_files (remove old.files k) old) NoSuchFile a)
+  files_after (Splice k start count lines) a =
+      let file = accepted_unless new NoSuchFile a in
+      let opened = accepted_unless new FileIsMissing file.1 in
+      let place = accepted_unless new OutOfRange opened.1 in
+      files_spliced k start count lines (accepted_if new (with_files (spliced old.files k start count lines) old) LineHasNewline place.1)
+  files_after (AddPatterns list) a =
+      let few = accepted_unless new TooManyPatterns a in
+      files_same (ap (λ (i : Inputs). i.files) (accepted_read old.syntax old.options.ignore_case (list_of list) new (with_patterns (old.patterns ++ list_of list) old) few.1))
+  files_after (DropPattern p) a = files_same (ap (λ (i : Inputs). i.files) (accepted_if new (with_patterns (remove old.patterns p) old) NoSuchPattern a))
+  files_after (SetFlag flag on) a =
+      files_same (ap (λ (i : Inputs). i.files) (accepted_read old.syntax (with_option flag on old.options).ignore_case old.patterns new (record old { options = with_option flag on old.options }) a))
+  files_after (SetSyntax syntax) a = files_same (ap (λ (i : Inputs). i.files) (accepted_read syntax old.options.ignore_case old.patterns new (record old { syntax = syntax }) a))
+  files_after (SetContext context) a = files_same (ap (λ (i : Inputs). i.files) (same_inputs new (with_context context old) a))
+
+-- ---- the marks after an edit
+
+module _ (n : ℕ) where
+  lost_within : (marks : List Mark) → All (MarkWithin n) marks → All (MarkWithin n) (map lost marks)
+  lost_within marks within = All-map (MarkWithin n) lost marks (All-weaker (MarkWithin n) (λ (mark : Mark). MarkWithin n (lost mark)) (λ mark few. (omega arith, few.1)) marks within)
+
+  flag_within : (flag : Flag) (marks : List Mark) → All (MarkWithin n) marks → All (MarkWithin n) (marks_by_flag flag marks)
+  flag_within Count marks within = within
+  flag_within IgnoreCase marks within = lost_within marks within
+  flag_within FilesWithMatches marks within = within
+  flag_within LineNumber marks within = within
+  flag_within OnlyMatching marks within = lost_within marks within
+  flag_within Quiet marks within = within
+  flag_within NoMessages marks within = within
+  flag_within InvertMatch marks within = lost_within marks within
+  flag_within LineRegexp marks within = lost_within marks within
+
+  mark_within : (marks : List Mark) (k : ℕ) → All (MarkWithin n) marks → MarkWithin n (mark_at marks k)
+  mark_within marks k within = elim (cases_lt k (length marks)) [
+    | inl inside ↦ All-get_or (MarkWithin n) marks k new_mark inside within
+    | inr outside ↦ subst (MarkWithin n) (sym (get_or_past marks k new_mark outside)) (omega arith, omega arith)
+  ]
+
+  marks_as : (a b : List Mark) → a ≡ b → All (MarkWithin n) b → All (MarkWithin n) a
+  marks_as a b e within = subst (All (MarkWithin n)) (sym e) within
+
+  added_within : (marks : List Mark) → All (MarkWithin n) marks → All (MarkWithin n) (marks ++ new_mark ∷ [])
+  added_within marks within = All-append (MarkWithin n) marks (new_mark ∷ []) within (All-cons (MarkWithin n) new_mark [] (omega arith, omega arith) (All-nil (MarkWithin n)))
+
+  marks_after : (edit : Edit) (old : Watched) (marks : List Mark) → All (MarkWithin n) old.marks → MarksAfter edit old marks → All (MarkWithin n) marks
+  marks_after (AddFile name lines) old marks within m = marks_as marks (old.marks ++ new_mark ∷ []) m (added_within old.marks within)
+  marks_after (AddMissing name) old marks within m = marks_as marks (old.marks ++ new_mark ∷ []) m (added_within old.marks within)
+  marks_after (DropFile k) old marks within m =
+      marks_as marks (remove old.marks k) m (All-append (MarkWithin n) (take k old.marks) (drop (suc k) old.marks) (All-take (MarkWithin n) k old.marks within) (All-drop (MarkWithin n) (suc k) old.marks within))
+  marks_after (Splice k start count lines) old marks within m =
+      let mark = mark_at old.marks k in
+      let few = mark_within old.marks k within in
+      let new = touched start (length (file_at old.inputs.files k).lines - (start + count)) mark in
+      marks_as marks (slice_set old.marks k new) m (All-set (MarkWithin n) old.marks k new (omega (arith, few.0), few.1) within)
+  marks_after (AddPatterns list) old marks within m = marks_as marks (map lost old.marks) m (lost_within old.marks within)
+  marks_after (DropPattern p) old marks within m = marks_as marks (map lost old.marks) m (lost_within old.marks within)
+  marks_after (SetFlag flag on) old marks within (inl (same, m)) = marks_as marks old.marks m within
+  marks_after (SetFlag flag on) old marks within (inr (other, m)) = marks_as marks (marks_by_flag flag old.marks) m (flag_within flag old.marks within)
+  marks_after (SetSyntax syntax) old marks within (inl (same, m)) = marks_as marks old.marks m within
+  marks_after (SetSyntax syntax) old marks within (inr (other, m)) = marks_as marks (map lost old.marks) m (lost_within old.marks within)
+  marks_after (SetContext context) old marks within m = marks_as marks old.marks m within
+
+-- ---- the state after an edit
+
+refused_same : (edit : Edit) (old new : Inputs) (fault : EditFault) → EditGives {T = Unit {0}} edit old new (Err fault) → new ≡ old
+refused_same edit old new NoSuchFile g = g.1
+refused_same edit old new FileIsMissing g = g.1
+refused_same edit old new OutOfRange g = g.1
+refused_same edit old new LineHasNewline g = g.1
+refused_same edit old new NoSuchPattern g = g.1
+refused_same edit old new (Pattern place fault) g = g.1
+refused_same edit old new TooManyPatterns g = g.1
+refused_same edit old new Memory g = g
+
+pub within_after : (n : ℕ) (edit : Edit) (old new : Watched) (answer : Result (Unit {0}) EditFault) → IsWithin n old → EditGives edit old.inputs new.inputs answer → MarksGiven edit old new.marks answer → IsWithin (n + brought (does edit)) new
+within_after n edit old new (Ok done) w g m =
+    let files = files_after n old.inputs new.inputs (w.few, w.files) edit g in
+    let marks = marks_after n edit old new.marks w.marks m in
+    record { few = files.0; files = files.1; marks = marks_wider n (n + brought (does edit)) (omega arith) new.marks marks }
+within_after n edit old new (Err fault) w g m =
+    let same : new ≡ old = λ i. record { inputs = refused_same edit old.inputs new.inputs fault g i; marks = m i } in
+    within_wider n (n + brought (does edit)) (omega arith) new (subst (IsWithin n) (sym same) w)
+
+-- ---- the numbers of a change
+
+each_line : (lines : List Text) → All (λ (line : Text). length line + 1 ≤ bytes_of lines) lines
+each_line lines = λ k d inside. get_or-le-sum_by (λ (line : Text). length line + 1) lines k d inside
+
+lines_few : (lines : List Text) → length lines ≤ bytes_of lines
+lines_few [] = omega arith
+lines_few (line ∷ lines) = omega (arith, lines_few lines, sum_by-cons (λ (l : Text). length l + 1) line lines)
+
+abbrev IsHeldPart : ℕ × ℕ → Type 0
+IsHeldPart part = IsHeld part.0 × IsHeld part.1
+
+parts_held : (es : List Expression) (line : Text) (whole : Bool) (from : ℕ) (parts : List (ℕ × ℕ)) → IsHeld (length line) → ArePartsFrom es line whole from parts → All IsHeldPart parts
+parts_held es line whole from [] held are = All-nil IsHeldPart
+parts_held es line whole from ((i, j) ∷ parts) held are =
+    let found = are.0.found in
+    let here : IsHeldPart (i, j) = (omega (arith, held, found.not_empty, found.on_line), omega (arith, held, found.on_line)) in
+    All-cons IsHeldPart (i, j) parts here (parts_held es line whole j parts held are.1)
+
+module _ (es : List Expression) (options : Options) (n : ℕ) (held : IsHeld n) where
+  listed_held : (line : Text) (parts : List (ℕ × ℕ)) → length line + 1 ≤ n → ListedParts es options line parts → All IsHeldPart parts
+  listed_held line parts few listed = by_flag options.only_matching listed
+    where
+      by_flag : (asked : Bool) → MatchBool asked (AreParts es line options.line_regexp parts) (parts ≡ []) → All IsHeldPart parts
+      by_flag true are = parts_held es line options.line_regexp 0 parts (omega (arith, held, few)) are
+      by_flag false none = subst (All IsHeldPart) (sym none) (All-nil IsHeldPart)
+
+  one_held : (place : ℕ) (line : Text) (hits : List Hit) → place < n → length line + 1 ≤ n → HitOf es options (place, line) hits → All IsHeldHit hits × (length hits ≤ 1)
+  one_held place line hits inside few (inl (selected, (parts, listed, is))) =
+      let hit : Hit = record { place = place; text = line; parts = parts } in
+      let here : IsHeldHit hit = record { place = omega (arith, held, inside); parts = listed_held line parts few listed } in
+      subst (λ (l : List Hit). All IsHeldHit l × (length l ≤ 1)) (sym is) (All-cons IsHeldHit hit [] here (All-nil IsHeldHit), omega arith)
+  one_held place line hits inside few (inr (passed, is)) = subst (λ (l : List Hit). All IsHeldHit l × (length l ≤ 1)) (sym is) (All-nil IsHeldHit, omega arith)
+
+  abbrev LineWithin : Text → Type 0
+  LineWithin line = length line + 1 ≤ n
+
+  hits_held : (first : ℕ) (lines : List Text) (hits : List Hit) → first + length lines ≤ n → All LineWithin lines → HitsFrom es options first lines hits → All IsHeldHit hits × (length hits ≤ length lines)
+  hits_held first [] hits inside few h = subst (λ (l : List Hit). All IsHeldHit l × (length l ≤ 0)) (sym h) (All-nil IsHeldHit, omega arith)
+  hits_held first (line ∷ lines) hits inside few (front, rest, one, more, joined) =
+      let here = one_held first line front (omega (arith, inside)) (All-head LineWithin line lines few) one in
+      let later = hits_held (first + 1) lines rest (omega (arith, inside)) (All-tail LineWithin line lines few) more in
+      subst (λ (l : List Hit). All IsHeldHit l × (length l ≤ suc (length lines))) (sym joined)
+      (All-append IsHeldHit front rest here.0 later.0, omega (arith, here.1, later.1, length-append front rest))
+
+  change_held : (file : File) (mark : Mark) (change : Change) → FileWithin n file → MarkWithin n mark → IsChange es options file mark change → IsHeldChange change
+  change_held file mark change few marked c =
+      let lines = file.lines in
+      let slice = slice_range lines change.front (change.front + change.added) in
+      let line_count = lines_few lines in
+      let long : length slice ≤ length lines - change.front = omega (arith, length-take (change.front + change.added - change.front) (drop change.front lines), length-drop change.front lines) in
+      let wide : All LineWithin lines = All-weaker (λ (line : Text). length line + 1 ≤ bytes_of lines) LineWithin (λ line b. omega (arith, b, few)) lines (each_line lines) in
+      let some : All LineWithin slice = All-take LineWithin (change.front + change.added - change.front) (drop change.front lines) (All-drop LineWithin change.front lines wide) in
+      let hits = hits_held change.front slice change.come (omega (arith, long, line_count, few, c.is_front, marked.0)) some c.are_hits in
+      record {
+        front = omega (arith, held, c.is_front, marked.0);
+        removed = omega (arith, held, c.is_removed, marked.1);
+        added = omega (arith, held, c.is_added, line_count, few);
+        count = omega (arith, held, hits.1, long, line_count, few);
+        hits = hits.0;
+      }
+
+  pub changes_held : (files : List File) (marks : List Mark) (changes : List Change) → All (FileWithin n) files → All (MarkWithin n) marks → AllThree (IsChange es options) files marks changes → All IsHeldChange changes
+  changes_held [] [] [] few marked c = All-nil IsHeldChange
+  changes_held [] [] (change ∷ changes) few marked c = absurd c
+  changes_held [] (mark ∷ marks) changes few marked c = absurd c
+  changes_held (file ∷ files) [] changes few marked c = absurd c
+  changes_held (file ∷ files) (mark ∷ marks) [] few marked c = absurd c
+  changes_held (file ∷ files) (mark ∷ marks) (change ∷ changes) few marked c =
+      let here = change_held file mark change (All-head (FileWithin n) file files few) (All-head (MarkWithin n) mark marks marked) c.0 in
+      All-cons IsHeldChange change changes here (changes_held files marks changes (All-tail (FileWithin n) file files few) (All-tail (MarkWithin n) mark marks marked) c.1)
+
+-- the state after the changes were reported
+pub within_known : (n : ℕ) (old : Watched) → IsWithin n old → IsWithin n (all_known old)
+within_known n old w =
+    let known = All-weaker (FileWithin n) (λ (file : File). MarkWithin n (whole_mark (length file.lines))) (λ file few. (omega (arith, lines_few file.lines, few), omega (arith, lines_few file.lines, few))) old.inputs.files w.files in
+    record { few = w.few; files = w.files; marks = All-map (MarkWithin n) (λ (file : File). whole_mark (length file.lines)) old.inputs.files known }
