@@ -6,5 +6,6 @@ pub mod ScriptRuns
 pub mod ShowLaws
 pub mod ListingLaws
 pub mod ReadingLaws
+pub mod BroughtLaws
 pub mod HeldLaws
 pub mod EditorLaws

@@ -6,8 +6,7 @@ use Rattle.re_syntax.specs.Bytes.{Text}
 use Rattle.re_syntax.specs.Expression.{Expression}
 use Rattle.grep_core.specs.declared.status.Status.{Status}
 use Rattle.grep_core.specs.Choose.{IfHolds}
-use Rattle.grep_core.specs.Files.{AreMeant}
-use Rattle.grep_session.specs.Edits.{AddFile, Splice}
+use Rattle.grep_core.specs.Files.{File, AreMeant}
 use Rattle.grep_live.specs.Hits.{Hit, View, AreHits}
 use Rattle.grep_live.specs.Marks.{Watched, new_watched}
 use Rattle.grep_live.specs.Changes.{Change, all_after}
@@ -16,7 +15,7 @@ use Rattle.grep_live.specs.Rows.{changes_rows}
 use Rattle.grep_cmd.specs.Script.{Step, does, reports, reports_changes, reports_page, is_bad}
 use Rattle.grep_cmd.specs.Script.{is_truncated}
 use Rattle.grep_cmd.specs.Show.{status_line}
-use Rattle.grep_cmd.specs.Replies.{Replies}
+use Rattle.grep_cmd.specs.Replies.{Replies, AnswersScript}
 
 -- ---- where a reply ends
 
@@ -45,10 +44,13 @@ IsOneReply is_truncated reply = length reply ≡ 1
 abbrev pub IsHeld : ℕ → Type 0
 IsHeld n = n < 2 ^ 64
 
+abbrev pub IsHeldPart : ℕ × ℕ → Type 0
+IsHeldPart part = IsHeld part.0 × IsHeld part.1
+
 -- the numbers of a hit can be held
 pub record IsHeldHit (hit : Hit) : Type 0 where
   pub place : IsHeld hit.place
-  pub parts : All (λ part. IsHeld part.0 × IsHeld part.1) hit.parts
+  pub parts : All IsHeldPart hit.parts
 
 -- the numbers of a change can be held
 pub record IsHeldChange (change : Change) : Type 0 where
@@ -91,25 +93,32 @@ ListsAfterAll (step ∷ steps) replies view new =
 abbrev pub bytes_of : List Text → ℕ
 bytes_of lines = sum_by (λ line. length line + 1) lines
 
--- one for a step, and the bytes of the lines that it puts into a file
-abbrev pub brought : Step → ℕ
-brought (does (AddFile name lines)) = 1 + bytes_of lines
-brought (does (Splice k start count lines)) = 1 + bytes_of lines
-brought _ = 1
+-- the lists are the present hits of each file
+pub record ArePresent (state : Watched) (view : View) : Type 0 where
+  pub es : List Expression
+  pub are_meant : AreMeant state.inputs.syntax state.inputs.options state.inputs.patterns es
+  pub are_hits : AreHits es state.inputs.options state.inputs.files view
 
--- an editor that begins with a new session and no list
+-- an editor began with a new session and no list, and took these replies to some steps
+pub record Took (steps : List Step) (replies : List Text) (state : Watched)
+    (view : View) : Type 0 where
+  pub are_replies : Replies steps new_watched replies state
+  pub lists : ListsAfterAll steps replies [] view
+
 pub record EditorsFollow : Type 0 where
-  -- it can take all replies, where the steps bring fewer than 2^64 bytes
-  pub can : (steps : List Step) (replies : List Text) (after : Watched) →
-      sum_by brought steps < 2 ^ 64 → Replies steps new_watched replies after →
-      (view : View) × ListsAfterAll steps replies [] view
-  -- its lists follow at all times
-  pub follow : (steps : List Step) (replies : List Text) (after : Watched) (view : View) →
-      Replies steps new_watched replies after → ListsAfterAll steps replies [] view →
-      Follows after view
-  -- after `changes` they are the present hits
-  pub present : (steps : List Step) (replies : List Text) (after : Watched) (view : View) →
-      Replies (steps ++ reports_changes ∷ []) new_watched replies after →
-      ListsAfterAll (steps ++ reports_changes ∷ []) replies [] view → (es : List Expression) →
-      AreMeant after.inputs.syntax after.inputs.options after.inputs.patterns es →
-      AreHits es after.inputs.options after.inputs.files view
+  -- an editor can take all replies to a script of fewer than 2^64 bytes
+  pub can : (script : File) (replies rest : List Text) → bytes_of script.lines < 2 ^ 64 →
+      (answers : AnswersScript script replies rest) →
+      (view : View) × Took answers.steps replies answers.after view
+  -- it takes the replies to the first steps first, so that what follows is said of each time in a
+  -- script
+  pub begin : (first later : List Step) (replies : List Text) (state : Watched) (view : View) →
+      Took (first ++ later) replies state view →
+      (front : List Text) × (rest : List Text) × (between : Watched) × (lists : View) ×
+      (replies ≡ front ++ rest) × Took first front between lists
+  -- its lists follow
+  pub follow : (steps : List Step) (replies : List Text) (state : Watched) (view : View) →
+      Took steps replies state view → Follows state view
+  -- after the reply to `changes` they are the present hits
+  pub present : (steps : List Step) (replies : List Text) (state : Watched) (view : View) →
+      Took (steps ++ reports_changes ∷ []) replies state view → ArePresent state view

@@ -7,12 +7,10 @@ use Rattle.std.proofs.lemmas.List.Elements.{All-nil}
 use Rattle.std.proofs.lemmas.List.Folds.{list_any-append}
 use Rattle.std.proofs.lemmas.List.Sums.{sum_by-cons}
 use Rattle.re_syntax.specs.Bytes.{Text}
-use Rattle.re_syntax.specs.Expression.{Expression}
 use Rattle.grep_core.specs.declared.status.Status.{Status}
 use Rattle.grep_core.specs.declared.status.Status.TheVariants as status
 use Rattle.grep_core.specs.Choose.{IfHolds}
-use Rattle.grep_core.specs.Files.{File, Inputs, AreMeant}
-use Rattle.grep_core.proofs.lemmas.LawsHold.{means_one}
+use Rattle.grep_core.specs.Files.{File, Inputs}
 use Rattle.grep_session.specs.declared.fault.EditFault.{EditFault}
 use Rattle.grep_session.specs.Edits.{Edit}
 use Rattle.grep_live.specs.declared.mark.Mark.{Mark}
@@ -26,9 +24,10 @@ use Rattle.grep_live.proofs.lemmas.ListLemmas.{three-length}
 use Rattle.grep_cmd.specs.Script.{Step, does, reports, reports_changes, reports_page, is_bad, is_truncated}
 use Rattle.grep_cmd.specs.Show.{AreShown, behind, status_line}
 use Rattle.grep_cmd.specs.Lists.{ReportsChanges}
-use Rattle.grep_cmd.specs.Replies.{RepliesTo, Replies, IsAnswered, cause, reply_to}
-use Rattle.grep_cmd.specs.Editor.{IsHeld, bytes_of, brought, has_status, EndsWithStatus, IsOneReply, ReadsChanges, ListsAfter, ListsAfterAll, EditorsFollow}
+use Rattle.grep_cmd.specs.Replies.{RepliesTo, Replies, IsAnswered, AnswersScript, cause, reply_to}
+use Rattle.grep_cmd.specs.Editor.{IsHeld, bytes_of, has_status, EndsWithStatus, IsOneReply, ReadsChanges, ListsAfter, ListsAfterAll, ArePresent, Took, EditorsFollow}
 use Rattle.grep_cmd.proofs.lemmas.ReadingLaws.{first_same, rest_same, cut_same, one_reading}
+use Rattle.grep_cmd.proofs.lemmas.BroughtLaws.{brought, steps_bring}
 use Rattle.grep_cmd.proofs.lemmas.HeldLaws.{IsWithin, within_wider, within_after, within_known, changes_held}
 
 -- ---- where a reply ends
@@ -161,27 +160,27 @@ module _ (before after : Watched) (reply : List Text) (view new : View) where
   step_follows is_bad r f l = still r.1 l f
   step_follows is_truncated r f l = still r.1 l f
 
-  step_present : RepliesTo reports_changes before reply after → Follows before view → ListsAfter reports_changes reply view new → (es : List Expression) → AreMeant after.inputs.syntax after.inputs.options after.inputs.patterns es → AreHits es after.inputs.options after.inputs.files new
-  step_present r f l es meant =
-      let one = means_one before.inputs.syntax before.inputs.options before.inputs.patterns r.es es r.are_meant (subst (λ (w : Watched). AreMeant w.inputs.syntax w.inputs.options w.inputs.patterns es) r.leaves meant) in
+  step_present : RepliesTo reports_changes before reply after → Follows before view → ListsAfter reports_changes reply view new → ArePresent after new
+  step_present r f l =
       let hits = subst (AreHits r.es before.inputs.options before.inputs.files) (read_as r f l) (r.catches_up view f) in
-      let here = subst (λ (ds : List Expression). AreHits ds before.inputs.options before.inputs.files new) one hits in
-      subst (λ (w : Watched). AreHits es w.inputs.options w.inputs.files new) (sym r.leaves) here
+      let known : ArePresent (all_known before) new = record { es = r.es; are_meant = r.are_meant; are_hits = hits } in
+      subst (λ (w : Watched). ArePresent w new) (sym r.leaves) known
 
 -- ---- all replies
 
 -- the state and the lists after the first reply, and the replies to come
-record After (step : Step) (steps : List Step) (before end : Watched) (view new : View) : Type 0 where
+record After (step : Step) (steps : List Step) (before end : Watched) (replies : List Text) (view new : View) : Type 0 where
   after : Watched
   view_then : View
   reply : List Text
   rest : List Text
+  joined : replies ≡ reply ++ rest
   replies_to : RepliesTo step before reply after
   lists : ListsAfter step reply view view_then
-  replies : Replies steps after rest end
+  are_replies : Replies steps after rest end
   lists_all : ListsAfterAll steps rest view_then new
 
-first_step : (step : Step) (steps : List Step) (before end : Watched) (replies : List Text) (view new : View) → Replies (step ∷ steps) before replies end → ListsAfterAll (step ∷ steps) replies view new → After step steps before end view new
+first_step : (step : Step) (steps : List Step) (before end : Watched) (replies : List Text) (view new : View) → Replies (step ∷ steps) before replies end → ListsAfterAll (step ∷ steps) replies view new → After step steps before end replies view new
 first_step step steps before end replies view new (reply, between, rest, r, more, e) (taken, view_then, left, split, one, l, lists) =
     let same = reply_cut step taken reply left rest one (is_one_reply step before between reply r) (sym split ∙ e) in
     record {
@@ -189,9 +188,10 @@ first_step step steps before end replies view new (reply, between, rest, r, more
       view_then = view_then;
       reply = reply;
       rest = rest;
+      joined = e;
       replies_to = r;
       lists = subst (λ (lines : List Text). ListsAfter step lines view view_then) same.0 l;
-      replies = more;
+      are_replies = more;
       lists_all = subst (λ (lines : List Text). ListsAfterAll steps lines view_then new) same.1 lists;
     }
 
@@ -199,18 +199,32 @@ follow_from : (steps : List Step) (before end : Watched) (replies : List Text) (
 follow_from [] before end replies view new f r l = still before end replies view new r.1 l.1 f
 follow_from (step ∷ steps) before end replies view new f r l =
     let a = first_step step steps before end replies view new r l in
-    follow_from steps a.after end a.rest a.view_then new (step_follows before a.after a.reply view a.view_then step a.replies_to f a.lists) a.replies a.lists_all
+    follow_from steps a.after end a.rest a.view_then new (step_follows before a.after a.reply view a.view_then step a.replies_to f a.lists) a.are_replies a.lists_all
 
-present_from : (steps : List Step) (before end : Watched) (replies : List Text) (view new : View) → Follows before view → Replies (steps ++ reports_changes ∷ []) before replies end → ListsAfterAll (steps ++ reports_changes ∷ []) replies view new →
-    (es : List Expression) → AreMeant end.inputs.syntax end.inputs.options end.inputs.patterns es → AreHits es end.inputs.options end.inputs.files new
-present_from [] before end replies view new f r l es meant =
+present_from : (steps : List Step) (before end : Watched) (replies : List Text) (view new : View) → Follows before view → Replies (steps ++ reports_changes ∷ []) before replies end → ListsAfterAll (steps ++ reports_changes ∷ []) replies view new → ArePresent end new
+present_from [] before end replies view new f r l =
     let a = first_step reports_changes [] before end replies view new r l in
-    let here = step_present before a.after a.reply view a.view_then a.replies_to f a.lists es (subst (λ (w : Watched). AreMeant w.inputs.syntax w.inputs.options w.inputs.patterns es) a.replies.1 meant) in
-    subst (λ (w : Watched). AreHits es w.inputs.options w.inputs.files new) (sym a.replies.1)
-    (subst (AreHits es a.after.inputs.options a.after.inputs.files) (sym a.lists_all.1) here)
-present_from (step ∷ steps) before end replies view new f r l es meant =
+    let here = step_present before a.after a.reply view a.view_then a.replies_to f a.lists in
+    subst (λ (w : Watched). ArePresent w new) (sym a.are_replies.1) (subst (ArePresent a.after) (sym a.lists_all.1) here)
+present_from (step ∷ steps) before end replies view new f r l =
     let a = first_step step (steps ++ reports_changes ∷ []) before end replies view new r l in
-    present_from steps a.after end a.rest a.view_then new (step_follows before a.after a.reply view a.view_then step a.replies_to f a.lists) a.replies a.lists_all es meant
+    present_from steps a.after end a.rest a.view_then new (step_follows before a.after a.reply view a.view_then step a.replies_to f a.lists) a.are_replies a.lists_all
+
+-- the first steps of some
+begin_from : (first later : List Step) (before end : Watched) (replies : List Text) (view new : View) → Replies (first ++ later) before replies end → ListsAfterAll (first ++ later) replies view new →
+    (front : List Text) × (rest : List Text) × (between : Watched) × (lists : View) × (replies ≡ front ++ rest) × Replies first before front between × ListsAfterAll first front view lists
+begin_from [] later before end replies view new r l = ([], replies, before, view, refl, (refl, refl), (refl, refl))
+begin_from (step ∷ first) later before end replies view new r l =
+    let a = first_step step (first ++ later) before end replies view new r l in
+    let (front, rest, between, lists, joined, are, made) = begin_from first later a.after end a.rest a.view_then new a.are_replies a.lists_all in (
+      a.reply ++ front,
+      rest,
+      between,
+      lists,
+      a.joined ∙ ap (λ (l : List Text). a.reply ++ l) joined ∙ sym (append_assoc a.reply front rest),
+      (a.reply, a.after, front, a.replies_to, are, refl),
+      (a.reply, a.view_then, front, refl, is_one_reply step before a.after a.reply a.replies_to, a.lists, made),
+    )
 
 -- ---- an editor can take all replies
 
@@ -259,9 +273,20 @@ can_from (step ∷ steps) n before end replies view held w f (reply, between, re
 new_within : IsWithin 0 new_watched
 new_within = record { few = omega arith; files = All-nil (λ (file : File). bytes_of file.lines ≤ 0); marks = All-nil (λ (mark : Mark). (mark.front ≤ 0) × (mark.known ≤ 0)) }
 
+can_take : (script : File) (replies rest : List Text) → bytes_of script.lines < 2 ^ 64 → (a : AnswersScript script replies rest) → (view : View) × Took a.steps replies a.after view
+can_take script replies rest few a =
+    let taken = can_from a.steps 0 new_watched a.after replies [] (omega (arith, few, steps_bring script.ending script.lines a.steps rest a.are_steps)) new_within tt a.are_replies in
+    (taken.0, record { are_replies = a.are_replies; lists = taken.1 })
+
+begin_of : (first later : List Step) (replies : List Text) (state : Watched) (view : View) → Took (first ++ later) replies state view → (front : List Text) × (rest : List Text) × (between : Watched) × (lists : View) × (replies ≡ front ++ rest) × Took first front between lists
+begin_of first later replies state view t =
+    let (front, rest, between, lists, joined, are, made) = begin_from first later new_watched state replies [] view t.are_replies t.lists in
+    (front, rest, between, lists, joined, record { are_replies = are; lists = made })
+
 pub editors_follow : EditorsFollow
 editors_follow = record {
-  can = (λ steps replies after few r. can_from steps 0 new_watched after replies [] (omega (arith, few)) new_within tt r);
-  follow = (λ steps replies after view r l. follow_from steps new_watched after replies [] view tt r l);
-  present = (λ steps replies after view r l. present_from steps new_watched after replies [] view tt r l);
+  can = can_take;
+  begin = begin_of;
+  follow = (λ steps replies state view t. follow_from steps new_watched state replies [] view tt t.are_replies t.lists);
+  present = (λ steps replies state view t. present_from steps new_watched state replies [] view tt t.are_replies t.lists);
 }

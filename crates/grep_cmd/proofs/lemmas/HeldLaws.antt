@@ -28,7 +28,8 @@ use Rattle.grep_live.specs.Marks.{Watched, whole_mark, new_mark, mark_at, touche
 use Rattle.grep_live.specs.Changes.{Change, IsChange}
 use Rattle.grep_live.specs.Writing.{all_known}
 use Rattle.grep_cmd.specs.Script.{does}
-use Rattle.grep_cmd.specs.Editor.{IsHeld, IsHeldHit, IsHeldChange, bytes_of, brought}
+use Rattle.grep_cmd.specs.Editor.{IsHeld, IsHeldPart, IsHeldHit, IsHeldChange, bytes_of}
+use Rattle.grep_cmd.proofs.lemmas.BroughtLaws.{brought}
 
 get_or_past : {A : Type 0} (xs : List A) (k : ℕ) (d : A) → length xs ≤ k → get_or xs k d ≡ d
 get_or_past [] k d past = refl
@@ -217,9 +218,6 @@ each_line lines = λ k d inside. get_or-le-sum_by (λ (line : Text). length line
 lines_few : (lines : List Text) → length lines ≤ bytes_of lines
 lines_few [] = omega arith
 lines_few (line ∷ lines) = omega (arith, lines_few lines, sum_by-cons (λ (l : Text). length l + 1) line lines)
-
-abbrev IsHeldPart : ℕ × ℕ → Type 0
-IsHeldPart part = IsHeld part.0 × IsHeld part.1
 
 parts_held : (es : List Expression) (line : Text) (whole : Bool) (from : ℕ) (parts : List (ℕ × ℕ)) → IsHeld (length line) → ArePartsFrom es line whole from parts → All IsHeldPart parts
 parts_held es line whole from [] held are = All-nil IsHeldPart

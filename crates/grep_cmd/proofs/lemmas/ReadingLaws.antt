@@ -11,7 +11,7 @@ use Rattle.grep_live.specs.Hits.{Hit, View}
 use Rattle.grep_live.specs.Changes.{Change, is_idle, spliced_hits, all_after}
 use Rattle.grep_live.specs.Rows.{spaced, part_text, more_parts, parts_text, hit_row, change_row, changes_rows}
 use Rattle.grep_cmd.specs.Show.{status_line}
-use Rattle.grep_cmd.specs.Editor.{IsHeld, IsHeldHit, IsHeldChange}
+use Rattle.grep_cmd.specs.Editor.{IsHeld, IsHeldPart, IsHeldHit, IsHeldChange}
 
 -- ---- lists
 
@@ -149,9 +149,6 @@ spaced_read (m ∷ ms) (n ∷ ns) s t l held ps pt e =
     ((λ i. here.0 i ∷ more.0 i), more.1)
 
 -- ---- parts
-
-abbrev IsHeldPart : ℕ × ℕ → Type 0
-IsHeldPart part = IsHeld part.0 × IsHeld part.1
 
 part_grouped : (part : ℕ × ℕ) (s : Text) → part_text part ++ s ≡ decimal part.0 ++ (45 ∷ (decimal part.1 ++ s))
 part_grouped part s = append_assoc (decimal part.0) (45 ∷ decimal part.1) s

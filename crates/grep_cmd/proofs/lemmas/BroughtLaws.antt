@@ -1,0 +1,195 @@
+-- The steps of a script bring no more bytes than its lines have.
+use Rattle.std.proofs.Common.{◌≡◌, ℕ, ◌+◌, ◌≤◌, Bool, true, false, List, [], ◌∷◌, ◌++◌, length, codes, bytes_eq, nat_eq, Option, Some, None, refl, sym, ap, subst, inl, inr, arith, if◌then◌else◌}
+use Rattle.std.specs.Prelude.{option_map}
+use Rattle.std.specs.List.{sum_by}
+use Rattle.std.proofs.lemmas.List.Sums.{sum_by-append, sum_by-cons}
+use Rattle.re_syntax.specs.Bytes.{Text}
+use Rattle.re_syntax.specs.Lines.{joined}
+use Rattle.grep_core.specs.declared.options.Flag.{Flag}
+use Rattle.grep_core.specs.Files.{Ending}
+use Rattle.grep_session.specs.Edits.{Edit, AddFile, AddMissing, DropFile, Splice, AddPatterns, DropPattern, SetFlag, SetSyntax, SetContext}
+use Rattle.grep_utility.specs.Words.{number_of}
+use Rattle.grep_cmd.specs.Script.{name_of, flag_of, switch_of, syntax_of, Command, edits, counts, shows, lists_changes, lists_page, file_from, file_command, missing_command, close_command, splice_from, splice_command, patterns_from, patterns_command, drop_command, flag_from, flag_command, syntax_command, context_from, context_command, show_command, changes_command, page_from, page_command, listing_command, unnamed_command, command_of, Step, does, reports, reports_changes, reports_page, is_bad, IsStep, IsUnfinished, Steps, words_of}
+use Rattle.grep_cmd.specs.Editor.{bytes_of}
+
+-- one for a step, and the bytes of the lines that it puts into a file
+abbrev pub brought : Step → ℕ
+brought (does (AddFile name lines)) = 1 + bytes_of lines
+brought (does (Splice k start count lines)) = 1 + bytes_of lines
+brought _ = 1
+
+-- a step brings no more than the lines that its command takes, and one
+abbrev Few : Option Command → Type 0
+Few command = (taken : List Text) (step : Step) → IsStep command taken step → brought step ≤ 1 + bytes_of taken
+
+few_as : (taken : List Text) (step other : Step) → step ≡ other → brought other ≤ 1 + bytes_of taken → brought step ≤ 1 + bytes_of taken
+few_as taken step other e few = subst (λ (s : Step). brought s ≤ 1 + bytes_of taken) (sym e) few
+
+-- ---- commands
+
+few_none : Few None
+few_none taken step is = few_as taken step is_bad is.1 (omega arith)
+
+few_edit : (edit : Edit) → brought (does edit) ≡ 1 → Few (Some (edits edit))
+few_edit edit one taken step is = few_as taken step (does edit) is.1 (omega (arith, one))
+
+few_counted : (count : ℕ) (edit : List Text → Edit) → ((taken : List Text) → brought (does (edit taken)) ≤ 1 + bytes_of taken) → Few (Some (counts count edit))
+few_counted count edit few taken step is = few_as taken step (does (edit taken)) is.1 (few taken)
+
+few_shows : Few (Some shows)
+few_shows taken step is = few_as taken step reports is.1 (omega arith)
+
+few_changes : Few (Some lists_changes)
+few_changes taken step is = few_as taken step reports_changes is.1 (omega arith)
+
+few_page : (first count : ℕ) → Few (Some (lists_page first count))
+few_page first count taken step is = few_as taken step (reports_page first count) is.1 (omega arith)
+
+few_if : (b : Bool) (x y : Option Command) → Few x → Few y → Few (if b then x else y)
+few_if true x y p q = p
+few_if false x y p q = q
+
+few_map : {A : Type 0} (edit : A → Edit) → ((x : A) → brought (does (edit x)) ≡ 1) → (found : Option A) → Few (option_map (λ x. edits (edit x)) found)
+few_map edit one None = few_none
+few_map edit one (Some x) = few_edit (edit x) (one x)
+
+few_file_from : (name : Option Text) (count : Option ℕ) → Few (file_from name count)
+few_file_from None count = few_none
+few_file_from (Some name) None = few_none
+few_file_from (Some name) (Some count) = few_counted count (AddFile name) (λ taken. omega arith)
+
+few_file : (given : List Text) → Few (file_command given)
+few_file [] = few_none
+few_file (name ∷ []) = few_none
+few_file (name ∷ count ∷ []) = few_file_from (name_of name) (number_of count)
+few_file (name ∷ count ∷ more ∷ rest) = few_none
+
+few_missing : (given : List Text) → Few (missing_command given)
+few_missing [] = few_none
+few_missing (name ∷ []) = few_map AddMissing (λ n. refl) (name_of name)
+few_missing (name ∷ more ∷ rest) = few_none
+
+few_close : (given : List Text) → Few (close_command given)
+few_close [] = few_none
+few_close (file ∷ []) = few_map DropFile (λ k. refl) (number_of file)
+few_close (file ∷ more ∷ rest) = few_none
+
+few_splice_from : (file start removed count : Option ℕ) → Few (splice_from file start removed count)
+few_splice_from None start removed count = few_none
+few_splice_from (Some k) None removed count = few_none
+few_splice_from (Some k) (Some s) None count = few_none
+few_splice_from (Some k) (Some s) (Some r) None = few_none
+few_splice_from (Some k) (Some s) (Some r) (Some count) = few_counted count (Splice k s r) (λ taken. omega arith)
+
+few_splice : (given : List Text) → Few (splice_command given)
+few_splice [] = few_none
+few_splice (a ∷ []) = few_none
+few_splice (a ∷ b ∷ []) = few_none
+few_splice (a ∷ b ∷ c ∷ []) = few_none
+few_splice (a ∷ b ∷ c ∷ d ∷ []) = few_splice_from (number_of a) (number_of b) (number_of c) (number_of d)
+few_splice (a ∷ b ∷ c ∷ d ∷ more ∷ rest) = few_none
+
+few_patterns_from : (count : Option ℕ) → Few (patterns_from count)
+few_patterns_from None = few_none
+few_patterns_from (Some count) = few_if (nat_eq count 0) None (Some (counts count (λ lines. AddPatterns (joined lines)))) few_none (few_counted count (λ lines. AddPatterns (joined lines)) (λ taken. omega arith))
+
+few_patterns : (given : List Text) → Few (patterns_command given)
+few_patterns [] = few_none
+few_patterns (count ∷ []) = few_patterns_from (number_of count)
+few_patterns (count ∷ more ∷ rest) = few_none
+
+few_drop : (given : List Text) → Few (drop_command given)
+few_drop [] = few_none
+few_drop (pattern ∷ []) = few_map DropPattern (λ p. refl) (number_of pattern)
+few_drop (pattern ∷ more ∷ rest) = few_none
+
+few_flag_from : (flag : Option Flag) (on : Option Bool) → Few (flag_from flag on)
+few_flag_from None on = few_none
+few_flag_from (Some flag) None = few_none
+few_flag_from (Some flag) (Some on) = few_edit (SetFlag flag on) refl
+
+few_flag : (given : List Text) → Few (flag_command given)
+few_flag [] = few_none
+few_flag (letter ∷ []) = few_none
+few_flag (letter ∷ switch ∷ []) = few_flag_from (flag_of letter) (switch_of switch)
+few_flag (letter ∷ switch ∷ more ∷ rest) = few_none
+
+few_syntax : (given : List Text) → Few (syntax_command given)
+few_syntax [] = few_none
+few_syntax (name ∷ []) = few_map SetSyntax (λ s. refl) (syntax_of name)
+few_syntax (name ∷ more ∷ rest) = few_none
+
+few_context_from : (before after : Option ℕ) → Few (context_from before after)
+few_context_from None after = few_none
+few_context_from (Some before) None = few_none
+few_context_from (Some before) (Some after) = few_edit (SetContext (Some (record { before = before; after = after }))) refl
+
+few_context : (given : List Text) → Few (context_command given)
+few_context [] = few_none
+few_context (word ∷ []) = few_if (bytes_eq word (codes "off")) (Some (edits (SetContext None))) None (few_edit (SetContext None) refl) few_none
+few_context (before ∷ after ∷ []) = few_context_from (number_of before) (number_of after)
+few_context (before ∷ after ∷ more ∷ rest) = few_none
+
+few_show : (given : List Text) → Few (show_command given)
+few_show [] = few_shows
+few_show (word ∷ rest) = few_none
+
+few_changes_command : (given : List Text) → Few (changes_command given)
+few_changes_command [] = few_changes
+few_changes_command (word ∷ rest) = few_none
+
+few_page_from : (first count : Option ℕ) → Few (page_from first count)
+few_page_from None count = few_none
+few_page_from (Some first) None = few_none
+few_page_from (Some first) (Some count) = few_page first count
+
+few_page_command : (given : List Text) → Few (page_command given)
+few_page_command [] = few_none
+few_page_command (first ∷ []) = few_none
+few_page_command (first ∷ count ∷ []) = few_page_from (number_of first) (number_of count)
+few_page_command (first ∷ count ∷ more ∷ rest) = few_none
+
+module _ (word : Text) (given : List Text) where
+  abbrev is_word : Text → Bool
+  is_word name = bytes_eq word name
+
+  few_listing : Few (listing_command word given)
+  few_listing =
+      few_if (is_word (codes "changes")) (changes_command given) _ (few_changes_command given)
+      (few_if (is_word (codes "page")) (page_command given) None (few_page_command given) few_none)
+
+  few_unnamed : Few (unnamed_command word given)
+  few_unnamed =
+      few_if (is_word (codes "show")) (show_command given) _ (few_show given)
+      (few_if (is_word (codes "splice")) (splice_command given) _ (few_splice given)
+      (few_if (is_word (codes "close")) (close_command given) _ (few_close given)
+      (few_if (is_word (codes "patterns")) (patterns_command given) _ (few_patterns given)
+      (few_if (is_word (codes "drop")) (drop_command given) _ (few_drop given)
+      (few_if (is_word (codes "flag")) (flag_command given) _ (few_flag given)
+      (few_if (is_word (codes "syntax")) (syntax_command given) _ (few_syntax given)
+      (few_if (is_word (codes "context")) (context_command given) (listing_command word given) (few_context given) few_listing)))))))
+
+few_command : (words : List Text) → Few (command_of words)
+unfolding command_of
+few_command [] = few_none
+few_command (word ∷ given) =
+    few_if (bytes_eq word (codes "file")) (file_command given) _ (few_file given)
+    (few_if (bytes_eq word (codes "missing")) (missing_command given) (unnamed_command word given) (few_missing given) (few_unnamed word given))
+
+-- ---- scripts
+
+pub steps_bring : (ending : Ending) (lines : List Text) (steps : List Step) (rest : List Text) → Steps ending lines steps rest → sum_by brought steps ≤ bytes_of lines
+steps_bring ending lines [] rest are = omega arith
+steps_bring ending lines (step ∷ steps) rest (inl (line, taken, more, e, is, later)) =
+    let count = λ (l : Text). length l + 1 in
+    let here = few_command (words_of line) taken step is in
+    let all = steps_bring ending more steps rest later in
+    omega (arith, here, all, ap (sum_by count) e, sum_by-cons count line (taken ++ more), sum_by-append count taken more, sum_by-cons brought step steps)
+steps_bring ending lines (step ∷ steps) rest (inr (whole, unfinished, is, none, left)) = last_step lines unfinished
+  where
+    last_step : (lines : List Text) → IsUnfinished lines → sum_by brought (step ∷ steps) ≤ bytes_of lines
+    last_step [] no_line = absurd no_line
+    last_step (line ∷ taken) wants =
+        let one : brought step ≡ 1 = ap brought is in
+        let over : sum_by brought steps ≡ 0 = ap (sum_by brought) none in
+        omega (arith, one, over, sum_by-cons brought step steps, sum_by-cons (λ (l : Text). length l + 1) line taken)
