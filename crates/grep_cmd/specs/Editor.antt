@@ -1,4 +1,4 @@
--- Editors: the lists that an editor makes by the replies alone, and that these are the present hits.
+-- Editors: the lists that an editor makes by the replies alone, and that they are the present hits.
 use Rattle.std.specs.Prelude.{◌≡◌, ℕ, ◌+◌, ◌<◌, ◌^◌, Bool, true, false, List, [], ◌∷◌, ◌++◌, length}
 use Rattle.std.specs.Prelude.{take, codes, bytes_eq}
 use Rattle.std.specs.List.{All, list_any, sum_by}
@@ -99,7 +99,8 @@ pub record ArePresent (state : Watched) (view : View) : Type 0 where
   pub are_meant : AreMeant state.inputs.syntax state.inputs.options state.inputs.patterns es
   pub are_hits : AreHits es state.inputs.options state.inputs.files view
 
--- an editor began with a new session and no list, and took these replies to some steps
+-- an editor began with a new session and no list, took these replies to some steps, and has these
+-- lists now
 pub record Took (steps : List Step) (replies : List Text) (state : Watched)
     (view : View) : Type 0 where
   pub are_replies : Replies steps new_watched replies state

@@ -1,5 +1,5 @@
 -- The replies to `changes` and `page`, with the status after them.
-use Rattle.std.proofs.Common.{◌≡◌, ℕ, List, [], ◌∷◌, ◌++◌, length, min, Option, Result, Ok, Err, IfOk, refl, sym, ap, subst, ◌∙◌, append-nil}
+use Rattle.std.proofs.Common.{◌≡◌, ℕ, [], ◌∷◌, ◌++◌, length, min, Option, Result, Ok, Err, IfOk, refl, sym, subst, append-nil}
 use Rattle.std.specs.Prelude.{◌-◌, ◌^◌}
 use Rattle.std.specs.Result.{IsErr}
 use Rattle.re_syntax.specs.Bytes.{Text}
