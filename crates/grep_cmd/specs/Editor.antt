@@ -70,8 +70,8 @@ pub record ReadsChanges (reply : List Text) (view : View) (changes : List Change
 -- ---- the lists
 
 -- the lists that an editor has after the reply to a step. At an accepted edit it drops and adds
--- lists; at the reply to `changes` it makes the changes that the rows say, however it reads them;
--- all else leaves its lists
+-- lists. At the reply to `changes` it makes the changes that it reads in the rows. All else leaves
+-- its lists
 abbrev pub ListsAfter : Step → List Text → View → View → Type 0
 ListsAfter (does edit) reply view new =
     IfHolds (reply ≡ codes "ok" ∷ []) (new ≡ view_after edit view) (new ≡ view)
@@ -111,6 +111,9 @@ pub record EditorsFollow : Type 0 where
   pub can : (script : File) (replies rest : List Text) → bytes_of script.lines < 2 ^ 64 →
       (answers : AnswersScript script replies rest) →
       (view : View) × Took answers.steps replies answers.after view
+  -- the replies alone decide its lists, however it reads them
+  pub one : (steps : List Step) (replies : List Text) (view a b : View) →
+      ListsAfterAll steps replies view a → ListsAfterAll steps replies view b → a ≡ b
   -- it takes the replies to the first steps first, so that what follows is said of each time in a
   -- script
   pub begin : (first later : List Step) (replies : List Text) (state : Watched) (view : View) →

@@ -1,5 +1,5 @@
 -- The lists that an editor makes by the replies alone follow, and are the present hits.
-use Rattle.std.proofs.Common.{◌≡◌, ℕ, ◌+◌, ◌<◌, ◌≤◌, ◌^◌, ◌||◌, min, true, false, List, [], ◌∷◌, ◌++◌, length, map, take, drop, get_or, codes, Result, Ok, Err, refl, sym, ap, subst, ◌∙◌, inl, inr, arith, append_assoc, if◌then◌else◌}
+use Rattle.std.proofs.Common.{◌≡◌, ℕ, ◌+◌, ◌<◌, ◌≤◌, ◌^◌, ◌||◌, min, true, false, true≢false, List, [], ◌∷◌, ◌++◌, length, map, take, drop, get_or, codes, Result, Ok, Err, refl, sym, ap, subst, ◌∙◌, inl, inr, arith, append_assoc, if◌then◌else◌}
 use Rattle.std.specs.Prelude.{◌-◌}
 use Rattle.std.specs.List.{list_any, sum_by}
 use Rattle.std.proofs.lemmas.Bool.{or_parts}
@@ -94,17 +94,11 @@ rows_cut [] [] x y s t nx ny hx hy e = let first = first_same x y s t e in ((λ 
 rows_cut [] (z ∷ ys) x y s t nx ny hx hy e =
     let no = (or_parts (has_status z) (list_any has_status ys) ny).0 in
     let first = first_same x z s (ys ++ (y ∷ t)) e in
-    absurd (apart (sym hx ∙ ap has_status first ∙ no))
-  where
-    apart : true ≡ false → ⊥
-    apart p = cc
+    absurd (true≢false (sym hx ∙ ap has_status first ∙ no))
 rows_cut (w ∷ xs) [] x y s t nx ny hx hy e =
     let no = (or_parts (has_status w) (list_any has_status xs) nx).0 in
     let first = first_same w y (xs ++ (x ∷ s)) t e in
-    absurd (apart (sym hy ∙ ap has_status (sym first) ∙ no))
-  where
-    apart : true ≡ false → ⊥
-    apart p = cc
+    absurd (true≢false (sym hy ∙ ap has_status (sym first) ∙ no))
 rows_cut (w ∷ xs) (z ∷ ys) x y s t nx ny hx hy e =
     let first = first_same w z (xs ++ (x ∷ s)) (ys ++ (y ∷ t)) e in
     let more = rows_cut xs ys x y s t (or_parts (has_status w) (list_any has_status xs) nx).1 (or_parts (has_status z) (list_any has_status ys) ny).1 hx hy (rest_same w z (xs ++ (x ∷ s)) (ys ++ (y ∷ t)) e) in
@@ -169,46 +163,46 @@ module _ (before after : Watched) (reply : List Text) (view new : View) where
 -- ---- all replies
 
 -- the state and the lists after the first reply, and the replies to come
-record After (step : Step) (steps : List Step) (before end : Watched) (replies : List Text) (view new : View) : Type 0 where
-  after : Watched
-  view_then : View
+record OneStep (step : Step) (steps : List Step) (before end : Watched) (replies : List Text) (view new : View) : Type 0 where
+  state : Watched
+  between : View
   reply : List Text
   rest : List Text
   joined : replies ≡ reply ++ rest
-  replies_to : RepliesTo step before reply after
-  lists : ListsAfter step reply view view_then
-  are_replies : Replies steps after rest end
-  lists_all : ListsAfterAll steps rest view_then new
+  replies_to : RepliesTo step before reply state
+  lists : ListsAfter step reply view between
+  are_replies : Replies steps state rest end
+  lists_all : ListsAfterAll steps rest between new
 
-first_step : (step : Step) (steps : List Step) (before end : Watched) (replies : List Text) (view new : View) → Replies (step ∷ steps) before replies end → ListsAfterAll (step ∷ steps) replies view new → After step steps before end replies view new
-first_step step steps before end replies view new (reply, between, rest, r, more, e) (taken, view_then, left, split, one, l, lists) =
-    let same = reply_cut step taken reply left rest one (is_one_reply step before between reply r) (sym split ∙ e) in
+first_step : (step : Step) (steps : List Step) (before end : Watched) (replies : List Text) (view new : View) → Replies (step ∷ steps) before replies end → ListsAfterAll (step ∷ steps) replies view new → OneStep step steps before end replies view new
+first_step step steps before end replies view new (reply, state, rest, r, more, e) (taken, between, left, split, one, l, lists) =
+    let same = reply_cut step taken reply left rest one (is_one_reply step before state reply r) (sym split ∙ e) in
     record {
-      after = between;
-      view_then = view_then;
+      state = state;
+      between = between;
       reply = reply;
       rest = rest;
       joined = e;
       replies_to = r;
-      lists = subst (λ (lines : List Text). ListsAfter step lines view view_then) same.0 l;
+      lists = subst (λ (lines : List Text). ListsAfter step lines view between) same.0 l;
       are_replies = more;
-      lists_all = subst (λ (lines : List Text). ListsAfterAll steps lines view_then new) same.1 lists;
+      lists_all = subst (λ (lines : List Text). ListsAfterAll steps lines between new) same.1 lists;
     }
 
 follow_from : (steps : List Step) (before end : Watched) (replies : List Text) (view new : View) → Follows before view → Replies steps before replies end → ListsAfterAll steps replies view new → Follows end new
 follow_from [] before end replies view new f r l = still before end replies view new r.1 l.1 f
 follow_from (step ∷ steps) before end replies view new f r l =
     let a = first_step step steps before end replies view new r l in
-    follow_from steps a.after end a.rest a.view_then new (step_follows before a.after a.reply view a.view_then step a.replies_to f a.lists) a.are_replies a.lists_all
+    follow_from steps a.state end a.rest a.between new (step_follows before a.state a.reply view a.between step a.replies_to f a.lists) a.are_replies a.lists_all
 
 present_from : (steps : List Step) (before end : Watched) (replies : List Text) (view new : View) → Follows before view → Replies (steps ++ reports_changes ∷ []) before replies end → ListsAfterAll (steps ++ reports_changes ∷ []) replies view new → ArePresent end new
 present_from [] before end replies view new f r l =
     let a = first_step reports_changes [] before end replies view new r l in
-    let here = step_present before a.after a.reply view a.view_then a.replies_to f a.lists in
-    subst (λ (w : Watched). ArePresent w new) (sym a.are_replies.1) (subst (ArePresent a.after) (sym a.lists_all.1) here)
+    let here = step_present before a.state a.reply view a.between a.replies_to f a.lists in
+    subst (λ (w : Watched). ArePresent w new) (sym a.are_replies.1) (subst (ArePresent a.state) (sym a.lists_all.1) here)
 present_from (step ∷ steps) before end replies view new f r l =
     let a = first_step step (steps ++ reports_changes ∷ []) before end replies view new r l in
-    present_from steps a.after end a.rest a.view_then new (step_follows before a.after a.reply view a.view_then step a.replies_to f a.lists) a.are_replies a.lists_all
+    present_from steps a.state end a.rest a.between new (step_follows before a.state a.reply view a.between step a.replies_to f a.lists) a.are_replies a.lists_all
 
 -- the first steps of some
 begin_from : (first later : List Step) (before end : Watched) (replies : List Text) (view new : View) → Replies (first ++ later) before replies end → ListsAfterAll (first ++ later) replies view new →
@@ -216,15 +210,38 @@ begin_from : (first later : List Step) (before end : Watched) (replies : List Te
 begin_from [] later before end replies view new r l = ([], replies, before, view, refl, (refl, refl), (refl, refl))
 begin_from (step ∷ first) later before end replies view new r l =
     let a = first_step step (first ++ later) before end replies view new r l in
-    let (front, rest, between, lists, joined, are, made) = begin_from first later a.after end a.rest a.view_then new a.are_replies a.lists_all in (
+    let (front, rest, between, lists, joined, are, made) = begin_from first later a.state end a.rest a.between new a.are_replies a.lists_all in (
       a.reply ++ front,
       rest,
       between,
       lists,
       a.joined ∙ ap (λ (l : List Text). a.reply ++ l) joined ∙ sym (append_assoc a.reply front rest),
-      (a.reply, a.after, front, a.replies_to, are, refl),
-      (a.reply, a.view_then, front, refl, is_one_reply step before a.after a.reply a.replies_to, a.lists, made),
+      (a.reply, a.state, front, a.replies_to, are, refl),
+      (a.reply, a.between, front, refl, is_one_reply step before a.state a.reply a.replies_to, a.lists, made),
     )
+
+-- ---- the replies decide the lists
+
+lists_one : (step : Step) (reply : List Text) (view a b : View) → ListsAfter step reply view a → ListsAfter step reply view b → a ≡ b
+lists_one (does edit) reply view a b (inl (ok, p)) (inl (same, q)) = p ∙ sym q
+lists_one (does edit) reply view a b (inl (ok, p)) (inr (other, q)) = absurd (other ok)
+lists_one (does edit) reply view a b (inr (other, p)) (inl (ok, q)) = absurd (other ok)
+lists_one (does edit) reply view a b (inr (other, p)) (inr (same, q)) = p ∙ sym q
+lists_one reports reply view a b p q = p ∙ sym q
+lists_one reports_changes reply view a b (xs, x, p) (ys, y, q) =
+    let held = subst IsHeld (sym x.one_each) x.held.0 in
+    p ∙ one_reading xs ys x.status y.status view (x.one_each ∙ sym y.one_each) held x.held.1 (sym x.is ∙ y.is) ∙ sym q
+lists_one (reports_page first count) reply view a b p q = p ∙ sym q
+lists_one is_bad reply view a b p q = p ∙ sym q
+lists_one is_truncated reply view a b p q = p ∙ sym q
+
+all_one : (steps : List Step) (replies : List Text) (view a b : View) → ListsAfterAll steps replies view a → ListsAfterAll steps replies view b → a ≡ b
+all_one [] replies view a b p q = p.1 ∙ sym q.1
+all_one (step ∷ steps) replies view a b (reply, between, rest, e, is_one, p, more) (other, lists, left, f, single, q, later) =
+    let same = reply_cut step reply other rest left is_one single (sym e ∙ f) in
+    let here = lists_one step other view between lists (subst (λ (r : List Text). ListsAfter step r view between) same.0 p) q in
+    let after_it = subst (λ (r : List Text). ListsAfterAll steps r between a) same.1 more in
+    all_one steps left lists a b (subst (λ (v : View). ListsAfterAll steps left v a) here after_it) later
 
 -- ---- an editor can take all replies
 
@@ -286,6 +303,7 @@ begin_of first later replies state view t =
 pub editors_follow : EditorsFollow
 editors_follow = record {
   can = can_take;
+  one = all_one;
   begin = begin_of;
   follow = (λ steps replies state view t. follow_from steps new_watched state replies [] view tt t.are_replies t.lists);
   present = (λ steps replies state view t. present_from steps new_watched state replies [] view tt t.are_replies t.lists);
