@@ -19,9 +19,11 @@ The script has a command on each line. The lines or patterns that a command coun
   context off                  shows no others
   syntax basic|extended|fixed  sets how patterns are read
   show                         asks what grep finds now
+  changes                      asks what changed of the lines found, since the last time
+  page FIRST COUNT             asks for COUNT of the lines found, from number FIRST on
 
-Each command is answered by 'ok' or 'refused CAUSE', and show by grep's output behind 'o ', its
-messages behind 'e ' and 'status N'.
+An edit is answered by 'ok' or 'refused CAUSE'; show by grep's output after 'o ', its messages after
+'e ' and 'status N'; changes and page by rows for an editor, and 'status N'.
 
 Exit status: 0; 1 if a command was refused; 2 after an error.
 See the manual page for more: man occur"
