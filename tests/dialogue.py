@@ -1,5 +1,6 @@
 """Dialogues: a program as a coprocess, which is sent one command after the other and has to give
-each whole reply before it is sent the next.
+each whole reply before it is sent the next. Replies that are known before are in steps; others are
+read by their form.
 """
 
 from __future__ import annotations
@@ -11,6 +12,7 @@ import threading
 import time
 from collections.abc import Sequence
 from dataclasses import dataclass
+from pathlib import Path
 
 from program import SECONDS, Answer, finish
 
@@ -78,3 +80,32 @@ def hold(process: subprocess.Popen[bytes], steps: Sequence[Step], last: bytes = 
     heard = exchange(process, steps, process.stdin.fileno())
     rest = finish(process, last)
     return Answer(heard + rest.out, rest.err, rest.status)
+
+
+ENDS = (b"ok", b"refused", b"status")
+"""How the last line of a reply begins, and no other line of it."""
+
+
+class Coprocess:
+    """A running occur, as an editor has it."""
+
+    def __init__(self, occur: Path) -> None:
+        pipes = {"stdin": subprocess.PIPE, "stdout": subprocess.PIPE}
+        self.process = subprocess.Popen([occur], **pipes)
+
+    def ask(self, command: bytes) -> list[bytes]:
+        """Sends a command with the lines that it counts, and answers the lines of the reply."""
+        self.process.stdin.write(command)
+        self.process.stdin.flush()
+        reply = []
+        while not reply or not reply[-1].startswith(ENDS):
+            line = self.process.stdout.readline()
+            if not line.endswith(b"\n"):
+                raise SystemExit(f"no whole reply to {command!r}: {reply}")
+            reply.append(line[:-1])
+        return reply
+
+    def close(self) -> None:
+        """Ends the script, and waits for the end of the program."""
+        self.process.stdin.close()
+        self.process.wait()

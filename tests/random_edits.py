@@ -22,6 +22,7 @@ from collections.abc import Callable
 from dataclasses import dataclass, field
 from pathlib import Path
 
+from dialogue import Coprocess
 from program import Answer
 
 LETTERS = "ciln" "oqsvx"
@@ -70,8 +71,15 @@ def counted(command: str, lines: list[bytes]) -> bytes:
     return b"\n".join([f"{command} {len(lines)}".encode(), *lines]) + b"\n"
 
 
+Kinds = dict[Callable[[], Edit], int]
+"""What makes edits, and how often each is chosen."""
+
+
 class Edits:
     """Random edits of a session."""
+
+    longest = 9
+    """Added files have fewer lines."""
 
     def __init__(self, dice: random.Random, session: Session) -> None:
         self.dice = dice
@@ -88,7 +96,7 @@ class Edits:
         return f"f{self.session.named}".encode()
 
     def file(self) -> Edit:
-        name, lines = self.name(), self.lines(9)
+        name, lines = self.name(), self.lines(self.longest)
         added = File(name, lines)
         return Edit(counted(f"file {name.decode()}", lines), lambda: self.session.files.append(added))
 
@@ -143,10 +151,10 @@ class Edits:
 
         return Edit(f"context {words}\n".encode(), choose)
 
-    def next(self) -> Edit:
-        """The next edit; of few files and patterns more come, of many more go."""
+    def kinds(self) -> Kinds:
+        """The kinds of edits; of few files and patterns more are added, of many more removed."""
         files, patterns = len(self.session.files), len(self.session.patterns)
-        kinds = {
+        return {
             self.file: 3 if files < 6 else 1,
             self.missing: 1 if files < 6 else 0,
             self.close: 1 if files < 6 else 4,
@@ -157,38 +165,20 @@ class Edits:
             self.choose_syntax: 1,
             self.choose_context: 2,
         }
+
+    def next(self) -> Edit:
+        """The next edit."""
+        kinds = self.kinds()
         return self.dice.choices(list(kinds), list(kinds.values()))[0]()
 
 
-class Occur:
-    """A running session that is edited."""
-
-    def __init__(self, program: Path) -> None:
-        pipes = {"stdin": subprocess.PIPE, "stdout": subprocess.PIPE}
-        self.process = subprocess.Popen([program], **pipes)
-
-    def ask(self, text: bytes) -> bytes:
-        """Sends a command, and answers the first line of its reply."""
-        self.process.stdin.write(text)
-        self.process.stdin.flush()
-        return self.process.stdout.readline()
-
-    def show(self) -> Answer:
-        """What the session shows."""
-        out, err, line = b"", b"", self.ask(b"show\n")
-        while not line.startswith(b"status "):
-            if line[:2] == b"o ":
-                out += line[2:]
-            elif line[:2] == b"e ":
-                err += line[2:]
-            else:
-                raise SystemExit(f"no line of a report: {line!r}")
-            line = self.process.stdout.readline()
-        return Answer(out, err, int(line.split()[1]))
-
-    def close(self) -> None:
-        self.process.stdin.close()
-        self.process.wait()
+def report(running: Coprocess) -> Answer:
+    """What the session shows."""
+    *lines, status = running.ask(b"show\n")
+    if unknown := [line for line in lines if line[:2] not in (b"o ", b"e ")]:
+        raise SystemExit(f"no lines of a report: {unknown}")
+    out, err = (b"".join(line[2:] + b"\n" for line in lines if line[:2] == form) for form in (b"o ", b"e "))
+    return Answer(out, err, int(status.split()[1]))
 
 
 def searched(grep: Path, folder: Path, session: Session) -> Answer:
@@ -214,14 +204,14 @@ def play(grep: Path, occur: Path, dice: random.Random, edits: int) -> tuple[int,
     """Edits a session, and compares what it shows now and then. Answers how many comparisons were
     made, and how many of them differ."""
     session, made, differing = Session(), 0, 0
-    choice, running = Edits(dice, session), Occur(occur)
+    choice, running = Edits(dice, session), Coprocess(occur)
     with tempfile.TemporaryDirectory(prefix="grep-random-") as folder:
         for number in range(edits):
             edit = choice.next()
-            if running.ask(edit.text) == b"ok\n":
+            if running.ask(edit.text) == [b"ok"]:
                 edit.done()
             if session.files and (dice.random() < 0.2 or number + 1 == edits):
-                shown, wanted = running.show(), searched(grep, Path(folder), session)
+                shown, wanted = report(running), searched(grep, Path(folder), session)
                 made += 1
                 if shown != wanted:
                     differing += 1
