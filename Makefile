@@ -5,6 +5,7 @@
 # make test       the gate, and then the programs built anew and run on the cases of tests/
 # make test-program  runs the built programs on the cases of tests/ (needs Python 3.11)
 # make test-random  compares the built occur with the built grep on 100,000 random edits
+# make test-changes  compares an editor's lists, kept by `changes`, with what the built occur shows, on 100,000 edits
 # make test-memory  runs the programs, matchers and sessions with each of their allocations refused in turn (needs a C
 #                 compiler and Python 3.11)
 # make test-editor  tests the Emacs client on the built programs (needs Emacs 28)
@@ -21,7 +22,8 @@ SITE_LISP =
 FORCE =
 EMACS = emacs
 
-.PHONY: all programs gate audit test test-program test-random test-memory test-editor evidence dist install clean
+.PHONY: all programs gate audit test test-program test-random test-changes test-memory test-editor evidence dist install \
+    clean
 
 all: programs
 
@@ -55,6 +57,9 @@ test-program: build/grep build/occur
 
 test-random: build/grep build/occur
 	tools/evidence.sh test-random python3 tests/random_edits.py build/grep build/occur
+
+test-changes: build/occur
+	tools/evidence.sh test-changes python3 tests/random_changes.py build/occur
 
 test-memory: build/grep build/occur
 	tools/evidence.sh test-memory-grep tools/refuse_allocations.sh
