@@ -15,3 +15,5 @@ mod sessions;
 mod trees;
 #[cfg(test)]
 mod utility;
+#[cfg(test)]
+mod watched;
