@@ -193,8 +193,8 @@ def heads_after(edit: bytes, files: int) -> list[bytes] | None:
 # Comparisons
 
 
-class Comparison:
-    """A session and the lists of its editor, and what differs between them."""
+class Watched:
+    """A session that an editor watches, and what differs between it and the editor's lists."""
 
     def __init__(self, occur: Path, dice: random.Random, longest: int) -> None:
         self.dice = dice
@@ -243,9 +243,10 @@ class Comparison:
     def compare(self) -> None:
         """Asks for the changes, and compares the lists with all that the session says then."""
         early = self.place()
-        page = self.ask_page(*early)
+        page = self.ask_page(*early) if self.dice.random() < 0.5 else None
         status = self.ask_changes()
-        self.expect("the page before `changes`", page, [*self.editor.page(*early), status])
+        if page is not None:
+            self.expect(f"page {early}, before", page, [*self.editor.page(*early), status])
         self.expect("all hits", self.ask_page(0, ALL), [*self.editor.page(0, ALL), status])
         late = self.place()
         self.expect(f"page {late}", self.ask_page(*late), [*self.editor.page(*late), status])
@@ -258,18 +259,18 @@ class Comparison:
 def play(occur: Path, dice: random.Random, edits: int, longest: int) -> tuple[int, int]:
     """Edits a session, and compares now and then what its editor lists. Answers how many
     comparisons were made, and how many of them differ."""
-    game, made, differing = Comparison(occur, dice, longest), 0, 0
+    watched, made, differing = Watched(occur, dice, longest), 0, 0
     often = 0.25 if longest == SHORT else 0.06
     for number in range(edits):
-        game.edit()
+        watched.edit()
         if dice.random() < often or number + 1 == edits:
-            game.compare()
+            watched.compare()
             made += 1
-        if game.faults:
+        if watched.faults:
             differing += 1
-            print(f"differs after edit {number}:", *game.faults, f"  {game.session!r:.2000}", sep="\n")
-            game.faults.clear()
-    game.running.close()
+            print(f"differs after edit {number}:", *watched.faults, f"  {watched.session!r:.2000}", sep="\n")
+            watched.faults.clear()
+    watched.running.close()
     return made, differing
 
 
