@@ -8,7 +8,8 @@ and nothing else. After random edits it asks for the changes, and then its lists
 of a page of all, and those of which the session shows the lines; a second `changes` has to say
 nothing, and a page the hits of its place in the lists, also one that was asked for before. After a
 single edit no other lines may be reported than it touched. Some runs have files of thousands of
-lines. That a session shows what grep writes is compared by random_edits.py.
+lines. Before them programs that are wrong on purpose are compared in the same way: each has to
+differ. That a session shows what grep writes is compared by random_edits.py.
 
 The last line is `N edits, M comparisons, F differ`, and the exit status is 0 only where none differ.
 """
@@ -18,7 +19,7 @@ from __future__ import annotations
 import argparse
 import random
 import sys
-from collections.abc import Iterator
+from collections.abc import Callable, Iterator
 from itertools import islice
 from pathlib import Path
 from typing import NamedTuple
@@ -81,7 +82,7 @@ def numbers_of(head: bytes) -> list[int]:
     """The five numbers of an `h` line."""
     word, *numbers = head.split(b" ")
     if word != b"h" or len(numbers) != 5:
-        raise SystemExit(f"no line of changes: {head!r}")
+        raise ValueError(f"no line of changes: {head!r}")
     return [int(number) for number in numbers]
 
 
@@ -89,7 +90,7 @@ def hit_of(row: bytes) -> Hit:
     """The hit of an `r` line."""
     word, place, parts, text = row.split(b" ", 3)
     if word != b"r":
-        raise SystemExit(f"no hit: {row!r}")
+        raise ValueError(f"no hit: {row!r}")
     return Hit(int(place), parts, text)
 
 
@@ -196,10 +197,10 @@ def heads_after(edit: bytes, files: int) -> list[bytes] | None:
 class Watched:
     """A session that an editor watches, and what differs between it and the editor's lists."""
 
-    def __init__(self, occur: Path, dice: random.Random, longest: int) -> None:
+    def __init__(self, running: Coprocess, dice: random.Random, longest: int) -> None:
         self.dice = dice
         self.session, self.editor = Session(), Editor()
-        self.choice, self.running = Typing(dice, self.session, longest), Coprocess(occur)
+        self.choice, self.running = Typing(dice, self.session, longest), running
         self.since: list[bytes] = []
         self.faults: list[str] = []
 
@@ -256,22 +257,108 @@ class Watched:
         self.expect("the status of what is shown", last, status)
 
 
-def play(occur: Path, dice: random.Random, edits: int, longest: int) -> tuple[int, int]:
+def play(running: Coprocess, dice: random.Random, edits: int, longest: int) -> tuple[int, list[str]]:
     """Edits a session, and compares now and then what its editor lists. Answers how many
-    comparisons were made, and how many of them differ."""
-    watched, made, differing = Watched(occur, dice, longest), 0, 0
+    comparisons were made, and what differs."""
+    watched, made, differing = Watched(running, dice, longest), 0, []
     often = 0.25 if longest == SHORT else 0.06
     for number in range(edits):
         watched.edit()
         if dice.random() < often or number + 1 == edits:
-            watched.compare()
             made += 1
+            try:
+                watched.compare()
+            except (IndexError, ValueError) as fault:
+                watched.faults.append(f"a reply that the editor can't read: {fault!r}")
         if watched.faults:
-            differing += 1
-            print(f"differs after edit {number}:", *watched.faults, f"  {watched.session!r:.2000}", sep="\n")
+            faults = [f"differs after edit {number}:", *watched.faults, f"  {watched.session!r:.2000}"]
+            differing.append("\n".join(faults))
             watched.faults.clear()
-    watched.running.close()
+    running.close()
     return made, differing
+
+
+# Programs that are wrong on purpose
+
+Spoil = Callable[[bytes, list[bytes]], list[bytes]]
+"""Makes a wrong reply of a command and its right one."""
+
+
+class Wrong(Coprocess):
+    """A program whose replies are spoiled."""
+
+    def __init__(self, occur: Path, spoil: Spoil) -> None:
+        super().__init__(occur)
+        self.spoil = spoil
+
+    def ask(self, command: bytes) -> list[bytes]:
+        return self.spoil(command, super().ask(command))
+
+
+def with_number(place: int, change: Callable[[int], int]) -> Spoil:
+    """One of the numbers of each `h` line is another one."""
+
+    def spoiled(row: bytes) -> bytes:
+        words = row.split(b" ")
+        words[place] = b"%d" % change(int(words[place]))
+        return b" ".join(words)
+
+    return lambda command, reply: [spoiled(row) if row.startswith(b"h ") else row for row in reply]
+
+
+def lacks_parts(command: bytes, reply: list[bytes]) -> list[bytes]:
+    """What changed has no parts."""
+    rows = [row.split(b" ", 3) if row.startswith(b"r ") else [row] for row in reply]
+    return [b" ".join([*row[:2], b"-", row[3]]) if len(row) == 4 else row[0] for row in rows]
+
+
+def lacks_a_row(command: bytes, reply: list[bytes]) -> list[bytes]:
+    """A page lacks its first hit."""
+    return reply[:1] + reply[2:] if command.startswith(b"page ") and len(reply) > 2 else reply
+
+
+def says_nothing(command: bytes, reply: list[bytes]) -> list[bytes]:
+    """Nothing changes."""
+    return reply[-1:] if command == b"changes\n" else reply
+
+
+def repeating() -> Spoil:
+    """What changed is said again where nothing changed since."""
+    last: list[bytes] = []
+
+    def spoil(command: bytes, reply: list[bytes]) -> list[bytes]:
+        nonlocal last
+        if command != b"changes\n":
+            return reply
+        last = reply if len(reply) > 1 else last[:-1] + reply
+        return last
+
+    return spoil
+
+
+def with_pages_reported() -> Spoil:
+    """What was on a page counts as reported."""
+    was_page = False
+
+    def spoil(command: bytes, reply: list[bytes]) -> list[bytes]:
+        nonlocal was_page
+        paged, was_page = was_page, command.startswith(b"page ")
+        return reply[-1:] if paged and command == b"changes\n" else reply
+
+    return spoil
+
+
+def mutants() -> list[Spoil]:
+    """All of them."""
+    numbers = [with_number(2, lambda front: front + 1), with_number(3, lambda removed: 0),
+               with_number(4, lambda added: added + 1)]
+    return [*numbers, lacks_parts, lacks_a_row, says_nothing, repeating(), with_pages_reported()]
+
+
+def is_found(occur: Path, spoil: Spoil) -> bool:
+    """Whether a wrong program differs, in as many edits as show it."""
+    dice = random.Random(0)
+    return any(play(Wrong(occur, spoil), dice, 500, SHORT)[1] for _ in range(10))
 
 
 def main() -> int:
@@ -280,13 +367,17 @@ def main() -> int:
     words.add_argument("--edits", type=int, default=100_000)
     words.add_argument("--seed", type=int, default=1)
     given = words.parse_args()
+    occur = given.occur.resolve()
+    missed = sum(not is_found(occur, spoil) for spoil in mutants())
     dice, left, turn, made, differing = random.Random(given.seed), given.edits, 0, 0, 0
     while left > 0:
         some, turn = min(left, 2_000), turn + 1
-        more, wrong = play(given.occur.resolve(), dice, some, LONG if turn % 20 == 2 else SHORT)
-        left, made, differing = left - some, made + more, differing + wrong
+        more, faults = play(Coprocess(occur), dice, some, LONG if turn % 20 == 2 else SHORT)
+        left, made, differing = left - some, made + more, differing + len(faults)
+        print(*faults, sep="\n", end="\n" if faults else "")
+    print(f"{len(mutants()) - missed} of {len(mutants())} programs that are wrong on purpose differ")
     print(f"{given.edits} edits, {made} comparisons, {differing} differ")
-    return 1 if differing else 0
+    return 1 if differing or missed else 0
 
 
 if __name__ == "__main__":
