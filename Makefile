@@ -1,7 +1,8 @@
 # make            proves what the programs need, builds them into build/ and tries each of them, on all cores
 #                 (four at most, or RT_JOBS)
 # make gate       proofs from nothing, edits that must fail, tests, the programs' stored runs
-# make audit      the wrong bodies that the gate leaves out, each of which has to be refused; before a release
+# make audit      the wrong bodies that the gate leaves out, each of which has to be refused; before a release. What
+#                 the programs need is proved first, if it isn't
 # make test       the gate, and then the programs built anew and run on the cases of tests/
 # make test-program  runs the built programs on the cases of tests/ (needs Python 3.11)
 # make test-random  compares the built occur with the built grep on 100,000 random edits
@@ -45,7 +46,7 @@ gate:
 	$(LANES) tools/evidence.sh gate rt ci
 
 # Names of crates in CRATES audit these alone.
-audit:
+audit: programs
 	$(LANES) tools/evidence.sh audit tools/audit.sh $(CRATES)
 
 test: gate

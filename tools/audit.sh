@@ -1,30 +1,36 @@
 #!/usr/bin/env bash
 # Tries the wrong bodies that the gate leaves out, crates/*/audit/*.edit: the prover has to refuse each. With names of
-# crates it tries those of these crates alone. rt reads such edits in must-fail alone, so it is run on a copy of the
-# files as they stand, in which they take the place of the gate's own.
-# Ends with status 0 only where each was refused. A check that stopped at a limit of the prover shows nothing of its
+# crates it tries those of these crates alone. rt reads such edits in must-fail alone, and one run of it tries one edit
+# after the other. So each crate has a copy of the files as they stand, in which its audit takes the place of the gate's
+# own edits, and RT_JOBS crates are tried at once. Libraries that are proved in this checkout are not proved again.
+# Ends with status 0 only where each edit was refused. A check that stopped at a limit of the prover shows nothing of its
 # edit, so rt's word "refused" counts for nothing there.
 set -euo pipefail
 shopt -s nullglob
 cd "$(dirname "${BASH_SOURCE[0]}")/.."
-copy=$(mktemp -d)
-trap 'rm -rf "$copy"' EXIT
+copies=$(mktemp -d)
+trap 'trap "" INT TERM; kill $(jobs -p) 2> /dev/null || true; wait; rm -rf "$copies"' EXIT
+trap 'exit 130' INT TERM HUP
+lanes=${RT_JOBS:-2}
 
-# Copies the crates as they stand, new files too, but none that git ignores.
+# Copies the crates as they stand, new files too, but none that git ignores, and links what is proved of them.
 copy_crates() {
     local file present=()
     while IFS= read -r -d '' file; do
         if [ -f "$file" ]; then present+=("$file"); fi
     done < <(git ls-files -z --cached --others --exclude-standard HANDLES crates.txt crates)
-    cp --parents --target-directory="$copy" -- "${present[@]}"
+    cp --parents --target-directory="$1" -- "${present[@]}"
+    for file in crates/*/out/rlib; do cp -al --parents --target-directory="$1" -- "$file"; done
 }
 
 # Puts a crate's audit in the place of its must-fail edits, and counts it; a page beside the edits is none.
 prepare() {
     local file
-    rm -rf "$copy/crates/$1/must-fail"
-    mv "$copy/crates/$1/audit" "$copy/crates/$1/must-fail"
-    for file in "$copy/crates/$1/must-fail"/*; do
+    mkdir "$copies/$1"
+    copy_crates "$copies/$1"
+    rm -rf "$copies/$1/crates/$1/must-fail"
+    mv "$copies/$1/crates/$1/audit" "$copies/$1/crates/$1/must-fail"
+    for file in "$copies/$1/crates/$1/must-fail"/*; do
         case $file in
             *.md) ;;
             *) edits=$((edits + 1)) ;;
@@ -32,11 +38,17 @@ prepare() {
     done
 }
 
-# Tries a crate's edits, shows what rt says and counts it.
+# Tries a crate's edits, and shows what rt says at their end.
 try_edits() {
+    local said
+    said=$(cd "$copies/$1" && rt must-fail "$1" 2>&1) || true
+    printf '%s\n' "$said"
+    rm -rf "${copies:?}/$1"
+}
+
+count() {
     local line
     while IFS= read -r line; do
-        printf '%s\n' "$line"
         case $line in
             "rt: must-fail "*": refused, as it must be (only by a limit"*) stopped=$((stopped + 1)) ;;
             "rt: must-fail "*": refused, as it must be (only because a proof file names"*)
@@ -45,23 +57,27 @@ try_edits() {
             "rt: must-fail "*": NOT REFUSED: "*) proved=$((proved + 1)) ;;
             "rt: "*": BAD EDIT: "*) bad=$((bad + 1)) ;;
         esac
-    done < <(cd "$copy" && rt must-fail "$1" 2>&1)
+    done < "$1"
 }
 
 crates=("$@")
 if [ $# -eq 0 ]; then
     for folder in crates/*/audit; do crates+=("$(basename "${folder%/audit}")"); done
 fi
-copy_crates
 edits=0 refused=0 by_name=0 proved=0 bad=0 stopped=0
 for crate in "${crates[@]}"; do
-    if [ ! -d "$copy/crates/$crate/audit" ]; then
+    if [ ! -d "crates/$crate/audit" ] || [ -e "$copies/$crate" ]; then
         echo "audit: there is no folder crates/$crate/audit, or it was named twice" >&2
         exit 2
     fi
     prepare "$crate"
 done
-for crate in "${crates[@]}"; do try_edits "$crate"; done
+for crate in "${crates[@]}"; do
+    while (($(jobs -rp | wc -l) >= lanes)); do wait -n || true; done
+    try_edits "$crate" | tee -a "$copies/said" &
+done
+wait
+count "$copies/said"
 
 # Not tried is what rt says so of, and what it says nothing of.
 untried=$((edits - refused - proved - bad - stopped))
