@@ -1,5 +1,5 @@
 -- Laws of the definitions.
-use Rattle.std.specs.Prelude.{◌≡◌, ◌≢◌, ℕ, ◌+◌, ◌-◌, ◌<◌, ◌≤◌, ◌⊎◌, ⊤, List, [], ◌∷◌, length, get_or}
+use Rattle.std.specs.Prelude.{◌≡◌, ◌≢◌, ℕ, ◌+◌, ◌-◌, ◌<◌, ◌≤◌, ◌⊎◌, ⊤, true, List, [], ◌∷◌, length, get_or}
 use Rattle.std.specs.Prelude.{Ok, IfOk}
 use Rattle.re_syntax.specs.Bytes.{Text}
 use Rattle.re_syntax.specs.Expression.{Expression}
@@ -14,7 +14,7 @@ use Rattle.grep_session.specs.Edits.{Applies, EditGives}
 use Rattle.grep_session.specs.Headline.{Attempt}
 use Rattle.grep_live.specs.Lists.{AllThree}
 use Rattle.grep_live.specs.Marks.{Watched, MarksAfter, MarksGiven}
-use Rattle.grep_live.specs.Changes.{Change, IsChange, AreWithin}
+use Rattle.grep_live.specs.Changes.{Change, IsChange, AreWithin, is_idle}
 use Rattle.grep_live.specs.Rows.{change_rows, changes_rows}
 use Rattle.grep_live.specs.Writing.{all_known}
 
@@ -75,20 +75,29 @@ LeavesEnds k front back (SetContext context) old = ⊤
 
 -- edits that were tried, one after the other, lead from an old to a new state, and each that was
 -- accepted leaves these ends of file k
-abbrev pub LeaveEnds : ℕ → ℕ → ℕ → List Attempt → Watched → Watched → Type 0
-LeaveEnds k front back [] old new = new ≡ old
-LeaveEnds k front back (attempt ∷ more) old new =
+abbrev pub EachLeavesEnds : ℕ → ℕ → ℕ → List Attempt → Watched → Watched → Type 0
+EachLeavesEnds k front back [] old new = new ≡ old
+EachLeavesEnds k front back (attempt ∷ more) old new =
     (between : Watched) × EditGives attempt.edit old.inputs between.inputs attempt.answer ×
     MarksGiven attempt.edit old between.marks attempt.answer ×
     IfOk attempt.answer (λ _. LeavesEnds k front back attempt.edit old.inputs) ×
-    LeaveEnds k front back more between new
+    EachLeavesEnds k front back more between new
 
--- after such edits, where all changes before them were reported, no hit is reported among the first
--- `front` and the last `back` lines of file k
+-- a change is idle, or replaces none of the first `front` and none of the last `back` lines, of
+-- `known` lines before it and `lines` after it; and no hit of it is among these
+pub record IsBetween (front back known lines : ℕ) (change : Change) : Type 0 where
+  pub replaces : (is_idle change ≡ true)
+      ⊎ ((front ≤ change.front) × (change.front + change.removed + back ≤ known) ×
+      (change.front + change.added + back ≤ lines))
+  pub hits : AreWithin front (lines - back) change.come
+
+-- after such edits, where all changes before them were reported, the change of file k replaces none
+-- of its first `front` and last `back` lines, and no hit is reported among these
 abbrev pub OnlyTouched : Type 0
 OnlyTouched =
     (tried : List Attempt) (old new : Watched) (k front back : ℕ) (es : List Expression)
     (changes : List Change) → k < length old.inputs.files →
-    LeaveEnds k front back tried (all_known old) new →
+    EachLeavesEnds k front back tried (all_known old) new →
     AllThree (IsChange es new.inputs.options) new.inputs.files new.marks changes →
-    AreWithin front (length (file_at new.inputs.files k).lines - back) (change_at changes k).come
+    IsBetween front back (length (file_at old.inputs.files k).lines)
+    (length (file_at new.inputs.files k).lines) (change_at changes k)

@@ -14,7 +14,7 @@ pub fn one_splice()
 {}
 
 /// Where edits since all changes were reported left the first and the last lines of a file as they
-/// are, no hit is reported among these lines.
+/// are, none of these is reported as replaced, and no hit is reported among them.
 pub fn only_touched()
     ensures { OnlyTouched }
 {}

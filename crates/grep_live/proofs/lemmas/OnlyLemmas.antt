@@ -3,7 +3,7 @@ use Rattle.std.proofs.Common.{◌≡◌, ℕ, zero, suc, ◌+◌, ◌-◌, ◌<�
 use Rattle.std.proofs.Math.ListN.{set}
 use Rattle.std.proofs.lemmas.Bool.{cases_lt, cases_eq}
 use Rattle.std.proofs.lemmas.List.{append-nil, length-append, length-map, length-set, length-take, get_or-map, get_or-take, get_or-set_same, get_or-set_other, get_or_append_left}
-use Rattle.std.specs.Prelude.{slice_range, slice_set}
+use Rattle.std.specs.Prelude.{slice_range, slice_set, nat_eq, ◌&&◌}
 use Rattle.std.specs.Result.{IfOk}
 use Rattle.std.specs.List.{remove, splice}
 use Rattle.re_syntax.specs.Bytes.{Text}
@@ -25,7 +25,7 @@ use Rattle.grep_live.specs.Marks.{Watched, whole_mark, new_mark, mark_at, touche
 use Rattle.grep_live.specs.Changes.{Change, IsChange, AreWithin}
 use Rattle.grep_live.specs.Rows.{change_rows, changes_rows}
 use Rattle.grep_live.specs.Writing.{all_known}
-use Rattle.grep_live.specs.Laws.{change_at, OneSplice, LeavesHits, LeavesEnds, LeaveEnds, OnlyTouched}
+use Rattle.grep_live.specs.Laws.{change_at, IsBetween, OneSplice, LeavesHits, LeavesEnds, EachLeavesEnds, OnlyTouched}
 use Rattle.grep_live.proofs.lemmas.ListLemmas.{three-at}
 use Rattle.grep_live.proofs.lemmas.HitLemmas.{within_wider, by_within}
 use Rattle.grep_live.proofs.lemmas.MarkLemmas.{length-splice}
@@ -48,9 +48,10 @@ within_none a b c d (hit ∷ more) w l =
 
 -- ---- the change of one file
 
--- the first lines or all, and the last lines or all, are untouched
-abbrev AreUntouched : ℕ → ℕ → ℕ → Mark → Type 0
-AreUntouched front back lines mark = (mark ≡ whole_mark lines) ⊎ ((front ≤ mark.front) × (back ≤ mark.back))
+-- of `known` lines, of which `lines` are left, all are untouched; or the first `front` and the last `back` are
+abbrev AreUntouched : ℕ → ℕ → ℕ → ℕ → Mark → Type 0
+AreUntouched front back known lines mark =
+    (mark.known ≡ known) × ((mark ≡ whole_mark lines) ⊎ ((front ≤ mark.front) × (back ≤ mark.back) × (mark.front + mark.back ≤ known) × (mark.front + mark.back ≤ lines)))
 
 module _ (es : List Expression) (options : Options) where
   -- the hits of a change are among the added lines
@@ -61,17 +62,22 @@ module _ (es : List Expression) (options : Options) where
       within_wider mark.front change.front (change.front + length lines) (mark.front + (length file.lines - mark.front - mark.back)) change.come (omega (arith, c.is_front)) (omega (arith, c.is_front, c.is_added, long))
       (by_within (Selected es options) (ListedParts es options) change.front lines change.come c.are_hits)
 
-  -- no hit of a change is among untouched lines
-  untouched_within : (front back : ℕ) (file : File) (mark : Mark) (change : Change) → AreUntouched front back (length file.lines) mark → IsChange es options file mark change → AreWithin front (length file.lines - back) change.come
-  untouched_within front back file mark change (inl e) c =
-      let all : mark.front ≡ length file.lines = ap (λ m. m.front) e in
-      within_none mark.front (mark.front + (length file.lines - mark.front - mark.back)) front (length file.lines - back) change.come (change_within file mark change c) (omega (arith, all))
-  untouched_within front back file mark change (inr (first, last)) c =
-      by_room (cases_lt (length file.lines) (mark.front + mark.back))
-    where
-      by_room : (length file.lines < mark.front + mark.back) ⊎ (mark.front + mark.back ≤ length file.lines) → AreWithin front (length file.lines - back) change.come
-      by_room (inl h) = within_none mark.front (mark.front + (length file.lines - mark.front - mark.back)) front (length file.lines - back) change.come (change_within file mark change c) (omega (arith, h))
-      by_room (inr h) = within_wider front mark.front (mark.front + (length file.lines - mark.front - mark.back)) (length file.lines - back) change.come first (omega (arith, h, last)) (change_within file mark change c)
+  -- a change replaces no untouched line, and has no hit among them
+  between_ends : (front back known : ℕ) (file : File) (mark : Mark) (change : Change) → AreUntouched front back known (length file.lines) mark → IsChange es options file mark change → IsBetween front back known (length file.lines) change
+  between_ends front back known file mark change (same, inl e) c =
+      let is_front : mark.front ≡ length file.lines = ap (λ m. m.front) e in
+      let is_known : mark.known ≡ length file.lines = ap (λ m. m.known) e in
+      let removed : change.removed ≡ 0 = omega (arith, c.is_removed, is_front, is_known) in
+      let added : change.added ≡ 0 = omega (arith, c.is_added, is_front) in
+      record {
+        replaces = inl (λ i. nat_eq (removed i) 0 && nat_eq (added i) 0);
+        hits = within_none mark.front (mark.front + (length file.lines - mark.front - mark.back)) front (length file.lines - back) change.come (change_within file mark change c) (omega (arith, is_front));
+      }
+  between_ends front back known file mark change (same, inr (first, last, before, now)) c =
+      record {
+        replaces = inr (omega (arith, first, c.is_front), omega (arith, same, last, before, c.is_front, c.is_removed), omega (arith, last, now, c.is_front, c.is_added));
+        hits = within_wider front mark.front (mark.front + (length file.lines - mark.front - mark.back)) (length file.lines - back) change.come first (omega (arith, now, last)) (change_within file mark change c);
+      }
 
   -- the change of a file in which lines were replaced
   splice_change : (file : File) (start count : ℕ) (come : List Text) (change : Change) → start + count ≤ length file.lines →
@@ -149,8 +155,8 @@ one_splice old new k start count lines es changes applies marked are =
 -- ---- edits that leave lines of a file as they are
 
 -- file k is there with its mark, and its ends are untouched
-abbrev EndsUntouched : ℕ → ℕ → ℕ → List File → List Mark → Type 0
-EndsUntouched k front back files marks = (k < length files) × (k < length marks) × AreUntouched front back (length (file_at files k).lines) (mark_at marks k)
+abbrev EndsUntouched : ℕ → ℕ → ℕ → ℕ → List File → List Mark → Type 0
+EndsUntouched k front back known files marks = (k < length files) × (k < length marks) × AreUntouched front back known (length (file_at files k).lines) (mark_at marks k)
 
 -- an element before one that is removed
 kept_before : {A : Type 0} (xs : List A) (k other : ℕ) (d : A) → k < other → k < length xs → (k < length (remove xs other)) × (get_or (remove xs other) k d ≡ get_or xs k d)
@@ -177,76 +183,78 @@ flag_leaves k front back flag on old marks h (inl (same, e)) = e
 flag_leaves k front back flag on old marks (inl h) (inr (other, e)) = e ∙ left_by_flag flag old.marks h
 flag_leaves k front back flag on old marks (inr h) (inr (other, e)) = absurd (other h)
 
-module _ (k front back : ℕ) where
+module _ (k front back known : ℕ) where
   -- other lists with the same file and mark at this place
-  same_ends : (files new : List File) (marks more : List Mark) → k < length new → k < length more → file_at new k ≡ file_at files k → mark_at more k ≡ mark_at marks k → EndsUntouched k front back files marks → EndsUntouched k front back new more
+  same_ends : (files new : List File) (marks more : List Mark) → k < length new → k < length more → file_at new k ≡ file_at files k → mark_at more k ≡ mark_at marks k → EndsUntouched k front back known files marks → EndsUntouched k front back known new more
   same_ends files new marks more a b is_file is_mark u = (
     a,
     b,
-    subst (λ (f : File). AreUntouched front back (length f.lines) (mark_at more k)) (sym is_file) (subst (AreUntouched front back (length (file_at files k).lines)) (sym is_mark) u.2),
+    subst (λ (f : File). AreUntouched front back known (length f.lines) (mark_at more k)) (sym is_file) (subst (AreUntouched front back known (length (file_at files k).lines)) (sym is_mark) u.2),
   )
 
   -- lists that are these
-  as_these : (files new : List File) (marks more : List Mark) → new ≡ files → more ≡ marks → EndsUntouched k front back files marks → EndsUntouched k front back new more
-  as_these files new marks more f m u = subst (λ (l : List File). EndsUntouched k front back l more) (sym f) (subst (EndsUntouched k front back files) (sym m) u)
+  as_these : (files new : List File) (marks more : List Mark) → new ≡ files → more ≡ marks → EndsUntouched k front back known files marks → EndsUntouched k front back known new more
+  as_these files new marks more f m u = subst (λ (l : List File). EndsUntouched k front back known l more) (sym f) (subst (EndsUntouched k front back known files) (sym m) u)
 
-  ends_added : (files : List File) (marks : List Mark) (file : File) (mark : Mark) → EndsUntouched k front back files marks → EndsUntouched k front back (files ++ file ∷ []) (marks ++ mark ∷ [])
+  ends_added : (files : List File) (marks : List Mark) (file : File) (mark : Mark) → EndsUntouched k front back known files marks → EndsUntouched k front back known (files ++ file ∷ []) (marks ++ mark ∷ [])
   ends_added files marks file mark u =
       same_ends files (files ++ file ∷ []) marks (marks ++ mark ∷ []) (omega (arith, u.0, length-append files (file ∷ []))) (omega (arith, u.1, length-append marks (mark ∷ [])))
       (get_or_append_left files (file ∷ []) (file_at [] k) k u.0) (get_or_append_left marks (mark ∷ []) new_mark k u.1) u
 
-  ends_dropped : (files : List File) (marks : List Mark) (other : ℕ) → k < other → EndsUntouched k front back files marks → EndsUntouched k front back (remove files other) (remove marks other)
+  ends_dropped : (files : List File) (marks : List Mark) (other : ℕ) → k < other → EndsUntouched k front back known files marks → EndsUntouched k front back known (remove files other) (remove marks other)
   ends_dropped files marks other l u =
       let file = kept_before files k other (file_at [] k) l u.0 in
       let mark = kept_before marks k other new_mark l u.1 in
       same_ends files (remove files other) marks (remove marks other) file.0 mark.0 file.1 mark.1 u
 
   -- lines of another file were replaced
-  ends_apart : (files : List File) (marks : List Mark) (other : ℕ) (file : File) (mark : Mark) → (other ≡ k → ⊥) → EndsUntouched k front back files marks → EndsUntouched k front back (set files other file) (set marks other mark)
+  ends_apart : (files : List File) (marks : List Mark) (other : ℕ) (file : File) (mark : Mark) → (other ≡ k → ⊥) → EndsUntouched k front back known files marks → EndsUntouched k front back known (set files other file) (set marks other mark)
   ends_apart files marks other file mark apart u =
       same_ends files (set files other file) marks (set marks other mark) (omega (arith, u.0, length-set files other file)) (omega (arith, u.1, length-set marks other mark))
       (get_or-set_other files other k file (file_at [] k) (λ e. apart (sym e))) (get_or-set_other marks other k mark new_mark (λ e. apart (sym e))) u
 
   -- lines of this file between its ends were replaced
-  touched_between : (start count lines new : ℕ) (mark : Mark) → front ≤ start → start + count + back ≤ lines → AreUntouched front back lines mark → AreUntouched front back new (touched start (lines - (start + count)) mark)
-  touched_between start count lines new mark a b (inl e) =
-      let all_front : mark.front ≡ lines = ap (λ m. m.front) e in
-      let all_back : mark.back ≡ lines = ap (λ m. m.back) e in
-      inr (omega (arith, a, b, all_front), omega (arith, a, b, all_back))
-  touched_between start count lines new mark a b (inr (first, last)) = inr (omega (arith, a, first), omega (arith, b, last))
+  touched_between : (start count lines new : ℕ) (mark : Mark) → front ≤ start → start + count + back ≤ lines → start + (lines - (start + count)) ≤ new → AreUntouched front back known lines mark → AreUntouched front back known new (touched start (lines - (start + count)) mark)
+  touched_between start count lines new mark a b l (same, inl e) =
+      let is_front : mark.front ≡ lines = ap (λ m. m.front) e in
+      let is_back : mark.back ≡ lines = ap (λ m. m.back) e in
+      let is_known : mark.known ≡ lines = ap (λ m. m.known) e in
+      (same, inr (omega (arith, a, b, is_front), omega (arith, b, is_back), omega (arith, b, same, is_known), omega (arith, l)))
+  touched_between start count lines new mark a b l (same, inr (first, last, before, now)) =
+      (same, inr (omega (arith, a, first), omega (arith, b, last), omega (arith, before), omega (arith, l)))
 
-  ends_here : (files : List File) (marks : List Mark) (start count : ℕ) (come : List Text) → front ≤ start → start + count + back ≤ length (file_at files k).lines → EndsUntouched k front back files marks →
-      EndsUntouched k front back (spliced files k start count come) (slice_set marks k (touched start (length (file_at files k).lines - (start + count)) (mark_at marks k)))
+  ends_here : (files : List File) (marks : List Mark) (start count : ℕ) (come : List Text) → front ≤ start → start + count + back ≤ length (file_at files k).lines → EndsUntouched k front back known files marks →
+      EndsUntouched k front back known (spliced files k start count come) (slice_set marks k (touched start (length (file_at files k).lines - (start + count)) (mark_at marks k)))
   ends_here files marks start count come a b u =
       let file = file_at files k in
       let new_file = record file { lines = splice file.lines start (start + count) come } in
       let mark = touched start (length file.lines - (start + count)) (mark_at marks k) in
       let is_file : new_file ≡ file_at (set files k new_file) k = sym (get_or-set_same files k new_file (file_at [] k) u.0) in
       let is_mark : mark ≡ mark_at (set marks k mark) k = sym (get_or-set_same marks k mark new_mark u.1) in
-      let left : AreUntouched front back (length new_file.lines) mark = touched_between start count (length file.lines) (length new_file.lines) (mark_at marks k) a b u.2 in (
+      let left : AreUntouched front back known (length new_file.lines) mark = touched_between start count (length file.lines) (length new_file.lines) (mark_at marks k) a b (omega (arith, length-splice file.lines come start count (omega (arith, b)))) u.2 in (
         omega (arith, u.0, length-set files k new_file),
         omega (arith, u.1, length-set marks k mark),
-        subst (λ (f : File). AreUntouched front back (length f.lines) (mark_at (set marks k mark) k)) is_file (subst (AreUntouched front back (length new_file.lines)) is_mark left),
+        subst (λ (f : File). AreUntouched front back known (length f.lines) (mark_at (set marks k mark) k)) is_file (subst (AreUntouched front back known (length new_file.lines)) is_mark left),
       )
 
   ends_spliced : (other start count : ℕ) (come : List Text) (old new : Watched) → LeavesEnds k front back (Splice other start count come) old.inputs → Applies (Splice other start count come) old.inputs (Ok new.inputs) → MarksAfter (Splice other start count come) old new.marks →
-      EndsUntouched k front back old.inputs.files old.marks → EndsUntouched k front back new.inputs.files new.marks
+      EndsUntouched k front back known old.inputs.files old.marks → EndsUntouched k front back known new.inputs.files new.marks
   ends_spliced other start count come old new h a m u =
       as_these (spliced old.inputs.files other start count come) new.inputs.files (slice_set old.marks other (touched start (length (file_at old.inputs.files other).lines - (start + count)) (mark_at old.marks other))) new.marks
       (ap (λ (i : Inputs). i.files) (spliced_at other start count come old.inputs new.inputs a).2) m (by_file h (cases_eq other k))
     where
-      apart : (other ≡ k → ⊥) → EndsUntouched k front back (spliced old.inputs.files other start count come) (slice_set old.marks other (touched start (length (file_at old.inputs.files other).lines - (start + count)) (mark_at old.marks other)))
+      apart : (other ≡ k → ⊥) → EndsUntouched k front back known (spliced old.inputs.files other start count come) (slice_set old.marks other (touched start (length (file_at old.inputs.files other).lines - (start + count)) (mark_at old.marks other)))
       apart e = ends_apart old.inputs.files old.marks other (record (file_at old.inputs.files other) { lines = splice (file_at old.inputs.files other).lines start (start + count) come }) (touched start (length (file_at old.inputs.files other).lines - (start + count)) (mark_at old.marks other)) e u
 
       by_file : LeavesEnds k front back (Splice other start count come) old.inputs → (other ≡ k) ⊎ (other ≡ k → ⊥) →
-          EndsUntouched k front back (spliced old.inputs.files other start count come) (slice_set old.marks other (touched start (length (file_at old.inputs.files other).lines - (start + count)) (mark_at old.marks other)))
+          EndsUntouched k front back known (spliced old.inputs.files other start count come) (slice_set old.marks other (touched start (length (file_at old.inputs.files other).lines - (start + count)) (mark_at old.marks other)))
       by_file (inl e) q = apart e
       by_file (inr p) (inr e) = apart e
       by_file (inr (first, last)) (inl e) =
-          subst (λ (o : ℕ). EndsUntouched k front back (spliced old.inputs.files o start count come) (slice_set old.marks o (touched start (length (file_at old.inputs.files o).lines - (start + count)) (mark_at old.marks o)))) (sym e)
+          subst (λ (o : ℕ). EndsUntouched k front back known (spliced old.inputs.files o start count come) (slice_set old.marks o (touched start (length (file_at old.inputs.files o).lines - (start + count)) (mark_at old.marks o)))) (sym e)
           (ends_here old.inputs.files old.marks start count come first last u)
 
-  ends_accepted : (edit : Edit) (old new : Watched) → LeavesEnds k front back edit old.inputs → Applies edit old.inputs (Ok new.inputs) → MarksAfter edit old new.marks → EndsUntouched k front back old.inputs.files old.marks → EndsUntouched k front back new.inputs.files new.marks
+  ends_accepted : (edit : Edit) (old new : Watched) → LeavesEnds k front back edit old.inputs → Applies edit old.inputs (Ok new.inputs) → MarksAfter edit old new.marks → EndsUntouched k front back known old.inputs.files old.marks → EndsUntouched k front back known new.inputs.files new.marks
   ends_accepted (AddFile name lines) old new h a m u =
       let file = whole_file name lines in
       let is = (accepted_if new.inputs (with_files (old.inputs.files ++ file ∷ []) old.inputs) LineHasNewline a).1 in
@@ -273,20 +281,22 @@ module _ (k front back : ℕ) where
       as_these old.inputs.files new.inputs.files old.marks new.marks (ap (λ (i : Inputs). i.files) (same_inputs new.inputs (with_context context old.inputs) a)) m u
 
   ends_given : (edit : Edit) (answer : Result (Unit {0}) EditFault) (old new : Watched) → EditGives edit old.inputs new.inputs answer → MarksGiven edit old new.marks answer → IfOk answer (λ _. LeavesEnds k front back edit old.inputs) →
-      EndsUntouched k front back old.inputs.files old.marks → EndsUntouched k front back new.inputs.files new.marks
+      EndsUntouched k front back known old.inputs.files old.marks → EndsUntouched k front back known new.inputs.files new.marks
   ends_given edit (Ok done) old new g m h u = ends_accepted edit old new h g m u
   ends_given edit (Err fault) old new g m h u =
       as_these old.inputs.files new.inputs.files old.marks new.marks (ap (λ (i : Inputs). i.files) (refused_same (Unit {0}) edit old.inputs new.inputs fault g)) m u
 
-  ends_left : (tried : List Attempt) (old new : Watched) → LeaveEnds k front back tried old new → EndsUntouched k front back old.inputs.files old.marks → EndsUntouched k front back new.inputs.files new.marks
-  ends_left [] old new same u = subst (λ (w : Watched). EndsUntouched k front back w.inputs.files w.marks) (sym same) u
+  ends_left : (tried : List Attempt) (old new : Watched) → EachLeavesEnds k front back tried old new → EndsUntouched k front back known old.inputs.files old.marks → EndsUntouched k front back known new.inputs.files new.marks
+  ends_left [] old new same u = subst (λ (w : Watched). EndsUntouched k front back known w.inputs.files w.marks) (sym same) u
   ends_left (attempt ∷ more) old new (between, gives, marked, leaves, rest) u = ends_left more between new rest (ends_given attempt.edit attempt.answer old between gives marked leaves u)
 
 pub only_touched : OnlyTouched
 only_touched tried old new k front back es changes inside leave are =
     let files = old.inputs.files in
     let marks = (all_known old).marks in
+    let known = length (file_at files k).lines in
     let long : k < length marks = omega (arith, inside, length-map files (λ (file : File). whole_mark (length file.lines))) in
-    let left = ends_left k front back tried (all_known old) new leave (inside, long, inl (known_at files k inside)) in
+    let whole : mark_at marks k ≡ whole_mark known = known_at files k inside in
+    let left = ends_left k front back known tried (all_known old) new leave (inside, long, (ap (λ m. m.known) whole, inl whole)) in
     let change = three-at (IsChange es new.inputs.options) new.inputs.files new.marks changes k (file_at [] k) new_mark (change_at [] k) left.0 are in
-    untouched_within es new.inputs.options front back (file_at new.inputs.files k) (mark_at new.marks k) (change_at changes k) left.2 change
+    between_ends es new.inputs.options front back known (file_at new.inputs.files k) (mark_at new.marks k) (change_at changes k) left.2 change
