@@ -33,7 +33,8 @@ change_at changes k = get_or changes k (record { front = 0; removed = 0; added =
 
 -- rows are written of file k alone: `count` lines from line `start` on were replaced by these, and
 -- each of these has at most one hit
-pub record ReportsSplice (k start count : ℕ) (lines : List Text) (changes : List Change) : Type 0 where
+pub record ReportsSplice (k start count : ℕ) (lines : List Text)
+    (changes : List Change) : Type 0 where
   pub of_one_file : changes_rows 0 changes ≡ change_rows k (change_at changes k)
   pub is_front : (change_at changes k).front ≡ start
   pub is_removed : (change_at changes k).removed ≡ count
