@@ -1,5 +1,5 @@
-//! The tests of `grep_core`, `grep_session`, `grep_utility` and `grep_cmd`: nothing but tests, by
-//! what these show.
+//! The tests of `grep_core`, `grep_session`, `grep_live`, `grep_utility` and `grep_cmd`: nothing but
+//! tests, by what these show.
 #![tactic(auto)]
 
 #[cfg(test)]

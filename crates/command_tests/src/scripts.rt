@@ -5,6 +5,8 @@ use std::alloc::Global;
 use std::process::Abort;
 use std::test::Fail;
 
+mod changes;
+
 /// How many states each pattern of a script may keep.
 const STATES: usize = 16;
 

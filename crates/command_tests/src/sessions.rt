@@ -3,6 +3,7 @@ mod edits;
 mod harness;
 mod large;
 mod memory;
+mod watched;
 mod worked;
 
 use harness::assert_session;

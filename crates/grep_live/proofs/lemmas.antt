@@ -9,3 +9,4 @@ pub mod ChangesLemmas
 pub mod CatchLemmas
 pub mod PageLemmas
 pub mod TwiceLemmas
+pub mod OnlyLemmas

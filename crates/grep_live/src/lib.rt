@@ -9,6 +9,6 @@ mod page;
 mod paging;
 mod rows;
 
-pub use laws::nothing_twice;
+pub use laws::{nothing_twice, one_splice, only_touched};
 pub use live::Live;
 pub use mark::Mark;

@@ -35,23 +35,23 @@ use Rattle.grep_live.proofs.lemmas.MarkLemmas.{fits_touched, length-splice, spli
 -- ---- outcomes
 
 -- two new inputs that are the same outcome
-same_inputs : {E : Type 0} (a b : Inputs) → ◌≡◌ {A = Result Inputs E} (Ok a) (Ok b) → a ≡ b
+pub same_inputs : {E : Type 0} (a b : Inputs) → ◌≡◌ {A = Result Inputs E} (Ok a) (Ok b) → a ≡ b
 same_inputs a b e = cc
 
 not_refused : {E : Type 0} (a : Inputs) (f : E) → ◌≡◌ {A = Result Inputs E} (Ok a) (Err f) → ⊥
 not_refused a f e = cc
 
 -- an accepted edit that is refused where P does not hold
-accepted_if : {E P : Type 0} (a b : Inputs) (f : E) → IfHolds P (◌≡◌ {A = Result Inputs E} (Ok a) (Ok b)) (◌≡◌ {A = Result Inputs E} (Ok a) (Err f)) → P × (a ≡ b)
+pub accepted_if : {E P : Type 0} (a b : Inputs) (f : E) → IfHolds P (◌≡◌ {A = Result Inputs E} (Ok a) (Ok b)) (◌≡◌ {A = Result Inputs E} (Ok a) (Err f)) → P × (a ≡ b)
 accepted_if a b f (inl (p, e)) = (p, same_inputs a b e)
 accepted_if a b f (inr (p, e)) = absurd (not_refused a f e)
 
 -- an accepted edit that is refused where P holds
-accepted_unless : {E P Q : Type 0} (a : Inputs) (f : E) → IfHolds P (◌≡◌ {A = Result Inputs E} (Ok a) (Err f)) Q → (P → ⊥) × Q
+pub accepted_unless : {E P Q : Type 0} (a : Inputs) (f : E) → IfHolds P (◌≡◌ {A = Result Inputs E} (Ok a) (Err f)) Q → (P → ⊥) × Q
 accepted_unless a f (inl (p, e)) = absurd (not_refused a f e)
 accepted_unless a f (inr (p, q)) = (p, q)
 
-accepted_read : (syntax : Syntax) (fold : Bool) (texts : List Text) (a b : Inputs) → Reads syntax fold texts b (Ok a) → a ≡ b
+pub accepted_read : (syntax : Syntax) (fold : Bool) (texts : List Text) (a b : Inputs) → Reads syntax fold texts b (Ok a) → a ≡ b
 accepted_read syntax fold texts a b (inl (readable, e)) = same_inputs a b e
 accepted_read syntax fold texts a b (inr (unreadable, (place, fault, first, e))) = absurd (not_refused a (Pattern place fault) e)
 
@@ -231,7 +231,7 @@ module _ (old : Watched) (fit : AreFit old.inputs.files old.marks) where
       (fit, same_views inputs (λ es m. m) (λ es n l hits x. x))
 
 -- a refused edit leaves the inputs
-refused_same : (T : Type 0) (edit : Edit) (old new : Inputs) (fault : EditFault) → EditGives {T = T} edit old new (Err fault) → new ≡ old
+pub refused_same : (T : Type 0) (edit : Edit) (old new : Inputs) (fault : EditFault) → EditGives {T = T} edit old new (Err fault) → new ≡ old
 refused_same T edit old new NoSuchFile g = g.1
 refused_same T edit old new FileIsMissing g = g.1
 refused_same T edit old new OutOfRange g = g.1

@@ -11,14 +11,14 @@ use Rattle.grep_live.specs.Rows.{hit_row, change_row, change_rows, changes_rows}
 use Rattle.grep_live.specs.Laws.{NothingTwice}
 
 module _ (es : List Expression) (options : Options) where
-  one_silent : (k : ℕ) (file : File) (change : Change) → IsChange es options file (whole_mark (length file.lines)) change → change_rows k change ≡ []
+  pub one_silent : (k : ℕ) (file : File) (change : Change) → IsChange es options file (whole_mark (length file.lines)) change → change_rows k change ≡ []
   one_silent k file change c =
       let removed : change.removed ≡ 0 = omega (arith, c.is_removed) in
       let added : change.added ≡ 0 = omega (arith, c.is_added) in
       let idle : is_idle change ≡ true = λ i. nat_eq (removed i) 0 && nat_eq (added i) 0 in
       ap (λ b. if b then [] else change_row k change ∷ map hit_row change.come) idle
 
-  all_silent : (k : ℕ) (files : List File) (changes : List Change) → AllThree (IsChange es options) files (map (λ file. whole_mark (length file.lines)) files) changes → changes_rows k changes ≡ []
+  pub all_silent : (k : ℕ) (files : List File) (changes : List Change) → AllThree (IsChange es options) files (map (λ file. whole_mark (length file.lines)) files) changes → changes_rows k changes ≡ []
   all_silent k [] [] c = refl
   all_silent k [] (change ∷ changes) c = absurd c
   all_silent k (file ∷ files) [] c = absurd c
