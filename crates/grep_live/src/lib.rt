@@ -2,12 +2,16 @@
 #![tactic(auto)]
 
 mod changing;
+mod counting;
+mod cut;
 mod laws;
 mod live;
 mod mark;
 mod page;
 mod paging;
+mod ranks;
 mod rows;
+mod watch;
 
 pub use laws::nothing_twice;
 pub use live::Live;

@@ -1,9 +1,10 @@
 //! What an editor lists. No line is searched and no memory is asked for.
 ghost use Rattle.grep_live.specs.Writing.{WritesChanges, WritesPage};
 
-use crate::changing::{mark_known, write_changes};
+use crate::changing::write_changes;
 use crate::live::Live;
 use crate::paging::write_hits_page;
+use crate::watch::know_all;
 use grep_core::{CountedWrite, Status, WriteFault};
 
 impl Live {
@@ -24,11 +25,11 @@ impl Live {
             result }
     {
         let status = self.session.status();
-        match write_changes(&self.session, &self.marks, margin, out) {
+        match write_changes(&self.session, &self.watches, margin, out) {
             Ok(()) => {}
             Err(fault) => return Err(fault),
         }
-        mark_known(&self.session, &mut self.marks);
+        know_all(&self.session, &mut self.watches);
         Ok(status)
     }
 
@@ -52,7 +53,7 @@ impl Live {
             count result }
     {
         let status = self.session.status();
-        match write_hits_page(&self.session, first, count, margin, out) {
+        match write_hits_page(&self.session, &self.watches, first, count, margin, out) {
             Ok(()) => {}
             Err(fault) => return Err(fault),
         }
