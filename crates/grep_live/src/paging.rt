@@ -1,5 +1,5 @@
 //! A page of the hits of all files.
-ghost use Rattle.std.specs.Prelude.{◌≡◌, ◌≤◌, ◌-◌, ◌^◌, ◌∷◌, List, min, length, map, IfOk};
+ghost use Rattle.std.specs.Prelude.{◌≡◌, ◌≤◌, ◌<◌, ◌-◌, ◌^◌, ◌∷◌, List, min, length, map, IfOk};
 ghost use Rattle.re_syntax.specs.Expression.{Expression};
 ghost use Rattle.grep_core.specs.Output.{written};
 ghost use Rattle.grep_core.specs.Run.{file_at};
@@ -43,7 +43,8 @@ fn show_lines<W: CountedWrite>(
     margin: &[u8],
     out: &mut W,
 ) -> Result<(), WriteFault>
-    requires { to ≤ length (file_at session.now.files k).lines }
+    requires within { to ≤ length (file_at session.now.files k).lines }
+    requires some { 0 < page.old.left }
     ensures wrote { (es : List Expression) → Mean session.now es → (hits : List Hit) →
         HitsBetween es session.now k from to hits →
         Writes W.contents W.failures out.old out.new (written margin.now
@@ -53,6 +54,9 @@ fn show_lines<W: CountedWrite>(
         IsRest page.old (length hits) page.new) }
 {
     for place in from..to {
+        if page.left == 0 {
+            return Ok(());
+        }
         let Some(hit) = session.hit(k, place) else {
             continue;
         };
@@ -62,7 +66,7 @@ fn show_lines<W: CountedWrite>(
 }
 
 /// The same where the number of these hits is known: hits that are all skipped are not looked for,
-/// and none where the page is full.
+/// nor any where the page is full.
 fn show_counted<W: CountedWrite>(
     session: &Session,
     k: usize,
@@ -104,7 +108,8 @@ fn show_file<W: CountedWrite>(
     margin: &[u8],
     out: &mut W,
 ) -> Result<(), WriteFault>
-    requires { AreRanks session.now (file_at session.now.files k) ranks.now }
+    requires are_ranks { AreRanks session.now (file_at session.now.files k) ranks.now }
+    requires some { 0 < page.old.left }
     ensures wrote { (es : List Expression) → Mean session.now es → (hits : List Hit) →
         HitsBetween es session.now k 0 (length (file_at session.now.files k).lines) hits →
         Writes W.contents W.failures out.old out.new (written margin.now
@@ -125,6 +130,9 @@ fn show_file<W: CountedWrite>(
         let count = rank.before.saturating_sub(last.before);
         show_counted(session, k, last.place, rank.place, count, page, margin, out)?;
         last = *rank;
+    }
+    if page.left == 0 {
+        return Ok(());
     }
     let lines = session.line_count(k);
     show_lines(session, k, last.place, lines, page, margin, out)?;
@@ -151,6 +159,9 @@ pub fn write_page<W: CountedWrite>(
         left: count,
     };
     for (k, watch) in watches.iter().enumerate() {
+        if page.left == 0 {
+            return Ok(());
+        }
         show_file(session, k, &watch.ranks, &mut page, margin, out)?;
     }
     Ok(())

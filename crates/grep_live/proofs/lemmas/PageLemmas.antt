@@ -173,6 +173,15 @@ module _ (inputs : Inputs) (k from to first count : ℕ) {W : Type 0} (contents 
     part_stops stopped =
         broken_off contents failures margin a b c (page_rows first count (map (λ hit. (k, hit)) all)) (page_rows skip left (map (λ hit. (k, hit)) s.rest)) (page_rows skip left (map (λ hit. (k, hit)) p.front)) (page_rows (skip - length p.front) (left - (length p.front - skip)) (map (λ hit. (k, hit)) p.back)) part_shown s.wrote stopped
 
+  -- the page is full
+  module _ (es : List Expression) (all : List Hit) (a b : W) (place skip left : ℕ) (full : left ≡ 0) (s : ShownUpTo a b es place skip left all) where
+    pub full_all : GoesOut contents failures a b (written margin (page_rows first count (map (λ hit. (k, hit)) all)))
+    full_all =
+        all_written contents failures margin a b (page_rows first count (map (λ hit. (k, hit)) all)) (page_rows skip left (map (λ hit. (k, hit)) s.rest)) (page_full skip left (map (λ hit. (k, hit)) s.rest) full) s.wrote
+
+    pub full_rest : 0 < count → (skip ≡ first - length all) × (left ≡ count - (length all - first))
+    full_rest some = (omega (arith, some, full, s.counted, s.is_skip, s.is_left), omega (arith, some, full, s.counted, s.is_skip, s.is_left))
+
   module _ (es : List Expression) (all : List Hit) (a b : W) (place skip left : ℕ) (past : to ≤ place) (s : ShownUpTo a b es place skip left all) where
     none_rest : s.rest ≡ []
     none_rest = no_more es inputs k place to s.rest past s.are_rest
@@ -242,6 +251,10 @@ module _ {W : Type 0} (contents : W → Option Text) (failures : W → ℕ) (mar
     pub paged_stops : StopsWithin contents failures b c (written margin (page_rows skip left (map (λ hit. (k, hit)) (get_or view k [])))) → StopsWithin contents failures a c (written margin (page_rows first count (all_hits 0 view)))
     paged_stops stopped =
         broken_off contents failures margin a b c (page_rows first count (all_hits 0 view)) (page_rows skip left (all_hits k (drop k view))) (page_rows skip left (map (λ hit. (k, hit)) (get_or view k []))) (page_rows (skip - length (get_or view k [])) (left - (length (get_or view k []) - skip)) (all_hits (k + 1) (drop (k + 1) view))) next_page s stopped
+
+  pub paged_full : (k skip left : ℕ) → left ≡ 0 → PagedUpTo a b k skip left → GoesOut contents failures a b (written margin (page_rows first count (all_hits 0 view)))
+  paged_full k skip left full s =
+      all_written contents failures margin a b (page_rows first count (all_hits 0 view)) (page_rows skip left (all_hits k (drop k view))) (page_full skip left (all_hits k (drop k view)) full) s
 
   pub paged_all : (k skip left : ℕ) → length view ≤ k → PagedUpTo a b k skip left → GoesOut contents failures a b (written margin (page_rows first count (all_hits 0 view)))
   paged_all k skip left past s =

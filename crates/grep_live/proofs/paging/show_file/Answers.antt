@@ -21,12 +21,12 @@ loop-rank-init g c =
     }
 
 pub show_counted-requires-clause-within : goal.show_counted-requires-clause-within
-show_counted-requires-clause-within g c = (c.requires c.loop-rank.rank-index none c.loop-rank-test.true).0
+show_counted-requires-clause-within g c = (c.requires.are_ranks c.loop-rank.rank-index none c.loop-rank-test.true).0
 
 pub show_counted-requires-clause-counted : goal.show_counted-requires-clause-counted
 show_counted-requires-clause-counted g c =
     let rank = get_or c.args.ranks.now c.loop-rank.rank-index none in
-    let is_rank = c.requires c.loop-rank.rank-index none c.loop-rank-test.true in
+    let is_rank = c.requires.are_ranks c.loop-rank.rank-index none c.loop-rank-test.true in
     counted_between c.args.session.now c.args.k c.loop-rank.last rank c.saturating_sub-count.result c.loop-rank.invariant.last is_rank c.if-rank-last.false c.saturating_sub-count.ensures
 
 pub returns-in_err-show_counted-clause-wrote : goal.returns-in_err-show_counted-clause-wrote
@@ -36,7 +36,7 @@ returns-in_err-show_counted-clause-wrote g c =
     let file = file_at session.files k in
     let last = c.loop-rank.last in
     let rank = get_or c.args.ranks.now c.loop-rank.rank-index none in
-    let is_rank = c.requires c.loop-rank.rank-index none c.loop-rank-test.true in
+    let is_rank = c.requires.are_ranks c.loop-rank.rank-index none c.loop-rank-test.true in
     λ es meant all hits.
     let s = c.loop-rank.invariant.shown es meant all hits in
     let p = parted es session k last.place rank.place (length file.lines) s.rest c.if-rank-last.false is_rank.0 is_rank.0 s.are_rest in
@@ -50,7 +50,7 @@ loop-rank-preserved g c =
     let file = file_at session.files k in
     let last = c.loop-rank.last in
     let rank = get_or c.args.ranks.now c.loop-rank.rank-index none in
-    let is_rank = c.requires c.loop-rank.rank-index none c.loop-rank-test.true in
+    let is_rank = c.requires.are_ranks c.loop-rank.rank-index none c.loop-rank-test.true in
     record {
       last = is_rank;
       shown =

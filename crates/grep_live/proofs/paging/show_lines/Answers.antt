@@ -18,7 +18,7 @@ loop-place-preserved-in_default g c =
     let lines = (file_at session.files c.args.k).lines in
     λ es meant all hits.
     let s = c.loop-place.invariant es meant all hits in
-    let n = next_hits es session c.args.k place c.args.to s.rest c.loop-place-test.true c.requires s.are_rest in
+    let n = next_hits es session c.args.k place c.args.to s.rest c.loop-place-test.true c.requires.within s.are_rest in
     shown_past session c.args.k c.args.from c.args.to c.args.page.now.skip c.args.page.now.left g.W.CountedWrite.contents g.W.CountedWrite.failures c.args.margin.now es all c.args.out.now c.loop-place.out place c.loop-place.page.skip c.loop-place.page.left s n
     (none_here es session.options (λ (h : SessionHit). h.text.now) (λ (h : SessionHit). h.parts.now) place (get_or lines place []) c.hit.result n.here (c.hit.ensures es meant) n.is_here c.in_default.is)
 
@@ -30,7 +30,7 @@ returns-in_err-show_hit-clause-wrote g c =
     let hit : Hit = record { place = place; text = c.in-Some.hit.text.now; parts = map span_places c.in-Some.hit.parts.now } in
     λ es meant all hits.
     let s = c.loop-place.invariant es meant all hits in
-    let n = next_hits es session c.args.k place c.args.to s.rest c.loop-place-test.true c.requires s.are_rest in
+    let n = next_hits es session c.args.k place c.args.to s.rest c.loop-place-test.true c.requires.within s.are_rest in
     writes_err g.W.CountedWrite.contents g.W.CountedWrite.failures c.args.margin.now _ _ _ c.from_residual.result c.from_residual.ensures.0
     (shown_stops session c.args.k c.args.from c.args.to c.args.page.now.skip c.args.page.now.left g.W.CountedWrite.contents g.W.CountedWrite.failures c.args.margin.now es all c.args.out.now c.loop-place.out place c.loop-place.page.skip c.loop-place.page.left s n hit
     (one_here es session.options (λ (h : SessionHit). h.text.now) (λ (h : SessionHit). h.parts.now) place (get_or lines place []) c.hit.result n.here (c.hit.ensures es meant) n.is_here c.in-Some.hit c.in-Some.is) c.show_hit.new.out c.in_err-show_hit.ensures.wrote)
@@ -43,7 +43,7 @@ loop-place-preserved g c =
     let hit : Hit = record { place = place; text = c.in-Some.hit.text.now; parts = map span_places c.in-Some.hit.parts.now } in
     λ es meant all hits.
     let s = c.loop-place.invariant es meant all hits in
-    let n = next_hits es session c.args.k place c.args.to s.rest c.loop-place-test.true c.requires s.are_rest in
+    let n = next_hits es session c.args.k place c.args.to s.rest c.loop-place-test.true c.requires.within s.are_rest in
     shown_one session c.args.k c.args.from c.args.to c.args.page.now.skip c.args.page.now.left g.W.CountedWrite.contents g.W.CountedWrite.failures c.args.margin.now es all c.args.out.now c.loop-place.out place c.loop-place.page.skip c.loop-place.page.left s n hit
     (one_here es session.options (λ (h : SessionHit). h.text.now) (λ (h : SessionHit). h.parts.now) place (get_or lines place []) c.hit.result n.here (c.hit.ensures es meant) n.is_here c.in-Some.hit c.in-Some.is)
     c.show_hit.new.out c.show_hit.new.page.skip c.show_hit.new.page.left c.in_ok-show_hit.ensures.skip c.in_ok-show_hit.ensures.left c.in_ok-show_hit.ensures.wrote

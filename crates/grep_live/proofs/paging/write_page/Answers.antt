@@ -10,8 +10,8 @@ use Rattle.grep_live.proofs.paging.write_page.Goals as goal
 pub loop-k-init : goal.loop-k-init
 loop-k-init g c = λ es meant view are. none_written g.W.CountedWrite.contents g.W.CountedWrite.failures c.args.margin.now c.args.out.now (page_rows c.args.first c.args.count (all_hits 0 view))
 
-pub show_file-requires : goal.show_file-requires
-show_file-requires g c =
+pub show_file-requires-clause-are_ranks : goal.show_file-requires-clause-are_ranks
+show_file-requires-clause-are_ranks g c =
     let session = c.args.session.now in
     subst (AreRanks session (file_at session.files c.loop-k.k)) (sym c.deref.ensures.value)
     (ranks_seen session c.args.watches.now c.loop-k.k c.index-watches-k.result c.requires c.loop-k-test.true c.index-watches-k.is)
