@@ -7,6 +7,7 @@ pub mod Pushing
 pub mod ListingLemmas
 pub mod NumberLemmas
 pub mod RankLemmas
+pub mod StatusLemmas
 pub mod WatchLemmas
 pub mod ChangesLemmas
 pub mod CatchLemmas

@@ -11,6 +11,7 @@ mod page;
 mod paging;
 mod ranks;
 mod rows;
+mod status;
 mod watch;
 
 pub use laws::nothing_twice;

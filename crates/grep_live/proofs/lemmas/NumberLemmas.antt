@@ -1,5 +1,5 @@
 -- The number of hits of lines.
-use Rattle.std.proofs.Common.{◌≡◌, ℕ, ◌+◌, ◌-◌, ◌≤◌, List, [], ◌∷◌, ◌++◌, length, take, drop, sym, ap, ◌∙◌, inl, inr, arith}
+use Rattle.std.proofs.Common.{◌≡◌, ℕ, ◌+◌, ◌-◌, ◌≤◌, List, [], ◌∷◌, ◌++◌, length, take, drop, refl, sym, ap, ◌∙◌, inl, inr, arith}
 use Rattle.std.specs.Prelude.{slice_range}
 use Rattle.std.proofs.Math.Seq.{take-add}
 use Rattle.std.proofs.lemmas.List.{length-append, length-take-le, take_all}
@@ -23,6 +23,19 @@ module _ (es : List Expression) (options : Options) where
   pub number : List Text → ℕ
   number [] = 0
   number (line ∷ lines) = one line (dec_selected es options line) + number lines
+
+  pub number_none : number [] ≡ 0
+  unfolding number
+  number_none = refl
+
+  -- a line more
+  pub number_next : (line : Text) (lines : List Text) → (Selected es options line → number (line ∷ lines) ≡ 1 + number lines) × (number lines ≤ number (line ∷ lines)) × ((Selected es options line → ⊥) → number (line ∷ lines) ≡ number lines)
+  unfolding number one
+  number_next line lines = by_verdict (dec_selected es options line)
+    where
+      by_verdict : (d : Dec (Selected es options line)) → (Selected es options line → one line d + number lines ≡ 1 + number lines) × (number lines ≤ one line d + number lines) × ((Selected es options line → ⊥) → one line d + number lines ≡ number lines)
+      by_verdict (yes selected) = ((λ s. refl), omega arith, (λ p. absurd (p selected)))
+      by_verdict (no passed) = ((λ s. absurd (passed s)), omega arith, (λ p. omega arith))
 
   pub number-append : (xs ys : List Text) → number (xs ++ ys) ≡ number xs + number ys
   unfolding number

@@ -4,6 +4,7 @@ ghost use Rattle.grep_live.specs.Writing.{WritesChanges, WritesPage};
 use crate::changing::write_changes;
 use crate::live::Live;
 use crate::paging::write_hits_page;
+use crate::status::status;
 use crate::watch::know_all;
 use grep_core::{CountedWrite, Status, WriteFault};
 
@@ -24,7 +25,7 @@ impl Live {
         ensures { WritesChanges W.contents W.failures margin.now out.old out.new self.old self.new
             result }
     {
-        let status = self.session.status();
+        let status = status(&self.session, &self.watches);
         match write_changes(&self.session, &self.watches, margin, out) {
             Ok(()) => {}
             Err(fault) => return Err(fault),
@@ -52,7 +53,7 @@ impl Live {
         ensures { WritesPage W.contents W.failures margin.now out.old out.new self.now.inputs first
             count result }
     {
-        let status = self.session.status();
+        let status = status(&self.session, &self.watches);
         match write_hits_page(&self.session, &self.watches, first, count, margin, out) {
             Ok(()) => {}
             Err(fault) => return Err(fault),

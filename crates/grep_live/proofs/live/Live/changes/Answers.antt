@@ -21,18 +21,18 @@ use Rattle.grep_live.proofs.live.Live.changes.Goals as goal
 pub write_changes-requires-clause-fit : goal.write_changes-requires-clause-fit
 write_changes-requires-clause-fit g c =
     let s = c.self.inside in
-    subst (λ (watches : List Watch). AreFit s.session.files (marks_of watches)) (sym c.deref.ensures.value) c.self.invariant.0
+    subst (λ (watches : List Watch). AreFit s.session.files (marks_of watches)) (sym c.deref-2.ensures.value) c.self.invariant.0
 
 pub write_changes-requires-clause-ranked : goal.write_changes-requires-clause-ranked
 write_changes-requires-clause-ranked g c =
     let s = c.self.inside in
-    subst (λ (watches : List Watch). AreRanked s.session s.session.files (ranks_of watches)) (sym c.deref.ensures.value) c.self.invariant.1
+    subst (λ (watches : List Watch). AreRanked s.session s.session.files (ranks_of watches)) (sym c.deref-2.ensures.value) c.self.invariant.1
 
 pub returns-in-Err : goal.returns-in-Err
 returns-in-Err g c =
     let s = c.self.inside in
     let wrote = subst (λ (watches : List Watch). (es : List Expression) → Mean s.session es → (changes : List Change) → AllThree (IsChange es s.session.options) s.session.files (marks_of watches) changes →
-    StopsWithin g.W.CountedWrite.contents g.W.CountedWrite.failures c.args.out.now c.write_changes.new.out (written c.args.margin.now (changes_rows 0 changes))) c.deref.ensures.value c.in-Err.ensures in
+    StopsWithin g.W.CountedWrite.contents g.W.CountedWrite.failures c.args.out.now c.write_changes.new.out (written c.args.margin.now (changes_rows 0 changes))) c.deref-2.ensures.value c.in-Err.ensures in
     subst (λ (w : Watched). WritesChanges g.W.CountedWrite.contents g.W.CountedWrite.failures c.args.margin.now c.args.out.now c.write_changes.new.out w w (Err c.in-Err.fault)) c.self.view_is
     (writes_all g.W.CountedWrite.contents g.W.CountedWrite.failures c.args.margin.now c.args.out.now c.write_changes.new.out (watched_of s) (watched_of s) c.status-status.result WriteFault (Err c.in-Err.fault) c.self.invariant.0 c.status-status.ensures wrote refl)
 
@@ -54,6 +54,6 @@ returns g c =
     let new : Watched = record { inputs = s.session; marks = marks_of c.know_all.new.watches.items } in
     let known : new ≡ all_known (watched_of s) = ap (λ (m : List Mark). record { inputs = s.session; marks = m }) c.know_all.ensures.marks in
     let wrote = subst (λ (watches : List Watch). (es : List Expression) → Mean s.session es → (changes : List Change) → AllThree (IsChange es s.session.options) s.session.files (marks_of watches) changes →
-    GoesOut g.W.CountedWrite.contents g.W.CountedWrite.failures c.args.out.now c.write_changes.new.out (written c.args.margin.now (changes_rows 0 changes))) c.deref.ensures.value c.in-Ok.ensures in
+    GoesOut g.W.CountedWrite.contents g.W.CountedWrite.failures c.args.out.now c.write_changes.new.out (written c.args.margin.now (changes_rows 0 changes))) c.deref-2.ensures.value c.in-Ok.ensures in
     subst (λ (old : Watched). WritesChanges g.W.CountedWrite.contents g.W.CountedWrite.failures c.args.margin.now c.args.out.now c.write_changes.new.out {E = WriteFault} old new (Ok c.status-status.result)) c.self.view_is
     (writes_all g.W.CountedWrite.contents g.W.CountedWrite.failures c.args.margin.now c.args.out.now c.write_changes.new.out (watched_of s) new c.status-status.result WriteFault (Ok c.status-status.result) c.self.invariant.0 c.status-status.ensures wrote (refl, known))

@@ -10,7 +10,7 @@ use Rattle.grep_live.proofs.live.Live.page.Goals as goal
 pub write_hits_page-requires : goal.write_hits_page-requires
 write_hits_page-requires g c =
     let s = c.self.inside in
-    subst (λ (watches : List Watch). AreRanked s.session s.session.files (ranks_of watches)) (sym c.deref.ensures.value) c.self.invariant.1
+    subst (λ (watches : List Watch). AreRanked s.session s.session.files (ranks_of watches)) (sym c.deref-2.ensures.value) c.self.invariant.1
 
 pub returns-in-Err : goal.returns-in-Err
 returns-in-Err g c =
