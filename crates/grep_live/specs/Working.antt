@@ -1,2 +1,5 @@
 pub mod Fits
 pub mod Listing
+pub mod Paging
+pub mod Ranks
+pub mod Live

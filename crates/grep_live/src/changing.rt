@@ -1,37 +1,22 @@
 //! What changed of the files of a session, as rows.
-ghost use Rattle.std.specs.Prelude.{◌≡◌, ◌-◌, ◌≤◌, ◌&&◌, ◌∷◌, List, length, map, nat_eq};
+ghost use Rattle.std.specs.Prelude.{◌≡◌, ◌-◌, ◌≤◌, ◌&&◌, ◌∷◌, List, map, length, nat_eq};
 ghost use Rattle.re_syntax.specs.Expression.{Expression};
 ghost use Rattle.grep_core.specs.Output.{written};
 ghost use Rattle.grep_core.specs.Run.{file_at};
 ghost use Rattle.grep_core.specs.Written.{Writes};
 ghost use Rattle.grep_live.specs.Lists.{AllThree};
 ghost use Rattle.grep_live.specs.Hits.{Hit};
-ghost use Rattle.grep_live.specs.Marks.{whole_mark};
 ghost use Rattle.grep_live.specs.Changes.{Change, IsChange};
 ghost use Rattle.grep_live.specs.Rows.{hit_row, change_row, change_rows, changes_rows};
 ghost use Rattle.grep_live.specs.Working.Fits.{AreFit};
 ghost use Rattle.grep_live.specs.Working.Listing.{Mean, HitsBetween};
+ghost use Rattle.grep_live.specs.Working.Ranks.{AreRanks, AreRanked, marks_of, ranks_of};
 
-use crate::mark::Mark;
+use crate::ranks::{Rank, count_between};
 use crate::rows::{write_hit_row, write_number_row};
+use crate::watch::Watch;
 use grep_core::{CountedWrite, WriteFault};
 use grep_session::Session;
-
-/// The number of hits among the lines of file `k` from place `from` to place `to`.
-pub fn count_hits(session: &Session, k: usize, from: usize, to: usize) -> usize
-    requires { to ≤ length (file_at session.now.files k).lines }
-    ensures { (es : List Expression) → Mean session.now es → (hits : List Hit) →
-        HitsBetween es session.now k from to hits → result ≡ length hits }
-{
-    let mut count = 0;
-    for place in from..to {
-        let Some(_hit) = session.hit(k, place) else {
-            continue;
-        };
-        count += 1;
-    }
-    count
-}
 
 /// Writes a row for each hit among the lines of file `k` from place `from` to place `to`.
 fn write_hits<W: CountedWrite>(
@@ -68,12 +53,14 @@ fn is_idle(removed: usize, added: usize) -> bool
 fn write_rows<W: CountedWrite>(
     session: &Session,
     k: usize,
+    ranks: &[Rank],
     removed: usize,
     front: usize,
     end: usize,
     margin: &[u8],
     out: &mut W,
 ) -> Result<(), WriteFault>
+    requires are_ranks { AreRanks session.now (file_at session.now.files k) ranks.now }
     requires order { front ≤ end }
     requires within { end ≤ length (file_at session.now.files k).lines }
     ensures { (es : List Expression) → Mean session.now es → (hits : List Hit) →
@@ -85,7 +72,7 @@ fn write_rows<W: CountedWrite>(
           come = hits;
         }) ∷ map hit_row hits)) result }
 {
-    let count = count_hits(session, k, front, end);
+    let count = count_between(session, k, ranks, front, end);
     let numbers = [k, front, removed, end - front, count];
     write_number_row(out, margin, b"h", &numbers)?;
     write_hits(session, k, front, end, margin, out)
@@ -95,58 +82,51 @@ fn write_rows<W: CountedWrite>(
 fn write_change<W: CountedWrite>(
     session: &Session,
     k: usize,
-    mark: &Mark,
+    watch: &Watch,
     margin: &[u8],
     out: &mut W,
 ) -> Result<(), WriteFault>
-    requires { mark.now.front ≤ length (file_at session.now.files k).lines }
+    requires are_ranks { AreRanks session.now (file_at session.now.files k) watch.now.ranks.items }
+    requires within { watch.now.mark.front ≤ length (file_at session.now.files k).lines }
     ensures { (es : List Expression) → Mean session.now es → (change : Change) →
-        IsChange es session.now.options (file_at session.now.files k) mark.now change →
+        IsChange es session.now.options (file_at session.now.files k) watch.now.mark change →
         Writes W.contents W.failures out.old out.new (written margin.now (change_rows k change))
         result }
 {
-    let removed = mark.removed();
-    let added = mark.added(session.line_count(k));
+    let removed = watch.mark.removed();
+    let added = watch.mark.added(session.line_count(k));
     if is_idle(removed, added) {
         return Ok(());
     }
-    let end = mark.front + added;
-    write_rows(session, k, removed, mark.front, end, margin, out)
+    let front = watch.mark.front;
+    write_rows(
+        session,
+        k,
+        &watch.ranks,
+        removed,
+        front,
+        front + added,
+        margin,
+        out,
+    )
 }
 
 /// Writes what changed of each file, by its mark.
 pub fn write_changes<W: CountedWrite>(
     session: &Session,
-    marks: &[Mark],
+    watches: &[Watch],
     margin: &[u8],
     out: &mut W,
 ) -> Result<(), WriteFault>
-    requires { AreFit session.now.files marks.now }
+    requires fit { AreFit session.now.files (marks_of watches.now) }
+    requires ranked { AreRanked session.now session.now.files (ranks_of watches.now) }
     ensures { (es : List Expression) → Mean session.now es → (changes : List Change) →
-        AllThree (IsChange es session.now.options) session.now.files marks.now changes →
+        AllThree (IsChange es session.now.options) session.now.files (marks_of watches.now) changes →
         Writes W.contents W.failures out.old out.new (written margin.now (changes_rows 0 changes))
         result }
 {
-    for (k, mark) in marks.iter().enumerate() {
-        write_change(session, k, mark, margin, out)?;
+    for (k, watch) in watches.iter().enumerate() {
+        write_change(session, k, watch, margin, out)?;
     }
     Ok(())
-}
-
-/// Makes each mark whole: all lines of all files are known.
-fn mark_whole(session: &Session, marks: &mut [Mark])
-    requires { length marks.old ≡ length session.now.files }
-    ensures { marks.new ≡ map (λ file. whole_mark (length file.lines)) session.now.files }
-{
-    for (k, mark) in marks.iter_mut().enumerate() {
-        *mark = Mark::whole(session.line_count(k));
-    }
-}
-
-/// Makes each mark whole: all lines of all files are known.
-pub fn mark_known(session: &Session, marks: &mut Vec<Mark>)
-    requires { length marks.old.items ≡ length session.now.files }
-    ensures { marks.new.items ≡ map (λ file. whole_mark (length file.lines)) session.now.files }
-{
-    mark_whole(session, marks);
 }

@@ -8,16 +8,18 @@ mod edits;
 mod listing;
 mod reporting;
 
-use crate::mark::Mark;
+use crate::watch::Watch;
 use grep_session::Session;
 use std::alloc::Global;
 use std::marker::Model;
 
-/// A session, and a mark for each of its files. A contract sees the inputs of grep and the marks.
+/// A session, and for each of its files a mark and the number of hits before some places. A
+/// contract sees the inputs of grep and the marks.
 #[derive(Drop)]
 pub struct Live {
+    alloc: Global,
     session: Session,
-    marks: Vec<Mark>,
+    watches: Vec<Watch>,
 }
 
 impl Model for Live {
@@ -25,7 +27,7 @@ impl Model for Live {
 
     ghost Value = { Watched };
 
-    ghost use Rattle.grep_live.specs.Working.Fits.{watched_of, IsLive};
+    ghost use Rattle.grep_live.specs.Working.Live.{watched_of, IsLive};
 
     ghost view = { watched_of };
 
@@ -42,8 +44,9 @@ impl Live {
         ensures followed { Follows result [] }
     {
         Live {
+            alloc,
             session: Session::new(alloc, states),
-            marks: Vec::new(alloc),
+            watches: Vec::new(alloc),
         }
     }
 }

@@ -1,5 +1,5 @@
 //! Marks: which lines of a file are as the editor knows them.
-ghost use Rattle.std.specs.Prelude.{◌≡◌, ◌-◌, map};
+ghost use Rattle.std.specs.Prelude.{◌≡◌, ◌-◌};
 ghost use Rattle.grep_live.specs.Marks.{whole_mark, new_mark, touched, lost};
 
 /// Which lines of a file are untouched since its changes were last reported: the number of lines at
@@ -68,20 +68,4 @@ impl Mark {
     {
         lines.saturating_sub(self.front).saturating_sub(self.back)
     }
-}
-
-/// Leaves no line of these files untouched.
-fn lose_each(marks: &mut [Mark])
-    ensures { marks.new ≡ map lost marks.old }
-{
-    for mark in marks.iter_mut() {
-        mark.lose();
-    }
-}
-
-/// Leaves no line of any file untouched.
-pub fn lose_all(marks: &mut Vec<Mark>)
-    ensures { marks.new.items ≡ map lost marks.old.items }
-{
-    lose_each(marks);
 }

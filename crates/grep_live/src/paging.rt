@@ -1,5 +1,5 @@
 //! A page of the hits of all files.
-ghost use Rattle.std.specs.Prelude.{◌≡◌, ◌-◌, ◌^◌, ◌∷◌, List, min, length, map, IfOk};
+ghost use Rattle.std.specs.Prelude.{◌≡◌, ◌≤◌, ◌<◌, ◌-◌, ◌^◌, ◌∷◌, List, min, length, map, IfOk};
 ghost use Rattle.re_syntax.specs.Expression.{Expression};
 ghost use Rattle.grep_core.specs.Output.{written};
 ghost use Rattle.grep_core.specs.Run.{file_at};
@@ -7,46 +7,56 @@ ghost use Rattle.grep_core.specs.Written.{Writes};
 ghost use Rattle.grep_live.specs.Hits.{Hit, View, AreHits};
 ghost use Rattle.grep_live.specs.Rows.{all_hits, page_rows, total_row};
 ghost use Rattle.grep_live.specs.Working.Listing.{Mean, HitsBetween};
+ghost use Rattle.grep_live.specs.Working.Paging.{IsRest};
+ghost use Rattle.grep_live.specs.Working.Ranks.{AreRanks, AreRanked, ranks_of};
 
-use crate::changing::count_hits;
 use crate::page::{Page, show_hit};
+use crate::ranks::{Rank, count_file};
 use crate::rows::write_number_row;
+use crate::watch::Watch;
 use grep_core::{CountedWrite, WriteFault};
 use grep_session::Session;
 
 /// The number of hits of all files, at most the greatest `usize`.
-pub fn count_all(session: &Session) -> usize
+pub fn count_all(session: &Session, watches: &[Watch]) -> usize
+    requires { AreRanked session.now session.now.files (ranks_of watches.now) }
     ensures { (es : List Expression) → Mean session.now es → (view : View) →
         AreHits es session.now.options session.now.files view →
         result ≡ min (length (all_hits 0 view)) (2 ^ 64 - 1) }
 {
     let mut total: usize = 0;
-    for k in 0..session.file_count() {
-        let count = count_hits(session, k, 0, session.line_count(k));
+    for (k, watch) in watches.iter().enumerate() {
+        let count = count_file(session, k, &watch.ranks);
         total = total.saturating_add(count);
     }
     total
 }
 
-/// Writes the rows of the hits of file `k` that are on the page.
-fn show_file<W: CountedWrite>(
+/// Writes the rows of those hits that are on the page, of the lines of file `k` from place `from`
+/// to place `to`.
+fn show_lines<W: CountedWrite>(
     session: &Session,
     k: usize,
+    from: usize,
+    to: usize,
     page: &mut Page,
     margin: &[u8],
     out: &mut W,
 ) -> Result<(), WriteFault>
+    requires within { to ≤ length (file_at session.now.files k).lines }
+    requires some { 0 < page.old.left }
     ensures wrote { (es : List Expression) → Mean session.now es → (hits : List Hit) →
-        HitsBetween es session.now k 0 (length (file_at session.now.files k).lines) hits →
+        HitsBetween es session.now k from to hits →
         Writes W.contents W.failures out.old out.new (written margin.now
         (page_rows page.old.skip page.old.left (map (λ hit. (k, hit)) hits))) result }
     ensures rest { IfOk result (λ _. (es : List Expression) → Mean session.now es →
-        (hits : List Hit) →
-        HitsBetween es session.now k 0 (length (file_at session.now.files k).lines) hits →
-        (page.new.skip ≡ page.old.skip - length hits) ×
-        (page.new.left ≡ page.old.left - (length hits - page.old.skip))) }
+        (hits : List Hit) → HitsBetween es session.now k from to hits →
+        IsRest page.old (length hits) page.new) }
 {
-    for place in 0..session.line_count(k) {
+    for place in from..to {
+        if page.left == 0 {
+            return Ok(());
+        }
         let Some(hit) = session.hit(k, place) else {
             continue;
         };
@@ -55,14 +65,90 @@ fn show_file<W: CountedWrite>(
     Ok(())
 }
 
+/// The same where the number of these hits is known: hits that are all skipped are not looked for,
+/// nor any where the page is full.
+fn show_counted<W: CountedWrite>(
+    session: &Session,
+    k: usize,
+    from: usize,
+    to: usize,
+    count: usize,
+    page: &mut Page,
+    margin: &[u8],
+    out: &mut W,
+) -> Result<(), WriteFault>
+    requires within { to ≤ length (file_at session.now.files k).lines }
+    requires counted { (es : List Expression) → Mean session.now es → (hits : List Hit) →
+        HitsBetween es session.now k from to hits → count ≡ length hits }
+    ensures wrote { (es : List Expression) → Mean session.now es → (hits : List Hit) →
+        HitsBetween es session.now k from to hits →
+        Writes W.contents W.failures out.old out.new (written margin.now
+        (page_rows page.old.skip page.old.left (map (λ hit. (k, hit)) hits))) result }
+    ensures rest { IfOk result (λ _. (es : List Expression) → Mean session.now es →
+        (hits : List Hit) → HitsBetween es session.now k from to hits →
+        IsRest page.old (length hits) page.new) }
+{
+    if count <= page.skip {
+        page.skip -= count;
+        return Ok(());
+    }
+    if page.left == 0 {
+        page.skip = 0;
+        return Ok(());
+    }
+    show_lines(session, k, from, to, page, margin, out)
+}
+
+/// Writes the rows of the hits of file `k` that are on the page.
+fn show_file<W: CountedWrite>(
+    session: &Session,
+    k: usize,
+    ranks: &[Rank],
+    page: &mut Page,
+    margin: &[u8],
+    out: &mut W,
+) -> Result<(), WriteFault>
+    requires are_ranks { AreRanks session.now (file_at session.now.files k) ranks.now }
+    requires some { 0 < page.old.left }
+    ensures wrote { (es : List Expression) → Mean session.now es → (hits : List Hit) →
+        HitsBetween es session.now k 0 (length (file_at session.now.files k).lines) hits →
+        Writes W.contents W.failures out.old out.new (written margin.now
+        (page_rows page.old.skip page.old.left (map (λ hit. (k, hit)) hits))) result }
+    ensures rest { IfOk result (λ _. (es : List Expression) → Mean session.now es →
+        (hits : List Hit) →
+        HitsBetween es session.now k 0 (length (file_at session.now.files k).lines) hits →
+        IsRest page.old (length hits) page.new) }
+{
+    let mut last = Rank {
+        place: 0,
+        before: 0,
+    };
+    for rank in ranks {
+        if rank.place < last.place {
+            continue;
+        }
+        let count = rank.before.saturating_sub(last.before);
+        show_counted(session, k, last.place, rank.place, count, page, margin, out)?;
+        last = *rank;
+    }
+    if page.left == 0 {
+        return Ok(());
+    }
+    let lines = session.line_count(k);
+    show_lines(session, k, last.place, lines, page, margin, out)?;
+    Ok(())
+}
+
 /// Writes the rows of at most `count` hits from number `first` on, of all files in order.
 pub fn write_page<W: CountedWrite>(
     session: &Session,
+    watches: &[Watch],
     first: usize,
     count: usize,
     margin: &[u8],
     out: &mut W,
 ) -> Result<(), WriteFault>
+    requires { AreRanked session.now session.now.files (ranks_of watches.now) }
     ensures { (es : List Expression) → Mean session.now es → (view : View) →
         AreHits es session.now.options session.now.files view →
         Writes W.contents W.failures out.old out.new (written margin.now
@@ -72,8 +158,11 @@ pub fn write_page<W: CountedWrite>(
         skip: first,
         left: count,
     };
-    for k in 0..session.file_count() {
-        show_file(session, k, &mut page, margin, out)?;
+    for (k, watch) in watches.iter().enumerate() {
+        if page.left == 0 {
+            return Ok(());
+        }
+        show_file(session, k, &watch.ranks, &mut page, margin, out)?;
     }
     Ok(())
 }
@@ -81,18 +170,20 @@ pub fn write_page<W: CountedWrite>(
 /// Writes the number of hits, and the rows of at most `count` of them from number `first` on.
 pub fn write_hits_page<W: CountedWrite>(
     session: &Session,
+    watches: &[Watch],
     first: usize,
     count: usize,
     margin: &[u8],
     out: &mut W,
 ) -> Result<(), WriteFault>
+    requires { AreRanked session.now session.now.files (ranks_of watches.now) }
     ensures { (es : List Expression) → Mean session.now es → (view : View) →
         AreHits es session.now.options session.now.files view →
         Writes W.contents W.failures out.old out.new (written margin.now
         (total_row (min (length (all_hits 0 view)) (2 ^ 64 - 1)) ∷
         page_rows first count (all_hits 0 view))) result }
 {
-    let total = count_all(session);
+    let total = count_all(session, watches);
     write_number_row(out, margin, b"hits", &[total])?;
-    write_page(session, first, count, margin, out)
+    write_page(session, watches, first, count, margin, out)
 }

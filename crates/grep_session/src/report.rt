@@ -1,13 +1,15 @@
 //! What grep writes for the kept files, and its status. No line is searched and no memory is asked
 //! for: all is computed from what is kept.
 ghost use Rattle.std.specs.Prelude.{◌≡◌, All, List, map, length, nat_le, IfOk};
+ghost use Rattle.std.specs.Bool.{Decides};
 ghost use Rattle.re_syntax.specs.Expression.{Expression};
-ghost use Rattle.grep_core.specs.Messages.{StatusOf};
+ghost use Rattle.grep_core.specs.Messages.{AnySelected, StatusOf};
 ghost use Rattle.grep_core.specs.Output.{written};
 ghost use Rattle.grep_core.specs.Written.{Writes};
 ghost use Rattle.grep_session.specs.Working.Kept.{kept_lines, kept_file, IsFileKept};
 ghost use Rattle.grep_session.specs.Working.Report.{FileFits, rows_with, report_rows, told_from};
 ghost use Rattle.grep_session.specs.Working.Report.{any_selected, any_missing, status_by_files};
+ghost use Rattle.grep_session.specs.Working.Report.{status_given};
 ghost use Rattle.grep_session.specs.Working.Report.{has_selected_in};
 ghost use Rattle.grep_session.specs.Working.Report.{Reports, TellsMessages};
 
@@ -103,16 +105,32 @@ fn any_missing(files: &[KeptFile]) -> bool
     files.iter().any(|file| file.end().is_fault())
 }
 
-/// The status, computed from what is kept.
+/// The status, where it is known whether some line is selected.
 #[tactic(auto, using(crate::proofs::lemmas::KeptLaws::status_in_turn))]
-fn status_by_files(files: &[KeptFile], options: &Options) -> Status
-    ensures { result ≡ status_by_files options.now files.now }
+fn status_where(files: &[KeptFile], options: &Options, some: bool) -> Status
+    ensures { result ≡ status_given options.now files.now some }
 {
-    let some = any_selected(files, options);
     if options.quiet & some {
         return Status::Selected;
     }
     status_of(some, any_missing(files))
+}
+
+/// The status, computed from what is kept.
+fn status_by_files(files: &[KeptFile], options: &Options) -> Status
+    ensures { result ≡ status_by_files options.now files.now }
+{
+    status_where(files, options, any_selected(files, options))
+}
+
+/// The status of grep for the files (XCU grep, EXIT STATUS), if what is kept of them is right,
+/// where it is known whether some line is selected.
+pub fn status_given(files: &[KeptFile], options: &Options, some: bool) -> Status
+    ensures { (es : List Expression) → All (IsFileKept es options.now) files.now →
+        Decides some (AnySelected es options.now (map kept_file files.now)) →
+        StatusOf es options.now (map kept_file files.now) result }
+{
+    status_where(files, options, some)
 }
 
 /// The status of grep for the files (XCU grep, EXIT STATUS), if what is kept of them is right.

@@ -1,9 +1,8 @@
 -- What each edit leaves: marks that fit, and views that follow.
-use Rattle.std.proofs.Common.{◌≡◌, ℕ, ◌+◌, ◌-◌, ◌<◌, ◌≤◌, Bool, List, [], ◌∷◌, ◌++◌, length, map, take, drop, get_or, Result, Ok, Err, refl, sym, ap, subst, ◌∙◌, inl, inr, arith}
+use Rattle.std.proofs.Common.{◌≡◌, ℕ, ◌+◌, ◌-◌, ◌<◌, ◌≤◌, Bool, List, [], ◌∷◌, ◌++◌, length, map, take, drop, Result, Ok, Err, refl, sym, ap, subst, ◌∙◌, inl, inr, arith}
 use Rattle.std.proofs.Math.ListN.{set}
-use Rattle.std.proofs.lemmas.List.{drop_all, append-nil, length-append, get_or_read}
+use Rattle.std.proofs.lemmas.List.{drop_all, append-nil, length-append}
 use Rattle.std.proofs.lemmas.List.Edits.{remove-append_right}
-use Rattle.std.specs.Result.{IfOk, IfErr}
 use Rattle.std.proofs.lemmas.Bool.{cases_lt}
 use Rattle.std.specs.Prelude.{slice_set}
 use Rattle.std.specs.List.{remove, splice}
@@ -28,7 +27,7 @@ use Rattle.grep_live.specs.Changes.{hits_before, hits_from}
 use Rattle.grep_live.specs.Marks.{Watched, new_mark, mark_at, touched, lost, marks_by_flag, MarksAfter, MarksGiven}
 use Rattle.grep_live.specs.Following.{FollowsFile, Follows, view_after, Carries}
 use Rattle.grep_live.specs.Working.Fits.{Fits, AreFit}
-use Rattle.grep_live.proofs.lemmas.ListLemmas.{zip-append, zip-remove, zip-set, zip-map, zip-at, zip-length, three-append, three-remove, three-set, three-map, three-weaker}
+use Rattle.grep_live.proofs.lemmas.ListLemmas.{zip-append, zip-remove, zip-set, zip-map, zip-at, three-append, three-remove, three-set, three-map, three-weaker}
 use Rattle.grep_live.proofs.lemmas.HitLemmas.{before_none, hits_from_none}
 use Rattle.grep_live.proofs.lemmas.MarkLemmas.{fits_touched, length-splice, spliced_front, spliced_back}
 
@@ -257,14 +256,8 @@ carried T edit old new (Err fault) fit g m =
 pub dropped_inside : (k : ℕ) (old new : Inputs) → Applies (DropFile k) old (Ok new) → k < length old.files
 dropped_inside k old new a = (accepted_if new (with_files (remove old.files k) old) NoSuchFile a).0
 
-pub spliced_inside : (k start count : ℕ) (lines : List Text) (old new : Inputs) → Applies (Splice k start count lines) old (Ok new) → k < length old.files
-spliced_inside k start count lines old new a =
-    let file = accepted_unless new NoSuchFile a in
-    elim (cases_lt k (length old.files)) [ inl h ↦ h | inr h ↦ absurd (file.0 h) ]
-
--- there are as many marks as files
-pub as_many : (files : List File) (marks : List Mark) → AreFit files marks → length files ≡ length marks
-as_many files marks fit = zip-length Fit files marks fit
+pub file_dropped : (k : ℕ) (old new : Inputs) → Applies (DropFile k) old (Ok new) → new ≡ with_files (remove old.files k) old
+file_dropped k old new a = (accepted_if new (with_files (remove old.files k) old) NoSuchFile a).1
 
 -- the files after one was added
 pub added_file : (name : Text) (lines : List Text) (old new : Inputs) → Applies (AddFile name lines) old (Ok new) → new ≡ with_files (old.files ++ whole_file name lines ∷ []) old
@@ -274,7 +267,7 @@ pub added_missing : (name : Text) (old new : Inputs) → Applies (AddMissing nam
 added_missing name old new a = same_inputs new (with_files (old.files ++ missing_file name ∷ []) old) a
 
 -- the last file is removed again
-taken_back : (file : File) (old between after : Inputs) → between ≡ with_files (old.files ++ file ∷ []) old → after ≡ with_files (remove between.files (length between.files - 1)) between → after ≡ old
+pub taken_back : (file : File) (old between after : Inputs) → between ≡ with_files (old.files ++ file ∷ []) old → after ≡ with_files (remove between.files (length between.files - 1)) between → after ≡ old
 taken_back file old between after b a =
     let n = length old.files in
     let last : length (old.files ++ file ∷ []) - 1 ≡ n = omega (arith, length-append old.files (file ∷ [])) in
@@ -282,22 +275,37 @@ taken_back file old between after b a =
     let gone : remove (old.files ++ file ∷ []) n ≡ old.files = remove-append_right old.files (file ∷ []) n n refl (omega arith) ∙ ap (λ i. old.files ++ remove (file ∷ []) i) zeroed ∙ append-nil old.files in
     a ∙ (λ i. with_files (remove (b i).files (length (b i).files - 1)) (b i)) ∙ ap (λ i. with_files (remove (old.files ++ file ∷ []) i) old) last ∙ ap (λ files. with_files files old) gone
 
--- a file was added with its mark, or it was removed again
-pub marked_last : (edit : Edit) (file : File) (old : Watched) (between after : Inputs) (marks : List Mark) (result : Result (Unit {0}) EditFault) → AreFit old.inputs.files old.marks → ((m : List Mark) → m ≡ old.marks ++ new_mark ∷ [] → MarksAfter edit old m) → Applies edit old.inputs (Ok between) →
-    between ≡ with_files (old.inputs.files ++ file ∷ []) old.inputs → IfOk result (λ _. (after ≡ between) × (marks ≡ old.marks ++ new_mark ∷ [])) →
-    IfErr result (λ fault. (fault ≡ Memory) × (after ≡ with_files (remove between.files (length between.files - 1)) between) × (marks ≡ old.marks)) →
-    AreFit after.files marks × Carries edit old (record { inputs = after; marks = marks }) result
-marked_last edit file old between after marks (Ok done) fit marked applies is ok err =
-    carried (Unit {0}) edit old (record { inputs = after; marks = marks }) (Ok done) fit (subst (λ (i : Inputs). Applies edit old.inputs (Ok i)) (sym ok.0) applies) (marked marks ok.1)
-marked_last edit file old between after marks (Err fault) fit marked applies is ok err =
-    let same : after ≡ old.inputs = taken_back file old.inputs between after is err.1 in
-    let gives : EditGives {T = Unit {0}} edit old.inputs after (Err fault) = subst (λ (f : EditFault). EditGives {T = Unit {0}} edit old.inputs after (Err f)) (sym err.0) same in
-    carried (Unit {0}) edit old (record { inputs = after; marks = marks }) (Err fault) fit gives err.2
+-- the new inputs of an edit of patterns, of an option or of the syntax
+pub added_patterns : (list : Text) (old new : Inputs) → Applies (AddPatterns list) old (Ok new) → new ≡ with_patterns (old.patterns ++ list_of list) old
+added_patterns list old new a =
+    accepted_read old.syntax old.options.ignore_case (list_of list) new (with_patterns (old.patterns ++ list_of list) old) (accepted_unless new TooManyPatterns a).1
 
--- the mark of a file in which lines were replaced
-pub touched_is : (marks : List Mark) (k start count lines left rest : ℕ) (mark new : Mark) → k < length marks → new ≡ touched start left mark → mark ≡ get_or marks k mark → left ≡ rest - count → rest ≡ lines - start →
-    slice_set marks k new ≡ slice_set marks k (touched start (lines - (start + count)) (mark_at marks k))
-touched_is marks k start count lines left rest mark new inside is at b r =
-    let there : mark ≡ mark_at marks k = get_or_read marks k mark inside at new_mark in
-    let far : left ≡ lines - (start + count) = omega arith in
-    ap (slice_set marks k) (is ∙ (λ i. touched start (far i) (there i)))
+pub dropped_pattern : (p : ℕ) (old new : Inputs) → Applies (DropPattern p) old (Ok new) → new ≡ with_patterns (remove old.patterns p) old
+dropped_pattern p old new a = (accepted_if new (with_patterns (remove old.patterns p) old) NoSuchPattern a).1
+
+pub option_set : (flag : Flag) (on : Bool) (old new : Inputs) → Applies (SetFlag flag on) old (Ok new) → new ≡ record old { options = with_option flag on old.options }
+option_set flag on old new a =
+    accepted_read old.syntax (with_option flag on old.options).ignore_case old.patterns new (record old { options = with_option flag on old.options }) a
+
+pub syntax_set : (syntax : Syntax) (old new : Inputs) → Applies (SetSyntax syntax) old (Ok new) → new ≡ record old { syntax = syntax }
+syntax_set syntax old new a = accepted_read syntax old.options.ignore_case old.patterns new (record old { syntax = syntax }) a
+
+-- the new inputs of a splice, and that there is a place for it
+pub record Spliced (k start count : ℕ) (lines : List Text) (old new : Inputs) : Type 0 where
+  pub inside : k < length old.files
+  pub within : start + count ≤ length (file_at old.files k).lines
+  pub is : new ≡ with_files (spliced old.files k start count lines) old
+
+pub splice_accepted : (k start count : ℕ) (lines : List Text) (old new : Inputs) → Applies (Splice k start count lines) old (Ok new) → Spliced k start count lines old new
+splice_accepted k start count lines old new a =
+    let file = accepted_unless new NoSuchFile a in
+    let opened = accepted_unless new FileIsMissing file.1 in
+    let place = accepted_unless new OutOfRange opened.1 in
+    record {
+      inside = elim (cases_lt k (length old.files)) [ inl h ↦ h | inr h ↦ absurd (file.0 h) ];
+      within = elim (cases_lt (length (file_at old.files k).lines) (start + count)) [ inl h ↦ absurd (place.0 h) | inr h ↦ h ];
+      is = (accepted_if new (with_files (spliced old.files k start count lines) old) LineHasNewline place.1).1;
+    }
+
+pub same_option : (flag : Flag) (on : Bool) (options : Options) → option_of flag options ≡ on → with_option flag on options ≡ options
+same_option flag on options e = ap (λ b. with_option flag b options) (sym e) ∙ with_same flag options

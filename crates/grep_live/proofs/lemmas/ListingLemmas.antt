@@ -1,8 +1,9 @@
 -- The hits of lines, one line after the other: there are some, and no others.
-use Rattle.std.proofs.Common.{◌≡◌, ℕ, suc, ◌+◌, ◌-◌, ◌<◌, ◌≤◌, Bool, true, false, List, [], ◌∷◌, ◌++◌, length, map, take, drop, get_or, Option, None, Some, MatchBool, MatchOption, refl, sym, ap, subst, ◌∙◌, inl, inr, arith}
+use Rattle.std.proofs.Common.{◌≡◌, ℕ, suc, ◌+◌, ◌-◌, ◌<◌, ◌≤◌, Bool, true, false, List, [], ◌∷◌, ◌++◌, length, map, take, drop, get_or, Option, None, Some, MatchBool, MatchOption, refl, sym, ap, subst, ◌∙◌, inl, inr, arith, append_assoc}
 use Rattle.std.specs.Prelude.{slice_range}
 use Rattle.std.specs.List.{enumerate_from}
-use Rattle.std.proofs.Math.Seq.{drop-cons}
+use Rattle.std.proofs.Math.Seq.{drop-cons, take-add}
+use Rattle.std.proofs.lemmas.List.{drop-drop, length-take-le, length-drop}
 use Rattle.re_syntax.specs.Bytes.{Text}
 use Rattle.re_syntax.specs.Expression.{Expression}
 use Rattle.re_syntax.specs.Parts.{AreParts}
@@ -100,3 +101,33 @@ pub no_more : (es : List Expression) (inputs : Inputs) (k place to : ℕ) (left 
 no_more es inputs k place to left h hits =
     let none : to - place ≡ 0 = omega arith in
     subst (λ n. HitsFrom es inputs.options place (take n (drop place (file_at inputs.files k).lines)) left) none hits
+
+-- ---- lines cut at a place
+
+-- the hits before a place, and those from it on
+pub record Parted (es : List Expression) (inputs : Inputs) (k place mid to : ℕ) (hits : List Hit) : Type 0 where
+  pub front : List Hit
+  pub back : List Hit
+  pub is_front : HitsBetween es inputs k place mid front
+  pub is_back : HitsBetween es inputs k mid to back
+  pub joined : hits ≡ front ++ back
+
+split_from : (es : List Expression) (options : Options) (first next : ℕ) (xs ys : List Text) (hits : List Hit) → next ≡ first + length xs → HitsFrom es options first (xs ++ ys) hits →
+    (front : List Hit) × (back : List Hit) × HitsFrom es options first xs front × HitsFrom es options next ys back × (hits ≡ front ++ back)
+split_from es options first next [] ys hits e h =
+    let same : first ≡ next = omega (arith, e) in
+    ([], hits, refl, subst (λ n. HitsFrom es options n ys hits) same h, refl)
+split_from es options first next (x ∷ xs) ys hits e (front, rest, here, more, joined) =
+    let s = split_from es options (first + 1) next xs ys rest (omega (arith, e)) more in
+    (front ++ s.0, s.1, (front, s.0, here, s.2, refl), s.3, joined ∙ ap (λ l. front ++ l) s.4 ∙ sym (append_assoc front s.0 s.1))
+
+pub parted : (es : List Expression) (inputs : Inputs) (k place mid to : ℕ) (hits : List Hit) → place ≤ mid → mid ≤ to → mid ≤ length (file_at inputs.files k).lines → HitsBetween es inputs k place to hits → Parted es inputs k place mid to hits
+parted es inputs k place mid to hits low high within h =
+    let lines = (file_at inputs.files k).lines in
+    let far : to - place ≡ (mid - place) + (to - mid) = omega arith in
+    let there : place + (mid - place) ≡ mid = omega arith in
+    let cut : slice_range lines place to ≡ slice_range lines place mid ++ slice_range lines mid to =
+    ap (λ n. take n (drop place lines)) far ∙ take-add (mid - place) (to - mid) (drop place lines) ∙ ap (λ l. take (mid - place) (drop place lines) ++ take (to - mid) l) (drop-drop (mid - place) place lines ∙ ap (λ n. drop n lines) there) in
+    let long : length (slice_range lines place mid) ≡ mid - place = length-take-le (mid - place) (drop place lines) (omega (arith, length-drop place lines)) in
+    let s = split_from es inputs.options place mid (slice_range lines place mid) (slice_range lines mid to) hits (omega (arith, long)) (subst (λ t. HitsFrom es inputs.options place t hits) cut h) in
+    record { front = s.0; back = s.1; is_front = s.2; is_back = s.3; joined = s.4 }

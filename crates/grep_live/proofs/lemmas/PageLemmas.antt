@@ -15,7 +15,7 @@ use Rattle.grep_live.specs.Hits.{Hit, View, HitsFrom, AreHits}
 use Rattle.grep_live.specs.Rows.{total_row, page_row, page_rows, all_hits}
 use Rattle.grep_live.specs.Writing.{WritesPage}
 use Rattle.grep_live.specs.Working.Listing.{Mean, HitsBetween}
-use Rattle.grep_live.proofs.lemmas.ListingLemmas.{HitsFrom-exist, Next, no_more}
+use Rattle.grep_live.proofs.lemmas.ListingLemmas.{HitsFrom-exist, Next, no_more, Parted}
 use Rattle.grep_live.proofs.lemmas.ListLemmas.{zip-at, zip-length}
 
 -- ---- a part of a list
@@ -70,13 +70,23 @@ one_shown zero zero x h k = absurd (omega arith)
 one_shown zero (suc l) x h k = ap (λ t. page_row x ∷ map page_row t) (take-none (ℕ × Hit) l)
 one_shown (suc s) l x h k = absurd (omega arith)
 
--- ---- the hits of one file
+-- ---- hits that are not looked for
 
-module _ (inputs : Inputs) (k first count : ℕ) {W : Type 0} (contents : W → Option Text) (failures : W → ℕ) (margin : Text) where
+-- all are skipped
+pub all_passed : (s l : ℕ) (xs : List (ℕ × Hit)) → length xs ≤ s → page_rows s l xs ≡ []
+all_passed s l xs h = ap (λ t. map page_row (take l t)) (drop_all s xs h) ∙ ap (map page_row) (take-none (ℕ × Hit) l)
+
+-- the page is full
+pub page_full : (s : ℕ) (l : ℕ) (xs : List (ℕ × Hit)) → l ≡ 0 → page_rows s l xs ≡ []
+page_full s l xs e = ap (λ n. map page_row (take n (drop s xs))) e
+
+-- ---- the hits of some lines of one file
+
+module _ (inputs : Inputs) (k from to first count : ℕ) {W : Type 0} (contents : W → Option Text) (failures : W → ℕ) (margin : Text) where
   -- this number of hits was skipped or shown, and these are left
   pub record ShownUpTo (old now : W) (es : List Expression) (place skip left : ℕ) (all : List Hit) : Type 0 where
     pub rest : List Hit
-    pub are_rest : HitsBetween es inputs k place (length (file_at inputs.files k).lines) rest
+    pub are_rest : HitsBetween es inputs k place to rest
     pub passed : ℕ
     pub counted : passed + length rest ≡ length all
     pub is_skip : skip ≡ first - passed
@@ -84,9 +94,9 @@ module _ (inputs : Inputs) (k first count : ℕ) {W : Type 0} (contents : W → 
     pub wrote : WrittenUpTo contents failures margin old now (page_rows first count (map (λ hit. (k, hit)) all)) (page_rows skip left (map (λ hit. (k, hit)) rest))
 
   abbrev pub Shows : W → W → ℕ → ℕ → ℕ → Type 0
-  Shows old now place skip left = (es : List Expression) → Mean inputs es → (all : List Hit) → HitsBetween es inputs k 0 (length (file_at inputs.files k).lines) all → ShownUpTo old now es place skip left all
+  Shows old now place skip left = (es : List Expression) → Mean inputs es → (all : List Hit) → HitsBetween es inputs k from to all → ShownUpTo old now es place skip left all
 
-  pub shown_none : (a : W) → Shows a a 0 first count
+  pub shown_none : (a : W) → Shows a a from first count
   shown_none a = λ es meant all hits. record {
     rest = all;
     are_rest = hits;
@@ -97,7 +107,7 @@ module _ (inputs : Inputs) (k first count : ℕ) {W : Type 0} (contents : W → 
     wrote = none_written contents failures margin a (page_rows first count (map (λ hit. (k, hit)) all));
   }
 
-  module _ (es : List Expression) (all : List Hit) (a b : W) (place skip left : ℕ) (s : ShownUpTo a b es place skip left all) (n : Next es inputs k place (length (file_at inputs.files k).lines) s.rest) where
+  module _ (es : List Expression) (all : List Hit) (a b : W) (place skip left : ℕ) (s : ShownUpTo a b es place skip left all) (n : Next es inputs k place to s.rest) where
     pub shown_past : n.here ≡ [] → ShownUpTo a b es (place + 1) skip left all
     shown_past e =
         let same : s.rest ≡ n.rest = n.joined ∙ ap (λ l. l ++ n.rest) e in
@@ -137,9 +147,44 @@ module _ (inputs : Inputs) (k first count : ℕ) {W : Type 0} (contents : W → 
       shown_stops stopped =
           broken_off contents failures margin a b c (page_rows first count (map (λ hit. (k, hit)) all)) (page_rows skip left (map (λ hit. (k, hit)) s.rest)) (page_rows skip left ((k, hit) ∷ [])) (page_rows (skip - 1) (left - (1 - skip)) (map (λ hit. (k, hit)) n.rest)) next_shown s.wrote stopped
 
-  module _ (es : List Expression) (all : List Hit) (a b : W) (place skip left : ℕ) (past : length (file_at inputs.files k).lines ≤ place) (s : ShownUpTo a b es place skip left all) where
+  -- the hits up to a later place are skipped or shown
+  module _ (es : List Expression) (all : List Hit) (a b c : W) (place mid skip left : ℕ) (s : ShownUpTo a b es place skip left all) (p : Parted es inputs k place mid to s.rest) where
+    part_shown : page_rows skip left (map (λ hit. (k, hit)) s.rest) ≡ page_rows skip left (map (λ hit. (k, hit)) p.front) ++ page_rows (skip - length p.front) (left - (length p.front - skip)) (map (λ hit. (k, hit)) p.back)
+    part_shown =
+        ap (λ l. page_rows skip left (map (λ hit. (k, hit)) l)) p.joined ∙ ap (page_rows skip left) (map-append (λ hit. (k, hit)) p.front p.back)
+        ∙ page_append skip left (length p.front) (map (λ hit. (k, hit)) p.front) (map (λ hit. (k, hit)) p.back) (length-map p.front (λ hit. (k, hit)))
+
+    pub shown_part : (skip_now left_now : ℕ) → skip_now ≡ skip - length p.front → left_now ≡ left - (length p.front - skip) → GoesOut contents failures b c (written margin (page_rows skip left (map (λ hit. (k, hit)) p.front))) → ShownUpTo a c es mid skip_now left_now all
+    shown_part skip_now left_now is_skip is_left went =
+        let long : length s.rest ≡ length p.front + length p.back = ap length p.joined ∙ length-append p.front p.back in
+        record {
+          rest = p.back;
+          are_rest = p.is_back;
+          passed = s.passed + length p.front;
+          counted = omega (arith, s.counted, long);
+          is_skip = omega (arith, s.is_skip, is_skip);
+          is_left = omega (arith, s.is_skip, s.is_left, is_left);
+          wrote =
+              subst (λ (q : ℕ × ℕ). WrittenUpTo contents failures margin a c (page_rows first count (map (λ hit. (k, hit)) all)) (page_rows q.0 q.1 (map (λ hit. (k, hit)) p.back))) (λ i. (sym is_skip i, sym is_left i))
+              (written_on contents failures margin a b c (page_rows first count (map (λ hit. (k, hit)) all)) (page_rows skip left (map (λ hit. (k, hit)) s.rest)) (page_rows skip left (map (λ hit. (k, hit)) p.front)) (page_rows (skip - length p.front) (left - (length p.front - skip)) (map (λ hit. (k, hit)) p.back)) part_shown s.wrote went);
+        }
+
+    pub part_stops : StopsWithin contents failures b c (written margin (page_rows skip left (map (λ hit. (k, hit)) p.front))) → StopsWithin contents failures a c (written margin (page_rows first count (map (λ hit. (k, hit)) all)))
+    part_stops stopped =
+        broken_off contents failures margin a b c (page_rows first count (map (λ hit. (k, hit)) all)) (page_rows skip left (map (λ hit. (k, hit)) s.rest)) (page_rows skip left (map (λ hit. (k, hit)) p.front)) (page_rows (skip - length p.front) (left - (length p.front - skip)) (map (λ hit. (k, hit)) p.back)) part_shown s.wrote stopped
+
+  -- the page is full
+  module _ (es : List Expression) (all : List Hit) (a b : W) (place skip left : ℕ) (full : left ≡ 0) (s : ShownUpTo a b es place skip left all) where
+    pub full_all : GoesOut contents failures a b (written margin (page_rows first count (map (λ hit. (k, hit)) all)))
+    full_all =
+        all_written contents failures margin a b (page_rows first count (map (λ hit. (k, hit)) all)) (page_rows skip left (map (λ hit. (k, hit)) s.rest)) (page_full skip left (map (λ hit. (k, hit)) s.rest) full) s.wrote
+
+    pub full_rest : 0 < count → (skip ≡ first - length all) × (left ≡ count - (length all - first))
+    full_rest some = (omega (arith, some, full, s.counted, s.is_skip, s.is_left), omega (arith, some, full, s.counted, s.is_skip, s.is_left))
+
+  module _ (es : List Expression) (all : List Hit) (a b : W) (place skip left : ℕ) (past : to ≤ place) (s : ShownUpTo a b es place skip left all) where
     none_rest : s.rest ≡ []
-    none_rest = no_more es inputs k place (length (file_at inputs.files k).lines) s.rest past s.are_rest
+    none_rest = no_more es inputs k place to s.rest past s.are_rest
 
     pub shown_all : GoesOut contents failures a b (written margin (page_rows first count (map (λ hit. (k, hit)) all)))
     shown_all =
@@ -206,6 +251,10 @@ module _ {W : Type 0} (contents : W → Option Text) (failures : W → ℕ) (mar
     pub paged_stops : StopsWithin contents failures b c (written margin (page_rows skip left (map (λ hit. (k, hit)) (get_or view k [])))) → StopsWithin contents failures a c (written margin (page_rows first count (all_hits 0 view)))
     paged_stops stopped =
         broken_off contents failures margin a b c (page_rows first count (all_hits 0 view)) (page_rows skip left (all_hits k (drop k view))) (page_rows skip left (map (λ hit. (k, hit)) (get_or view k []))) (page_rows (skip - length (get_or view k [])) (left - (length (get_or view k []) - skip)) (all_hits (k + 1) (drop (k + 1) view))) next_page s stopped
+
+  pub paged_full : (k skip left : ℕ) → left ≡ 0 → PagedUpTo a b k skip left → GoesOut contents failures a b (written margin (page_rows first count (all_hits 0 view)))
+  paged_full k skip left full s =
+      all_written contents failures margin a b (page_rows first count (all_hits 0 view)) (page_rows skip left (all_hits k (drop k view))) (page_full skip left (all_hits k (drop k view)) full) s
 
   pub paged_all : (k skip left : ℕ) → length view ≤ k → PagedUpTo a b k skip left → GoesOut contents failures a b (written margin (page_rows first count (all_hits 0 view)))
   paged_all k skip left past s =

@@ -3,8 +3,7 @@ use Rattle.std.specs.Prelude.{◌≡◌, ℕ, ◌+◌, ◌≤◌, ◌⊎◌, Lis
 use Rattle.std.specs.List.{AllZip}
 use Rattle.grep_core.specs.Files.{File}
 use Rattle.grep_live.specs.declared.mark.Mark.{Mark}
-use Rattle.grep_live.specs.declared.live.Live.TheInside.{Inside}
-use Rattle.grep_live.specs.Marks.{Watched, whole_mark}
+use Rattle.grep_live.specs.Marks.{whole_mark}
 
 -- no line of the file is touched; or the untouched lines at its front and at its back do not
 -- overlap, neither in the known lines nor in the present ones
@@ -15,10 +14,3 @@ Fits lines mark =
 
 abbrev pub AreFit : List File → List Mark → Type 0
 AreFit files marks = AllZip (λ file mark. Fits (length file.lines) mark) files marks
-
--- the view of a watched session
-abbrev pub watched_of : Inside → Watched
-watched_of live = record { inputs = live.session; marks = live.marks.items }
-
-abbrev pub IsLive : Inside → Type 0
-IsLive live = AreFit live.session.files live.marks.items

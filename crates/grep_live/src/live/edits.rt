@@ -1,8 +1,9 @@
 //! The edits of a session that an editor watches. Each does what the same edit of a session does,
 //! with its answers, steps and need of memory, and marks what it touches.
-ghost use Rattle.std.specs.Prelude.{◌≡◌, ◌≢◌, ◌<◌, ◌-◌, ◌++◌, ◌∷◌, [], map, length, Ok, IfErr, IfOk};
-ghost use Rattle.std.specs.Prelude.{OnErr};
+ghost use Rattle.std.specs.Prelude.{◌≡◌, ◌≢◌, ◌<◌, ◌-◌, ◌++◌, ◌∷◌, List, [], map, length, Ok, IfErr};
+ghost use Rattle.std.specs.Prelude.{IfOk};
 ghost use Rattle.std.specs.List.{remove};
+ghost use Rattle.grep_core.specs.Run.{file_at};
 ghost use Rattle.grep_session.specs.declared.fault.EditFault.TheVariants.{Memory};
 ghost use Rattle.grep_session.specs.Edits.{Edit, AddFile, AddMissing, DropFile, Splice};
 ghost use Rattle.grep_session.specs.Edits.{AddPatterns, DropPattern, SetFlag, SetSyntax};
@@ -10,13 +11,16 @@ ghost use Rattle.grep_session.specs.Edits.{SetContext, EditGives, with_files};
 ghost use Rattle.grep_session.specs.Touched.{TakesSteps, NeedsNoMemory};
 ghost use Rattle.grep_live.specs.Marks.{new_mark, marks_by_flag};
 ghost use Rattle.grep_live.specs.Following.{Carries};
+ghost use Rattle.grep_live.specs.Working.Ranks.{AreRanks, RanksByFlag, marks_of, ranks_of};
 
+use crate::cut::cut_at;
 use crate::live::Live;
-use crate::mark::{Mark, lose_all};
+use crate::ranks::Rank;
+use crate::watch::{Watch, lose_all, push_watch, replace};
 use grep_core::{Context, Flag};
 use grep_session::{EditFault, Meter, Session};
 use re_search::Syntax;
-use std::alloc::AllocError;
+use std::alloc::Global;
 
 impl Live {
     /// Adds a file after the others.
@@ -43,7 +47,7 @@ impl Live {
             Ok(()) => {}
             Err(fault) => return Err(fault),
         }
-        mark_last(&mut self.session, &mut self.marks)
+        watch_last(self.alloc, &mut self.session, &mut self.watches)
     }
 
     /// Adds a file that cannot be opened after the others.
@@ -61,7 +65,7 @@ impl Live {
             Ok(()) => {}
             Err(fault) => return Err(fault),
         }
-        mark_last(&mut self.session, &mut self.marks)
+        watch_last(self.alloc, &mut self.session, &mut self.watches)
     }
 
     /// Removes file `k`; later files move up.
@@ -79,7 +83,7 @@ impl Live {
             Ok(()) => {}
             Err(fault) => return Err(fault),
         }
-        self.marks.remove(k);
+        self.watches.remove(k);
         Ok(())
     }
 
@@ -107,13 +111,12 @@ impl Live {
         ensures memory { NeedsNoMemory (Splice k start count (map (λ line. line.items) lines.items))
             self.old.inputs → IfErr result (λ fault. fault ≢ Memory) }
     {
-        let there = self.session.line_count(k);
+        let cut = cut_at(&self.session, k, start, count);
         match self.session.splice(k, start, count, lines, meter) {
             Ok(()) => {}
             Err(fault) => return Err(fault),
         }
-        let left = there.saturating_sub(start).saturating_sub(count);
-        self.marks[k].touch(start, left);
+        replace(&self.session, k, cut, &mut self.watches);
         Ok(())
     }
 
@@ -135,7 +138,7 @@ impl Live {
             Ok(()) => {}
             Err(fault) => return Err(fault),
         }
-        lose_all(&mut self.marks);
+        lose_all(&self.session, &mut self.watches);
         Ok(())
     }
 
@@ -156,7 +159,7 @@ impl Live {
             Ok(()) => {}
             Err(fault) => return Err(fault),
         }
-        lose_all(&mut self.marks);
+        lose_all(&self.session, &mut self.watches);
         Ok(())
     }
 
@@ -182,7 +185,7 @@ impl Live {
         if same {
             return Ok(());
         }
-        lose_by_flag(flag, &mut self.marks);
+        lose_by_flag(flag, &self.session, &mut self.watches);
         Ok(())
     }
 
@@ -207,7 +210,7 @@ impl Live {
         if same {
             return Ok(());
         }
-        lose_all(&mut self.marks);
+        lose_all(&self.session, &mut self.watches);
         Ok(())
     }
 
@@ -222,26 +225,23 @@ impl Live {
     }
 }
 
-/// Adds a new mark after the others.
-fn push_mark(marks: &mut Vec<Mark>) -> Result<(), AllocError>
-    ensures ok { IfOk result (λ _. marks.new.items ≡ marks.old.items ++ new_mark ∷ []) }
-    ensures err { OnErr result (marks.new.items ≡ marks.old.items) }
-{
-    marks.push(Mark::new())?;
-    Ok(())
-}
-
-/// Adds a new mark for the last file. Without memory for it that file is removed.
-fn mark_last(session: &mut Session, marks: &mut Vec<Mark>) -> Result<(), EditFault>
+/// Adds what is kept of the last file. Without memory for it that file is removed.
+fn watch_last(
+    alloc: Global,
+    session: &mut Session,
+    watches: &mut Vec<Watch>,
+) -> Result<(), EditFault>
     requires { 0 < length session.old.files }
-    ensures ok { IfOk result (λ _. (session.new ≡ session.old) ×
-        (marks.new.items ≡ marks.old.items ++ new_mark ∷ [])) }
+    ensures ok { IfOk result (λ _. (session.new ≡ session.old) × (marks_of watches.new.items ≡
+        marks_of watches.old.items ++ new_mark ∷ []) × (ranks : List Rank) ×
+        AreRanks session.old (file_at session.old.files (length session.old.files - 1)) ranks ×
+        (ranks_of watches.new.items ≡ ranks_of watches.old.items ++ ranks ∷ [])) }
     ensures err { IfErr result (λ fault. (fault ≡ Memory) ×
         (session.new ≡
         with_files (remove session.old.files (length session.old.files - 1)) session.old) ×
-        (marks.new.items ≡ marks.old.items)) }
+        (watches.new.items ≡ watches.old.items)) }
 {
-    match push_mark(marks) {
+    match push_watch(session, alloc, watches) {
         Ok(()) => return Ok(()),
         Err(_) => {}
     }
@@ -253,14 +253,17 @@ fn mark_last(session: &mut Session, marks: &mut Vec<Mark>) -> Result<(), EditFau
 }
 
 /// Leaves no line untouched where other lines may be selected, or other parts listed.
-fn lose_by_flag(flag: Flag, marks: &mut Vec<Mark>)
-    ensures { marks.new.items ≡ marks_by_flag flag marks.old.items }
+fn lose_by_flag(flag: Flag, session: &Session, watches: &mut Vec<Watch>)
+    requires { length watches.old.items ≡ length session.now.files }
+    ensures marks { marks_of watches.new.items ≡ marks_by_flag flag (marks_of watches.old.items) }
+    ensures ranks { RanksByFlag flag session.now (ranks_of watches.old.items)
+        (ranks_of watches.new.items) }
 {
     match flag {
-        Flag::IgnoreCase => lose_all(marks),
-        Flag::OnlyMatching => lose_all(marks),
-        Flag::InvertMatch => lose_all(marks),
-        Flag::LineRegexp => lose_all(marks),
+        Flag::IgnoreCase => lose_all(session, watches),
+        Flag::OnlyMatching => lose_all(session, watches),
+        Flag::InvertMatch => lose_all(session, watches),
+        Flag::LineRegexp => lose_all(session, watches),
         Flag::Count => {}
         Flag::FilesWithMatches => {}
         Flag::LineNumber => {}

@@ -1,9 +1,11 @@
 //! What an editor lists. No line is searched and no memory is asked for.
 ghost use Rattle.grep_live.specs.Writing.{WritesChanges, WritesPage};
 
-use crate::changing::{mark_known, write_changes};
+use crate::changing::write_changes;
 use crate::live::Live;
 use crate::paging::write_hits_page;
+use crate::status::status;
+use crate::watch::know_all;
 use grep_core::{CountedWrite, Status, WriteFault};
 
 impl Live {
@@ -23,12 +25,12 @@ impl Live {
         ensures { WritesChanges W.contents W.failures margin.now out.old out.new self.old self.new
             result }
     {
-        let status = self.session.status();
-        match write_changes(&self.session, &self.marks, margin, out) {
+        let status = status(&self.session, &self.watches);
+        match write_changes(&self.session, &self.watches, margin, out) {
             Ok(()) => {}
             Err(fault) => return Err(fault),
         }
-        mark_known(&self.session, &mut self.marks);
+        know_all(&self.session, &mut self.watches);
         Ok(status)
     }
 
@@ -51,8 +53,8 @@ impl Live {
         ensures { WritesPage W.contents W.failures margin.now out.old out.new self.now.inputs first
             count result }
     {
-        let status = self.session.status();
-        match write_hits_page(&self.session, first, count, margin, out) {
+        let status = status(&self.session, &self.watches);
+        match write_hits_page(&self.session, &self.watches, first, count, margin, out) {
             Ok(()) => {}
             Err(fault) => return Err(fault),
         }

@@ -2,6 +2,7 @@
 ghost use Rattle.grep_session.specs.Headline.{ReportsInputs, TellsInputs, IsStatusOfInputs};
 
 use crate::live::Live;
+use crate::status::status;
 use grep_core::{CountedWrite, Status, WriteFault};
 
 impl Live {
@@ -37,6 +38,6 @@ impl Live {
     pub fn status(&self) -> Status
         ensures { IsStatusOfInputs self.now.inputs result }
     {
-        self.session.status()
+        status(&self.session, &self.watches)
     }
 }

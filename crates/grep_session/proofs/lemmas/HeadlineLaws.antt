@@ -1,10 +1,11 @@
 -- A session's report, messages and status, from scratch; the accepted edits decide them.
-use Rattle.std.proofs.Common.{◌≡◌, ℕ, List, [], ◌∷◌, ◌++◌, Option, Result, Ok, Err, refl, sym, subst, ◌∙◌}
+use Rattle.std.proofs.Common.{◌≡◌, ℕ, Bool, List, [], ◌∷◌, ◌++◌, Option, Result, Ok, Err, refl, sym, subst, ◌∙◌}
+use Rattle.std.specs.Bool.{Decides}
 use Rattle.re_syntax.specs.Bytes.{Text}
 use Rattle.re_syntax.specs.Expression.{Expression}
 use Rattle.grep_core.specs.declared.status.Status.{Status}
 use Rattle.grep_core.specs.Files.{Inputs, AreMeant}
-use Rattle.grep_core.specs.Messages.{Messages, StatusOf}
+use Rattle.grep_core.specs.Messages.{AnySelected, Messages, StatusOf}
 use Rattle.grep_core.specs.Output.{Out}
 use Rattle.grep_core.proofs.lemmas.Determined.{Out-determined, Messages-determined, StatusOf-determined}
 use Rattle.grep_core.proofs.lemmas.Exist.{Out-exist, Messages-exist, StatusOf-exist}
@@ -96,3 +97,8 @@ accepted_edits_decide = record {
   answers = (λ tried last new c. let found = last_from tried last no_inputs new c in (found.0, leave_from tried no_inputs found.0 found.1, found.2));
   one_report = one_report;
 }
+
+-- what is known of all expressions that the patterns mean, of the same inputs
+pub known_of : (inputs shown : Inputs) (some : Bool) → inputs ≡ shown → ((es : List Expression) → AreMeant shown.syntax shown.options shown.patterns es → Decides some (AnySelected es shown.options shown.files)) →
+    (es : List Expression) → AreMeant inputs.syntax inputs.options inputs.patterns es → Decides some (AnySelected es inputs.options inputs.files)
+known_of inputs shown some same known = subst (λ (i : Inputs). (es : List Expression) → AreMeant i.syntax i.options i.patterns es → Decides some (AnySelected es i.options i.files)) (sym same) known

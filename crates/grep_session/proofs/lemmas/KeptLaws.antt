@@ -24,7 +24,7 @@ use Rattle.grep_core.proofs.lemmas.Verdicts.{decided_yes, decided_no}
 use Rattle.grep_session.specs.declared.kept.KeptLine.{KeptLine}
 use Rattle.grep_session.specs.declared.kept.KeptFile.{KeptFile}
 use Rattle.grep_session.specs.Working.Kept.{line_text, span_places, kept_lines, file_with, kept_file, AreMatching, IsKept, IsFileKept}
-use Rattle.grep_session.specs.Working.Report.{matches_none, is_selected, has_selected_in, has_selected, end_with, end_of, OnLine, PartsFit, LinesFit, FileFits, told_as, told_from, is_faulty, any_selected, any_missing, status_by_files}
+use Rattle.grep_session.specs.Working.Report.{matches_none, is_selected, has_selected_in, has_selected, end_with, end_of, OnLine, PartsFit, LinesFit, FileFits, told_as, told_from, is_faulty, any_selected, any_missing, status_by_files, status_given}
 
 -- the status of a run that did not stop
 pub status_in_turn : (quiet some : Bool) (status : Status) → (quiet && some) ≡ false → status ≡ (if quiet && some then selected else status)
@@ -142,11 +142,10 @@ module _ (es : List Expression) (options : Options) where
       by_flag true = silent_told files
       by_flag false = loud_told files k
 
-  -- the status is that of the files
-  pub kept_status : (files : List KeptFile) → All (IsFileKept es options) files → StatusOf es options (map kept_file files) (status_by_files options files)
-  kept_status files k =
-      by_verdicts options.quiet (any_selected options files) (any_missing files) refl
-      (mapped_told kept_file (has_selected options) (HasSelected es options) (IsFileKept es options) (λ file. has_told file.name.items (kept_lines file)) files k)
+  -- the status is that of the files, where it is known whether some line is selected
+  pub given_status : (files : List KeptFile) → All (IsFileKept es options) files → (known : Bool) → Decides known (AnySelected es options (map kept_file files)) → StatusOf es options (map kept_file files) (status_given options files known)
+  given_status files k known d =
+      by_verdicts options.quiet known (any_missing files) refl d
       (mapped_told kept_file is_faulty (FaultMet es options) (IsFileKept es options) (λ file _. fault_told file.name.items (kept_lines file)) files k)
     where
       by_verdicts : (quiet some faulty : Bool) → quiet ≡ options.quiet → Decides some (AnySelected es options (map kept_file files)) → Decides faulty (Any (FaultMet es options) (map kept_file files))
@@ -157,3 +156,8 @@ module _ (es : List Expression) (options : Options) where
       by_verdicts false some true q s f = StatusOf-error es options (map kept_file files) (λ quiet _. false≢true (q ∙ quiet)) (f.0 refl)
       by_verdicts false true false q s f = StatusOf-selected es options (map kept_file files) (λ h. false≢true (f.1 h)) (s.0 refl)
       by_verdicts false false false q s f = StatusOf-none es options (map kept_file files) (λ h. false≢true (f.1 h)) (λ h. false≢true (s.1 h))
+
+  -- the status is that of the files
+  pub kept_status : (files : List KeptFile) → All (IsFileKept es options) files → StatusOf es options (map kept_file files) (status_by_files options files)
+  kept_status files k =
+      given_status files k (any_selected options files) (mapped_told kept_file (has_selected options) (HasSelected es options) (IsFileKept es options) (λ file. has_told file.name.items (kept_lines file)) files k)

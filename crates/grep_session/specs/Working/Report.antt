@@ -170,10 +170,13 @@ any_selected options files = list_any (has_selected options) files
 abbrev pub any_missing : List KeptFile → Bool
 any_missing files = list_any is_faulty files
 
+-- the status where it is known whether some line is selected
+abbrev pub status_given : Options → List KeptFile → Bool → Status
+status_given options files some =
+    if options.quiet && some then selected else status_by some (any_missing files)
+
 abbrev pub status_by_files : Options → List KeptFile → Status
-status_by_files options files =
-    if options.quiet && any_selected options files then selected
-    else status_by (any_selected options files) (any_missing files)
+status_by_files options files = status_given options files (any_selected options files)
 
 -- ---- what a report and messages are
 

@@ -1,8 +1,13 @@
 //! What grep writes for a session, and its status. No line is searched and no memory is asked for:
 //! all is computed from what is kept.
+ghost use Rattle.std.specs.Prelude.{List};
+ghost use Rattle.std.specs.Bool.{Decides};
+ghost use Rattle.re_syntax.specs.Expression.{Expression};
+ghost use Rattle.grep_core.specs.Files.{AreMeant};
+ghost use Rattle.grep_core.specs.Messages.{AnySelected};
 ghost use Rattle.grep_session.specs.Headline.{ReportsInputs, TellsInputs, IsStatusOfInputs};
 
-use crate::report::{status, write_messages, write_report};
+use crate::report::{status, status_given, write_messages, write_report};
 use crate::session::Session;
 use grep_core::{CountedWrite, Status, WriteFault};
 
@@ -39,5 +44,16 @@ impl Session {
         ensures { IsStatusOfInputs self.now result }
     {
         status(&self.files, &self.options)
+    }
+
+    /// The exit status of grep for the session, where it is known whether some line is selected: no
+    /// line is looked at.
+    pub fn status_given(&self, some: bool) -> Status
+        requires { (es : List Expression) →
+            AreMeant self.now.syntax self.now.options self.now.patterns es →
+            Decides some (AnySelected es self.now.options self.now.files) }
+        ensures { IsStatusOfInputs self.now result }
+    {
+        status_given(&self.files, &self.options, some)
     }
 }

@@ -5,7 +5,7 @@ use Rattle.grep_session.specs.Working.Kept.{span_places}
 use Rattle.grep_live.specs.Hits.{Hit}
 use Rattle.grep_live.proofs.lemmas.ListingLemmas.{next_hits, none_here, one_here}
 use Rattle.grep_live.proofs.lemmas.ChangesLemmas.{counted_past, counted_one, counted_all}
-use Rattle.grep_live.proofs.changing.count_hits.Goals as goal
+use Rattle.grep_live.proofs.counting.count_hits.Goals as goal
 
 pub loop-place-preserved-in_default : goal.loop-place-preserved-in_default
 loop-place-preserved-in_default c =

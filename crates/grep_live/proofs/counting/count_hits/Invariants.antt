@@ -1,6 +1,6 @@
 use Rattle.std.proofs.Common.{◌+◌, ◌≤◌}
 use Rattle.grep_live.proofs.lemmas.ChangesLemmas.{Counts}
-use Rattle.grep_live.proofs.changing.count_hits.Given as goal
+use Rattle.grep_live.proofs.counting.count_hits.Given as goal
 
 abbrev pub invariant-loop-place : goal.invariant-loop-place
 invariant-loop-place l = record {

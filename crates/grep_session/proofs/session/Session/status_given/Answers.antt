@@ -1,0 +1,14 @@
+use Rattle.std.proofs.Common.{map, subst}
+use Rattle.re_search.specs.Working.Matchers.{matched_expression}
+use Rattle.grep_session.specs.Headline.{IsStatusOfInputs}
+use Rattle.grep_session.specs.Working.Sessions.{inputs_of}
+use Rattle.grep_session.proofs.lemmas.HeadlineLaws.{status_of_inputs, known_of}
+use Rattle.grep_session.proofs.session.Session.status_given.Goals as goal
+
+pub returns : goal.returns
+returns c =
+    let s = c.self.inside in
+    let es = map matched_expression s.matchers.items in
+    let is = rw c.deref.ensures.value at c.status_given.ensures in
+    let known = known_of (inputs_of s) c.args.self.now c.args.some c.self.view_is c.requires es c.self.invariant.matchers.meant in
+    subst (λ inputs. IsStatusOfInputs inputs c.status_given.result) c.self.view_is (status_of_inputs (inputs_of s) es c.self.invariant.matchers.meant c.status_given.result (is es c.self.invariant.kept known))
