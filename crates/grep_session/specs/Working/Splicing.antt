@@ -1,8 +1,7 @@
 -- Where lines can be replaced by others.
-use Rattle.std.specs.Prelude.{◌≡◌, ◌≢◌, ℕ, ◌+◌, ◌<◌, ◌≤◌, List, length, Result, Ok, Err}
+use Rattle.std.specs.Prelude.{◌≡◌, ℕ, List, Result, Ok, Err}
 use Rattle.re_syntax.specs.Bytes.{Text}
-use Rattle.grep_core.specs.Files.{File, Inputs, missing}
-use Rattle.grep_core.specs.Run.{file_at}
+use Rattle.grep_core.specs.Files.{File, Inputs}
 use Rattle.grep_session.specs.declared.fault.EditFault.{EditFault}
 use Rattle.grep_session.specs.Edits.{Splice, Applies, HasPlace}
 

@@ -1,4 +1,4 @@
-use Rattle.std.proofs.Common.{◌≡◌, ◌<◌, ◌≤◌, List, [], length, map, get_or, MatchOption, Some, All, sym, subst, ap}
+use Rattle.std.proofs.Common.{◌≡◌, ◌<◌, List, [], length, map, get_or, MatchOption, All, sym, subst, ap}
 use Rattle.std.specs.Option.{option_map}
 use Rattle.re_syntax.specs.Expression.{Expression}
 use Rattle.re_search.specs.Working.Matchers.{matched_expression}
@@ -6,7 +6,6 @@ use Rattle.grep_core.specs.Files.{Inputs, AreMeant, Selected}
 use Rattle.grep_core.specs.Run.{file_at}
 use Rattle.grep_core.proofs.lemmas.LawsHold.{means_one}
 use Rattle.grep_session.specs.declared.hit.Hit.{Hit}
-use Rattle.grep_session.specs.declared.kept.KeptFile.{KeptFile}
 use Rattle.grep_session.specs.Listed.{ListedParts}
 use Rattle.grep_session.specs.Working.Kept.{span_places, IsFileKept}
 use Rattle.grep_session.specs.Working.Sessions.{inputs_of}
