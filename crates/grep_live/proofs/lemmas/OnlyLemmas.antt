@@ -48,7 +48,7 @@ within_none a b c d (hit ∷ more) w l =
 
 -- ---- the change of one file
 
--- of `known` lines, of which `lines` are left, all are untouched; or the first `front` and the last `back` are
+-- all lines are untouched; or the first `front` and the last `back` are, of `known` lines and of the `lines` that are there now
 abbrev AreUntouched : ℕ → ℕ → ℕ → ℕ → Mark → Type 0
 AreUntouched front back known lines mark =
     (mark.known ≡ known) × ((mark ≡ whole_mark lines) ⊎ ((front ≤ mark.front) × (back ≤ mark.back) × (mark.front + mark.back ≤ known) × (mark.front + mark.back ≤ lines)))
