@@ -121,7 +121,8 @@ pub fn write_changes<W: CountedWrite>(
     requires fit { AreFit session.now.files (marks_of watches.now) }
     requires ranked { AreRanked session.now session.now.files (ranks_of watches.now) }
     ensures { (es : List Expression) → Mean session.now es → (changes : List Change) →
-        AllThree (IsChange es session.now.options) session.now.files (marks_of watches.now) changes →
+        AllThree (IsChange es session.now.options) session.now.files (marks_of watches.now)
+        changes →
         Writes W.contents W.failures out.old out.new (written margin.now (changes_rows 0 changes))
         result }
 {

@@ -77,7 +77,7 @@ fn move_ranks(ranks: &mut Vec<Rank>, cut: Cut, end: usize, added: usize)
     move_each(ranks, cut, end, added);
 }
 
-/// Moves the ranks of file `k`, in which lines were cut out and replaced by those up to place `end`.
+/// Moves the ranks of file `k`, in which lines were cut out and replaced by those up to `end`.
 fn move_all(session: &Session, k: usize, end: usize, cut: Cut, ranks: &mut Vec<Rank>)
     requires was_cut { WasCut session.now (file_at session.now.files k) cut ranks.old.items }
     requires is_end { end ≡ length (file_at session.now.files k).lines - cut.left }

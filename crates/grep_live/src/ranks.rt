@@ -125,7 +125,7 @@ fn push_rank(ranks: &mut Vec<Rank>, rank: Rank)
     let _ = ranks.push(rank);
 }
 
-/// The number of lines from one rank to the next, where there is room for so many ranks.
+/// The number of lines from one rank to the next, where there is room for `room` ranks.
 fn gap_for(lines: usize, room: usize) -> usize
     ensures { 0 < result }
 {

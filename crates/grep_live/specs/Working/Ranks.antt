@@ -1,6 +1,6 @@
 -- The number of hits before some places of a file.
-use Rattle.std.specs.Prelude.{◌≡◌, ℕ, ◌+◌, ◌-◌, ◌^◌, ◌≤◌, ◌||◌, Bool, List, All, length, map, take, min}
-use Rattle.std.specs.Prelude.{nat_le, slice_range, if◌then◌else◌}
+use Rattle.std.specs.Prelude.{◌≡◌, ℕ, ◌+◌, ◌-◌, ◌^◌, ◌≤◌, ◌||◌, Bool, List, All, length, map, take}
+use Rattle.std.specs.Prelude.{min, nat_le, slice_range, if◌then◌else◌}
 use Rattle.std.specs.List.{AllZip, splice}
 use Rattle.re_syntax.specs.Bytes.{Text}
 use Rattle.re_syntax.specs.Expression.{Expression}

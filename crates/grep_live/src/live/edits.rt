@@ -1,7 +1,8 @@
 //! The edits of a session that an editor watches. Each does what the same edit of a session does,
-//! with its answers, steps and need of memory, and marks what it touches.
-ghost use Rattle.std.specs.Prelude.{◌≡◌, ◌≢◌, ◌<◌, ◌-◌, ◌++◌, ◌∷◌, List, [], map, length, Ok, IfErr};
-ghost use Rattle.std.specs.Prelude.{IfOk};
+//! with its answers, steps and need of memory, marks what it touches, and keeps the numbers of hits
+//! right.
+ghost use Rattle.std.specs.Prelude.{◌≡◌, ◌≢◌, ◌<◌, ◌-◌, ◌++◌, ◌∷◌, List, [], map, length, Ok};
+ghost use Rattle.std.specs.Prelude.{IfErr, IfOk};
 ghost use Rattle.std.specs.List.{remove};
 ghost use Rattle.grep_core.specs.Run.{file_at};
 ghost use Rattle.grep_session.specs.declared.fault.EditFault.TheVariants.{Memory};
