@@ -11,7 +11,7 @@ ghost use Rattle.grep_live.specs.Working.Paging.{IsRest};
 ghost use Rattle.grep_live.specs.Working.Ranks.{AreRanks, AreRanked, ranks_of};
 
 use crate::page::{Page, show_hit};
-use crate::ranks::{Rank, count_file};
+use crate::ranks::{FIRST, Rank, count_file};
 use crate::rows::write_number_row;
 use crate::watch::Watch;
 use grep_core::{CountedWrite, WriteFault};
@@ -99,7 +99,7 @@ fn show_counted<W: CountedWrite>(
     show_lines(session, k, from, to, page, margin, out)
 }
 
-/// Writes the rows of the hits of file `k` that are on the page.
+/// Writes the rows of the hits of file `k` that are on the page, from rank to rank.
 fn show_file<W: CountedWrite>(
     session: &Session,
     k: usize,
@@ -119,10 +119,7 @@ fn show_file<W: CountedWrite>(
         HitsBetween es session.now k 0 (length (file_at session.now.files k).lines) hits →
         IsRest page.old (length hits) page.new) }
 {
-    let mut last = Rank {
-        place: 0,
-        before: 0,
-    };
+    let mut last = FIRST;
     for rank in ranks {
         if rank.place < last.place {
             continue;

@@ -24,6 +24,12 @@ pub struct Rank {
     pub before: usize,
 }
 
+/// The rank at place 0, before which no hit is.
+pub const FIRST: Rank = Rank {
+    place: 0,
+    before: 0,
+};
+
 /// The number of the first ranks up to one that is after a place.
 fn ranks_up_to(ranks: &[Rank], place: usize) -> usize
     ensures few { result ≤ length ranks.now }
@@ -39,17 +45,14 @@ fn ranks_up_to(ranks: &[Rank], place: usize) -> usize
     count
 }
 
-/// The last rank at or before a place. No hit is before place 0.
+/// The last rank at or before a place.
 fn nearest(ranks: &[Rank], place: usize) -> Rank
     ensures up_to { result.place ≤ place }
     ensures is_rank { (result ≡ record { place = 0; before = 0 }) ⊎ Contains ranks.now result }
 {
     let count = ranks_up_to(ranks, place);
     if count == 0 {
-        return Rank {
-            place: 0,
-            before: 0,
-        };
+        return FIRST;
     }
     ranks[count - 1]
 }
@@ -140,10 +143,7 @@ pub fn rank_anew(session: &Session, k: usize, ranks: &mut Vec<Rank>)
     ranks.clear();
     let end = session.line_count(k);
     let gap = gap_for(end, ranks.capacity());
-    let mut rank = Rank {
-        place: 0,
-        before: 0,
-    };
+    let mut rank = FIRST;
     for _ in 0..end / gap {
         rank = count_on(session, k, rank, rank.place.saturating_add(gap).min(end));
         push_rank(ranks, rank);
