@@ -9,6 +9,7 @@ pub mod BlockLemmas
 pub mod LeastPasses
 pub mod BegunLines
 pub mod CountedBlocks
+pub mod SearchedBlocks
 pub mod SetBlocks
 pub mod Occurrences
 pub mod OneText

@@ -22,6 +22,7 @@ use crate::block::line_start;
 use crate::cost::LookCost;
 use crate::line_match::LineMatch;
 use crate::span::Span;
+use crate::sweeps::{Sweeps, next_by_sweeps};
 use making::table_of;
 use re_auto::Meter;
 use re_syntax::split_file;
@@ -158,6 +159,21 @@ impl FixedSet {
     {
         self.table.find(line, from)
     }
+
+    // Whether the line is matched.
+    #[inline(always)]
+    fn search(&mut self, line: &[u8], meter: &mut Meter) -> bool
+        ensures told { IsTrue result ↔ Matches (any_literal self.old) line.now self.old.whole }
+        ensures steps { AddsAtMost (length line.now + 1) meter.old meter.new }
+        ensures same { self.new ≡ self.old }
+        ensures counted { meter.new ≡ many_built (length line.now + 1) meter.old }
+    {
+        meter.add_built(line.len() as u64 + 1);
+        if self.whole {
+            return self.is_line(line);
+        }
+        self.stands_in(line)
+    }
 }
 
 // The lines of a text, in order.
@@ -201,11 +217,7 @@ impl LineMatch for FixedSet {
         ensures same { self.new ≡ self.old }
         ensures counted { meter.new ≡ many_built (length line.now + 1) meter.old }
     {
-        meter.add_built(line.len() as u64 + 1);
-        if self.whole {
-            return self.is_line(line);
-        }
-        self.stands_in(line)
+        self.search(line, meter)
     }
 
     fn find(&mut self, line: &[u8], from: usize, meter: &mut Meter) -> Option<Span>
@@ -224,14 +236,37 @@ impl LineMatch for FixedSet {
         self.occurrence(line, from)
     }
 
+    fn next_matched(&mut self, block: &[u8], meter: &mut Meter) -> Option<Span> {
+        next_by_sweeps(self, block, meter)
+    }
+
     fn first_candidate(&self, block: &[u8]) -> usize
+        requires { IsBlock block.now }
+        ensures { PassesUnmatched (any_literal self.now) self.now.whole block.now result }
+    {
+        self.sweep(block)
+    }
+
+    fn look_cost(&self) -> LookCost {
+        LookCost::High
+    }
+}
+
+impl Sweeps for FixedSet {
+    ghost use Rattle.re_search.specs.Working.Literals.{any_literal};
+
+    ghost expression = { λ f. any_literal f };
+
+    ghost whole = { λ f. f.whole };
+
+    fn sweep(&self, block: &[u8]) -> usize
         requires { IsBlock block.now }
         ensures { PassesUnmatched (any_literal self.now) self.now.whole block.now result }
     {
         self.first_line(block)
     }
 
-    fn look_cost(&self) -> LookCost {
-        LookCost::High
+    fn search(&mut self, line: &[u8], meter: &mut Meter) -> bool {
+        FixedSet::search(self, line, meter)
     }
 }

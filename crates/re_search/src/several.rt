@@ -151,7 +151,7 @@ pub fn count_matched<M: LineMatch>(
     if filter.is_some() || matchers.len() != 1 {
         return None;
     }
-    matchers[0].count_matched(block)
+    matchers[0].known_count(block)
 }
 
 /// What asking for [`first_candidate`] costs, so that it is left out where it passes too little.

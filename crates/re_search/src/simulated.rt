@@ -23,6 +23,7 @@ use crate::cost::LookCost;
 use crate::line_match::LineMatch;
 use crate::needle::{Needle, RunFinder};
 use crate::span::Span;
+use crate::sweeps::{Sweeps, count_by_sweeps, next_by_sweeps};
 use least::StartPair;
 use re_auto::{Automaton, BuildFault, Meter, Mode, StateSet};
 use re_syntax::Tree;
@@ -194,6 +195,20 @@ impl Simulated {
             .stands_from(&self.automaton, set, line, from, meter)
     }
 
+    // Whether the line is matched.
+    #[inline(always)]
+    fn search(&mut self, line: &[u8], meter: &mut Meter) -> bool
+        ensures told { IsTrue result ↔
+            Matches (expression_of self.old.tree) line.now self.old.whole }
+        ensures steps { AddsAtMost (length line.now + 1) meter.old meter.new }
+        ensures same { self.new ≡ self.old }
+    {
+        if let Some(told) = self.settled(line) {
+            return told;
+        }
+        self.step_over(line, meter)
+    }
+
     // The matched part if the whole line has to be matched.
     fn whole_line(&mut self, line: &[u8], from: usize, meter: &mut Meter) -> Option<Span>
         requires within { from ≤ length line.now }
@@ -202,7 +217,7 @@ impl Simulated {
         ensures same { self.new ≡ self.old }
         ensures steps { AddsAtMost (length line.now - from + 1) meter.old meter.new }
     {
-        if from > 0 || line.is_empty() || !self.is_match(line, meter) {
+        if from > 0 || line.is_empty() || !self.search(line, meter) {
             return None;
         }
         Some(Span {
@@ -258,10 +273,7 @@ impl LineMatch for Simulated {
         ensures steps { AddsAtMost (length line.now + 1) meter.old meter.new }
         ensures same { self.new ≡ self.old }
     {
-        if let Some(told) = self.settled(line) {
-            return told;
-        }
-        self.step_over(line, meter)
+        self.search(line, meter)
     }
 
     fn find(&mut self, line: &[u8], from: usize, meter: &mut Meter) -> Option<Span>
@@ -279,22 +291,26 @@ impl LineMatch for Simulated {
         self.part(line, from, meter)
     }
 
+    fn next_matched(&mut self, block: &[u8], meter: &mut Meter) -> Option<Span> {
+        next_by_sweeps(self, block, meter)
+    }
+
+    fn count_matched(&mut self, block: &[u8], meter: &mut Meter) -> u64 {
+        let Some(count) = self.known_count(block) else {
+            return count_by_sweeps(self, block, meter);
+        };
+        meter.add_built(block.len() as u64);
+        count
+    }
+
     fn first_candidate(&self, block: &[u8]) -> usize
         requires { IsBlock block.now }
         ensures { PassesUnmatched (expression_of self.now.tree) self.now.whole block.now result }
     {
-        match &self.needle {
-            Some(needle) => {
-                if self.whole && needle.is_first {
-                    return first_line_beginning_with(&needle.finder, block);
-                }
-                first_line_with_run(&needle.finder, block)
-            }
-            None => 0,
-        }
+        self.sweep(block)
     }
 
-    fn count_matched(&self, block: &[u8]) -> Option<u64>
+    fn known_count(&self, block: &[u8]) -> Option<u64>
         requires { IsBlock block.now }
         ensures { IfSome result (λ count. CountsMatched (expression_of self.now.tree)
             self.now.whole (lines_of block.now) count) }
@@ -316,5 +332,32 @@ impl LineMatch for Simulated {
             Some(needle) => needle.look_cost(),
             None => LookCost::Low,
         }
+    }
+}
+
+impl Sweeps for Simulated {
+    ghost use Rattle.re_syntax.specs.Expression.{expression_of};
+
+    ghost expression = { λ s. expression_of s.tree };
+
+    ghost whole = { λ s. s.whole };
+
+    fn sweep(&self, block: &[u8]) -> usize
+        requires { IsBlock block.now }
+        ensures { PassesUnmatched (expression_of self.now.tree) self.now.whole block.now result }
+    {
+        match &self.needle {
+            Some(needle) => {
+                if self.whole && needle.is_first {
+                    return first_line_beginning_with(&needle.finder, block);
+                }
+                first_line_with_run(&needle.finder, block)
+            }
+            None => 0,
+        }
+    }
+
+    fn search(&mut self, line: &[u8], meter: &mut Meter) -> bool {
+        Simulated::search(self, line, meter)
     }
 }

@@ -17,7 +17,7 @@ returns-in-Some c =
     let l : Literals = record { texts = lines_of c.self.inside.texts.items; fold = c.self.inside.table.fold; whole = c.self.inside.whole } in
     let (label, right) = c.self.invariant.1 in
     let front = passes_set_front l (λ s. false≢true (sym c.if-self.false ∙ c.self.invariant.2.1 s)) c.args.block.now c.in-Some.span c.line_start.result (c.in-Some.ensures _ right) in
-    rw (← c.self.view_is) (front.1 c.line_start.ensures)
+    rw (← c.self.view_is) (front.1 c.line_start.ensures.lines)
 
 pub returns-in-None : goal.returns-in-None
 returns-in-None c =

@@ -1,0 +1,80 @@
+//! Matchers that pass lines of a block in one sweep, where it is known of them without a search that
+//! they are not matched.
+ghost use Rattle.std.specs.Prelude.{Bool, ◌≡◌, ◌+◌, ◌<◌, ◌≤◌, ◌↔◌, IsTrue, IfSome, length};
+ghost use Rattle.re_syntax.specs.Expression.{Expression};
+ghost use Rattle.re_syntax.specs.Holds.{Matches};
+ghost use Rattle.re_syntax.specs.Lines.{lines_of};
+ghost use Rattle.re_search.specs.Searching.{AddsAtMost};
+ghost use Rattle.re_search.specs.Working.Blocks.{IsBlock, PassesUnmatched, CountsMatched, FindsMatched};
+ghost use Rattle.re_search.specs.Working.Blocks.{next_cost};
+
+use crate::block::line_end;
+use crate::span::Span;
+use re_auto::Meter;
+
+/// A matcher that looks over a block for what each line has that it matches.
+pub trait Sweeps {
+    /// The expression that it stands for.
+    ghost expression: { Self → Expression };
+
+    /// Whether the whole line has to be matched.
+    ghost whole: { Self → Bool };
+
+    /// How many bytes of a block of whole lines are passed: whole lines, none of which is matched.
+    fn sweep(&self, block: &[u8]) -> usize
+        requires { IsBlock block.now }
+        ensures { PassesUnmatched (expression self.now) (whole self.now) block.now result };
+
+    /// Whether the line is matched, in at most one step for each of its bytes and one more.
+    fn search(&mut self, line: &[u8], meter: &mut Meter) -> bool
+        ensures told { IsTrue result ↔ Matches (expression self.old) line.now (whole self.old) }
+        ensures same_expression { expression self.new ≡ expression self.old }
+        ensures same_whole { whole self.new ≡ whole self.old }
+        ensures steps { AddsAtMost (length line.now + 1) meter.old meter.new };
+}
+
+/// The first line of a block of whole lines that is matched, as `next_matched` of `LineMatch` tells it.
+/// Each byte that a sweep passes is a step; a line at which a sweep stops is searched.
+pub fn next_by_sweeps<M: Sweeps>(matcher: &mut M, block: &[u8], meter: &mut Meter) -> Option<Span>
+    requires { IsBlock block.now }
+    ensures told { FindsMatched (M.expression matcher.old) (M.whole matcher.old)
+        (lines_of block.now) result }
+    ensures within { IfSome result (λ at. (at.start ≤ at.end) × (at.end < length block.now)) }
+    ensures same_expression { M.expression matcher.new ≡ M.expression matcher.old }
+    ensures same_whole { M.whole matcher.new ≡ M.whole matcher.old }
+    ensures steps { AddsAtMost (next_cost block.now result) meter.old meter.new }
+{
+    let mut start = 0;
+    'lines: loop {
+        let passed = matcher.sweep(&block[start..]);
+        meter.add_built(passed as u64);
+        let from = start + passed;
+        let Some(end) = line_end(block, from) else {
+            return None;
+        };
+        if matcher.search(&block[from..end], meter) {
+            return Some(Span { start: from, end });
+        }
+        start = end + 1;
+    }
+}
+
+/// How many lines of a block of whole lines are matched, as `count_matched` of `LineMatch` tells it.
+pub fn count_by_sweeps<M: Sweeps>(matcher: &mut M, block: &[u8], meter: &mut Meter) -> u64
+    requires { IsBlock block.now }
+    ensures told { CountsMatched (M.expression matcher.old) (M.whole matcher.old)
+        (lines_of block.now) result }
+    ensures same_expression { M.expression matcher.new ≡ M.expression matcher.old }
+    ensures same_whole { M.whole matcher.new ≡ M.whole matcher.old }
+    ensures steps { AddsAtMost (length block.now) meter.old meter.new }
+{
+    let mut count: u64 = 0;
+    let mut rest = block;
+    'lines: loop {
+        let Some(at) = next_by_sweeps(matcher, rest, meter) else {
+            return count;
+        };
+        count += 1;
+        rest = &rest[at.end + 1..];
+    }
+}
