@@ -269,7 +269,7 @@ impl LineMatch for Cached {
         requires { IsBlock block.now }
         ensures { PassesUnmatched (expression_of self.now.tree) self.now.whole block.now result }
     {
-        self.sweep(block)
+        self.simulated.first_candidate(block)
     }
 
     fn known_count(&self, block: &[u8]) -> Option<u64>
@@ -292,11 +292,8 @@ impl Sweeps for Cached {
 
     ghost whole = { λ c. c.whole };
 
-    fn sweep(&self, block: &[u8]) -> usize
-        requires { IsBlock block.now }
-        ensures { PassesUnmatched (expression_of self.now.tree) self.now.whole block.now result }
-    {
-        self.simulated.sweep(block)
+    fn sweep(&self, block: &[u8], meter: &mut Meter) -> usize {
+        self.simulated.sweep(block, meter)
     }
 
     fn search(&mut self, line: &[u8], meter: &mut Meter) -> bool {

@@ -112,6 +112,14 @@ impl Fixed {
         count_by(&self.finder, block)
     }
 
+    // Where in a block the first line begins that may be matched: no line before it is matched.
+    fn candidate(&self, block: &[u8]) -> usize
+        requires { IsBlock block.now }
+        ensures { PassesUnmatched (literal_expression self.now) self.now.whole block.now result }
+    {
+        first_line_with(&self.finder, block)
+    }
+
     // Whether the string is empty.
     fn is_empty(&self) -> bool
         ensures { IsTrue result ↔ length self.now.text ≡ 0 }
@@ -223,7 +231,7 @@ impl LineMatch for Fixed {
         requires { IsBlock block.now }
         ensures { PassesUnmatched (literal_expression self.now) self.now.whole block.now result }
     {
-        self.sweep(block)
+        self.candidate(block)
     }
 
     fn known_count(&self, block: &[u8]) -> Option<u64>
@@ -245,11 +253,10 @@ impl Sweeps for Fixed {
 
     ghost whole = { λ f. f.whole };
 
-    fn sweep(&self, block: &[u8]) -> usize
-        requires { IsBlock block.now }
-        ensures { PassesUnmatched (literal_expression self.now) self.now.whole block.now result }
-    {
-        first_line_with(&self.finder, block)
+    fn sweep(&self, block: &[u8], meter: &mut Meter) -> usize {
+        let passed = self.candidate(block);
+        meter.add_built(passed as u64);
+        passed
     }
 
     fn search(&mut self, line: &[u8], meter: &mut Meter) -> bool {

@@ -21,6 +21,7 @@ mod trie;
 use crate::block::line_start;
 use crate::cost::LookCost;
 use crate::line_match::LineMatch;
+use crate::looks::Looks;
 use crate::span::Span;
 use crate::sweeps::{Sweeps, next_by_sweeps};
 use making::table_of;
@@ -39,6 +40,7 @@ pub struct FixedSet {
     table: Table,
     has_empty: bool,
     whole: bool,
+    looks: Looks,
 }
 
 impl Model for FixedSet {
@@ -99,6 +101,7 @@ impl FixedSet {
             table,
             has_empty,
             whole,
+            looks: Looks::new(LookCost::High),
         })
     }
 
@@ -136,6 +139,14 @@ impl FixedSet {
             Some(span) => line_start(&block[..span.start]),
             None => block.len(),
         }
+    }
+
+    // Where in a block the first line begins that may be matched: no line before it is matched.
+    fn candidate(&self, block: &[u8]) -> usize
+        requires { IsBlock block.now }
+        ensures { PassesUnmatched (any_literal self.now) self.now.whole block.now result }
+    {
+        self.first_line(block)
     }
 
     // The matched part if the whole line has to be one of the strings.
@@ -244,7 +255,7 @@ impl LineMatch for FixedSet {
         requires { IsBlock block.now }
         ensures { PassesUnmatched (any_literal self.now) self.now.whole block.now result }
     {
-        self.sweep(block)
+        self.candidate(block)
     }
 
     fn look_cost(&self) -> LookCost {
@@ -259,11 +270,14 @@ impl Sweeps for FixedSet {
 
     ghost whole = { λ f. f.whole };
 
-    fn sweep(&self, block: &[u8]) -> usize
-        requires { IsBlock block.now }
-        ensures { PassesUnmatched (any_literal self.now) self.now.whole block.now result }
-    {
-        self.first_line(block)
+    fn sweep(&self, block: &[u8], meter: &mut Meter) -> usize {
+        if !self.looks.is_due() {
+            return 0;
+        }
+        let passed = self.candidate(block);
+        self.looks.note(passed);
+        meter.add_built(passed as u64);
+        passed
     }
 
     fn search(&mut self, line: &[u8], meter: &mut Meter) -> bool {

@@ -9,6 +9,7 @@ mod filter;
 mod fixed;
 mod fixed_set;
 mod line_match;
+mod looks;
 mod matcher;
 mod needle;
 mod plain;

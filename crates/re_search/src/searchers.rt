@@ -1,28 +1,56 @@
-//! Matchers that are asked together, and the strings that they need.
+//! Matchers that are asked together.
 ghost use Rattle.std.specs.Prelude.{◌≡◌, ◌+◌, ◌-◌, ◌*◌, ◌<◌, ◌≤◌, ◌↔◌, IsTrue, IfSome, length, map};
 ghost use Rattle.re_syntax.specs.Lines.{lines_of};
 ghost use Rattle.re_search.specs.Searching.{AddsAtMost, AllAnswer, FindsPart, SameMatchers};
-ghost use Rattle.re_search.specs.Working.Blocks.{IsBlock, next_cost};
-ghost use Rattle.re_search.specs.Working.Sought.{IsSought, PassesUnsought, FindsSought, CountsSought};
+ghost use Rattle.re_search.specs.Working.Blocks.{IsBlock, PassesUnmatchedByAll, next_cost};
+ghost use Rattle.re_search.specs.Working.Sought.{IsSought, FindsSought, CountsSought};
 ghost use Rattle.re_search.specs.Working.Sought.{sought_by};
 ghost use Rattle.re_search.specs.Working.Filters.{AreNeeded};
 
 use crate::block::line_end;
+use crate::cost::LookCost;
 use crate::filter::Filter;
 use crate::line_match::LineMatch;
-use crate::several::{is_matched, parts};
+use crate::looks::Looks;
+use crate::several::{is_matched, least_candidate, parts};
 use crate::span::Span;
 use re_auto::Meter;
 use std::marker::Model;
 
-/// Matchers, all of which answer alike whether the whole line has to be matched, and strings that
-/// they need, where these are known. Contracts see them as the expressions that they stand for, and
-/// that answer.
+/// Matchers that are asked together. All give one answer to whether the whole line has to be
+/// matched. Contracts see them as the matchers and that answer.
 #[derive(Drop)]
 pub struct Searchers<M: LineMatch> {
     matchers: Vec<M>,
-    filter: Option<Filter>,
+    ahead: Ahead,
     whole: bool,
+}
+
+// What is asked before several matchers: strings that they need, if these are known, and whether it
+// is worth while to look ahead.
+#[derive(Drop)]
+struct Ahead {
+    filter: Option<Filter>,
+    looks: Looks,
+}
+
+impl Ahead {
+    // No look was made yet.
+    fn new(filter: Option<Filter>) -> Ahead
+        ensures { result.filter ≡ filter }
+    {
+        let cost = cost_of(&filter);
+        let looks = Looks::new(cost);
+        Ahead { filter, looks }
+    }
+}
+
+// What it costs to look ahead for several matchers.
+fn cost_of(filter: &Option<Filter>) -> LookCost {
+    match filter {
+        Some(_) => LookCost::High,
+        None => LookCost::Middle,
+    }
 }
 
 impl<M: LineMatch> Model for Searchers<M> {
@@ -36,19 +64,21 @@ impl<M: LineMatch> Model for Searchers<M> {
     ghost view = { λ s. record { matchers = s.matchers.items; whole = s.whole } };
 
     ghost invariant = { λ s. AllAnswer s.whole (map M.whole s.matchers.items)
-        × IfSome s.filter (λ f. AreNeeded f (map M.expression s.matchers.items)) };
+        × IfSome s.ahead.filter (λ f. AreNeeded f (map M.expression s.matchers.items)) };
 }
 
 impl<M: LineMatch> Searchers<M> {
-    /// The matchers, and strings of which some stands on each line that some matcher matches.
+    /// These matchers. Each line that some matcher matches has one of the filter's strings, if there
+    /// is a filter.
     pub fn new(matchers: Vec<M>, filter: Option<Filter>, whole: bool) -> Searchers<M>
         requires alike { AllAnswer whole (map M.whole matchers.items) }
         requires needed { IfSome filter (λ f. AreNeeded f (map M.expression matchers.items)) }
         ensures { result ≡ record { matchers = matchers.items; whole = whole } }
     {
+        let ahead = Ahead::new(filter);
         Searchers {
             matchers,
-            filter,
+            ahead,
             whole,
         }
     }
@@ -61,12 +91,13 @@ impl<M: LineMatch> Searchers<M> {
         ensures steps { AddsAtMost (length self.old.matchers * (length line.now + 1)) meter.old
             meter.new }
     {
-        any_matches(&mut self.matchers, &self.filter, self.whole, line, meter)
+        any_matches(&mut self.matchers, &self.ahead, self.whole, line, meter)
     }
 
     /// The first line of a block of whole lines that some matcher matches, by its place without its
-    /// newline. It takes at most one step for each matcher and byte up to that newline, and with it;
-    /// for each byte of the block where no line is matched.
+    /// newline. It takes at most one step for each matcher and byte up to that newline, and one more
+    /// for each matcher. If no line is matched, it takes at most one step for each matcher and byte
+    /// of the block.
     pub fn next_matched(&mut self, block: &[u8], meter: &mut Meter) -> Option<Span>
         requires { IsBlock block.now }
         ensures told { FindsSought (sought_by M.expression self.old) (lines_of block.now) result }
@@ -76,10 +107,13 @@ impl<M: LineMatch> Searchers<M> {
         ensures steps { AddsAtMost (length self.old.matchers * next_cost block.now result)
             meter.old meter.new }
     {
-        if self.filter.is_none() && self.matchers.len() == 1 {
+        if self.matchers.is_empty() {
+            return None;
+        }
+        if self.ahead.filter.is_none() && self.matchers.len() == 1 {
             return next_of_one(&mut self.matchers, self.whole, block, meter);
         }
-        next_of_all(&mut self.matchers, &self.filter, self.whole, block, meter)
+        next_of_all(&mut self.matchers, &self.ahead, self.whole, block, meter)
     }
 
     /// How many lines of a block of whole lines some matcher matches, in at most one step for each
@@ -91,7 +125,7 @@ impl<M: LineMatch> Searchers<M> {
         ensures steps { AddsAtMost (length self.old.matchers * length block.now) meter.old
             meter.new }
     {
-        if self.filter.is_none() && self.matchers.len() == 1 {
+        if self.ahead.filter.is_none() && self.matchers.len() == 1 {
             return count_of_one(&mut self.matchers, self.whole, block, meter);
         }
         let mut count: u64 = 0;
@@ -105,11 +139,12 @@ impl<M: LineMatch> Searchers<M> {
         }
     }
 
-    /// The next part of the line, in at most one step for each matcher and byte from `from` on, and
-    /// one more for each matcher.
+    /// The next part of the line, as [`parts`] finds it, in at most one step for each matcher and
+    /// byte from `from` on, and one more for each matcher.
     pub fn part(&mut self, line: &[u8], from: usize, meter: &mut Meter) -> Option<Span>
         requires { from ≤ length line.now }
-        ensures told { FindsPart (map M.expression self.old.matchers) line.now self.old.whole from result }
+        ensures told { FindsPart (map M.expression self.old.matchers) line.now self.old.whole from
+            result }
         ensures same { sought_by M.expression self.new ≡ sought_by M.expression self.old }
         ensures steps { AddsAtMost
             (length self.old.matchers * (length line.now - from + 1)) meter.old meter.new }
@@ -118,16 +153,16 @@ impl<M: LineMatch> Searchers<M> {
     }
 }
 
-// Whether some matcher matches the line. Where no string that they need stands in it none is asked.
+// Whether some matcher matches the line. None is asked if the line has no string of the filter.
 fn any_matches<M: LineMatch>(
     matchers: &mut Vec<M>,
-    filter: &Option<Filter>,
+    ahead: &Ahead,
     whole: bool,
     line: &[u8],
     meter: &mut Meter,
 ) -> bool
     requires alike { AllAnswer whole (map M.whole matchers.old.items) }
-    requires needed { IfSome filter.now
+    requires needed { IfSome ahead.now.filter
         (λ f. AreNeeded f (map M.expression matchers.old.items)) }
     ensures told { IsTrue result ↔ IsSought
         (record { expressions = map M.expression matchers.old.items; whole = whole }) line.now }
@@ -136,7 +171,7 @@ fn any_matches<M: LineMatch>(
     ensures steps { AddsAtMost (length matchers.old.items * (length line.now + 1)) meter.old
         meter.new }
 {
-    let Some(filter) = filter else {
+    let Some(filter) = &ahead.filter else {
         return is_matched(matchers, line, meter);
     };
     if !filter.stands_in(line) {
@@ -164,36 +199,52 @@ fn part_of_all<M: LineMatch>(
     parts(matchers, line, from, meter)
 }
 
-// How many bytes of a block are passed: whole lines, none of which some matcher matches.
-fn passed_by<M: LineMatch>(
-    matchers: &Vec<M>,
-    filter: &Option<Filter>,
-    whole: bool,
-    block: &[u8],
-) -> usize
+// How many bytes of a block are passed: whole lines, none of which some matcher matches. It takes
+// at most one step for each of these bytes.
+fn sweep<M: LineMatch>(matchers: &Vec<M>, ahead: &Ahead, block: &[u8], meter: &mut Meter) -> usize
     requires block { IsBlock block.now }
-    requires needed { IfSome filter.now
+    requires needed { IfSome ahead.now.filter
         (λ f. AreNeeded f (map M.expression matchers.now.items)) }
-    ensures { PassesUnsought
-        (record { expressions = map M.expression matchers.now.items; whole = whole }) block.now result }
+    ensures passes { PassesUnmatchedByAll (map M.expression matchers.now.items)
+        (map M.whole matchers.now.items) block.now result }
+    ensures steps { AddsAtMost result meter.old meter.new }
 {
-    match filter {
+    if !ahead.looks.is_due() {
+        return 0;
+    }
+    let passed = candidate(matchers, ahead, block);
+    ahead.looks.note(passed);
+    meter.add_built(passed as u64);
+    passed
+}
+
+// Where in a block the first line begins that some matcher may match: no line before it is matched
+// by any.
+fn candidate<M: LineMatch>(matchers: &Vec<M>, ahead: &Ahead, block: &[u8]) -> usize
+    requires block { IsBlock block.now }
+    requires needed { IfSome ahead.now.filter
+        (λ f. AreNeeded f (map M.expression matchers.now.items)) }
+    ensures { PassesUnmatchedByAll (map M.expression matchers.now.items)
+        (map M.whole matchers.now.items) block.now result }
+{
+    match &ahead.filter {
         Some(filter) => filter.first_line(block),
-        None => 0,
+        None => least_candidate(matchers, block),
     }
 }
 
 // The first line of a block that some matcher matches.
 fn next_of_all<M: LineMatch>(
     matchers: &mut Vec<M>,
-    filter: &Option<Filter>,
+    ahead: &Ahead,
     whole: bool,
     block: &[u8],
     meter: &mut Meter,
 ) -> Option<Span>
     requires block { IsBlock block.now }
+    requires some { 1 ≤ length matchers.old.items }
     requires alike { AllAnswer whole (map M.whole matchers.old.items) }
-    requires needed { IfSome filter.now
+    requires needed { IfSome ahead.now.filter
         (λ f. AreNeeded f (map M.expression matchers.old.items)) }
     ensures told { FindsSought
         (record { expressions = map M.expression matchers.old.items; whole = whole })
@@ -206,18 +257,18 @@ fn next_of_all<M: LineMatch>(
 {
     let mut start = 0;
     'lines: loop {
-        let from = start + passed_by(matchers, filter, whole, &block[start..]);
+        let from = start + sweep(matchers, ahead, &block[start..], meter);
         let Some(end) = line_end(block, from) else {
             return None;
         };
-        if any_matches(matchers, filter, whole, &block[from..end], meter) {
+        if any_matches(matchers, ahead, whole, &block[from..end], meter) {
             return Some(Span { start: from, end });
         }
         start = end + 1;
     }
 }
 
-// The same of one matcher, which knows what to look for.
+// The same for one matcher, which knows what to look for.
 fn next_of_one<M: LineMatch>(
     matchers: &mut Vec<M>,
     whole: bool,

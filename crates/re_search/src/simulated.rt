@@ -21,6 +21,7 @@ mod sets;
 use crate::block::{count_lines_with, first_line_beginning_with, first_line_with_run};
 use crate::cost::LookCost;
 use crate::line_match::LineMatch;
+use crate::looks::Looks;
 use crate::needle::{Needle, RunFinder};
 use crate::span::Span;
 use crate::sweeps::{Sweeps, count_by_sweeps, next_by_sweeps};
@@ -41,6 +42,7 @@ pub struct Simulated {
     needle: Option<Needle>,
     sets: SetPair,
     starts: StartPair,
+    looks: Looks,
 }
 
 impl Model for Simulated {
@@ -83,6 +85,7 @@ impl Simulated {
             drop(automaton);
             return Err(BuildFault::Memory);
         };
+        let looks = Looks::new(look_cost(&needle));
         let (sets, starts) = match pairs_for(alloc, &automaton) {
             Ok(pairs) => pairs,
             Err(fault) => {
@@ -97,6 +100,7 @@ impl Simulated {
             needle,
             sets,
             starts,
+            looks,
         })
     }
 
@@ -195,6 +199,22 @@ impl Simulated {
             .stands_from(&self.automaton, set, line, from, meter)
     }
 
+    // Where in a block the first line begins that may be matched: no line before it is matched.
+    fn candidate(&self, block: &[u8]) -> usize
+        requires { IsBlock block.now }
+        ensures { PassesUnmatched (expression_of self.now.tree) self.now.whole block.now result }
+    {
+        match &self.needle {
+            Some(needle) => {
+                if self.whole && needle.is_first {
+                    return first_line_beginning_with(&needle.finder, block);
+                }
+                first_line_with_run(&needle.finder, block)
+            }
+            None => 0,
+        }
+    }
+
     // Whether the line is matched.
     #[inline(always)]
     fn search(&mut self, line: &[u8], meter: &mut Meter) -> bool
@@ -243,6 +263,14 @@ impl Simulated {
             }
         }
         self.starts.find(&self.automaton, line, from, meter)
+    }
+}
+
+// What it costs to look for the needle.
+fn look_cost(needle: &Option<Needle>) -> LookCost {
+    match needle {
+        Some(needle) => needle.look_cost(),
+        None => LookCost::Low,
     }
 }
 
@@ -307,7 +335,7 @@ impl LineMatch for Simulated {
         requires { IsBlock block.now }
         ensures { PassesUnmatched (expression_of self.now.tree) self.now.whole block.now result }
     {
-        self.sweep(block)
+        self.candidate(block)
     }
 
     fn known_count(&self, block: &[u8]) -> Option<u64>
@@ -328,10 +356,7 @@ impl LineMatch for Simulated {
     }
 
     fn look_cost(&self) -> LookCost {
-        match &self.needle {
-            Some(needle) => needle.look_cost(),
-            None => LookCost::Low,
-        }
+        look_cost(&self.needle)
     }
 }
 
@@ -342,19 +367,14 @@ impl Sweeps for Simulated {
 
     ghost whole = { λ s. s.whole };
 
-    fn sweep(&self, block: &[u8]) -> usize
-        requires { IsBlock block.now }
-        ensures { PassesUnmatched (expression_of self.now.tree) self.now.whole block.now result }
-    {
-        match &self.needle {
-            Some(needle) => {
-                if self.whole && needle.is_first {
-                    return first_line_beginning_with(&needle.finder, block);
-                }
-                first_line_with_run(&needle.finder, block)
-            }
-            None => 0,
+    fn sweep(&self, block: &[u8], meter: &mut Meter) -> usize {
+        if !self.looks.is_due() {
+            return 0;
         }
+        let passed = self.candidate(block);
+        self.looks.note(passed);
+        meter.add_built(passed as u64);
+        passed
     }
 
     fn search(&mut self, line: &[u8], meter: &mut Meter) -> bool {

@@ -21,9 +21,11 @@ pub trait Sweeps {
     ghost whole: { Self → Bool };
 
     /// How many bytes of a block of whole lines are passed: whole lines, none of which is matched.
-    fn sweep(&self, block: &[u8]) -> usize
+    /// It takes at most one step for each of these bytes.
+    fn sweep(&self, block: &[u8], meter: &mut Meter) -> usize
         requires { IsBlock block.now }
-        ensures { PassesUnmatched (expression self.now) (whole self.now) block.now result };
+        ensures passes { PassesUnmatched (expression self.now) (whole self.now) block.now result }
+        ensures steps { AddsAtMost result meter.old meter.new };
 
     /// Whether the line is matched, in at most one step for each of its bytes and one more.
     fn search(&mut self, line: &[u8], meter: &mut Meter) -> bool
@@ -46,9 +48,7 @@ pub fn next_by_sweeps<M: Sweeps>(matcher: &mut M, block: &[u8], meter: &mut Mete
 {
     let mut start = 0;
     'lines: loop {
-        let passed = matcher.sweep(&block[start..]);
-        meter.add_built(passed as u64);
-        let from = start + passed;
+        let from = start + matcher.sweep(&block[start..], meter);
         let Some(end) = line_end(block, from) else {
             return None;
         };

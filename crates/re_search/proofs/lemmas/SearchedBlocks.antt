@@ -1,6 +1,6 @@
 -- The next line of a block that has a property, and how many lines have it.
-use Rattle.std.proofs.Common.{◌≡◌, Bool, ℕ, ◌+◌, ◌-◌, ◌*◌, ◌<◌, ◌≤◌, inl, inr, List, [], ◌∷◌, ◌++◌, All, Option, Some, false, None, length, map, drop, slice_range, refl, sym, ap, ◌∙◌, subst, arith, append_assoc, append-nil, length-append, length-drop, length-take}
-use Rattle.std.proofs.Math.Nat.{mul-le-mul_left}
+use Rattle.std.proofs.Common.{◌≡◌, Bool, ℕ, ◌+◌, ◌-◌, ◌*◌, ◌<◌, ◌≤◌, inl, inr, List, [], ◌∷◌, ◌++◌, All, Option, Some, false, None, length, map, drop, get_or, slice_range, refl, sym, ap, ◌∙◌, subst, arith, append_assoc, append-nil, length-append, length-drop, length-take}
+use Rattle.std.proofs.Math.Nat.{mul-le-mul_left, mul-le-mul_right}
 use Rattle.std.proofs.lemmas.List.{length-map}
 use Rattle.std.proofs.Math.Seq.{drop-append_seam, drop-length}
 use Rattle.std.proofs.lemmas.List.Elements.{All-append, All-cons, All-drop, All-head, All-nil, All-tail}
@@ -10,11 +10,11 @@ use Rattle.re_syntax.specs.Expression.{Expression, byte, sequence}
 use Rattle.re_syntax.specs.Holds.{Matches}
 use Rattle.re_syntax.specs.Lines.{newline, terminated, lines_of, HasNoNewline}
 use Rattle.re_syntax.proofs.lemmas.LinesLaws.{lines_of-line, lines_of-terminated, all_cons, all_none, all_tail, none_in_empty}
-use Rattle.re_syntax.proofs.lemmas.Decisions.{Any-first}
+use Rattle.re_syntax.proofs.lemmas.Decisions.{Any-first, Any-none}
 use Rattle.re_search.specs.declared.span.Span.{Span}
 use Rattle.re_search.specs.Searching.{AddsAtMost, AllAnswer, SomeMatches}
-use Rattle.re_search.specs.Working.Blocks.{IsBlock, PassesAll, Lacks, StandsIn, HoldsOfMany, FindsMatched, IsLineFrom, IsNext, FindsNext, lines_cost}
-use Rattle.re_search.specs.Working.Sought.{Sought, IsSought, FindsSought}
+use Rattle.re_search.specs.Working.Blocks.{IsBlock, PassesAll, PassesUnmatchedByAll, Lacks, StandsIn, HoldsOfMany, FindsMatched, IsLineFrom, IsNext, FindsNext, lines_cost}
+use Rattle.re_search.specs.Working.Sought.{Sought, IsSought, FindsSought, PassesUnsought}
 use Rattle.re_search.proofs.lemmas.SomeOfJoined.{Any-single}
 use Rattle.re_search.proofs.lemmas.CountedBlocks.{has_one, stands_literal, literal_stands}
 use Rattle.re_search.proofs.lemmas.LeastPasses.{lines_of-behind}
@@ -79,7 +79,7 @@ adds_line start end line old mid new low long a b =
     let all : start + (line + 1) ≤ end + 1 = omega (arith, low, long) in
     adds_within (start + (line + 1)) (end + 1) old new all (adds_both start (line + 1) old mid new a b)
 
--- the steps of a search of one line more by each of so many matchers
+-- the steps of a search of one line more by each of many matchers
 pub adds_line_by : (n start from end line : ℕ) (old mid new : Steps) → start ≤ from → from ≤ end → line ≡ end - from → AddsAtMost (n * start) old mid → AddsAtMost (n * (line + 1)) mid new → AddsAtMost (n * (end + 1)) old new
 adds_line_by n start from end line old mid new low high long a b =
     let all : start + (line + 1) ≤ end + 1 = omega (arith, low, high, long) in
@@ -87,7 +87,15 @@ adds_line_by n start from end line old mid new low high long a b =
     let most = mul-le-mul_left n all in
     adds_within (n * start + n * (line + 1)) (n * (end + 1)) old new (omega (arith, joined, most)) (adds_both (n * start) (n * (line + 1)) old mid new a b)
 
--- the same of bytes that are left of so many
+-- one step for each byte that a sweep passes, after some for each byte and each of many matchers
+pub adds_sweep_by : (n start count : ℕ) (old mid new : Steps) → 1 ≤ n → AddsAtMost (n * start) old mid → AddsAtMost count mid new → AddsAtMost (n * (start + count)) old new
+adds_sweep_by n start count old mid new some a b =
+    let once : 1 * count ≤ n * count = mul-le-mul_right count some in
+    let joined : n * start + n * count ≡ n * (start + count) = omega arith in
+    let same : 1 * count ≡ count = omega arith in
+    adds_within (n * start + count) (n * (start + count)) old new (omega (arith, once, joined, same)) (adds_both (n * start) count old mid new a b)
+
+-- the same for bytes that are left of a number of them
 pub adds_on_by : (n all before behind end : ℕ) (old mid new : Steps) → before ≤ all → end < before → behind ≡ before - (end + 1) → AddsAtMost (n * (all - before)) old mid → AddsAtMost (n * (end + 1)) mid new → AddsAtMost (n * (all - behind)) old new
 adds_on_by n all before behind end old mid new few low left a b =
     let further : all - before + (end + 1) ≤ all - behind = omega (arith, few, low, left) in
@@ -272,3 +280,13 @@ finds_of_one es wholes e whole asked one alike all lines found h =
     finds_same (λ line. Matches e line whole) (IsSought (record { expressions = es; whole = asked }))
     (λ line m. subst (λ xs. SomeMatches xs line asked) (sym one) (Any-first (λ x. Matches x line asked) e [] (subst (Matches e line) same m)))
     (λ line m. subst (Matches e line) (sym same) (Any-single (λ x. Matches x line asked) e (subst (λ xs. SomeMatches xs line asked) one m))) lines found h
+
+-- of matchers that are the same, those lines are passed that none matches
+pub swept_by : (es fs : List Expression) (ws vs : List Bool) (whole : Bool) → fs ≡ es → vs ≡ ws → AllAnswer whole ws → (block : Text) (count : ℕ) → PassesUnmatchedByAll fs vs block count → PassesUnsought (record { expressions = es; whole = whole }) block count
+swept_by es fs ws vs whole same_es same_ws all block count h =
+    subst (λ xs. PassesAll (λ line. ¬ SomeMatches xs line whole) block count) same_es (h whole (subst (AllAnswer whole) (sym same_ws) all))
+
+-- without an expression no line is found
+pub finds_none : (es : List Expression) (whole : Bool) (lines : List Text) → length es ≡ 0 → FindsSought (record { expressions = es; whole = whole }) lines None
+finds_none [] whole lines none = λ i d below some. Any-none (λ e. Matches e (get_or lines i d) whole) some
+finds_none (e ∷ es) whole lines none = absurd (omega (arith, none))

@@ -1,7 +1,7 @@
 use Rattle.re_search.specs.Working.Literals.{literal_expression}
 use Rattle.re_search.proofs.lemmas.NeededLaws.{sequence_needed}
 use Rattle.re_search.proofs.lemmas.BlockLemmas.{passes_unmatched}
-use Rattle.re_search.proofs.fixed.FixedSweeps.sweep.Goals as goal
+use Rattle.re_search.proofs.fixed.Fixed.candidate.Goals as goal
 
 pub returns : goal.returns
 returns c =

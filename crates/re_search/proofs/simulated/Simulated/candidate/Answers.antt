@@ -2,7 +2,7 @@ use Rattle.re_syntax.specs.Expression.{expression_of}
 use Rattle.re_search.specs.Working.Needles.{run_of}
 use Rattle.re_search.proofs.lemmas.BlockLemmas.{passes_unmatched_run}
 use Rattle.re_search.proofs.lemmas.BegunLines.{passes_unmatched_begun}
-use Rattle.re_search.proofs.simulated.SimulatedSweeps.sweep.Goals as goal
+use Rattle.re_search.proofs.simulated.Simulated.candidate.Goals as goal
 
 pub returns-then-needle : goal.returns-then-needle
 returns-then-needle c =
