@@ -11,6 +11,7 @@ pub mod BegunLines
 pub mod CountedBlocks
 pub mod SearchedBlocks
 pub mod SetBlocks
+pub mod SetAround
 pub mod Occurrences
 pub mod OneText
 pub mod Passing
