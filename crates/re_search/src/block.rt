@@ -1,9 +1,10 @@
-//! Blocks of whole lines: passing over their first lines, and counting their lines, at once.
+//! Blocks of whole lines: finding one, passing over the first ones, and counting them, at once.
 ghost use Rattle.std.specs.Prelude.{◌≡◌, ◌+◌, ◌<◌, ◌≤◌, ◌↔◌, ◌++◌, ◌∷◌, IsTrue, IfSome};
 ghost use Rattle.std.specs.Prelude.{MatchOption, length, take, drop, ⊤};
 ghost use Rattle.re_syntax.specs.Lines.{newline, lines_of, HasNoNewline};
 ghost use Rattle.re_search.specs.Working.Blocks.{IsBlock, LineBegins, Lacks, PassesAll};
-ghost use Rattle.re_search.specs.Working.Blocks.{StandsIn, HoldsOfMany, IsLineFrom, FindsNext, next_cost};
+ghost use Rattle.re_search.specs.Working.Blocks.{StandsIn, HoldsOfMany, IsLineFrom, FindsNext};
+ghost use Rattle.re_search.specs.Working.Blocks.{next_cost};
 ghost use Rattle.re_search.specs.Working.Needles.{run_of};
 ghost use Rattle.re_search.specs.Working.Runs.{BeginsWithout, LacksRun};
 
@@ -155,7 +156,7 @@ pub fn count_by(finder: &Finder<'_>, block: &[u8]) -> u64
     }
 }
 
-/// Where the line ends that begins at the place; `None` where no newline follows.
+/// Where the line ends that begins at the place; `None` if no newline follows.
 #[inline(always)]
 pub fn line_end(block: &[u8], start: usize) -> Option<usize>
     requires { start ≤ length block.now }

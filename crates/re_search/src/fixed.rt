@@ -89,7 +89,7 @@ impl Fixed {
         })
     }
 
-    // The first line of a block in which the string stands, where it is known to have no newline.
+    // The first line of a block that has the string, which has no newline.
     fn next_line(&self, block: &[u8]) -> Option<Span>
         requires block { IsBlock block.now }
         requires part { self.now.whole ≡ false }
@@ -101,7 +101,7 @@ impl Fixed {
         next_line_with(&self.finder, block)
     }
 
-    // How many lines of a block the string stands in.
+    // How many lines of a block have the string, which is not empty and has no newline.
     fn count_lines(&self, block: &[u8]) -> u64
         requires block { IsBlock block.now }
         requires part { IsPartOfLines self.now }
@@ -127,7 +127,7 @@ impl Fixed {
         self.finder.needle().is_empty()
     }
 
-    // Whether the line around the string is always matched.
+    // Whether each line that has the string is matched, and a line can have it.
     fn is_part(&self) -> bool
         ensures { IsTrue result ↔ IsPartOfLines self.now }
     {

@@ -68,8 +68,8 @@ impl<M: LineMatch> Model for Searchers<M> {
 }
 
 impl<M: LineMatch> Searchers<M> {
-    /// These matchers. Each line that some matcher matches has one of the filter's strings, if there
-    /// is a filter.
+    /// These matchers. If there is a filter, each line that some matcher matches has one of its
+    /// strings.
     pub fn new(matchers: Vec<M>, filter: Option<Filter>, whole: bool) -> Searchers<M>
         requires alike { AllAnswer whole (map M.whole matchers.items) }
         requires needed { IfSome filter (λ f. AreNeeded f (map M.expression matchers.items)) }
@@ -83,8 +83,8 @@ impl<M: LineMatch> Searchers<M> {
         }
     }
 
-    /// Whether some matcher matches the line, in at most one step for each matcher and byte, and one
-    /// more for each matcher.
+    /// Whether some matcher matches the line, in at most one step for each matcher and byte, and
+    /// one more for each matcher.
     pub fn is_matched(&mut self, line: &[u8], meter: &mut Meter) -> bool
         ensures told { IsTrue result ↔ IsSought (sought_by M.expression self.old) line.now }
         ensures same { sought_by M.expression self.new ≡ sought_by M.expression self.old }
@@ -95,9 +95,9 @@ impl<M: LineMatch> Searchers<M> {
     }
 
     /// The first line of a block of whole lines that some matcher matches, by its place without its
-    /// newline. It takes at most one step for each matcher and byte up to that newline, and one more
-    /// for each matcher. If no line is matched, it takes at most one step for each matcher and byte
-    /// of the block.
+    /// newline. It takes at most one step for each matcher and byte up to that newline, and one
+    /// more for each matcher. If no line is matched, it takes at most one step for each matcher and
+    /// byte of the block.
     pub fn next_matched(&mut self, block: &[u8], meter: &mut Meter) -> Option<Span>
         requires { IsBlock block.now }
         ensures told { FindsSought (sought_by M.expression self.old) (lines_of block.now) result }
@@ -139,8 +139,8 @@ impl<M: LineMatch> Searchers<M> {
         }
     }
 
-    /// The next part of the line, as [`parts`] finds it, in at most one step for each matcher and
-    /// byte from `from` on, and one more for each matcher.
+    /// The next part of the line, like [`parts`], in at most one step for each matcher and byte
+    /// from `from` on, and one more for each matcher.
     pub fn part(&mut self, line: &[u8], from: usize, meter: &mut Meter) -> Option<Span>
         requires { from ≤ length line.now }
         ensures told { FindsPart (map M.expression self.old.matchers) line.now self.old.whole from

@@ -1,20 +1,20 @@
-//! Matchers that pass lines of a block in one sweep, where it is known of them without a search that
+//! Matchers that pass lines of a block in one sweep, as far as it is known without a search that
 //! they are not matched.
 ghost use Rattle.std.specs.Prelude.{Bool, ◌≡◌, ◌+◌, ◌<◌, ◌≤◌, ◌↔◌, IsTrue, IfSome, length};
 ghost use Rattle.re_syntax.specs.Expression.{Expression};
 ghost use Rattle.re_syntax.specs.Holds.{Matches};
 ghost use Rattle.re_syntax.specs.Lines.{lines_of};
 ghost use Rattle.re_search.specs.Searching.{AddsAtMost};
-ghost use Rattle.re_search.specs.Working.Blocks.{IsBlock, PassesUnmatched, CountsMatched, FindsMatched};
-ghost use Rattle.re_search.specs.Working.Blocks.{next_cost};
+ghost use Rattle.re_search.specs.Working.Blocks.{IsBlock, PassesUnmatched, CountsMatched};
+ghost use Rattle.re_search.specs.Working.Blocks.{FindsMatched, next_cost};
 
 use crate::block::line_end;
 use crate::span::Span;
 use re_auto::Meter;
 
-/// A matcher that looks over a block for what each line has that it matches.
+/// A matcher that looks over a block for something that each matched line has.
 pub trait Sweeps {
-    /// The expression that it stands for.
+    /// The expression that it is made for.
     ghost expression: { Self → Expression };
 
     /// Whether the whole line has to be matched.
@@ -35,8 +35,8 @@ pub trait Sweeps {
         ensures steps { AddsAtMost (length line.now + 1) meter.old meter.new };
 }
 
-/// The first line of a block of whole lines that is matched, as `next_matched` of `LineMatch` tells it.
-/// Each byte that a sweep passes is a step; a line at which a sweep stops is searched.
+/// The first line of a block of whole lines that is matched, like `LineMatch::next_matched`. Each
+/// line at which a sweep stops is searched.
 pub fn next_by_sweeps<M: Sweeps>(matcher: &mut M, block: &[u8], meter: &mut Meter) -> Option<Span>
     requires { IsBlock block.now }
     ensures told { FindsMatched (M.expression matcher.old) (M.whole matcher.old)
@@ -59,7 +59,7 @@ pub fn next_by_sweeps<M: Sweeps>(matcher: &mut M, block: &[u8], meter: &mut Mete
     }
 }
 
-/// How many lines of a block of whole lines are matched, as `count_matched` of `LineMatch` tells it.
+/// How many lines of a block of whole lines are matched, like `LineMatch::count_matched`.
 pub fn count_by_sweeps<M: Sweeps>(matcher: &mut M, block: &[u8], meter: &mut Meter) -> u64
     requires { IsBlock block.now }
     ensures told { CountsMatched (M.expression matcher.old) (M.whole matcher.old)

@@ -75,7 +75,7 @@ module _ (text : Text) where
         absurd (free j 0 below (sym (o.reads j below) ∙ ap (λ n. get_or (line ++ newline ∷ rest) n 0) place ∙ get_or-append-add line (newline ∷ rest) 0 0)))
   ]
 
-  -- the line around a place of the text, which has no newline, is one that it stands in
+  -- the line around a place of the text, which has no newline, has the text
   pub stands_around : HasNoNewline text → (block : Text) (at start end : ℕ) → OccursAt block text at → start ≤ at → HasNoNewline (drop start (take at block)) → IsLineFrom block start end → StandsIn text (slice_range block start end)
   stands_around free block at start end o low none cut =
       let line = slice_range block start end in

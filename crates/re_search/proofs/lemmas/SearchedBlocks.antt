@@ -4,7 +4,7 @@ use Rattle.std.proofs.Math.Nat.{mul-le-mul_left, mul-le-mul_right}
 use Rattle.std.proofs.lemmas.List.{length-map}
 use Rattle.std.proofs.Math.Seq.{drop-append_seam, drop-length}
 use Rattle.std.proofs.lemmas.List.Elements.{All-append, All-cons, All-drop, All-head, All-nil, All-tail}
-use Rattle.re_auto.specs.Meters.{Steps, counted, many_built}
+use Rattle.re_auto.specs.Meters.{Steps, counted}
 use Rattle.re_syntax.specs.Bytes.{Text}
 use Rattle.re_syntax.specs.Expression.{Expression, byte, sequence}
 use Rattle.re_syntax.specs.Holds.{Matches}
@@ -25,12 +25,12 @@ pub terminated-append : (ts us : List Text) → terminated (ts ++ us) ≡ termin
 terminated-append [] us = refl
 terminated-append (t ∷ ts) us = ap (λ l. t ++ newline ∷ l) (terminated-append ts us) ∙ sym (append_assoc t (newline ∷ terminated ts) (terminated us))
 
--- what is left behind them
-pub left_behind : (block rest : Text) (start : ℕ) (lines : List Text) → block ≡ terminated lines ++ rest → start ≡ length (terminated lines) → drop start block ≡ rest
-left_behind block rest start lines is counted =
+-- what is left after them
+pub left_after : (block rest : Text) (start : ℕ) (lines : List Text) → block ≡ terminated lines ++ rest → start ≡ length (terminated lines) → drop start block ≡ rest
+left_after block rest start lines is counted =
     ap (λ n. drop n block) counted ∙ ap (drop (length (terminated lines))) is ∙ drop-append_seam (terminated lines) rest
 
--- is a block where the whole is one
+-- it is a block if the whole is one
 left_block : (block rest : Text) (lines : List Text) → All HasNoNewline lines → IsBlock block → block ≡ terminated lines ++ rest → IsBlock rest
 left_block block rest lines free (ts, all, whole) is =
     let same : ts ≡ lines ++ lines_of rest = sym (lines_of-terminated ts all) ∙ ap lines_of (sym whole ∙ is) ∙ lines_of-behind lines rest free in
@@ -41,10 +41,10 @@ left_block block rest lines free (ts, all, whole) is =
       sym (drop-append_seam (terminated lines) rest) ∙ ap (drop (length (terminated lines))) both ∙ drop-append_seam (terminated lines) (terminated (lines_of rest)),
     )
 
--- so is it behind lines that were passed
-pub block_behind : (Holds : Text → Type 0) (block : Text) (start : ℕ) → IsBlock block → PassesAll Holds block start → IsBlock (drop start block)
-block_behind Holds block start whole (lines, rest, free, held, is, counted) =
-    subst IsBlock (sym (left_behind block rest start lines is counted)) (left_block block rest lines free whole is)
+-- so is what is left after lines that were passed
+pub block_after : (Holds : Text → Type 0) (block : Text) (start : ℕ) → IsBlock block → PassesAll Holds block start → IsBlock (drop start block)
+block_after Holds block start whole (lines, rest, free, held, is, counted) =
+    subst IsBlock (sym (left_after block rest start lines is counted)) (left_block block rest lines free whole is)
 
 -- a block without newline has no line
 no_lines : (rest : Text) → IsBlock rest → HasNoNewline rest → lines_of rest ≡ []
@@ -69,7 +69,7 @@ cost_of_lines (t ∷ ts) = omega (arith, length-append t (newline ∷ terminated
 pub adds_both : (first next : ℕ) (old mid new : Steps) → AddsAtMost first old mid → AddsAtMost next mid new → AddsAtMost (first + next) old new
 adds_both first next old mid new a b = record { built = omega (arith, a.built, b.built); reused = omega (arith, a.reused, b.reused); sum = omega (arith, a.sum, b.sum) }
 
--- what is at most a number is at most a greater one
+-- at most a number of steps are at most a greater number
 pub adds_within : (few most : ℕ) (old new : Steps) → few ≤ most → AddsAtMost few old new → AddsAtMost most old new
 adds_within few most old new h a = record { built = a.built; reused = a.reused; sum = omega (arith, h, a.sum) }
 
@@ -96,23 +96,16 @@ adds_sweep_by n start count old mid new some a b =
     adds_within (n * start + count) (n * (start + count)) old new (omega (arith, once, joined, same)) (adds_both (n * start) count old mid new a b)
 
 -- the same for bytes that are left of a number of them
-pub adds_on_by : (n all before behind end : ℕ) (old mid new : Steps) → before ≤ all → end < before → behind ≡ before - (end + 1) → AddsAtMost (n * (all - before)) old mid → AddsAtMost (n * (end + 1)) mid new → AddsAtMost (n * (all - behind)) old new
-adds_on_by n all before behind end old mid new few low left a b =
-    let further : all - before + (end + 1) ≤ all - behind = omega (arith, few, low, left) in
+pub adds_on_by : (n all before others end : ℕ) (old mid new : Steps) → before ≤ all → end < before → others ≡ before - (end + 1) → AddsAtMost (n * (all - before)) old mid → AddsAtMost (n * (end + 1)) mid new → AddsAtMost (n * (all - others)) old new
+adds_on_by n all before others end old mid new few low left a b =
+    let further : all - before + (end + 1) ≤ all - others = omega (arith, few, low, left) in
     let joined : n * (all - before) + n * (end + 1) ≡ n * (all - before + (end + 1)) = omega arith in
     let most = mul-le-mul_left n further in
-    adds_within (n * (all - before) + n * (end + 1)) (n * (all - behind)) old new (omega (arith, joined, most)) (adds_both (n * (all - before)) (n * (end + 1)) old mid new a b)
+    adds_within (n * (all - before) + n * (end + 1)) (n * (all - others)) old new (omega (arith, joined, most)) (adds_both (n * (all - before)) (n * (end + 1)) old mid new a b)
 
--- matchers that stand for the same are as many
+-- matchers of the same expressions are of the same number
 pub same_length : {A B : Type 0} (f : A → B) (xs ys : List A) → map f xs ≡ map f ys → length xs ≡ length ys
 same_length f xs ys e = sym (length-map xs f) ∙ ap length e ∙ length-map ys f
-
--- the steps of a sweep
-pub adds_sweep : (start count : ℕ) (old mid new : Steps) → AddsAtMost start old mid → new ≡ many_built count mid → AddsAtMost (start + count) old new
-adds_sweep start count old mid new a is =
-    let built : new.built ≡ counted count mid.built = ap (λ (s : Steps). s.built) is in
-    let reused : new.reused ≡ mid.reused = ap (λ (s : Steps). s.reused) is in
-    record { built = omega (arith, a.built, built); reused = omega (arith, a.reused, reused); sum = omega (arith, a.sum, built, reused) }
 
 -- ---- from one line to the next
 
@@ -120,46 +113,46 @@ module _ (P : Text → Type 0) where
   abbrev Not : Text → Type 0
   Not line = ¬ P line
 
-  -- lines are passed behind those that were
+  -- lines are passed after those that were
   pub passed_on : (block : Text) (start count : ℕ) → PassesAll Not block start → PassesAll Not (drop start block) count → PassesAll Not block (start + count)
-  passed_on block start count (lines, rest, free, none, is, counted) (more, behind, free_more, none_more, is_more, counted_more) =
-      let left : drop start block ≡ rest = left_behind block rest start lines is counted in (
+  passed_on block start count (lines, rest, free, none, is, counted) (more, others, free_more, none_more, is_more, counted_more) =
+      let left : drop start block ≡ rest = left_after block rest start lines is counted in (
         lines ++ more,
-        behind,
+        others,
         All-append HasNoNewline lines more free free_more,
         All-append Not lines more none none_more,
-        is ∙ ap (λ l. terminated lines ++ l) (sym left ∙ is_more) ∙ sym (append_assoc (terminated lines) (terminated more) behind) ∙ ap (λ l. l ++ behind) (sym (terminated-append lines more)),
+        is ∙ ap (λ l. terminated lines ++ l) (sym left ∙ is_more) ∙ sym (append_assoc (terminated lines) (terminated more) others) ∙ ap (λ l. l ++ others) (sym (terminated-append lines more)),
         omega (arith, counted, counted_more, ap length (terminated-append lines more), length-append (terminated lines) (terminated more)),
       )
 
   -- so is one line
-  pub passed_line : (block : Text) (start : ℕ) (line behind : Text) → HasNoNewline line → drop start block ≡ line ++ newline ∷ behind → ¬ P line → PassesAll Not block start → PassesAll Not block (start + (length line + 1))
-  passed_line block start line behind free cut none passed =
+  pub passed_line : (block : Text) (start : ℕ) (line others : Text) → HasNoNewline line → drop start block ≡ line ++ newline ∷ others → ¬ P line → PassesAll Not block start → PassesAll Not block (start + (length line + 1))
+  passed_line block start line others free cut none passed =
       passed_on block start (length line + 1) passed
-      (line ∷ [], behind, all_cons line [] free all_none, All-cons Not line [] none (All-nil Not), cut ∙ sym (append_assoc line (newline ∷ []) behind), sym (length-append line (newline ∷ [])))
+      (line ∷ [], others, all_cons line [] free all_none, All-cons Not line [] none (All-nil Not), cut ∙ sym (append_assoc line (newline ∷ []) others), sym (length-append line (newline ∷ [])))
 
-  -- all are passed where no newline is left
+  -- all are passed if no newline is left
   pub none_next : (block : Text) (start : ℕ) → IsBlock block → PassesAll Not block start → HasNoNewline (drop start block) → FindsNext P (lines_of block) None
   none_next block start whole (lines, rest, free, none, is, counted) ends =
-      let left : drop start block ≡ rest = left_behind block rest start lines is counted in
+      let left : drop start block ≡ rest = left_after block rest start lines is counted in
       let no_more : lines_of rest ≡ [] = no_lines rest (left_block block rest lines free whole is) (subst HasNoNewline left ends) in
       let all : lines ≡ lines_of block = sym (append-nil lines) ∙ ap (λ l. lines ++ l) (sym no_more) ∙ sym (ap lines_of is ∙ lines_of-behind lines rest free) in
       subst (All Not) all none
 
-  -- so are they where the whole block is passed
+  -- so are they if the whole block is passed
   pub none_in_all : (block : Text) → IsBlock block → PassesAll Not block (length block) → FindsNext P (lines_of block) None
   none_in_all block whole passed = none_next block (length block) whole passed (subst HasNoNewline (sym (drop-length block)) none_in_empty)
 
-  -- the line behind those that were passed is the next one
-  pub next_here : (block : Text) (start end : ℕ) (line behind : Text) → HasNoNewline line → drop start block ≡ line ++ newline ∷ behind → end ≡ start + length line → P line → PassesAll Not block start
+  -- the line after those that were passed is the next one
+  pub next_here : (block : Text) (start end : ℕ) (line others : Text) → HasNoNewline line → drop start block ≡ line ++ newline ∷ others → end ≡ start + length line → P line → PassesAll Not block start
       → IsNext P (lines_of block) (record { start = start; end = end })
-  next_here block start end line behind free_line cut ends holds (lines, rest, free, none, is, counted) =
-      let left : drop start block ≡ rest = left_behind block rest start lines is counted in
+  next_here block start end line others free_line cut ends holds (lines, rest, free, none, is, counted) =
+      let left : drop start block ≡ rest = left_after block rest start lines is counted in
       record {
         before = lines;
         line = line;
-        after = lines_of behind;
-        parted = ap lines_of is ∙ lines_of-behind lines rest free ∙ ap (λ l. lines ++ l) (ap lines_of (sym left ∙ cut) ∙ lines_of-line line behind free_line);
+        after = lines_of others;
+        divided = ap lines_of is ∙ lines_of-behind lines rest free ∙ ap (λ l. lines ++ l) (ap lines_of (sym left ∙ cut) ∙ lines_of-line line others free_line);
         passed = none;
         holds = holds;
         starts = counted;
@@ -186,22 +179,22 @@ module _ (P : Text → Type 0) where
         let place : end ≡ start + length (slice_range block start end) = omega (arith, low, long) in
         next_here block start end (slice_range block start end) (drop (end + 1) block) cut.2 cut.3 place holds passed
 
-  -- ---- the lines behind it
+  -- ---- the lines after it
 
-  -- what stands behind the next line
-  pub behind_next : (block : Text) (place : Span) → IsBlock block → (n : IsNext P (lines_of block) place) → drop (place.end + 1) block ≡ terminated n.after
-  behind_next block place whole n =
+  -- the bytes after the next line
+  pub bytes_after_next : (block : Text) (place : Span) → IsBlock block → (n : IsNext P (lines_of block) place) → drop (place.end + 1) block ≡ terminated n.after
+  bytes_after_next block place whole n =
       let bytes : block ≡ terminated (n.before ++ n.line ∷ []) ++ terminated n.after =
-      block_lines block whole ∙ ap terminated (n.parted ∙ sym (append_assoc n.before (n.line ∷ []) n.after)) ∙ terminated-append (n.before ++ n.line ∷ []) n.after in
+      block_lines block whole ∙ ap terminated (n.divided ∙ sym (append_assoc n.before (n.line ∷ []) n.after)) ∙ terminated-append (n.before ++ n.line ∷ []) n.after in
       let ended : terminated (n.before ++ n.line ∷ []) ≡ terminated n.before ++ (n.line ++ newline ∷ []) = terminated-append n.before (n.line ∷ []) in
       let place_is : place.end + 1 ≡ length (terminated (n.before ++ n.line ∷ [])) =
       omega (arith, n.starts, n.ends, ap length ended, length-append (terminated n.before) (n.line ++ newline ∷ []), length-append n.line (newline ∷ [])) in
-      left_behind block (terminated n.after) (place.end + 1) (n.before ++ n.line ∷ []) bytes place_is
+      left_after block (terminated n.after) (place.end + 1) (n.before ++ n.line ∷ []) bytes place_is
 
-  -- is without newlines in its lines
+  -- the lines after it have no newline
   pub after_next : (block : Text) (place : Span) → IsBlock block → (n : IsNext P (lines_of block) place) → All HasNoNewline n.after
   after_next block place whole n =
-      let all : All HasNoNewline (n.before ++ n.line ∷ n.after) = subst (All HasNoNewline) n.parted (free_lines block whole) in
+      let all : All HasNoNewline (n.before ++ n.line ∷ n.after) = subst (All HasNoNewline) n.divided (free_lines block whole) in
       let others : All HasNoNewline (n.line ∷ n.after) = subst (All HasNoNewline) (drop-append_seam n.before (n.line ∷ n.after)) (All-drop HasNoNewline (length n.before) (n.before ++ n.line ∷ n.after) all) in
       all_tail n.line n.after others
 
@@ -212,7 +205,7 @@ module _ (P : Text → Type 0) where
   none_holds [] more n none h = h
   none_holds (line ∷ lines) more n none h = (n, none_holds lines more n (All-tail Not line lines none) h, inr (All-head Not line lines none, refl))
 
-  -- so many lines of a block have it, and those of the rest besides
+  -- `count` lines of a block have it, and those of the rest besides
   pub record CountsTo (block rest : Text) (count : ℕ) : Type 0 where
     pub is_block : IsBlock rest
     pub few : count + length rest ≤ length block
@@ -221,10 +214,10 @@ module _ (P : Text → Type 0) where
   pub counts_none : (block : Text) → IsBlock block → CountsTo block block 0
   counts_none block is = record { is_block = is; few = omega arith; counts = λ n h. let same : n ≡ 0 + n = omega arith in subst (HoldsOfMany P (lines_of block)) same h }
 
-  -- one more, and the rest is behind it
+  -- one more, and the rest is after it
   pub counts_next : (block rest : Text) (count : ℕ) (place : Span) → place.end < length rest → CountsTo block rest count → IsNext P (lines_of rest) place → CountsTo block (drop (place.end + 1) rest) (count + 1)
   counts_next block rest count place within c n =
-      let is : drop (place.end + 1) rest ≡ terminated n.after = behind_next rest place c.is_block n in
+      let is : drop (place.end + 1) rest ≡ terminated n.after = bytes_after_next rest place c.is_block n in
       let free : All HasNoNewline n.after = after_next rest place c.is_block n in
       let are : lines_of (drop (place.end + 1) rest) ≡ n.after = ap lines_of is ∙ lines_of-terminated n.after free in
       record {
@@ -232,7 +225,7 @@ module _ (P : Text → Type 0) where
         few = omega (arith, c.few, within, length-drop (place.end + 1) rest);
         counts = λ m h.
             let one : HoldsOfMany P (n.line ∷ n.after) (m + 1) = (m, subst (λ ls. HoldsOfMany P ls m) are h, inl (n.holds, refl)) in
-            let all : HoldsOfMany P (lines_of rest) (m + 1) = subst (λ ls. HoldsOfMany P ls (m + 1)) (sym n.parted) (none_holds n.before (n.line ∷ n.after) (m + 1) n.passed one) in
+            let all : HoldsOfMany P (lines_of rest) (m + 1) = subst (λ ls. HoldsOfMany P ls (m + 1)) (sym n.divided) (none_holds n.before (n.line ∷ n.after) (m + 1) n.passed one) in
             let grouped : count + (m + 1) ≡ count + 1 + m = omega arith in
             subst (HoldsOfMany P (lines_of block)) grouped (c.counts (m + 1) all);
       }
@@ -244,7 +237,7 @@ module _ (P : Text → Type 0) where
       let same : count + 0 ≡ count = omega arith in
       subst (HoldsOfMany P (lines_of block)) same (c.counts 0 no_more)
 
--- ---- the same lines, said otherwise
+-- ---- the same lines by another property
 
 pub finds_same : (P Q : Text → Type 0) → ((line : Text) → P line → Q line) → ((line : Text) → Q line → P line) → (lines : List Text) (found : Option Span) → FindsNext P lines found → FindsNext Q lines found
 finds_same P Q to from lines None none = λ k d below q. none k d below (from _ q)
@@ -253,14 +246,14 @@ finds_same P Q to from lines (Some place) n =
       before = n.before;
       line = n.line;
       after = n.after;
-      parted = n.parted;
+      divided = n.divided;
       passed = λ k d below q. n.passed k d below (from _ q);
       holds = to n.line n.holds;
       starts = n.starts;
       ends = n.ends;
     }
 
--- the lines in which a string stands are those that it matches
+-- the lines that have a string are those that it matches
 pub finds_literal : (text : Text) (lines : List Text) (found : Option Span) → FindsNext (StandsIn text) lines found → FindsMatched (sequence (map byte text)) false lines found
 finds_literal text lines found h = finds_same (StandsIn text) (λ line. Matches (sequence (map byte text)) line false) (stands_literal text) (literal_stands text) lines found h
 
@@ -281,7 +274,7 @@ finds_of_one es wholes e whole asked one alike all lines found h =
     (λ line m. subst (λ xs. SomeMatches xs line asked) (sym one) (Any-first (λ x. Matches x line asked) e [] (subst (Matches e line) same m)))
     (λ line m. subst (Matches e line) (sym same) (Any-single (λ x. Matches x line asked) e (subst (λ xs. SomeMatches xs line asked) one m))) lines found h
 
--- of matchers that are the same, those lines are passed that none matches
+-- lines that matchers of the same expressions pass are passed
 pub swept_by : (es fs : List Expression) (ws vs : List Bool) (whole : Bool) → fs ≡ es → vs ≡ ws → AllAnswer whole ws → (block : Text) (count : ℕ) → PassesUnmatchedByAll fs vs block count → PassesUnsought (record { expressions = es; whole = whole }) block count
 swept_by es fs ws vs whole same_es same_ws all block count h =
     subst (λ xs. PassesAll (λ line. ¬ SomeMatches xs line whole) block count) same_es (h whole (subst (AllAnswer whole) (sym same_ws) all))

@@ -73,13 +73,13 @@ pub record IsNext (Holds : Text → Type 0) (lines : List Text) (place : Span) :
   pub before : List Text
   pub line : Text
   pub after : List Text
-  pub parted : lines ≡ before ++ line ∷ after
+  pub divided : lines ≡ before ++ line ∷ after
   pub passed : All (λ l. ¬ Holds l) before
   pub holds : Holds line
   pub starts : place.start ≡ length (terminated before)
   pub ends : place.end ≡ place.start + length line
 
--- the place of the first line of which this holds; None says that it holds of none
+-- the place of the first line of which this holds; None says that there is none
 abbrev pub FindsNext : (Text → Type 0) → List Text → Option Span → Type 0
 FindsNext Holds lines found =
     MatchOption found (All (λ line. ¬ Holds line) lines) (IsNext Holds lines)
@@ -88,15 +88,15 @@ FindsNext Holds lines found =
 abbrev pub FindsMatched : Expression → Bool → List Text → Option Span → Type 0
 FindsMatched e whole lines found = FindsNext (λ line. Matches e line whole) lines found
 
--- ---- what that may cost
+-- ---- what a search may cost
 
 -- a search of these lines, each once: a step for each of its bytes and one more
 abbrev pub lines_cost : List Text → ℕ
 lines_cost [] = 0
 lines_cost (line ∷ lines) = length line + 1 + lines_cost lines
 
--- a search for the next line of a block: of the lines up to the one that was found, and of that
--- one, which is a step for each byte up to its newline and one for that; of all where none was
+-- a search for the next line of a block: a step for each byte up to the newline of the line that
+-- was found, and one for the newline; one for each byte of the block if none was found
 abbrev pub next_cost : Text → Option Span → ℕ
 next_cost block None = length block
 next_cost block (Some place) = place.end + 1

@@ -11,7 +11,7 @@ pub record Literal : Type 0 where
   pub text : Text
   pub whole : Bool
 
--- it may stand anywhere in a line, and a line may have it
+-- it is looked for anywhere in a line, and a line can have it
 abbrev pub IsPartOfLines : Literal → Type 0
 IsPartOfLines literal = (literal.whole ≡ false) × HasNoNewline literal.text
 

@@ -6,12 +6,12 @@ use Rattle.re_search.specs.declared.span.Span.{Span}
 use Rattle.re_search.specs.Searching.{SomeMatches}
 use Rattle.re_search.specs.Working.Blocks.{PassesAll, FindsNext, HoldsOfMany}
 
--- the expressions, and whether one has to match the whole line
+-- the expressions, and whether the whole line has to be matched
 pub record Sought : Type 0 where
   pub expressions : List Expression
   pub whole : Bool
 
--- matchers that are asked together, and whether they want the whole line
+-- matchers that are asked together, and whether the whole line has to be matched
 pub record Several (M : Type 0) : Type 0 where
   pub matchers : List M
   pub whole : Bool
@@ -25,14 +25,14 @@ sought_by expression several =
 abbrev pub IsSought : Sought → Text → Type 0
 IsSought sought line = SomeMatches sought.expressions line sought.whole
 
--- the first `count` bytes are whole lines, none of which some expression matches
+-- the first `count` bytes are whole lines, none of which any of the expressions matches
 abbrev pub PassesUnsought : Sought → Text → ℕ → Type 0
 PassesUnsought sought block count = PassesAll (λ line. ¬ IsSought sought line) block count
 
--- the place of the first line that some expression matches; None says that none is matched
+-- the place of the first line that some expression matches; None says that there is none
 abbrev pub FindsSought : Sought → List Text → Option Span → Type 0
 FindsSought sought lines found = FindsNext (IsSought sought) lines found
 
--- so many lines are matched by some expression
+-- `count` of the lines are matched by some expression
 abbrev pub CountsSought : Sought → List Text → ℕ → Type 0
 CountsSought sought lines count = HoldsOfMany (IsSought sought) lines count

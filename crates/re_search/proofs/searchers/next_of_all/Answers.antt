@@ -1,4 +1,4 @@
-use Rattle.std.proofs.Common.{◌+◌, ◌*◌, ◌≤◌, length, map, drop, refl, arith}
+use Rattle.std.proofs.Common.{◌+◌, ◌*◌, length, map, drop, refl, arith}
 use Rattle.std.proofs.lemmas.Bool.{false≢true}
 use Rattle.std.proofs.lemmas.List.{take_rest}
 use Rattle.re_syntax.specs.Bytes.{Text}
@@ -6,13 +6,13 @@ use Rattle.re_search.specs.Working.Sought.{Sought, IsSought, PassesUnsought}
 use Rattle.std.proofs.Math.Nat.{mul-le-mul_left}
 use Rattle.re_search.proofs.lemmas.LeastPasses.{passed_within}
 use Rattle.re_search.proofs.lemmas.KeptMatchers.{same_over}
-use Rattle.re_search.proofs.lemmas.SearchedBlocks.{block_behind, passed_on, none_next, next_from, passed_from, long, adds_line_by, adds_sweep_by, adds_within, swept_by, same_length}
+use Rattle.re_search.proofs.lemmas.SearchedBlocks.{block_after, passed_on, none_next, next_from, passed_from, long, adds_line_by, adds_sweep_by, adds_within, swept_by, same_length}
 use Rattle.re_search.proofs.searchers.next_of_all.Goals as goal
 
 pub sweep-requires-clause-block : goal.sweep-requires-clause-block
 sweep-requires-clause-block g c =
     let s : Sought = record { expressions = map g.M.LineMatch.expression c.args.matchers.now.items; whole = c.args.whole } in
-    rw take_rest (block_behind (λ (line : Text). ¬ IsSought s line) c.args.block.now c.lines.start c.requires.block c.lines.invariant.passed)
+    rw take_rest (block_after (λ (line : Text). ¬ IsSought s line) c.args.block.now c.lines.start c.requires.block c.lines.invariant.passed)
 
 pub sweep-requires-clause-needed : goal.sweep-requires-clause-needed
 sweep-requires-clause-needed g c = rw c.lines.invariant.same_matchers.same_expressions c.requires.needed

@@ -4,14 +4,14 @@ use Rattle.std.proofs.lemmas.List.{take_rest}
 use Rattle.re_syntax.specs.Bytes.{Text}
 use Rattle.re_syntax.specs.Holds.{Matches}
 use Rattle.re_search.specs.Working.Blocks.{PassesUnmatched}
-use Rattle.re_search.proofs.lemmas.SearchedBlocks.{block_behind, passed_on, none_next, next_from, passed_from, long, adds_line, adds_both}
+use Rattle.re_search.proofs.lemmas.SearchedBlocks.{block_after, passed_on, none_next, next_from, passed_from, long, adds_line, adds_both}
 use Rattle.re_search.proofs.sweeps.next_by_sweeps.Goals as goal
 
 pub sweep-requires : goal.sweep-requires
 sweep-requires g c =
     let e = g.M.Sweeps.expression c.args.matcher.now in
     let whole = g.M.Sweeps.whole c.args.matcher.now in
-    rw take_rest (block_behind (λ (line : Text). ¬ Matches e line whole) c.args.block.now c.lines.start c.requires c.lines.invariant.passed)
+    rw take_rest (block_after (λ (line : Text). ¬ Matches e line whole) c.args.block.now c.lines.start c.requires c.lines.invariant.passed)
 
 pub returns-in_default-clause-told : goal.returns-in_default-clause-told
 returns-in_default-clause-told g c =
