@@ -9,7 +9,9 @@ pub mod BlockLemmas
 pub mod LeastPasses
 pub mod BegunLines
 pub mod CountedBlocks
+pub mod SearchedBlocks
 pub mod SetBlocks
+pub mod SetAround
 pub mod Occurrences
 pub mod OneText
 pub mod Passing

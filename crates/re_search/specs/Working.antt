@@ -14,3 +14,4 @@ pub mod Stages
 pub mod Walks
 pub mod CachedMatchers
 pub mod Matchers
+pub mod Sought

@@ -1,13 +1,15 @@
-//! Blocks of whole lines: passing over their first lines, and counting their lines, at once.
+//! Blocks of whole lines: finding one, passing over the first ones, and counting them, at once.
 ghost use Rattle.std.specs.Prelude.{◌≡◌, ◌+◌, ◌<◌, ◌≤◌, ◌↔◌, ◌++◌, ◌∷◌, IsTrue, IfSome};
 ghost use Rattle.std.specs.Prelude.{MatchOption, length, take, drop, ⊤};
 ghost use Rattle.re_syntax.specs.Lines.{newline, lines_of, HasNoNewline};
 ghost use Rattle.re_search.specs.Working.Blocks.{IsBlock, LineBegins, Lacks, PassesAll};
-ghost use Rattle.re_search.specs.Working.Blocks.{StandsIn, HoldsOfMany};
+ghost use Rattle.re_search.specs.Working.Blocks.{StandsIn, HoldsOfMany, IsLineFrom, FindsNext};
+ghost use Rattle.re_search.specs.Working.Blocks.{next_cost};
 ghost use Rattle.re_search.specs.Working.Needles.{run_of};
 ghost use Rattle.re_search.specs.Working.Runs.{BeginsWithout, LacksRun};
 
 use crate::needle::RunFinder;
+use crate::span::Span;
 use memchr::memmem::Finder;
 use memchr::{memchr, memrchr};
 
@@ -73,7 +75,8 @@ fn line_begins(bytes: &[u8], place: usize) -> bool
 
 /// Where the last line of the bytes begins. It need not end with a newline.
 pub fn line_start(bytes: &[u8]) -> usize
-    ensures { PassesAll (λ _. ⊤) bytes.now result }
+    ensures lines { PassesAll (λ _. ⊤) bytes.now result }
+    ensures last { HasNoNewline (drop result bytes.now) }
 {
     match last_newline(bytes) {
         Some(at) => at + 1,
@@ -83,10 +86,41 @@ pub fn line_start(bytes: &[u8]) -> usize
 
 // The place of the last newline.
 fn last_newline(bytes: &[u8]) -> Option<usize>
-    ensures { IfSome result (λ k. (k < length bytes.now)
-        × (bytes.now ≡ take k bytes.now ++ newline ∷ drop (k + 1) bytes.now)) }
+    ensures { MatchOption result (HasNoNewline bytes.now) (λ k. (k < length bytes.now)
+        × (bytes.now ≡ take k bytes.now ++ newline ∷ drop (k + 1) bytes.now)
+        × HasNoNewline (drop (k + 1) bytes.now)) }
 {
     memrchr(b'\n', bytes)
+}
+
+/// The first line of a block of whole lines that has the string, by its place without its newline.
+/// The string has no newline.
+pub fn next_line_with(finder: &Finder<'_>, block: &[u8]) -> Option<Span>
+    requires block { IsBlock block.now }
+    requires one_line { HasNoNewline finder.now }
+    ensures told { FindsNext (StandsIn finder.now) (lines_of block.now) result }
+    ensures within { IfSome result (λ at. (at.start ≤ at.end) × (at.end < length block.now)) }
+{
+    let Some(at) = finder.find(block) else {
+        return None;
+    };
+    let start = line_start(&block[..at]);
+    let Some(end) = line_end(block, start) else {
+        return None;
+    };
+    Some(Span { start, end })
+}
+
+/// How many bytes of a block a search for its next line answers for: those up to the newline of the
+/// line that was found, with that newline; all if none was found.
+pub fn bytes_to(block: &[u8], found: Option<Span>) -> u64
+    requires { IfSome found (λ at. at.end < length block.now) }
+    ensures { result ≡ next_cost block.now found }
+{
+    match found {
+        Some(at) => at.end as u64 + 1,
+        None => block.len() as u64,
+    }
 }
 
 /// How many lines of a block of whole lines have the string. `None` if the string is empty or has a
@@ -101,8 +135,8 @@ pub fn count_lines_with(finder: &Finder<'_>, block: &[u8]) -> Option<u64>
     Some(count_by(finder, block))
 }
 
-// The same for a string that is not empty and has no newline.
-fn count_by(finder: &Finder<'_>, block: &[u8]) -> u64
+/// The same for a string that is not empty and has no newline.
+pub fn count_by(finder: &Finder<'_>, block: &[u8]) -> u64
     requires block { IsBlock block.now }
     requires some { 1 ≤ length finder.now }
     requires one_line { HasNoNewline finder.now }
@@ -119,6 +153,27 @@ fn count_by(finder: &Finder<'_>, block: &[u8]) -> u64
         };
         count += 1;
         rest = &rest[at + length + 1..];
+    }
+}
+
+/// Where the line ends that begins at the place; `None` if no newline follows.
+#[inline(always)]
+pub fn line_end(block: &[u8], start: usize) -> Option<usize>
+    requires { start ≤ length block.now }
+    ensures { MatchOption result (HasNoNewline (drop start block.now))
+        (λ end. IsLineFrom block.now start end) }
+{
+    let length = first_newline(&block[start..])?;
+    Some(start + length)
+}
+
+/// Whether there is no newline.
+pub fn has_no_newline(bytes: &[u8]) -> bool
+    ensures { IsTrue result ↔ HasNoNewline bytes.now }
+{
+    match first_newline(bytes) {
+        Some(_) => false,
+        None => true,
     }
 }
 

@@ -23,6 +23,7 @@ use crate::cost::LookCost;
 use crate::line_match::LineMatch;
 use crate::simulated::Simulated;
 use crate::span::Span;
+use crate::sweeps::{Sweeps, count_by_sweeps, next_by_sweeps};
 use pace::Pace;
 use re_auto::{Automaton, Meter, Mode, StateSet};
 use std::alloc::Global;
@@ -177,6 +178,24 @@ impl Cached {
             }
         }
     }
+
+    // Whether the line is matched.
+    #[inline(always)]
+    fn search(&mut self, line: &[u8], meter: &mut Meter) -> bool
+        ensures told { IsTrue result ↔
+            Matches (expression_of self.old.tree) line.now self.old.whole }
+        ensures same_tree { self.new.tree ≡ self.old.tree }
+        ensures same_whole { self.new.whole ≡ self.old.whole }
+        ensures steps { AddsAtMost (length line.now + 1) meter.old meter.new }
+        ensures counted { AnswersLine (expression_of self.old.tree) self.old.whole line.now
+            self.old.cache self.new.cache meter.old meter.new result }
+        ensures same_most { self.new.most ≡ self.old.most }
+    {
+        if let Some(told) = self.simulated.settled(line) {
+            return told;
+        }
+        self.searched(line, meter)
+    }
 }
 
 // Whether the table has rows. If it has none, they are made, provided that it is worth while and
@@ -219,10 +238,7 @@ impl LineMatch for Cached {
             self.old.cache self.new.cache meter.old meter.new result }
         ensures same_most { self.new.most ≡ self.old.most }
     {
-        if let Some(told) = self.simulated.settled(line) {
-            return told;
-        }
-        self.searched(line, meter)
+        self.search(line, meter)
     }
 
     fn find(&mut self, line: &[u8], from: usize, meter: &mut Meter) -> Option<Span>
@@ -237,6 +253,18 @@ impl LineMatch for Cached {
         self.simulated.find(line, from, meter)
     }
 
+    fn next_matched(&mut self, block: &[u8], meter: &mut Meter) -> Option<Span> {
+        next_by_sweeps(self, block, meter)
+    }
+
+    fn count_matched(&mut self, block: &[u8], meter: &mut Meter) -> u64 {
+        let Some(count) = self.known_count(block) else {
+            return count_by_sweeps(self, block, meter);
+        };
+        meter.add_built(block.len() as u64);
+        count
+    }
+
     fn first_candidate(&self, block: &[u8]) -> usize
         requires { IsBlock block.now }
         ensures { PassesUnmatched (expression_of self.now.tree) self.now.whole block.now result }
@@ -244,15 +272,31 @@ impl LineMatch for Cached {
         self.simulated.first_candidate(block)
     }
 
-    fn count_matched(&self, block: &[u8]) -> Option<u64>
+    fn known_count(&self, block: &[u8]) -> Option<u64>
         requires { IsBlock block.now }
         ensures { IfSome result (λ count. CountsMatched (expression_of self.now.tree)
             self.now.whole (lines_of block.now) count) }
     {
-        self.simulated.count_matched(block)
+        self.simulated.known_count(block)
     }
 
     fn look_cost(&self) -> LookCost {
         self.simulated.look_cost()
+    }
+}
+
+impl Sweeps for Cached {
+    ghost use Rattle.re_syntax.specs.Expression.{expression_of};
+
+    ghost expression = { λ c. expression_of c.tree };
+
+    ghost whole = { λ c. c.whole };
+
+    fn sweep(&self, block: &[u8], meter: &mut Meter) -> usize {
+        self.simulated.sweep(block, meter)
+    }
+
+    fn search(&mut self, line: &[u8], meter: &mut Meter) -> bool {
+        Cached::search(self, line, meter)
     }
 }

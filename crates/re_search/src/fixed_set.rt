@@ -1,6 +1,6 @@
 //! Search for many fixed strings at once (XCU grep, option `-F`).
 ghost use Rattle.std.specs.Prelude.{◌≡◌, ℕ, ◌+◌, ◌-◌, ◌≤◌, ◌↔◌, [], ◌∷◌, true, false, IsTrue, IfOk};
-ghost use Rattle.std.specs.Prelude.{length, map};
+ghost use Rattle.std.specs.Prelude.{◌<◌, IfSome, length, map, slice_range};
 ghost use Rattle.re_search.specs.Working.Branches.{AreAscending, HaveSame};
 ghost use Rattle.re_search.specs.Working.FixedSets.{IsString};
 ghost use Rattle.re_syntax.specs.Holds.{Matches};
@@ -8,7 +8,8 @@ ghost use Rattle.re_syntax.specs.Lines.{lines_of};
 ghost use Rattle.re_auto.specs.Meters.{many_built};
 ghost use Rattle.re_search.specs.Working.Literals.{any_literal, keys};
 ghost use Rattle.re_search.specs.Searching.{FindsPart, AddsAtMost};
-ghost use Rattle.re_search.specs.Working.Blocks.{IsBlock, PassesUnmatched};
+ghost use Rattle.re_search.specs.Working.Blocks.{IsBlock, IsLineFrom, PassesUnmatched};
+ghost use Rattle.re_search.specs.Working.Blocks.{FindsMatched, next_cost};
 
 mod growth;
 mod keys;
@@ -18,10 +19,12 @@ mod making;
 mod table;
 mod trie;
 
-use crate::block::line_start;
+use crate::block::{bytes_to, line_end, line_start};
 use crate::cost::LookCost;
 use crate::line_match::LineMatch;
+use crate::looks::Looks;
 use crate::span::Span;
+use crate::sweeps::{Sweeps, next_by_sweeps};
 use making::table_of;
 use re_auto::Meter;
 use re_syntax::split_file;
@@ -38,6 +41,7 @@ pub struct FixedSet {
     table: Table,
     has_empty: bool,
     whole: bool,
+    looks: Looks,
 }
 
 impl Model for FixedSet {
@@ -98,6 +102,7 @@ impl FixedSet {
             table,
             has_empty,
             whole,
+            looks: Looks::new(LookCost::High),
         })
     }
 
@@ -126,7 +131,9 @@ impl FixedSet {
     /// whole line has to be one; the end of the block if no line has one. No step is counted.
     pub fn first_line(&self, block: &[u8]) -> usize
         requires { IsBlock block.now }
-        ensures { PassesUnmatched (any_literal self.now) false block.now result }
+        ensures passes { PassesUnmatched (any_literal self.now) false block.now result }
+        ensures found { (end : ℕ) → IsLineFrom block.now result end →
+            Matches (any_literal self.now) (slice_range block.now result end) false }
     {
         if self.has_empty {
             return 0;
@@ -135,6 +142,29 @@ impl FixedSet {
             Some(span) => line_start(&block[..span.start]),
             None => block.len(),
         }
+    }
+
+    // The first line of a block that has some string.
+    fn next_line(&self, block: &[u8]) -> Option<Span>
+        requires block { IsBlock block.now }
+        requires part { self.now.whole ≡ false }
+        ensures told { FindsMatched (any_literal self.now) self.now.whole (lines_of block.now)
+            result }
+        ensures within { IfSome result (λ at. (at.start ≤ at.end) × (at.end < length block.now)) }
+    {
+        let start = self.first_line(block);
+        let Some(end) = line_end(block, start) else {
+            return None;
+        };
+        Some(Span { start, end })
+    }
+
+    // Where in a block the first line begins that may be matched: no line before it is matched.
+    fn candidate(&self, block: &[u8]) -> usize
+        requires { IsBlock block.now }
+        ensures { PassesUnmatched (any_literal self.now) self.now.whole block.now result }
+    {
+        self.first_line(block)
     }
 
     // The matched part if the whole line has to be one of the strings.
@@ -157,6 +187,21 @@ impl FixedSet {
         ensures { FindsPart (any_literal self.now ∷ []) line.now false from result }
     {
         self.table.find(line, from)
+    }
+
+    // Whether the line is matched.
+    #[inline(always)]
+    fn search(&mut self, line: &[u8], meter: &mut Meter) -> bool
+        ensures told { IsTrue result ↔ Matches (any_literal self.old) line.now self.old.whole }
+        ensures steps { AddsAtMost (length line.now + 1) meter.old meter.new }
+        ensures same { self.new ≡ self.old }
+        ensures counted { meter.new ≡ many_built (length line.now + 1) meter.old }
+    {
+        meter.add_built(line.len() as u64 + 1);
+        if self.whole {
+            return self.is_line(line);
+        }
+        self.stands_in(line)
     }
 }
 
@@ -201,11 +246,7 @@ impl LineMatch for FixedSet {
         ensures same { self.new ≡ self.old }
         ensures counted { meter.new ≡ many_built (length line.now + 1) meter.old }
     {
-        meter.add_built(line.len() as u64 + 1);
-        if self.whole {
-            return self.is_line(line);
-        }
-        self.stands_in(line)
+        self.search(line, meter)
     }
 
     fn find(&mut self, line: &[u8], from: usize, meter: &mut Meter) -> Option<Span>
@@ -224,14 +265,56 @@ impl LineMatch for FixedSet {
         self.occurrence(line, from)
     }
 
+    fn next_matched(&mut self, block: &[u8], meter: &mut Meter) -> Option<Span>
+        requires { IsBlock block.now }
+        ensures told { FindsMatched (any_literal self.old) self.old.whole (lines_of block.now)
+            result }
+        ensures within { IfSome result
+            (λ at. (at.start ≤ at.end) × (at.end < length block.now)) }
+        ensures same_expression { any_literal self.new ≡ any_literal self.old }
+        ensures same_whole { self.new.whole ≡ self.old.whole }
+        ensures steps { AddsAtMost (next_cost block.now result) meter.old meter.new }
+        ensures counted { self.old.whole ≡ false →
+            meter.new ≡ many_built (next_cost block.now result) meter.old }
+    {
+        if self.whole {
+            return next_by_sweeps(self, block, meter);
+        }
+        let found = self.next_line(block);
+        meter.add_built(bytes_to(block, found));
+        found
+    }
+
     fn first_candidate(&self, block: &[u8]) -> usize
         requires { IsBlock block.now }
         ensures { PassesUnmatched (any_literal self.now) self.now.whole block.now result }
     {
-        self.first_line(block)
+        self.candidate(block)
     }
 
     fn look_cost(&self) -> LookCost {
         LookCost::High
+    }
+}
+
+impl Sweeps for FixedSet {
+    ghost use Rattle.re_search.specs.Working.Literals.{any_literal};
+
+    ghost expression = { λ f. any_literal f };
+
+    ghost whole = { λ f. f.whole };
+
+    fn sweep(&self, block: &[u8], meter: &mut Meter) -> usize {
+        if !self.looks.is_due() {
+            return 0;
+        }
+        let passed = self.candidate(block);
+        self.looks.note(passed);
+        meter.add_built(passed as u64);
+        passed
+    }
+
+    fn search(&mut self, line: &[u8], meter: &mut Meter) -> bool {
+        FixedSet::search(self, line, meter)
     }
 }

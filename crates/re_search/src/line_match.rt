@@ -1,10 +1,13 @@
-ghost use Rattle.std.specs.Prelude.{◌≡◌, Bool, ◌+◌, ◌-◌, ◌≤◌, ◌↔◌, [], ◌∷◌, IsTrue, IfSome, length};
+ghost use Rattle.std.specs.Prelude.{◌≡◌, Bool, ◌+◌, ◌-◌, ◌<◌, ◌≤◌, ◌↔◌, [], ◌∷◌, IsTrue, IfSome};
+ghost use Rattle.std.specs.Prelude.{length};
 ghost use Rattle.re_syntax.specs.Expression.{Expression};
 ghost use Rattle.re_syntax.specs.Holds.{Matches};
 ghost use Rattle.re_syntax.specs.Lines.{lines_of};
 ghost use Rattle.re_search.specs.Searching.{FindsPart, AddsAtMost};
 ghost use Rattle.re_search.specs.Working.Blocks.{IsBlock, PassesUnmatched, CountsMatched};
+ghost use Rattle.re_search.specs.Working.Blocks.{FindsMatched, next_cost};
 
+use crate::block::line_end;
 use crate::cost::LookCost;
 use crate::span::Span;
 use re_auto::Meter;
@@ -34,6 +37,52 @@ pub trait LineMatch {
         ensures same_whole { whole self.new ≡ whole self.old }
         ensures steps { AddsAtMost (length line.now - from + 1) meter.old meter.new };
 
+    /// The first line of a block of whole lines that is matched, by its place without its newline.
+    /// It takes at most one step for each byte up to that newline and one for the newline. If no
+    /// line is matched, it takes at most one step for each byte of the block.
+    fn next_matched(&mut self, block: &[u8], meter: &mut Meter) -> Option<Span>
+        requires { IsBlock block.now }
+        ensures told { FindsMatched (expression self.old) (whole self.old) (lines_of block.now)
+            result }
+        ensures within { IfSome result
+            (λ at. (at.start ≤ at.end) × (at.end < length block.now)) }
+        ensures same_expression { expression self.new ≡ expression self.old }
+        ensures same_whole { whole self.new ≡ whole self.old }
+        ensures steps { AddsAtMost (next_cost block.now result) meter.old meter.new }
+    {
+        let mut start = 0;
+        'lines: loop {
+            let Some(end) = line_end(block, start) else {
+                return None;
+            };
+            if self.is_match(&block[start..end], meter) {
+                return Some(Span { start, end });
+            }
+            start = end + 1;
+        }
+    }
+
+    /// How many lines of a block of whole lines are matched, in at most one step for each of its
+    /// bytes.
+    fn count_matched(&mut self, block: &[u8], meter: &mut Meter) -> u64
+        requires { IsBlock block.now }
+        ensures told { CountsMatched (expression self.old) (whole self.old) (lines_of block.now)
+            result }
+        ensures same_expression { expression self.new ≡ expression self.old }
+        ensures same_whole { whole self.new ≡ whole self.old }
+        ensures steps { AddsAtMost (length block.now) meter.old meter.new }
+    {
+        let mut count: u64 = 0;
+        let mut rest = block;
+        'lines: loop {
+            let Some(at) = self.next_matched(rest, meter) else {
+                return count;
+            };
+            count += 1;
+            rest = &rest[at.end + 1..];
+        }
+    }
+
     /// Where in a block of whole lines the first line begins that may be matched: no line before it
     /// is matched. No step is taken. If only a search can say that, it is the first line.
     fn first_candidate(&self, block: &[u8]) -> usize
@@ -44,7 +93,7 @@ pub trait LineMatch {
     }
 
     /// How many lines of a block of whole lines are matched, if that is known without a step.
-    fn count_matched(&self, block: &[u8]) -> Option<u64>
+    fn known_count(&self, block: &[u8]) -> Option<u64>
         requires { IsBlock block.now }
         ensures { IfSome result (λ count. CountsMatched (expression self.now) (whole self.now)
             (lines_of block.now) count) }

@@ -148,6 +148,24 @@ impl LineMatch for Matcher {
         }
     }
 
+    fn next_matched(&mut self, block: &[u8], meter: &mut Meter) -> Option<Span> {
+        match self {
+            Matcher::Fixed(fixed) => fixed.next_matched(block, meter),
+            Matcher::FixedSet(set) => set.next_matched(block, meter),
+            Matcher::Simulated(simulated) => simulated.next_matched(block, meter),
+            Matcher::Cached(cached) => cached.next_matched(block, meter),
+        }
+    }
+
+    fn count_matched(&mut self, block: &[u8], meter: &mut Meter) -> u64 {
+        match self {
+            Matcher::Fixed(fixed) => fixed.count_matched(block, meter),
+            Matcher::FixedSet(set) => set.count_matched(block, meter),
+            Matcher::Simulated(simulated) => simulated.count_matched(block, meter),
+            Matcher::Cached(cached) => cached.count_matched(block, meter),
+        }
+    }
+
     fn first_candidate(&self, block: &[u8]) -> usize
         requires { IsBlock block.now }
         ensures { PassesUnmatched (matched_expression self.now) (wants_whole self.now) block.now
@@ -161,16 +179,16 @@ impl LineMatch for Matcher {
         }
     }
 
-    fn count_matched(&self, block: &[u8]) -> Option<u64>
+    fn known_count(&self, block: &[u8]) -> Option<u64>
         requires { IsBlock block.now }
         ensures { IfSome result (λ count. CountsMatched (matched_expression self.now)
             (wants_whole self.now) (lines_of block.now) count) }
     {
         match self {
-            Matcher::Fixed(fixed) => fixed.count_matched(block),
+            Matcher::Fixed(fixed) => fixed.known_count(block),
             Matcher::FixedSet(_) => None,
-            Matcher::Simulated(simulated) => simulated.count_matched(block),
-            Matcher::Cached(cached) => cached.count_matched(block),
+            Matcher::Simulated(simulated) => simulated.known_count(block),
+            Matcher::Cached(cached) => cached.known_count(block),
         }
     }
 

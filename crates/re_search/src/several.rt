@@ -108,10 +108,10 @@ pub fn first_candidate<M: LineMatch>(matchers: &[M], filter: Option<&Filter>, bl
     matchers[0].first_candidate(block)
 }
 
-// The first of the lines that some matcher may match, or the end of the block's first lines if
-// there is none among them. Each matcher is asked only about the lines before the answers of the
-// matchers before it.
-fn least_candidate<M: LineMatch>(matchers: &[M], block: &[u8]) -> usize
+/// The first of the lines that some matcher may match, or the end of the block's first lines if
+/// there is none among them. Each matcher is asked only about the lines before the answers of the
+/// matchers before it.
+pub fn least_candidate<M: LineMatch>(matchers: &[M], block: &[u8]) -> usize
     requires { IsBlock block.now }
     ensures { PassesUnmatchedByAll (map M.expression matchers.now) (map M.whole matchers.now)
         block.now result }
@@ -151,7 +151,7 @@ pub fn count_matched<M: LineMatch>(
     if filter.is_some() || matchers.len() != 1 {
         return None;
     }
-    matchers[0].count_matched(block)
+    matchers[0].known_count(block)
 }
 
 /// What asking for [`first_candidate`] costs, so that it is left out where it passes too little.

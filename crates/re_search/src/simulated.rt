@@ -21,8 +21,10 @@ mod sets;
 use crate::block::{count_lines_with, first_line_beginning_with, first_line_with_run};
 use crate::cost::LookCost;
 use crate::line_match::LineMatch;
+use crate::looks::Looks;
 use crate::needle::{Needle, RunFinder};
 use crate::span::Span;
+use crate::sweeps::{Sweeps, count_by_sweeps, next_by_sweeps};
 use least::StartPair;
 use re_auto::{Automaton, BuildFault, Meter, Mode, StateSet};
 use re_syntax::Tree;
@@ -40,6 +42,7 @@ pub struct Simulated {
     needle: Option<Needle>,
     sets: SetPair,
     starts: StartPair,
+    looks: Looks,
 }
 
 impl Model for Simulated {
@@ -82,6 +85,7 @@ impl Simulated {
             drop(automaton);
             return Err(BuildFault::Memory);
         };
+        let looks = Looks::new(look_cost(&needle));
         let (sets, starts) = match pairs_for(alloc, &automaton) {
             Ok(pairs) => pairs,
             Err(fault) => {
@@ -96,6 +100,7 @@ impl Simulated {
             needle,
             sets,
             starts,
+            looks,
         })
     }
 
@@ -194,6 +199,36 @@ impl Simulated {
             .stands_from(&self.automaton, set, line, from, meter)
     }
 
+    // Where in a block the first line begins that may be matched: no line before it is matched.
+    fn candidate(&self, block: &[u8]) -> usize
+        requires { IsBlock block.now }
+        ensures { PassesUnmatched (expression_of self.now.tree) self.now.whole block.now result }
+    {
+        match &self.needle {
+            Some(needle) => {
+                if self.whole && needle.is_first {
+                    return first_line_beginning_with(&needle.finder, block);
+                }
+                first_line_with_run(&needle.finder, block)
+            }
+            None => 0,
+        }
+    }
+
+    // Whether the line is matched.
+    #[inline(always)]
+    fn search(&mut self, line: &[u8], meter: &mut Meter) -> bool
+        ensures told { IsTrue result ↔
+            Matches (expression_of self.old.tree) line.now self.old.whole }
+        ensures steps { AddsAtMost (length line.now + 1) meter.old meter.new }
+        ensures same { self.new ≡ self.old }
+    {
+        if let Some(told) = self.settled(line) {
+            return told;
+        }
+        self.step_over(line, meter)
+    }
+
     // The matched part if the whole line has to be matched.
     fn whole_line(&mut self, line: &[u8], from: usize, meter: &mut Meter) -> Option<Span>
         requires within { from ≤ length line.now }
@@ -202,7 +237,7 @@ impl Simulated {
         ensures same { self.new ≡ self.old }
         ensures steps { AddsAtMost (length line.now - from + 1) meter.old meter.new }
     {
-        if from > 0 || line.is_empty() || !self.is_match(line, meter) {
+        if from > 0 || line.is_empty() || !self.search(line, meter) {
             return None;
         }
         Some(Span {
@@ -228,6 +263,14 @@ impl Simulated {
             }
         }
         self.starts.find(&self.automaton, line, from, meter)
+    }
+}
+
+// What it costs to look for the needle.
+fn look_cost(needle: &Option<Needle>) -> LookCost {
+    match needle {
+        Some(needle) => needle.look_cost(),
+        None => LookCost::Low,
     }
 }
 
@@ -258,10 +301,7 @@ impl LineMatch for Simulated {
         ensures steps { AddsAtMost (length line.now + 1) meter.old meter.new }
         ensures same { self.new ≡ self.old }
     {
-        if let Some(told) = self.settled(line) {
-            return told;
-        }
-        self.step_over(line, meter)
+        self.search(line, meter)
     }
 
     fn find(&mut self, line: &[u8], from: usize, meter: &mut Meter) -> Option<Span>
@@ -279,22 +319,26 @@ impl LineMatch for Simulated {
         self.part(line, from, meter)
     }
 
+    fn next_matched(&mut self, block: &[u8], meter: &mut Meter) -> Option<Span> {
+        next_by_sweeps(self, block, meter)
+    }
+
+    fn count_matched(&mut self, block: &[u8], meter: &mut Meter) -> u64 {
+        let Some(count) = self.known_count(block) else {
+            return count_by_sweeps(self, block, meter);
+        };
+        meter.add_built(block.len() as u64);
+        count
+    }
+
     fn first_candidate(&self, block: &[u8]) -> usize
         requires { IsBlock block.now }
         ensures { PassesUnmatched (expression_of self.now.tree) self.now.whole block.now result }
     {
-        match &self.needle {
-            Some(needle) => {
-                if self.whole && needle.is_first {
-                    return first_line_beginning_with(&needle.finder, block);
-                }
-                first_line_with_run(&needle.finder, block)
-            }
-            None => 0,
-        }
+        self.candidate(block)
     }
 
-    fn count_matched(&self, block: &[u8]) -> Option<u64>
+    fn known_count(&self, block: &[u8]) -> Option<u64>
         requires { IsBlock block.now }
         ensures { IfSome result (λ count. CountsMatched (expression_of self.now.tree)
             self.now.whole (lines_of block.now) count) }
@@ -312,9 +356,28 @@ impl LineMatch for Simulated {
     }
 
     fn look_cost(&self) -> LookCost {
-        match &self.needle {
-            Some(needle) => needle.look_cost(),
-            None => LookCost::Low,
+        look_cost(&self.needle)
+    }
+}
+
+impl Sweeps for Simulated {
+    ghost use Rattle.re_syntax.specs.Expression.{expression_of};
+
+    ghost expression = { λ s. expression_of s.tree };
+
+    ghost whole = { λ s. s.whole };
+
+    fn sweep(&self, block: &[u8], meter: &mut Meter) -> usize {
+        if !self.looks.is_due() {
+            return 0;
         }
+        let passed = self.candidate(block);
+        self.looks.note(passed);
+        meter.add_built(passed as u64);
+        passed
+    }
+
+    fn search(&mut self, line: &[u8], meter: &mut Meter) -> bool {
+        Simulated::search(self, line, meter)
     }
 }

@@ -4,6 +4,8 @@
 #[cfg(test)]
 mod automata;
 #[cfg(test)]
+mod blocks;
+#[cfg(test)]
 mod cache;
 #[cfg(test)]
 mod filters;

@@ -1,9 +1,9 @@
 -- How many lines of a block have a text.
 use Rattle.std.specs.Prelude.{IfSome}
-use Rattle.std.proofs.Common.{◌≡◌, ◌≢◌, ℕ, ◌+◌, ◌-◌, ◌<◌, ◌≤◌, Bool, false, inl, inr, List, [], ◌∷◌, ◌++◌, All, Option, Some, None, length, map, drop, get_or, refl, sym, ap, ◌∙◌, subst, arith, length-append, length-drop, append_assoc}
+use Rattle.std.proofs.Common.{◌≡◌, ◌≢◌, ℕ, ◌+◌, ◌-◌, ◌<◌, ◌≤◌, Bool, false, inl, inr, List, [], ◌∷◌, ◌++◌, All, Option, Some, None, length, map, drop, take, slice_range, get_or, refl, sym, ap, ◌∙◌, subst, arith, length-append, length-drop, length-take, take-append-drop, append_assoc}
 use Rattle.std.proofs.Math.Decide.{dec_le}
 use Rattle.std.proofs.Math.Seq.{drop-append-add}
-use Rattle.std.proofs.lemmas.List.{get_or_append_left, get_or-append-add, drop-append-le}
+use Rattle.std.proofs.lemmas.List.{get_or_append_left, get_or-append-add, get_or-drop, get_or-take, drop-append-le}
 use Rattle.std.proofs.lemmas.List.Elements.{All-drop, All-head}
 use Rattle.re_syntax.specs.Bytes.{Bytes, Text, only}
 use Rattle.re_syntax.specs.Expression.{Expression, byte, sequence}
@@ -14,7 +14,7 @@ use Rattle.re_syntax.proofs.lemmas.Decisions.{Any-first}
 use Rattle.re_syntax.proofs.lemmas.FixedStrings.{stands-matches}
 use Rattle.memchr.specs.Find.{OccursAt, FindsNeedle}
 use Rattle.re_search.specs.Searching.{AllAnswer, SomeMatches}
-use Rattle.re_search.specs.Working.Blocks.{IsBlock, StandsIn, HoldsOfMany, CountsMatched, CountsMatchedByAll}
+use Rattle.re_search.specs.Working.Blocks.{IsBlock, IsLineFrom, StandsIn, HoldsOfMany, CountsMatched, CountsMatchedByAll}
 use Rattle.re_search.specs.Working.Needles.{IsJustRun}
 use Rattle.re_search.specs.Working.Runs.{RunStandsAt}
 use Rattle.re_search.proofs.lemmas.SomeOfJoined.{Any-single}
@@ -25,7 +25,7 @@ use Rattle.re_search.proofs.lemmas.RunLaws.{text_run, run_text}
 -- ---- where a newline is
 
 -- a text with a newline is not without one
-has_one : (xs ys : Text) → HasNoNewline (xs ++ newline ∷ ys) → ⊥
+pub has_one : (xs ys : Text) → HasNoNewline (xs ++ newline ∷ ys) → ⊥
 has_one [] ys free = All-head (λ b. b ≢ newline) newline ys free refl
 has_one (x ∷ xs) ys free = has_one xs ys (rest_has_none x (xs ++ newline ∷ ys) free)
 
@@ -65,8 +65,8 @@ module _ (text : Text) where
       }
 
   -- a text without newline that begins within a line ends there
-  occurs_within : HasNoNewline text → 1 ≤ length text → (line rest : Text) (k : ℕ) → k ≤ length line → OccursAt (line ++ newline ∷ rest) text k → OccursAt line text k
-  occurs_within free some line rest k low o = elim (dec_le (k + length text) (length line)) [
+  occurs_within : HasNoNewline text → (line rest : Text) (k : ℕ) → k ≤ length line → OccursAt (line ++ newline ∷ rest) text k → OccursAt line text k
+  occurs_within free line rest k low o = elim (dec_le (k + length text) (length line)) [
     | yes fits ↦ record { fits = fits; reads = λ j below. sym (get_or_append_left line (newline ∷ rest) 0 (k + j) (omega (arith, below, fits))) ∙ o.reads j below }
     | no over ↦
         (let j = length line - k in
@@ -74,6 +74,32 @@ module _ (text : Text) where
         let place : k + j ≡ length line + 0 = omega (arith, low) in
         absurd (free j 0 below (sym (o.reads j below) ∙ ap (λ n. get_or (line ++ newline ∷ rest) n 0) place ∙ get_or-append-add line (newline ∷ rest) 0 0)))
   ]
+
+  -- the line around a place of the text, which has no newline, has the text
+  pub stands_around : HasNoNewline text → (block : Text) (at start end : ℕ) → OccursAt block text at → start ≤ at → HasNoNewline (drop start (take at block)) → IsLineFrom block start end → StandsIn text (slice_range block start end)
+  stands_around free block at start end o low none cut =
+      let line = slice_range block start end in
+      let more = drop (end + 1) block in
+      let fits : at + length text ≤ length block = o.fits in
+      let begin : start ≤ end = cut.0 in
+      let below : end < length block = cut.1 in
+      let long : length line ≡ end - start = omega (arith, length-take (end - start) (drop start block), length-drop start block, below) in
+      let front : length (take start block) ≡ start = omega (arith, length-take start block, low, fits) in
+      let whole : take start block ++ (line ++ newline ∷ more) ≡ block = ap (λ l. take start block ++ l) (sym cut.3) ∙ take-append-drop start block in
+      let place : length (take start block) + (at - start) ≡ at = omega (arith, front, low) in
+      let there : OccursAt (line ++ newline ∷ more) text (at - start) =
+      occurs_later (take start block) (line ++ newline ∷ more) (at - start) (subst (λ l. OccursAt l text (length (take start block) + (at - start))) (sym whole) (subst (OccursAt block text) (sym place) o)) in
+      elim (dec_le (at - start) (length line)) [
+        | yes near ↦ (at - start, occurs_within free line more (at - start) near there)
+        | no far ↦
+            (let inside : start + length line < at = omega (arith, far, low) in
+            let short : length line < length (drop start (take at block)) = omega (arith, length-drop start (take at block), length-take at block, fits, far) in
+            let end_is : length line ≡ length line + 0 = omega arith in
+            let byte : get_or (drop start (take at block)) (length line) 0 ≡ newline =
+            get_or-drop start (take at block) (length line) 0 ∙ get_or-take at block (start + length line) 0 inside ∙ sym (get_or-drop start block (length line) 0) ∙ ap (λ l. get_or l (length line) 0) cut.3
+            ∙ ap (λ n. get_or (line ++ newline ∷ more) n 0) end_is ∙ get_or-append-add line (newline ∷ more) 0 0 in
+            absurd (none (length line) 0 short byte))
+      ]
 
   -- ---- the next line with the text
 
@@ -90,7 +116,7 @@ module _ (text : Text) where
     goes_on [] k line rest all finds none cut = let fits : k + length text ≤ 0 = finds.1.fits in absurd (omega (arith, some, fits))
     goes_on (t ∷ ts) k line rest all finds none cut = elim (dec_le k (length t)) [
       | yes near ↦
-          (let stands = occurs_within free some t (terminated ts) k near finds.1 in
+          (let stands = occurs_within free t (terminated ts) k near finds.1 in
           let same : drop k t ++ newline ∷ terminated ts ≡ line ++ newline ∷ rest = sym (drop-append-le k t (newline ∷ terminated ts) near) ∙ cut in
           record {
             left = ts;
@@ -203,14 +229,14 @@ counts_same P Q to from (line ∷ lines) n (m, h, inr (not, is)) = (m, counts_sa
 -- ---- matched lines
 
 -- a string matches the lines that have it
-pub counts_literal : (text : Text) (lines : List Text) (n : ℕ) → HoldsOfMany (StandsIn text) lines n → CountsMatched (sequence (map byte text)) false lines n
-counts_literal text lines n h = counts_same (StandsIn text) (λ line. Matches (sequence (map byte text)) line false) to from lines n h
-  where
-    to : (line : Text) → StandsIn text line → Matches (sequence (map byte text)) line false
-    to line (k, o) = let fits : k + length text ≤ length line = o.fits in stands-matches line text k _ (omega (arith, fits)) (occurs-stands line text k o)
+pub stands_literal : (text line : Text) → StandsIn text line → Matches (sequence (map byte text)) line false
+stands_literal text line (k, o) = let fits : k + length text ≤ length line = o.fits in stands-matches line text k _ (omega (arith, fits)) (occurs-stands line text k o)
 
-    from : (line : Text) → Matches (sequence (map byte text)) line false → StandsIn text line
-    from line (i, j, within, holds) = let there = sequence_needed text line i j within holds in (there.0, there.3)
+pub literal_stands : (text line : Text) → Matches (sequence (map byte text)) line false → StandsIn text line
+literal_stands text line (i, j, within, holds) = let there = sequence_needed text line i j within holds in (there.0, there.3)
+
+pub counts_literal : (text : Text) (lines : List Text) (n : ℕ) → HoldsOfMany (StandsIn text) lines n → CountsMatched (sequence (map byte text)) false lines n
+counts_literal text lines n h = counts_same (StandsIn text) (λ line. Matches (sequence (map byte text)) line false) (stands_literal text) (literal_stands text) lines n h
 
 -- so does an expression that holds exactly where a string is
 pub counts_just : (e : Expression) (text : Text) (run : List Bytes) → run ≡ map only text → IsJustRun run e → (lines : List Text) (n : ℕ) → HoldsOfMany (StandsIn text) lines n → CountsMatched e false lines n

@@ -47,7 +47,7 @@ passed_block Holds block count (lines, rest, free, any, is, counted) = (lines, f
 -- ---- lines that are passed twice
 
 -- the lines of a text that begins with some, each ended by a newline, begin with these
-lines_of-behind : (ts : List Text) (rest : Text) → All HasNoNewline ts → lines_of (terminated ts ++ rest) ≡ ts ++ lines_of rest
+pub lines_of-behind : (ts : List Text) (rest : Text) → All HasNoNewline ts → lines_of (terminated ts ++ rest) ≡ ts ++ lines_of rest
 lines_of-behind [] rest h = refl
 lines_of-behind (t ∷ ts) rest h =
     ap lines_of (append_assoc t (newline ∷ terminated ts) rest) ∙ lines_of-line t (terminated ts ++ rest) (all_head t ts h) ∙ ap (λ us. t ∷ us) (lines_of-behind ts rest (all_tail t ts h))

@@ -14,10 +14,10 @@ use Rattle.re_search.proofs.lemmas.SetMatches.{occurs_decides}
 
 -- ---- parts of longer texts
 
-piece_before : (line after : Text) (i j : ℕ) → j ≤ length line → drop i (take j (line ++ after)) ≡ drop i (take j line)
+pub piece_before : (line after : Text) (i j : ℕ) → j ≤ length line → drop i (take j (line ++ after)) ≡ drop i (take j line)
 piece_before line after i j within = ap (drop i) (take-append-le j line after within)
 
-piece_behind : (front line : Text) (i j : ℕ) → drop (length front + i) (take (length front + j) (front ++ line)) ≡ drop i (take j line)
+pub piece_behind : (front line : Text) (i j : ℕ) → drop (length front + i) (take (length front + j) (front ++ line)) ≡ drop i (take j line)
 piece_behind [] line i j =
     let from : 0 + i ≡ i = omega arith in
     let to : 0 + j ≡ j = omega arith in

@@ -138,7 +138,7 @@ key_lower b =
     ]
 
 -- a newline is no letter
-key_newline : (fold : Bool) (b : ℕ) → nat_eq (key fold b) newline ≡ nat_eq b newline
+pub key_newline : (fold : Bool) (b : ℕ) → nat_eq (key fold b) newline ≡ nat_eq b newline
 key_newline false b = ap (λ n. nat_eq n newline) (key_plain b)
 key_newline true b =
     elim (key_cases b) [

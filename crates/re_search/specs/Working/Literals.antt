@@ -1,14 +1,19 @@
 -- Fixed strings as matchers (XCU grep, options -F and -i).
-use Rattle.std.specs.Prelude.{ℕ, ◌+◌, Bool, true, false, List, map, if◌then◌else◌}
+use Rattle.std.specs.Prelude.{◌≡◌, ℕ, ◌+◌, Bool, true, false, List, map, if◌then◌else◌}
 use Rattle.re_syntax.specs.declared.class.Class.TheVariants.{Upper}
 use Rattle.re_syntax.specs.Bytes.{Text, in_class}
 use Rattle.re_syntax.specs.Expression.{Expression, byte, sequence, alt}
 use Rattle.re_syntax.specs.Holds.{folded}
+use Rattle.re_syntax.specs.Lines.{HasNoNewline}
 
 -- the string that is looked for, and whether the whole line has to be it
 pub record Literal : Type 0 where
   pub text : Text
   pub whole : Bool
+
+-- it is looked for anywhere in a line, and a line can have it
+abbrev pub IsPartOfLines : Literal → Type 0
+IsPartOfLines literal = (literal.whole ≡ false) × HasNoNewline literal.text
 
 -- the sequence of its bytes
 abbrev pub literal_expression : Literal → Expression

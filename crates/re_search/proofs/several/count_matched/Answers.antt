@@ -10,5 +10,5 @@ returns g c =
     let m = c.index-matchers-0.result in
     let one : length ms ≡ 1 = search rules in
     let is : get_or ms 0 m ≡ m = search rules in
-    told_of_one (map g.M.LineMatch.expression ms) (map g.M.LineMatch.whole ms) (g.M.LineMatch.expression m) (g.M.LineMatch.whole m) (only_one g.M.LineMatch.expression ms m one is) (only_one g.M.LineMatch.whole ms m one is) (lines_of c.args.block.now) c.count_matched.result
-    c.count_matched.ensures
+    told_of_one (map g.M.LineMatch.expression ms) (map g.M.LineMatch.whole ms) (g.M.LineMatch.expression m) (g.M.LineMatch.whole m) (only_one g.M.LineMatch.expression ms m one is) (only_one g.M.LineMatch.whole ms m one is) (lines_of c.args.block.now) c.known_count.result
+    c.known_count.ensures

@@ -9,4 +9,4 @@ pub slice_bounds-line_start-end : goal.slice_bounds-line_start-end
 slice_bounds-line_start-end c = omega (arith, length-take 4096 c.args.block.now, c.if-block-le-LOOK_AHEAD.false)
 
 pub returns : goal.returns
-returns c = passes_longer c.args.block.now 4096 c.line_start.result c.line_start.ensures
+returns c = passes_longer c.args.block.now 4096 c.line_start.result c.line_start.ensures.lines

@@ -1,0 +1,38 @@
+-- What several matchers search for together, and what they find in a block of whole lines.
+use Rattle.std.specs.Prelude.{ℕ, Bool, List, Option, map}
+use Rattle.re_syntax.specs.Bytes.{Text}
+use Rattle.re_syntax.specs.Expression.{Expression}
+use Rattle.re_search.specs.declared.span.Span.{Span}
+use Rattle.re_search.specs.Searching.{SomeMatches}
+use Rattle.re_search.specs.Working.Blocks.{PassesAll, FindsNext, HoldsOfMany}
+
+-- the expressions, and whether the whole line has to be matched
+pub record Sought : Type 0 where
+  pub expressions : List Expression
+  pub whole : Bool
+
+-- matchers that are asked together, and whether the whole line has to be matched
+pub record Several (M : Type 0) : Type 0 where
+  pub matchers : List M
+  pub whole : Bool
+
+-- what they search for
+abbrev pub sought_by : {M : Type 0} → (M → Expression) → Several M → Sought
+sought_by expression several =
+    record { expressions = map expression several.matchers; whole = several.whole }
+
+-- some expression matches the line
+abbrev pub IsSought : Sought → Text → Type 0
+IsSought sought line = SomeMatches sought.expressions line sought.whole
+
+-- the first `count` bytes are whole lines, none of which any of the expressions matches
+abbrev pub PassesUnsought : Sought → Text → ℕ → Type 0
+PassesUnsought sought block count = PassesAll (λ line. ¬ IsSought sought line) block count
+
+-- the place of the first line that some expression matches; None says that there is none
+abbrev pub FindsSought : Sought → List Text → Option Span → Type 0
+FindsSought sought lines found = FindsNext (IsSought sought) lines found
+
+-- `count` of the lines are matched by some expression
+abbrev pub CountsSought : Sought → List Text → ℕ → Type 0
+CountsSought sought lines count = HoldsOfMany (IsSought sought) lines count
