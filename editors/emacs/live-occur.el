@@ -64,29 +64,27 @@ next start of the program on."
   "The flags with which a list begins, as letters of options of grep."
   :type '(set (const :tag "i: match both cases of letters" ?i)
               (const :tag "v: list the lines that are not matched" ?v)
-              (const :tag "x: match whole lines alone" ?x)
-              (const :tag "o: list the matched parts alone" ?o)
-              (const :tag "c: list the number of lines of each buffer" ?c)))
+              (const :tag "x: match whole lines alone" ?x)))
 
 (defcustom live-occur-context nil
   "How many lines a list shows around each line that matches, when it begins."
   :type '(choice (const :tag "None" nil)
-                 (cons :tag "So many" (natnum :tag "Before") (natnum :tag "Behind"))))
+                 (cons :tag "Number of lines" (natnum :tag "Before") (natnum :tag "After"))))
 
 (defcustom live-occur-follow nil
   "Whether the line of a row is shown as soon as point moves to the row."
   :type 'boolean)
 
-(defcustom live-occur-highlight t
-  "Whether the matched parts of the rows in view are highlighted.
-A second process, which holds no more than these rows, finds the parts."
-  :type 'boolean)
+(defcustom live-occur-typing-delay 0.1
+  "Seconds after which the list follows a pattern that is typed.
+It is nil for lists that wait until the pattern is entered."
+  :type '(choice (const :tag "Wait for RET" nil) number))
 
-(defcustom live-occur-max-rows 10000
-  "How many rows of a list are shown at most.
-The header line tells how many there are.  A list of very many rows takes
-long to show, and would make each edit slow."
-  :type '(choice (const :tag "All" nil) natnum))
+(defcustom live-occur-idle-rows 10000
+  "How many rows of a list are made while Emacs is idle, at most.
+All hits are in the list, and each row is made when it comes into view.
+A row that is not made yet is empty where the list is searched or copied."
+  :type 'natnum)
 
 (defcustom live-occur-max-columns 1000
   "How many characters of a line are shown in its row at most.
@@ -187,9 +185,9 @@ ENDED is called with the session when the program ends by itself."
 
 (defun live-occur--send (session text function)
   "Send the command TEXT to SESSION, and call FUNCTION with its reply.
-FUNCTION gets the last line of the reply, the lines before it in one string
-of bytes, and their number.  A program that has ended gives no reply, and one
-that can't be written to is ended; either is told by its sentinel."
+FUNCTION gets the last line of the reply, and is called in a buffer that has
+the lines before it, as bytes.  A program that has ended gives no reply, and
+one that can't be written to is ended; its sentinel reports either."
   (cl-callf append (live-occur--session-waiting session) (list function))
   (condition-case nil
       (process-send-string (live-occur--session-process session) text)
@@ -205,28 +203,29 @@ that can't be written to is ended; either is told by its sentinel."
         (insert text)
         (while (and (buffer-live-p output)
                     (live-occur--go-to-last-line session))
-          (let ((rows (buffer-substring (point-min) (point)))
-                (count (count-lines (point-min) (point)))
+          (let ((start (point))
                 (reply (buffer-substring (point) (line-end-position)))
                 (function (pop (live-occur--session-waiting session))))
-            (delete-region (point-min) (line-beginning-position 2))
-            (setf (live-occur--session-scanned session) (point-min))
             (when function
-              (save-current-buffer
-                (funcall function reply rows count)))))))))
+              (save-restriction
+                (narrow-to-region (point-min) start)
+                (save-current-buffer
+                  (funcall function reply))))
+            (when (buffer-live-p output)
+              (goto-char start)
+              (delete-region (point-min) (line-beginning-position 2))
+              (setf (live-occur--session-scanned session) (point-min)))))))))
 
 (defun live-occur--go-to-last-line (session)
   "Move to the last line of the first reply that SESSION has sent.
-Answer whether it is whole.  A reply that begins with a row, which is a
-letter, a space and a text, ends with the line of the status.  Any other is
-one line."
+Answer whether it is whole.  A reply of several lines begins with h or hits."
   (goto-char (point-min))
-  (and (or (not (eq (char-after 2) ?\s))
+  (and (or (not (eq (char-after) ?h))
            (live-occur--go-to-status session))
        (save-excursion (search-forward "\n" nil t))))
 
 (defun live-occur--go-to-status (session)
-  "Move to the line of the status behind the rows that SESSION has sent.
+  "Move to the line of the status after the rows that SESSION has sent.
 Answer whether it begins."
   (goto-char (live-occur--session-scanned session))
   (let* ((case-fold-search nil)
@@ -249,10 +248,13 @@ Answer whether it begins."
   buffer
   list                                  ; the buffer with the rows
   id                                    ; its name in the session, a number
+  name                                  ; what the rows call it
   (lines 0 :documentation "How many lines the session holds.")
   (newlines 0 :documentation "How many newlines the buffer has.")
   (edits nil :documentation "What changed since: see `live-occur--changed'.")
-  (moves nil :documentation "How lines moved since the report that is shown.")
+  (moves nil :documentation "How lines moved since the hits were reported.")
+  (pieces nil :documentation "The hits, in `live-occur--piece's.")
+  (hits 0 :documentation "How many they are.")
   (tick nil :documentation "The buffer's tick up to which edits are known.")
   (lost t :documentation "Whether a change was missed, so that all is to be sent.")
   (anchor 1 :documentation "A position of which the line is known.")
@@ -417,7 +419,8 @@ are whole lines, and the buffer's size."
            (unless (= count now)
              (push (list (if (live-occur--begins-line-p from) line (1+ line))
                          (1- count) (1- now))
-                   (live-occur--source-moves source))))))
+                   (live-occur--source-moves source))
+             (live-occur--renumber-soon (live-occur--source-list source))))))
       (_ (live-occur--lose source)))))
 
 (defconst live-occur--gap 50
@@ -461,9 +464,10 @@ not change."
       (/= (live-occur--source-tick source)
           (buffer-chars-modified-tick (live-occur--source-buffer source)))))
 
-(defun live-occur--line-now (source line)
-  "Where LINE of SOURCE, as it is in the report that is shown, stands now."
-  (pcase-dolist (`(,at ,was ,is) (reverse (live-occur--source-moves source)))
+(defun live-occur--moved (line moves)
+  "The number that LINE has now.
+MOVES say how lines have moved, the last one first."
+  (pcase-dolist (`(,at ,was ,is) (reverse moves))
     (cond ((>= line (+ at was)) (cl-incf line (- is was)))
           ((>= line at) (setq line (+ at (min (- line at) (max 0 (1- is))))))))
   line)
@@ -538,67 +542,41 @@ SOURCE is number FILE of SESSION."
       (format "splice %d %d %d " file start removed)
       (live-occur--bytes (buffer-substring-no-properties from (point)))
       added)
-     (lambda (reply _rows _count)
-       (unless (equal reply "ok")
-         (live-occur--tell-fault list (concat "occur answered: " reply)))))))
+     (live-occur--expect-ok list))))
 
 ;;;; A list
 
 (defvar-local live-occur--session nil "The program of this list.")
-(defvar-local live-occur--parts nil "The program that finds the parts of rows.")
-(defvar-local live-occur--parts-key nil "What `live-occur--parts' was started for.")
-(defvar-local live-occur--parts-asked nil "Whether parts are on their way.")
 (defvar-local live-occur--sources nil "The sources of this list, in their order.")
 (defvar-local live-occur--named 0 "How many sources this list has had.")
 (defvar-local live-occur--patterns nil "The patterns, in their order.")
 (defvar-local live-occur--the-syntax 'basic "The syntax of the patterns.")
 (defvar-local live-occur--the-flags nil "The flags that are on.")
 (defvar-local live-occur--the-context nil
-  "How many lines are shown before and behind each that matches, as a pair, or nil.")
-(defvar-local live-occur--asked nil "Whether a report is on its way.")
-(defvar-local live-occur--again nil "Whether another report is wanted after it.")
+  "How many lines are shown before and after each that matches, as a pair, or nil.")
+(defvar-local live-occur--asked nil "Whether a reply for the rows is on its way.")
+(defvar-local live-occur--again nil "Whether another one is wanted after it.")
+(defvar-local live-occur--fresh nil "Whether the program has reported no hit yet.")
+(defvar-local live-occur--page nil
+  "The number of hits, while the list shows a page of them; or else nil.")
+(defvar-local live-occur--made 0 "How many rows at the beginning were made while idle.")
 (defvar-local live-occur--idle-timer nil "The timer that looks for edits.")
 (defvar-local live-occur--timer nil "A timer that was set for once, or nil.")
-(defvar-local live-occur--fault nil "What is to be told of the program, or nil.")
-(defvar-local live-occur--rows [] "The rows that are shown, as bytes.")
-(defvar-local live-occur--total 0 "How many rows the report had.")
-(defvar-local live-occur--key nil "What the rows depend on: `live-occur--make-key'.")
+(defvar-local live-occur--fault nil "What is to be reported of the program, or nil.")
+(defvar-local live-occur--overlaid nil "Whether lines around rows are shown.")
+(defvar-local live-occur--renumbering nil "Whether the numbers in view are to be corrected.")
 (defvar-local live-occur--followed nil "The row that was followed last.")
 
-(defvar live-occur--flag-letters '(?i ?v ?x ?o ?c)
+(defvar live-occur--flag-letters '(?i ?v ?x)
   "The flags that a list has, in the order in which they are shown.")
 
-(cl-defstruct (live-occur--key (:copier nil))
-  "All that the look of rows depends on beside their bytes."
-  ids names patterns syntax flags context)
-
-(defun live-occur--make-key ()
-  "What the rows of a report depend on that is asked for now."
-  (make-live-occur--key
-   :ids (mapcar #'live-occur--source-id live-occur--sources)
-   :names (mapcar (lambda (source) (buffer-name (live-occur--source-buffer source)))
-                  live-occur--sources)
-   :patterns live-occur--patterns
-   :syntax live-occur--the-syntax
-   :flags live-occur--the-flags
-   :context live-occur--the-context))
-
-(defun live-occur--words (key)
-  "The commands that put flags and patterns of KEY into a new session."
-  `("flag n on\n"
-    ,@(when-let ((context (live-occur--key-context key)))
-        (list (live-occur--context-command context)))
-    ,(format "syntax %s\n" (live-occur--key-syntax key))
-    ,@(mapcar (lambda (letter) (format "flag %c on\n" letter))
-              (live-occur--key-flags key))
-    ,@(when-let ((patterns (live-occur--key-patterns key)))
-        (list (live-occur--patterns-command patterns)))))
-
-(defun live-occur--context-command (context)
-  "The command for CONTEXT: a pair of numbers of lines, or nil."
-  (if context
-      (format "context %d %d\n" (car context) (cdr context))
-    "context off\n"))
+(defun live-occur--words ()
+  "The commands that put flags and patterns of this list into a new session."
+  `("flag o on\n"
+    ,(format "syntax %s\n" live-occur--the-syntax)
+    ,@(mapcar (lambda (letter) (format "flag %c on\n" letter)) live-occur--the-flags)
+    ,@(when live-occur--patterns
+        (list (live-occur--patterns-command live-occur--patterns)))))
 
 (defun live-occur--patterns-command (patterns)
   "A command with PATTERNS."
@@ -606,25 +584,24 @@ SOURCE is number FILE of SESSION."
                        (live-occur--bytes (concat (string-join patterns "\n") "\n"))
                        (length patterns)))
 
-(defun live-occur--send-words (session key)
-  "Send the flags and patterns of KEY to SESSION, which is new."
-  (let ((list (current-buffer)))
-    (dolist (command (live-occur--words key))
-      (live-occur--send session command
-                        (lambda (reply _rows _count)
-                          (unless (equal reply "ok")
-                            (live-occur--tell-fault list (concat "occur answered: " reply))))))))
-
 (defun live-occur--begin ()
   "Start the program of this list, and send it all that it has to hold."
   (let ((list (current-buffer)))
     (setq live-occur--fault nil
           live-occur--asked nil
           live-occur--again nil
+          live-occur--fresh t
           live-occur--session
           (live-occur--start (lambda (session) (live-occur--ended list session))))
-    (live-occur--send-words live-occur--session (live-occur--make-key))
+    (dolist (command (live-occur--words))
+      (live-occur--send live-occur--session command (live-occur--expect-ok list)))
     (mapc #'live-occur--open live-occur--sources)))
+
+(defun live-occur--expect-ok (list)
+  "A function that reports in LIST a reply that is not ok."
+  (lambda (reply)
+    (unless (equal reply "ok")
+      (live-occur--tell-fault list (concat "occur answered: " reply)))))
 
 (defun live-occur--open (source)
   "Put SOURCE, which is the last, into the session of this list, without lines."
@@ -632,10 +609,10 @@ SOURCE is number FILE of SESSION."
   (live-occur--lose source)
   (live-occur--send live-occur--session
                     (format "file %d 0\n" (live-occur--source-id source))
-                    #'ignore))
+                    (live-occur--expect-ok (current-buffer))))
 
 (defun live-occur--ended (list session)
-  "Tell in LIST that the program of SESSION has ended."
+  "Report in LIST that the program of SESSION has ended."
   (when (and (buffer-live-p list)
              (eq session (buffer-local-value 'live-occur--session list)))
     (let* ((process (live-occur--session-process session))
@@ -649,7 +626,7 @@ SOURCE is number FILE of SESSION."
                       (concat " (" (car (split-string said "\n")) ")")))))))
 
 (defun live-occur--tell-fault (list what)
-  "Tell in LIST that it stands still, since WHAT happened."
+  "Report in LIST that it is no longer kept right, since WHAT happened."
   (when (buffer-live-p list)
     (with-current-buffer list
       (setq live-occur--fault what
@@ -659,7 +636,7 @@ SOURCE is number FILE of SESSION."
       (message "%s: %s" (buffer-name) (live-occur--fault-and-help)))))
 
 (defun live-occur--fault-and-help ()
-  "Why this list stands still, and what helps, if it was ever shown."
+  "Why this list is no longer kept right, and what helps, if it was ever shown."
   (concat (or live-occur--fault "The program has ended")
           (when live-occur--sources
             (substitute-command-keys
@@ -671,13 +648,140 @@ SOURCE is number FILE of SESSION."
        (not live-occur--fault)))
 
 (defun live-occur--check ()
-  "Signal an error where this list stands still."
+  "Signal an error where this list is no longer kept right."
   (unless (live-occur--can-go-on)
     (unless live-occur--fault
       (accept-process-output nil 0.2))
     (user-error "%s" (live-occur--fault-and-help))))
 
-;;;; Reports
+;;;; Hits
+
+;; Each source has the hits that the program has reported, in pieces.  A piece
+;; keeps its rows as the bytes that came.  They are read when they come into
+;; view, so a million hits cost little until then.  Where lines before a piece
+;; come or go, the number to add to the places in it changes, and no byte.
+
+(cl-defstruct (live-occur--piece (:copier nil))
+  "Hits that follow one another."
+  rows                                  ; bytes, one line for each hit
+  count
+  first last                            ; the places of the first and the last in the bytes
+  (shift 0))                            ; what to add to each place
+
+(cl-defstruct (live-occur--hit (:copier nil))
+  "A line that matches."
+  source
+  place                                 ; its number in the source when it was reported, from 0
+  parts                                 ; pairs of places in the bytes
+  bytes)
+
+(defconst live-occur--most-in-piece 500
+  "How many hits a piece has at most.")
+
+(defun live-occur--place-in (rows start)
+  "The place of the hit in the bytes ROWS that begins at START."
+  (string-to-number (substring rows (+ start 2) (string-search " " rows (+ start 2)))))
+
+(defun live-occur--after-rows (rows start count)
+  "Where in the bytes ROWS the row begins that is COUNT rows after START."
+  (dotimes (_ count)
+    (setq start (1+ (string-search "\n" rows start))))
+  start)
+
+(defun live-occur--piece-of (rows count shift)
+  "A piece of the COUNT rows in the bytes ROWS, with SHIFT."
+  (make-live-occur--piece
+   :rows rows :count count :shift shift
+   :first (live-occur--place-in rows 0)
+   :last (live-occur--place-in rows (live-occur--after-rows rows 0 (1- count)))))
+
+(defun live-occur--part-of (piece from to)
+  "The hits FROM to TO of PIECE in a list of one piece, or nil if there are none."
+  (when (< from to)
+    (let* ((rows (live-occur--piece-rows piece))
+           (start (live-occur--after-rows rows 0 from)))
+      (list (live-occur--piece-of
+             (substring rows start (live-occur--after-rows rows start (- to from)))
+             (- to from) (live-occur--piece-shift piece))))))
+
+(defun live-occur--count-below (piece line)
+  "How many hits of PIECE have a place below LINE."
+  (let* ((rows (live-occur--piece-rows piece))
+         (line (- line (live-occur--piece-shift piece))))
+    (cond ((< (live-occur--piece-last piece) line) (live-occur--piece-count piece))
+          ((>= (live-occur--piece-first piece) line) 0)
+          (t (let ((start 0) (below 0))
+               (while (< (live-occur--place-in rows start) line)
+                 (cl-incf below)
+                 (setq start (live-occur--after-rows rows start 1)))
+               below)))))
+
+(defun live-occur--count (pieces)
+  "How many hits PIECES have."
+  (cl-loop for piece in pieces sum (live-occur--piece-count piece)))
+
+(defun live-occur--cut (pieces line)
+  "PIECES with a place below LINE, and the others, as a pair of lists."
+  (let (head tail)
+    (dolist (piece pieces)
+      (let ((below (live-occur--count-below piece line))
+            (count (live-occur--piece-count piece)))
+        (cond ((= below count) (push piece head))
+              ((= below 0) (push piece tail))
+              (t (push (car (live-occur--part-of piece 0 below)) head)
+                 (push (car (live-occur--part-of piece below count)) tail)))))
+    (cons (nreverse head) (nreverse tail))))
+
+(defun live-occur--hit-in (source rows start shift)
+  "The hit of SOURCE in the bytes ROWS that begins at START, with SHIFT."
+  (let* ((first (string-search " " rows (+ start 2)))
+         (second (string-search " " rows (1+ first)))
+         (parts (substring rows (1+ first) second)))
+    (make-live-occur--hit
+     :source source
+     :place (+ shift (live-occur--place-in rows start))
+     :parts (unless (equal parts "-")
+              (mapcar (lambda (part)
+                        (cons (string-to-number part)
+                              (string-to-number (substring part (1+ (string-search "-" part))))))
+                      (split-string parts ",")))
+     :bytes (substring rows (1+ second) (string-search "\n" rows second)))))
+
+(defun live-occur--total ()
+  "How many hits this list has."
+  (cl-loop for source in live-occur--sources sum (live-occur--source-hits source)))
+
+(defun live-occur--map-hits (function first count)
+  "Call FUNCTION with each of COUNT hits of this list, from number FIRST on."
+  (cl-block nil
+    (dolist (source live-occur--sources)
+      (if (>= first (live-occur--source-hits source))
+          (cl-decf first (live-occur--source-hits source))
+        (dolist (piece (live-occur--source-pieces source))
+          (let ((some (- (live-occur--piece-count piece) first)))
+            (if (<= some 0)
+                (cl-decf first (live-occur--piece-count piece))
+              (live-occur--map-piece function source piece first (min some count))
+              (setq first 0)
+              (when (<= (cl-decf count some) 0)
+                (cl-return)))))))))
+
+(defun live-occur--map-piece (function source piece first count)
+  "Call FUNCTION with COUNT hits of PIECE of SOURCE, from number FIRST on."
+  (let* ((rows (live-occur--piece-rows piece))
+         (start (live-occur--after-rows rows 0 first)))
+    (dotimes (_ count)
+      (funcall function
+               (live-occur--hit-in source rows start (live-occur--piece-shift piece)))
+      (setq start (live-occur--after-rows rows start 1)))))
+
+(defun live-occur--hit (row)
+  "The hit of the row of number ROW, or nil."
+  (let (found)
+    (live-occur--map-hits (lambda (hit) (setq found hit)) row 1)
+    found))
+
+;;;; Changes of hits
 
 (defun live-occur--soon (list)
   "Bring LIST up to date in a moment, though Emacs may be idle for long."
@@ -688,24 +792,24 @@ SOURCE is number FILE of SESSION."
               (run-with-timer live-occur-delay nil #'live-occur--look list))))))
 
 (defun live-occur--look (list)
-  "Bring LIST up to date if anything has changed."
+  "Bring LIST up to date if anything has changed, and make some rows."
   (when (buffer-live-p list)
     (with-current-buffer list
       (when live-occur--timer
         (cancel-timer live-occur--timer)
         (setq live-occur--timer nil))
-      (live-occur--update))))
+      (live-occur--update)
+      (live-occur--make-ahead list))))
 
 (defun live-occur--update (&optional always)
-  "Send what has changed, and ask for a report.
+  "Send what has changed, and ask for what changed of the hits.
 If nothing has changed ask for none, but with ALWAYS non-nil."
   (when (live-occur--can-go-on)
-    (when (or (live-occur--flush-all)
-              always
-              (not (equal (live-occur--make-key) live-occur--key)))
+    (live-occur--look-at-names)
+    (when (or (live-occur--flush-all) always)
       (if live-occur--asked
           (setq live-occur--again t)
-        (live-occur--ask-for-report)))))
+        (live-occur--ask-for-changes)))))
 
 (defun live-occur--flush-all ()
   "Send what has changed in all sources, and answer whether anything has.
@@ -722,108 +826,99 @@ be killed without a word, as temporary ones are."
                   (setq any t)))
     any))
 
-(defun live-occur--ask-for-report ()
-  "Ask for a report, and show it when it comes."
+(defun live-occur--ask-for-changes ()
+  "Ask for what changed of the hits, and apply it when it comes."
   (let ((list (current-buffer))
-        (key (live-occur--make-key))
+        (fresh live-occur--fresh)
         (moves (mapcar (lambda (source)
                          (cons source (live-occur--source-moves source)))
                        live-occur--sources)))
     (setq live-occur--asked t
-          live-occur--again nil)
+          live-occur--again nil
+          live-occur--fresh nil)
     (live-occur--send
-     live-occur--session "show\n"
-     (lambda (_status rows count)
-       (when (buffer-live-p list)
-         (with-current-buffer list
-           (setq live-occur--asked nil)
-           (pcase-dolist (`(,source . ,before) moves)
-             (setf (live-occur--source-moves source)
-                   (cl-ldiff (live-occur--source-moves source) before)))
-           (live-occur--show-rows (live-occur--split rows live-occur-max-rows) count key)
-           (if live-occur--again
-               (live-occur--ask-for-report)
-             (live-occur--mark-visible))))))))
+     live-occur--session "changes\n"
+     (lambda (_status)
+       (let ((changes (live-occur--take-changes (mapcar #'car moves) fresh)))
+         (when (buffer-live-p list)
+           (with-current-buffer list
+             (setq live-occur--asked nil)
+             (live-occur--apply-all changes moves)
+             (when live-occur--again
+               (live-occur--ask-for-changes)))))))))
 
-(defun live-occur--split (rows most)
-  "A vector of the first MOST rows in the bytes ROWS, or of all."
-  (let ((start 0) (count 0) end found)
-    (while (and (or (not most) (< count most))
-                (setq end (string-search "\n" rows start)))
-      (when (eq (aref rows start) ?o)
-        (push (substring rows (+ start 2) end) found)
-        (cl-incf count))
-      (setq start (1+ end)))
-    (vconcat (nreverse found))))
+(defun live-occur--take-changes (sources fresh)
+  "Read the reply in this buffer, for SOURCES by their numbers.
+A change is a list of the source, the first line, how many lines there were and
+how many there are, and the hits among them.  Where the program is FRESH
+they replace all hits that are known."
+  (let ((all most-positive-fixnum) found)
+    (goto-char (point-min))
+    (while (not (eobp))
+      (pcase-let ((`(,file ,front ,removed ,added ,count)
+                   (mapcar #'string-to-number
+                           (cdr (split-string
+                                 (buffer-substring (point) (line-end-position)) " ")))))
+        (forward-line 1)
+        (push (list (nth file sources) front (if fresh all removed) added
+                    (live-occur--take-pieces count))
+              found)))
+    (when fresh
+      (dolist (source sources)
+        (unless (assq source found)
+          (push (list source 0 all 0 nil) found))))
+    (nreverse found)))
+
+(defun live-occur--take-pieces (count)
+  "The COUNT hits after point, in pieces."
+  (let (pieces)
+    (while (> count 0)
+      (let ((from (point))
+            (some (min count live-occur--most-in-piece)))
+        (forward-line some)
+        (push (live-occur--piece-of (buffer-substring from (point)) some 0) pieces)
+        (cl-decf count some)))
+    (nreverse pieces)))
+
+(defun live-occur--apply-all (changes moves)
+  "Apply what has changed, and make the rows in view.
+It is in CHANGES, and how lines of sources had moved until then in MOVES."
+  (pcase-dolist (`(,source . ,change) changes)
+    (when (memq source live-occur--sources)
+      (apply #'live-occur--apply source (alist-get source moves) change)))
+  (pcase-dolist (`(,source . ,before) moves)
+    (setf (live-occur--source-moves source)
+          (cl-ldiff (live-occur--source-moves source) before)))
+  (force-mode-line-update)
+  (live-occur--make-in-view))
+
+(defun live-occur--apply (source moves front removed added new)
+  "Put the hits NEW in the place of those among REMOVED lines of SOURCE.
+They are those among the ADDED lines from line FRONT on.  MOVES is how lines
+have moved."
+  (pcase-let* ((`(,head . ,rest) (live-occur--cut (live-occur--source-pieces source) front))
+               (`(,gone . ,tail) (live-occur--cut rest (+ front removed)))
+               (row (+ (live-occur--row-of-source source) (live-occur--count head)))
+               (less (live-occur--count gone))
+               (more (live-occur--count new))
+               (spots (live-occur--spots row less moves)))
+    (dolist (piece tail)
+      (cl-incf (live-occur--piece-shift piece) (- added removed)))
+    (setf (live-occur--source-pieces source) (nconc head new tail))
+    (cl-incf (live-occur--source-hits source) (- more less))
+    (live-occur--replace-rows row less more)
+    (pcase-dolist (`(,move ,line ,column) spots)
+      (live-occur--restore-spot move source line column))))
+
+(defun live-occur--row-of-source (source)
+  "The number of the first row of SOURCE."
+  (cl-loop for other in live-occur--sources
+           until (eq other source) sum (live-occur--source-hits other)))
 
 ;;;; Rows
 
-(cl-defstruct (live-occur--row (:copier nil))
-  "What a row says."
-  id name
-  line                                  ; from 1, or nil in a row that counts
-  around                                ; whether it is of a line that doesn't match, or of none
-  text)                                 ; bytes
-
-(defun live-occur--parse (bytes key)
-  "The row that BYTES say in a report under KEY.
-Behind the head of a line that doesn't match itself stand hyphens, and
-between lines that do not follow one another stands a row of none."
-  (let* ((ids (live-occur--key-ids key))
-         (several (cdr ids))
-         (start 0))
-    (if (equal bytes "--")
-        (make-live-occur--row :around t :text bytes)
-      (let* ((id (if several
-                     (prog1 (string-to-number bytes)
-                       (setq start (live-occur--behind-number bytes 0)))
-                   (car ids)))
-             (name (nth (cl-position id ids) (live-occur--key-names key))))
-        (if (memq ?c (live-occur--key-flags key))
-            (make-live-occur--row :id id :name name :text (substring bytes start))
-          (let ((end (live-occur--behind-number bytes start)))
-            (make-live-occur--row :id id :name name
-                                  :line (string-to-number (substring bytes start end))
-                                  :around (eq (aref bytes (1- end)) ?-)
-                                  :text (substring bytes end))))))))
-
-(defun live-occur--behind-number (bytes start)
-  "The place in BYTES behind the number at START and the byte that ends it."
-  (while (<= ?0 (aref bytes start) ?9)
-    (cl-incf start))
-  (1+ start))
-
-(defun live-occur--shortened (bytes)
-  "The text of BYTES, or the beginning of one that is long."
-  (let* ((most live-occur-max-columns)
-         (text (live-occur--text
-                (substring bytes 0 (min (length bytes) (* 5 (1+ most)))))))
-    (if (length> text most)
-        (concat (substring text 0 most) (propertize "…" 'face 'shadow))
-      text)))
-
-(defun live-occur--insert-row (bytes key)
-  "Insert the row that BYTES say under KEY."
-  (let* ((row (live-occur--parse bytes key))
-         (text (live-occur--shortened (live-occur--row-text row)))
-         (around (live-occur--row-around row))
-         (end (if around "-" ":"))
-         (from (point)))
-    (when (live-occur--row-id row)
-      (insert (propertize (live-occur--row-name row) 'face 'live-occur-name) end))
-    (when (live-occur--row-line row)
-      (insert (propertize (number-to-string (live-occur--row-line row))
-                          'face 'live-occur-line)
-              end))
-    (put-text-property from (point) 'live-occur-head t)
-    (insert (cond (around (propertize text 'face 'live-occur-around))
-                  ((memq ?o (live-occur--key-flags key))
-                   (propertize text 'face 'live-occur-match))
-                  (t text)))
-    (when around
-      (put-text-property from (1+ from) 'live-occur-marked t))
-    (put-text-property from (point) 'mouse-face 'highlight)
-    (insert "\n")))
+;; A row is a line of the list.  It is empty until it is made, which is when it
+;; comes into view.  So the list has all rows, and a million cost little.
 
 (defun live-occur--go-to-row (row)
   "Move to the row of number ROW, from 0."
@@ -836,120 +931,130 @@ between lines that do not follow one another stands a row of none."
     (goto-char position)
     (live-occur--newlines (point-min) (line-beginning-position))))
 
-(defun live-occur--same-rows (old new)
-  "How many rows at the beginning of OLD and NEW are the same, and at the end."
-  (let* ((most (min (length old) (length new)))
-         (first 0) (last 0)
-         (old-end (1- (length old))) (new-end (1- (length new))))
-    (while (and (< first most)
-                (string= (aref old first) (aref new first)))
-      (cl-incf first))
-    (while (and (< last (- most first))
-                (string= (aref old (- old-end last)) (aref new (- new-end last))))
-      (cl-incf last))
-    (cons first last)))
-
-(defun live-occur--show-rows (rows total key)
-  "Show ROWS of a report of TOTAL rows that was asked for under KEY.
-Rows that stay are left as they are."
-  (let* ((inhibit-read-only t)
-         (inhibit-modification-hooks t)
-         (old live-occur--rows)
-         (same (if (equal key live-occur--key)
-                   (live-occur--same-rows old rows)
-                 '(0 . 0)))
-         (first (car same))
-         (places (live-occur--places-in-windows)))
-    (setq live-occur--rows rows
-          live-occur--total total
-          live-occur--key key)
-    (save-excursion
-      (live-occur--go-to-row first)
-      (delete-region (point)
-                     (save-excursion
-                       (forward-line (- (length old) first (cdr same)))
-                       (point)))
-      (cl-loop for row from first below (- (length rows) (cdr same))
-               do (live-occur--insert-row (aref rows row) key)))
-    (live-occur--restore-places places old first)
-    (set-buffer-modified-p nil)
-    (force-mode-line-update)))
-
-(defun live-occur--places-in-windows ()
-  "Where point and the windows of this list stand: rows and columns."
-  (cons (list nil (live-occur--row-at (point)) (- (point) (line-beginning-position)) nil)
-        (mapcar (lambda (window)
-                  (let ((point (window-point window)))
-                    (list window (live-occur--row-at point)
-                          (save-excursion (goto-char point)
-                                          (- point (line-beginning-position)))
-                          (live-occur--row-at (window-start window)))))
-                (get-buffer-window-list nil nil t))))
-
-(defun live-occur--restore-places (places old first)
-  "Restore PLACES, made of the rows OLD, of which FIRST rows stayed."
-  (pcase-dolist (`(,window ,row ,column ,start) places)
-    (save-excursion
-      (live-occur--go-to-row (live-occur--row-now row old first))
-      (let ((point (min (+ (point) column) (line-end-position))))
-        (if window
-            (set-window-point window point)
-          (setq places point))))
-    (when window
+(defun live-occur--replace-rows (row removed added)
+  "Put ADDED rows that are not made in the place of REMOVED ones from ROW on."
+  (unless (or live-occur--page (= removed added 0))
+    (with-silent-modifications
       (save-excursion
-        (live-occur--go-to-row (live-occur--row-now start old first))
-        (set-window-start window (point) t))))
-  (goto-char places))
+        (live-occur--go-to-row row)
+        (delete-region (point) (progn (forward-line removed) (point)))
+        (insert (make-string added ?\n))))
+    (setq live-occur--made (min live-occur--made row))))
 
-(defun live-occur--row-now (row old first)
-  "The row at which the row of number ROW among OLD stands now.
-FIRST rows at the beginning stayed.  Of the others the nearest one with
-the same text is taken, or else the same number."
-  (let ((count (length live-occur--rows)))
-    (if (or (< row first) (>= row (length old)) (= count 0))
-        (min row count)
-      (let* ((tail (lambda (bytes)
-                     (substring bytes (or (string-match "[:-]" bytes) 0))))
-             (text (funcall tail (aref old row))))
-        (or (cl-loop for away from 0 to 50
-                     thereis (cl-loop for near in (list (- row away) (+ row away))
-                                      when (and (<= 0 near (1- count))
-                                                (string= text (funcall tail (aref live-occur--rows near))))
-                                      return near))
-            (min row (1- count)))))))
+(defun live-occur--forget-rows ()
+  "Show all hits of this list anew."
+  (let ((row (live-occur--row-at (point)))
+        (rows (mapcar (lambda (window)
+                        (list window (live-occur--row-at (window-start window))
+                              (live-occur--row-at (window-point window))))
+                      (get-buffer-window-list nil nil t))))
+    (with-silent-modifications
+      (erase-buffer))
+    (live-occur--replace-rows 0 0 (live-occur--total))
+    (live-occur--go-to-row row)
+    (save-excursion
+      (pcase-dolist (`(,window ,first ,row) rows)
+        (live-occur--go-to-row first)
+        (set-window-start window (point) t)
+        (live-occur--go-to-row row)
+        (set-window-point window (point))))
+    (live-occur--make-in-view)))
 
-;;;; Matched parts
+(defun live-occur--look-at-names ()
+  "Show the rows anew where a buffer has got another name."
+  (let (new)
+    (dolist (source live-occur--sources)
+      (when-let ((name (buffer-name (live-occur--source-buffer source))))
+        (unless (equal name (live-occur--source-name source))
+          (setf (live-occur--source-name source) name
+                new t))))
+    (when (and new (not live-occur--page))
+      (live-occur--forget-rows))))
 
-;; The program tells the text of each matched part, and not its place.  But a
-;; match depends on where it stands only by an anchor.  One that `^' holds
-;; stands at the beginning, where its text stands first.  One that `$' holds
-;; stands at the end, and is the last part.  Any other is the first place of
-;; its text behind the part before.  So only of the last part there can be a
-;; doubt, where its text stands at the end and before it, too.  For that each
-;; line is asked about a second time with one more byte at its end, where `$'
-;; doesn't hold it: a part that is still there is the first.
+(defun live-occur--spots (row count moves)
+  "List what of point and of the windows is in the COUNT rows from ROW on.
+An element is a list of a function that moves it, the line of its row after
+MOVES, and its column."
+  (unless (or live-occur--page (= count 0))
+    (save-excursion
+      (live-occur--go-to-row row)
+      (let ((start (point))
+            (end (progn (forward-line count) (point))))
+        (cl-loop for (move . position) in (live-occur--positions)
+                 when (and (<= start position) (< position end))
+                 collect (let ((hit (live-occur--hit (live-occur--row-at position))))
+                           (goto-char position)
+                           (list move
+                                 (live-occur--moved (live-occur--hit-place hit) moves)
+                                 (- position (line-beginning-position)))))))))
 
-(defun live-occur--places (line parts more)
-  "Where the bytes PARTS stand in the bytes LINE, as pairs of places.
-MORE are the parts of LINE with one more byte."
-  (let ((from 0) found)
-    (while parts
-      (let* ((part (pop parts))
-             (start (string-search part line from)))
-        (when (and start (null parts)
-                   (string-suffix-p part line)
-                   (not (equal part (car more))))
-          (setq start (- (length line) (length part))))
-        (if (not start)
-            (setq parts nil)
-          (setq from (+ start (length part))
-                more (cdr more))
-          (push (cons start from) found))))
-    (nreverse found)))
+(defun live-occur--positions ()
+  "Point, and the points of the windows of this list and where they begin.
+Each is a pair of a function that moves it, and its position."
+  (cons (cons #'goto-char (point))
+        (cl-loop for window in (get-buffer-window-list nil nil t)
+                 collect (cons (apply-partially #'set-window-point window)
+                               (window-point window))
+                 collect (cons (lambda (position) (set-window-start window position t))
+                               (window-start window)))))
 
-(defun live-occur--one-more (line)
-  "The bytes LINE with one more byte, which is not its last one."
-  (concat line (if (string-suffix-p "\1" line) "\2" "\1")))
+(defun live-occur--restore-spot (move source line column)
+  "Call MOVE with the position of COLUMN in the first row of SOURCE from LINE on."
+  (let ((row (+ (live-occur--row-of-source source)
+                (cl-loop for piece in (live-occur--source-pieces source)
+                         sum (live-occur--count-below piece line)))))
+    (live-occur--make-rows row 1)
+    (funcall move (save-excursion
+                    (live-occur--go-to-row row)
+                    (min (+ (point) column) (line-end-position))))))
+
+(defun live-occur--make-rows (first count)
+  "Make COUNT rows from FIRST on, and bring their numbers up to date."
+  (unless (or live-occur--page (live-occur--editing-p))
+    (with-silent-modifications
+      (save-excursion
+        (live-occur--go-to-row first)
+        (live-occur--map-hits (lambda (hit)
+                                (live-occur--make-row hit)
+                                (forward-line 1))
+                              first count)))))
+
+(defun live-occur--make-row (hit)
+  "Make the row of HIT at point, or correct its number, and lose point."
+  (let ((source (live-occur--hit-source hit))
+        (number (1+ (live-occur--line-of hit))))
+    (cond ((eolp)
+           (live-occur--insert-head source number)
+           (live-occur--insert-text hit))
+          ((/= number (get-text-property (point) 'live-occur-number))
+           (let ((end (next-single-property-change (point) 'live-occur-number)))
+             (delete-region (point) end)
+             (live-occur--insert-head source number))))))
+
+(defun live-occur--insert-head (source number)
+  "Insert the head of the row of line NUMBER of SOURCE."
+  (insert (propertize (live-occur--head source number ":")
+                      'live-occur-number number 'mouse-face 'highlight)))
+
+(defun live-occur--head (source number mark)
+  "The head of a row of line NUMBER of SOURCE, with MARK after each part."
+  (let ((name (string-replace "\n" " " (live-occur--source-name source))))
+    (concat (propertize name 'face 'live-occur-name) mark
+            (propertize (number-to-string number) 'face 'live-occur-line) mark)))
+
+(defun live-occur--insert-text (hit)
+  "Insert the text of HIT, with its parts highlighted, or its beginning."
+  (let* ((bytes (live-occur--hit-bytes hit))
+         (bytes (substring bytes 0 (min (length bytes) (* 5 (1+ live-occur-max-columns)))))
+         (text (live-occur--text bytes))
+         (most (min (length text) live-occur-max-columns)))
+    (pcase-dolist (`(,start . ,end)
+                   (live-occur--in-characters bytes (live-occur--hit-parts hit)))
+      (when (< start most)
+        (put-text-property start (min end most) 'face 'live-occur-match text)))
+    (insert (propertize (substring text 0 most) 'mouse-face 'highlight))
+    (when (length> text most)
+      (insert (propertize "…" 'face 'shadow)))))
 
 (defun live-occur--in-characters (line places)
   "PLACES in the bytes LINE as places in its text.
@@ -959,13 +1064,13 @@ A character of which only some bytes are in a place is in it."
         places
       (let ((byte 0) (character 0) found)
         (pcase-dolist (`(,start . ,end) places)
-          (let (first)
+          (let ((end (min end (length line))) first)
             (while (< byte end)
               (cl-incf byte (live-occur--width (aref text character)))
               (when (and (not first) (> byte start))
                 (setq first character))
               (cl-incf character))
-            (push (cons (or first (1- character)) character) found)))
+            (push (cons (or first (max 0 (1- character))) character) found)))
         (nreverse found)))))
 
 (defun live-occur--width (character)
@@ -974,184 +1079,158 @@ A character of which only some bytes are in a place is in it."
       1
     (string-bytes (char-to-string character))))
 
-(defun live-occur--parts-session ()
-  "The session for parts, under what the rows in this list depend on."
-  (let* ((key (make-live-occur--key
-               :patterns (live-occur--key-patterns live-occur--key)
-               :syntax (live-occur--key-syntax live-occur--key)
-               :flags (cons ?o (cl-remove ?o (live-occur--key-flags live-occur--key))))))
-    (unless (and (live-occur--running-p live-occur--parts)
-                 (equal key live-occur--parts-key))
-      (live-occur--end live-occur--parts)
-      (setq live-occur--parts (live-occur--start (live-occur--parts-ended (current-buffer)))
-            live-occur--parts-key key)
-      (live-occur--send-words live-occur--parts key))
-    live-occur--parts))
+(defun live-occur--make-in-view (&optional window &rest _)
+  "Make the rows in WINDOW, or in all windows of this list."
+  (dolist (window (if window (list window) (get-buffer-window-list nil nil t)))
+    (let* ((height (window-body-height window))
+           (start (live-occur--row-at (window-start window)))
+           (row (live-occur--row-at (window-point window))))
+      (live-occur--make-rows start height)
+      (live-occur--show-around start height)
+      (unless (<= start row (+ start height -1))
+        (live-occur--make-rows (max 0 (- row height)) (* 2 height))
+        (live-occur--show-around (max 0 (- row height)) (* 2 height))))))
 
-(defun live-occur--parts-ended (list)
-  "A function after which LIST may ask for parts again."
-  (lambda (session)
-    (when (buffer-live-p list)
-      (with-current-buffer list
-        (when (eq session live-occur--parts)
-          (setq live-occur--parts-asked nil))))))
+(defun live-occur--renumber-soon (list)
+  "Correct the numbers of the rows of LIST that are in view, before long."
+  (when (and (buffer-live-p list) (get-buffer-window list t))
+    (with-current-buffer list
+      (unless live-occur--renumbering
+        (setq live-occur--renumbering t)
+        (run-with-timer 0 nil #'live-occur--renumber list)))))
 
-(defun live-occur--mark-visible (&rest _)
-  "Find the parts of the rows in view, but of rows that have them."
-  (dolist (window (get-buffer-window-list nil nil t))
-    (let ((first (live-occur--row-at (window-start window))))
-      (live-occur--mark first (+ first (window-body-height window))))))
+(defun live-occur--renumber (list)
+  "Correct the numbers of the rows of LIST that are in view."
+  (when (buffer-live-p list)
+    (with-current-buffer list
+      (setq live-occur--renumbering nil)
+      (live-occur--make-in-view))))
 
-(defun live-occur--mark-soon (window &rest _)
-  "Find the parts of the rows in WINDOW, once it is redrawn."
-  (let ((list (window-buffer window)))
-    (run-with-timer 0 nil
-                    (lambda ()
-                      (when (buffer-live-p list)
-                        (with-current-buffer list
-                          (live-occur--mark-visible)))))))
+(defun live-occur--editing-p ()
+  "Whether the rows of this list are edited."
+  (derived-mode-p 'live-occur-edit-mode))
 
-(defun live-occur--marked-p (row)
-  "Whether the parts of the row of number ROW were found."
-  (save-excursion
-    (live-occur--go-to-row row)
-    (get-text-property (point) 'live-occur-marked)))
+(defun live-occur--make-ahead (list)
+  "Make some rows of LIST, and go on while Emacs is idle."
+  (when (and (buffer-live-p list) (current-idle-time))
+    (with-current-buffer list
+      (let ((most (min (live-occur--total) live-occur-idle-rows)))
+        (when (and (< live-occur--made most)
+                   (not (or live-occur--page (live-occur--editing-p))))
+          (live-occur--make-rows live-occur--made (min 200 (- most live-occur--made)))
+          (cl-incf live-occur--made 200)
+          (run-with-timer 0.02 nil #'live-occur--make-ahead list))))))
 
-(defun live-occur--mark (from to)
-  "Find the matched parts of the rows FROM to TO, but of rows that have them."
-  (when (and live-occur-highlight live-occur--key
-             (not live-occur--parts-asked)
-             (live-occur--can-go-on)
-             (not (seq-intersection '(?v ?o ?c) (live-occur--key-flags live-occur--key))))
-    (when-let ((rows (cl-loop for row from from below (min to (length live-occur--rows))
-                              unless (live-occur--marked-p row) collect row)))
-      (live-occur--ask-for-parts rows))))
+;;;; Lines around
 
-(defun live-occur--ask-for-parts (rows)
-  "Find the matched parts of ROWS, and mark them when they come."
-  (let* ((list (current-buffer))
-         (key live-occur--key)
-         (session (live-occur--parts-session))
-         (bytes (mapcar (lambda (row) (aref live-occur--rows row)) rows))
-         (texts (mapcar (lambda (row) (live-occur--row-text (live-occur--parse row key)))
-                        bytes)))
-    (setq live-occur--parts-asked t)
-    (live-occur--send
-     session
-     (live-occur--command
-      "file 0 "
-      (mapconcat (lambda (text) (concat text "\n" (live-occur--one-more text) "\n")) texts "")
-      (* 2 (length texts)))
-     #'ignore)
-    (live-occur--send
-     session "show\n"
-     (lambda (_status found _count)
-       (when (buffer-live-p list)
-         (with-current-buffer list
-           (setq live-occur--parts-asked nil)
-           (when (equal key live-occur--key)
-             (live-occur--mark-rows rows bytes texts
-                                    (live-occur--parts-by-line found)))
-           (live-occur--mark-visible)))))
-    (live-occur--send session "close 0\n" #'ignore)))
+;; Lines around a row are no rows.  They are strings of an overlay over it, and
+;; are read from the source when the row comes into view.
 
-(defun live-occur--parts-by-line (found)
-  "The parts in the rows FOUND, under the number of their line."
-  (let ((table (make-hash-table)))
-    (seq-doseq (row (live-occur--split found nil))
-      (push (substring row (1+ (string-search ":" row)))
-            (gethash (string-to-number row) table)))
-    (maphash (lambda (line parts) (puthash line (nreverse parts) table)) table)
-    table))
+(defun live-occur--show-around (first count)
+  "Show the lines around COUNT rows from FIRST on."
+  (when (or live-occur--the-context live-occur--overlaid)
+    (setq live-occur--overlaid (and live-occur--the-context t))
+    (if (not live-occur--the-context)
+        (remove-overlays (point-min) (point-max) 'live-occur-around t)
+      (let (hits)
+        (live-occur--map-hits (lambda (hit) (push hit hits))
+                              (max 0 (1- first)) (+ count (if (= first 0) 1 2)))
+        (setq hits (nreverse hits))
+        (save-excursion
+          (live-occur--go-to-row first)
+          (cl-loop for (before hit after) on (if (= first 0) (cons nil hits) hits)
+                   repeat count while hit
+                   do (live-occur--show-around-row before hit after)
+                   (forward-line 1)))))))
 
-(defun live-occur--mark-rows (rows bytes texts parts)
-  "Highlight PARTS in those of ROWS that still are BYTES, of the text TEXTS."
-  (cl-loop for row in rows
-           for was in bytes
-           for text in texts
-           for number from 1 by 2
-           do (when (and (< row (length live-occur--rows))
-                         (string= was (aref live-occur--rows row)))
-                (live-occur--mark-row
-                 row text
-                 (live-occur--places text (gethash number parts)
-                                     (gethash (1+ number) parts))))))
+(defun live-occur--show-around-row (before hit after)
+  "Show the lines around HIT, of the row at point, between hits BEFORE and AFTER."
+  (let* ((line (live-occur--line-of hit))
+         (source (live-occur--hit-source hit))
+         (free (if (live-occur--same-source-p before hit)
+                   (+ 1 (live-occur--line-of before) (cdr live-occur--the-context))
+                 0))
+         (first (max free (- line (car live-occur--the-context))))
+         (end (if (live-occur--same-source-p hit after)
+                  (live-occur--line-of after)
+                most-positive-fixnum)))
+    (live-occur--overlay-row
+     (concat (when (and before (or (= free 0) (> first free)))
+               (propertize "--\n" 'face 'live-occur-around))
+             (live-occur--lines-around source first line))
+     (live-occur--lines-around
+      source (1+ line) (min end (+ 1 line (cdr live-occur--the-context)))))))
 
-(defun live-occur--mark-row (row text places)
-  "Highlight PLACES in the bytes TEXT in the row of number ROW."
-  (with-silent-modifications
-    (save-excursion
-      (live-occur--go-to-row row)
-      (put-text-property (point) (1+ (point)) 'live-occur-marked t)
-      (let ((start (next-single-property-change (point) 'live-occur-head))
-            (end (line-end-position)))
-        (pcase-dolist (`(,from . ,to)
-                       (live-occur--in-characters text places))
-          (when (< (+ start from) end)
-            (put-text-property (+ start from) (min (+ start to) end)
-                               'face 'live-occur-match)))))))
+(defun live-occur--line-of (hit)
+  "The line at which HIT is now."
+  (live-occur--moved (live-occur--hit-place hit)
+                     (live-occur--source-moves (live-occur--hit-source hit))))
+
+(defun live-occur--same-source-p (hit other)
+  "Whether HIT and OTHER are of one source."
+  (and hit other (eq (live-occur--hit-source hit) (live-occur--hit-source other))))
+
+(defun live-occur--lines-around (source from to)
+  "The lines FROM to TO of SOURCE as they are shown around rows."
+  (when (and (< from to) (buffer-live-p (live-occur--source-buffer source)))
+    (with-current-buffer (live-occur--source-buffer source)
+      (live-occur--in-whole-buffer
+        (goto-char (point-min))
+        (when (= 0 (forward-line from))
+          (cl-loop for line from from below to until (eobp)
+                   concat (live-occur--head source (1+ line) "-")
+                   concat (propertize
+                           (concat (buffer-substring-no-properties
+                                    (point) (min (line-end-position)
+                                                 (+ (point) live-occur-max-columns)))
+                                   "\n")
+                           'face 'live-occur-around)
+                   do (forward-line 1)))))))
+
+(defun live-occur--overlay-row (before after)
+  "Show the strings BEFORE and AFTER around the row at point."
+  (let* ((end (line-beginning-position 2))
+         (overlay (or (cl-find-if (lambda (overlay) (overlay-get overlay 'live-occur-around))
+                                  (overlays-in (point) end))
+                      (make-overlay (point) end nil t))))
+    (move-overlay overlay (point) end)
+    (overlay-put overlay 'live-occur-around t)
+    (overlay-put overlay 'evaporate t)
+    (pcase-dolist (`(,property . ,string) `((before-string . ,before) (after-string . ,after)))
+      (unless (equal-including-properties (or string "") (or (overlay-get overlay property) ""))
+        (overlay-put overlay property string)))))
 
 ;;;; Going to a line
 
 (defun live-occur--this-row ()
   "The number of the row at point, from 0."
   (let ((row (live-occur--row-at (point))))
-    (unless (< row (length live-occur--rows))
+    (unless (< row (live-occur--rows))
       (user-error "There is no row here"))
     row))
 
-(defun live-occur--source-of (row)
-  "The source that ROW is from."
-  (unless (live-occur--row-id row)
-    (user-error "There is no line here"))
-  (or (cl-find (live-occur--row-id row) live-occur--sources :key #'live-occur--source-id)
-      (user-error "The buffer of this row is gone")))
+(defun live-occur--rows ()
+  "How many rows are shown."
+  (if live-occur--page 0 (live-occur--total)))
 
-(defun live-occur--column (number line)
-  "In which column of the bytes LINE the row of NUMBER has its matched part.
-Where rows are parts it is the part of the row itself, and else the first."
-  (if (memq ?o (live-occur--key-flags live-occur--key))
-      (let ((first number) (parts nil))
-        (while (and (> first 0) (live-occur--same-line-p (1- first) number))
-          (cl-decf first))
-        (cl-loop for next from first below (length live-occur--rows)
-                 while (live-occur--same-line-p next number)
-                 do (push (live-occur--row-text (live-occur--row next)) parts))
-        (car (nth (- number first)
-                  (live-occur--in-characters
-                   line (live-occur--places line (nreverse parts) nil)))))
-    (save-excursion
-      (live-occur--go-to-row number)
-      (let* ((start (next-single-property-change (point) 'live-occur-head))
-             (match (text-property-any start (line-end-position) 'face 'live-occur-match)))
-        (and match (- match start))))))
+(defun live-occur--column (hit)
+  "In which column of its line the first part of HIT begins."
+  (or (caar (live-occur--in-characters (live-occur--hit-bytes hit)
+                                       (seq-take (live-occur--hit-parts hit) 1)))
+      0))
 
-(defun live-occur--row (number)
-  "The row of NUMBER, read."
-  (live-occur--parse (aref live-occur--rows number) live-occur--key))
-
-(defun live-occur--same-line-p (number other)
-  "Whether the rows of NUMBER and OTHER are of one line."
-  (let ((row (live-occur--row number)) (other (live-occur--row other)))
-    (and (equal (live-occur--row-id row) (live-occur--row-id other))
-         (equal (live-occur--row-line row) (live-occur--row-line other)))))
-
-(defun live-occur--place (number)
-  "The buffer and the position of the row of NUMBER."
-  (let* ((row (live-occur--row number))
-         (source (live-occur--source-of row))
-         (list (current-buffer)))
+(defun live-occur--place (row)
+  "The buffer and the position of the row of number ROW."
+  (let* ((hit (live-occur--hit row))
+         (source (live-occur--hit-source hit)))
+    (unless (buffer-live-p (live-occur--source-buffer source))
+      (user-error "The buffer of this row is gone"))
     (with-current-buffer (live-occur--source-buffer source)
-      (if (not (live-occur--row-line row))
-          (cons (current-buffer) (point))
-        (live-occur--in-whole-buffer
-          (goto-char (point-min))
-          (forward-line (live-occur--line-now source (1- (live-occur--row-line row))))
-          (let* ((end (line-end-position))
-                 (line (live-occur--bytes (buffer-substring-no-properties (point) end)))
-                 (column (with-current-buffer list
-                           (live-occur--column number line))))
-            (cons (current-buffer) (min end (+ (point) (or column 0))))))))))
+      (live-occur--in-whole-buffer
+        (goto-char (point-min))
+        (forward-line (live-occur--line-of hit))
+        (cons (current-buffer)
+              (min (line-end-position) (+ (point) (live-occur--column hit))))))))
 
 (defun live-occur--move-to (position)
   "Move to POSITION of this buffer, and widen it if need be."
@@ -1193,7 +1272,7 @@ The list keeps its window."
   "Move COUNT rows on."
   (interactive "p")
   (let ((row (+ (live-occur--row-at (point)) (or count 1))))
-    (unless (<= 0 row (1- (length live-occur--rows)))
+    (unless (<= 0 row (1- (live-occur--rows)))
       (user-error "There are no more rows"))
     (live-occur--go-to-row row)))
 
@@ -1202,26 +1281,12 @@ The list keeps its window."
   (interactive "p")
   (live-occur-next (- (or count 1))))
 
-(defun live-occur--own-row (row step)
-  "The number of the row from ROW on, by STEP, whose line matches itself."
-  (while (and (< -1 row (length live-occur--rows))
-              (live-occur--row-around (live-occur--row row)))
-    (cl-incf row step))
-  row)
-
 (defun live-occur--next-error (&optional count reset)
   "Move COUNT rows on, or with RESET from the first row, and go to the line.
-Rows of lines around others are passed.
 This is the `next-error-function' of lists."
   (when reset
     (goto-char (point-min)))
-  (let* ((here (live-occur--row-at (point)))
-         (count (if reset 0 (or count 1)))
-         (step (if (< count 0) -1 1))
-         (row (if (= count 0) (live-occur--own-row here step) here)))
-    (dotimes (_ (abs count))
-      (setq row (live-occur--own-row (+ row step) step)))
-    (live-occur-next (- row here)))
+  (live-occur-next (if reset 0 (or count 1)))
   (when-let ((window (get-buffer-window nil 0)))
     (set-window-point window (point)))
   (live-occur-visit))
@@ -1230,7 +1295,7 @@ This is the `next-error-function' of lists."
   "Show the line of the row at point if it is another row than before."
   (when live-occur-follow
     (let ((row (live-occur--row-at (point))))
-      (when (and (< row (length live-occur--rows))
+      (when (and (< row (live-occur--rows))
                  (not (equal row live-occur--followed)))
         (setq live-occur--followed row)
         (with-demoted-errors "live-occur: %S"
@@ -1253,7 +1318,7 @@ If it is accepted call DONE and ask for a report."
          (session live-occur--session)
          answer)
     (live-occur--send session command
-                      (lambda (reply _rows _count)
+                      (lambda (reply)
                         (setq answer reply)
                         (when (and (equal reply "ok") (buffer-live-p list))
                           (with-current-buffer list
@@ -1433,29 +1498,17 @@ FAULT is nil, or the kind and the place at which INITIAL was refused."
   (interactive)
   (live-occur--toggle ?x))
 
-(defun live-occur-toggle-parts ()
-  "List the matched parts alone, or no longer: flag o."
-  (interactive)
-  (live-occur--toggle ?o))
-
-(defun live-occur-toggle-counts ()
-  "List the number of lines of each buffer, or no longer: flag c."
-  (interactive)
-  (live-occur--toggle ?c))
-
 (defun live-occur-set-context (before after)
-  "Show BEFORE lines before each that matches, and AFTER lines behind it.
+  "Show BEFORE lines before each that matches, and AFTER lines after it.
 Where both numbers are 0 no other lines are shown."
   (interactive
    (list (read-number "Lines before: " (or (car live-occur--the-context) 0))
-         (read-number "Lines behind: " (or (cdr live-occur--the-context) 0))))
+         (read-number "Lines after: " (or (cdr live-occur--the-context) 0))))
   (unless (and (natnump before) (natnump after))
     (user-error "A number of lines is 0 or more"))
-  (let* ((context (unless (= 0 before after) (cons before after)))
-         (reply (live-occur--ask (live-occur--context-command context)
-                                 (lambda () (setq live-occur--the-context context)))))
-    (unless (equal reply "ok")
-      (live-occur--tell-refusal reply live-occur--patterns))))
+  (setq live-occur--the-context (unless (= 0 before after) (cons before after)))
+  (live-occur--make-in-view)
+  (force-mode-line-update))
 
 ;;;; The list as a whole
 
@@ -1481,13 +1534,11 @@ Where both numbers are 0 no other lines are shown."
    t t))
 
 (defun live-occur--numbers ()
-  "How many rows are shown, of how many buffers."
-  (let ((shown (length live-occur--rows))
+  "How many rows there are, of how many buffers."
+  (let ((rows (or live-occur--page (live-occur--total)))
         (buffers (length live-occur--sources)))
-    (concat (if (< shown live-occur--total) (format "the first %d of " shown) "")
-            (format "%d row%s, %d buffer%s"
-                    live-occur--total (if (= live-occur--total 1) "" "s")
-                    buffers (if (= buffers 1) "" "s")))))
+    (format "%d row%s, %d buffer%s"
+            rows (if (= rows 1) "" "s") buffers (if (= buffers 1) "" "s"))))
 
 (defun live-occur-refresh (&rest _)
   "Bring the list up to date now."
@@ -1499,17 +1550,14 @@ Where both numbers are 0 no other lines are shown."
   "Start the program of this list again."
   (interactive)
   (live-occur--end live-occur--session)
-  (live-occur--end live-occur--parts)
-  (setq live-occur--session nil
-        live-occur--parts nil
-        live-occur--parts-asked nil)
   (live-occur--begin)
   (live-occur--update t))
 
 (defun live-occur--add-source (buffer)
   "Put BUFFER behind the buffers of this list."
   (let ((source (make-live-occur--source :buffer buffer :list (current-buffer)
-                                         :id live-occur--named)))
+                                         :id live-occur--named
+                                         :name (buffer-name buffer))))
     (cl-incf live-occur--named)
     (setq live-occur--sources (append live-occur--sources (list source)))
     (live-occur--track source)
@@ -1523,6 +1571,8 @@ Where both numbers are 0 no other lines are shown."
     (when (buffer-live-p list)
       (with-current-buffer list
         (when-let ((file (seq-position live-occur--sources source)))
+          (live-occur--replace-rows (live-occur--row-of-source source)
+                                    (live-occur--source-hits source) 0)
           (setq live-occur--sources (remq source live-occur--sources))
           (when (live-occur--can-go-on)
             (live-occur--send live-occur--session (format "close %d\n" file) #'ignore))
@@ -1542,9 +1592,7 @@ Where both numbers are 0 no other lines are shown."
     (cancel-timer live-occur--timer))
   (mapc #'live-occur--untrack live-occur--sources)
   (live-occur--end live-occur--session)
-  (live-occur--end live-occur--parts)
-  (setq live-occur--session nil
-        live-occur--parts nil))
+  (setq live-occur--session nil))
 
 (defun live-occur-add-buffer (buffer)
   "Search BUFFER as well."
@@ -1586,8 +1634,6 @@ Where both numbers are 0 no other lines are shown."
                      ("i" . live-occur-toggle-case)
                      ("v" . live-occur-toggle-inverse)
                      ("x" . live-occur-toggle-whole-lines)
-                     ("o" . live-occur-toggle-parts)
-                     ("c" . live-occur-toggle-counts)
                      ("C" . live-occur-set-context)
                      ("+" . live-occur-add-buffer)
                      ("-" . live-occur-remove-buffer)
@@ -1616,8 +1662,7 @@ Where both numbers are 0 no other lines are shown."
   (add-hook 'kill-buffer-hook #'live-occur--discard nil t)
   (add-hook 'change-major-mode-hook #'live-occur--discard nil t)
   (add-hook 'post-command-hook #'live-occur--follow nil t)
-  (add-hook 'window-scroll-functions #'live-occur--mark-soon nil t)
-  (add-hook 'window-size-change-functions #'live-occur--mark-soon nil t))
+  (add-hook 'pre-redisplay-functions #'live-occur--make-in-view nil t))
 
 (defun live-occur--checked (buffer)
   "BUFFER, if it may be searched."

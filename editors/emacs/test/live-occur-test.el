@@ -22,9 +22,8 @@
 
 (defun live-occur-test--busy-p ()
   "Whether a reply of this list is on its way."
-  (or live-occur--parts-asked
-      (and (live-occur--running-p live-occur--session)
-           (live-occur--session-waiting live-occur--session))))
+  (and (live-occur--running-p live-occur--session)
+       (live-occur--session-waiting live-occur--session)))
 
 (defun live-occur-test--wait ()
   "Wait until all replies of this list have come."
@@ -37,26 +36,43 @@
   (with-current-buffer list
     (live-occur--update)
     (live-occur-test--wait)
-    (buffer-substring-no-properties (point-min) (point-max))))
+    (live-occur--make-rows 0 (live-occur--total))
+    (live-occur--show-around 0 (live-occur--total))
+    (live-occur-test--text-shown)))
 
-(defun live-occur-test--mark (list)
-  "Find the parts of all rows of LIST, and answer the places of each row."
-  (live-occur-test--rows list)
-  (with-current-buffer list
-    (live-occur--mark 0 (length live-occur--rows))
-    (live-occur-test--wait)
+(defun live-occur-test--text-shown ()
+  "The text of this list with the lines around rows."
+  (save-excursion
     (goto-char (point-min))
     (let (all)
       (while (not (eobp))
-        (let ((at (next-single-property-change (point) 'live-occur-head)) parts)
-          (while (setq at (text-property-any at (line-end-position) 'face 'live-occur-match))
-            (let ((end (next-single-property-change at 'face nil (line-end-position))))
-              (push (- at (line-beginning-position)) parts)
-              (push (buffer-substring-no-properties at end) parts)
-              (setq at end)))
-          (push (nreverse parts) all))
+        (let ((around (cl-find-if (lambda (overlay) (overlay-get overlay 'live-occur-around))
+                                  (overlays-in (point) (line-beginning-position 2)))))
+          (push (or (and around (overlay-get around 'before-string)) "") all)
+          (push (buffer-substring-no-properties (point) (line-beginning-position 2)) all)
+          (push (or (and around (overlay-get around 'after-string)) "") all))
         (forward-line 1))
-      (nreverse all))))
+      (substring-no-properties (apply #'concat (nreverse all))))))
+
+(defun live-occur-test--mark (list)
+  "The places of parts in each row of LIST."
+  (live-occur-test--rows list)
+  (with-current-buffer list
+    (save-excursion
+      (goto-char (point-min))
+      (let (all)
+        (while (not (eobp))
+          (let ((at (next-single-property-change (point) 'live-occur-number)) parts)
+            (while (and (< at (line-end-position))
+                        (setq at (text-property-any at (line-end-position)
+                                                    'face 'live-occur-match)))
+              (let ((end (next-single-property-change at 'face nil (line-end-position))))
+                (push (- at (line-beginning-position)) parts)
+                (push (buffer-substring-no-properties at end) parts)
+                (setq at end)))
+            (push (nreverse parts) all))
+          (forward-line 1))
+        (nreverse all)))))
 
 (defun live-occur-test--buffers (texts)
   "New buffers called a, b and so on that hold TEXTS."
@@ -162,14 +178,12 @@ All buffers and processes that it makes are taken away after it."
                          ("i" . "a:1:a\n")
                          ("v" . "a:2:A\na:3:ba ab\na:4:c\nb:1:c\n")
                          ("x" . "a:2:A\na:4:c\nb:1:c\n")
-                         ("c" . "a:2\nb:1\n")
-                         ("v" . "a:2\nb:0\n")
-                         ("c" . "a:1:a\na:3:ba ab\n")
-                         ("o" . "a:1:a\na:3:a\na:3:a\n")))
+                         ("v" . "a:1:a\na:3:ba ab\n")
+                         ("i" . "a:1:a\na:2:A\na:3:ba ab\n")))
           (call-interactively (key-binding (kbd key)))
           (should (equal (live-occur-test--rows list) rows)))
-        (should (equal live-occur--the-flags '(?o)))
-        (should (string-prefix-p " basic -o  a  3 rows, 2 buffers" (live-occur--header)))))))
+        (should (equal live-occur--the-flags '(?i)))
+        (should (string-prefix-p " basic -i  a  3 rows, 2 buffers" (live-occur--header)))))))
 
 (ert-deftest live-occur-has-syntaxes ()
   (live-occur-test--with '("a+b\naab\n")
@@ -198,7 +212,7 @@ All buffers and processes that it makes are taken away after it."
       (with-current-buffer list
         (live-occur-set-context 0 1)
         (should (equal (live-occur-test--rows list) "a:1:a\na-2-b-1:c\n--\na:5:a\n"))
-        (should (string-prefix-p " basic -B 0 -A 1  a  4 rows" (live-occur--header)))
+        (should (string-prefix-p " basic -B 0 -A 1  a  2 rows" (live-occur--header)))
         (live-occur-set-context 2 0)
         (should (equal (live-occur-test--rows list) "a:1:a\n--\na-3-c\na-4-d\na:5:a\n"))
         (live-occur-add-buffer (nth 1 buffers))
@@ -218,13 +232,23 @@ All buffers and processes that it makes are taken away after it."
            (list (live-occur "a")))
       (should (equal (live-occur-test--rows list) "a-1-b\na:2:a\n")))))
 
-(ert-deftest live-occur-shows-no-more-rows-than-it-may ()
-  (live-occur-test--with (list (apply #'concat (make-list 50 "a\n")))
-    (let* ((live-occur-max-rows 7)
-           (list (live-occur "a")))
-      (should (= (length (split-string (live-occur-test--rows list) "\n" t)) 7))
-      (with-current-buffer list
-        (should (string-search "the first 7 of 50 rows" (live-occur--header)))))))
+(ert-deftest live-occur-makes-rows-in-view ()
+  (live-occur-test--with (list (apply #'concat (make-list 5000 "a\n")))
+    (live-occur-test--in-windows
+      (let* ((live-occur-idle-rows 0)
+             (list (live-occur "a"))
+             (window (get-buffer-window list))
+             (height (window-body-height window)))
+        (with-current-buffer list
+          (live-occur-test--wait)
+          (should (= (live-occur--total) 5000 (count-lines 1 (point-max))))
+          (should (< (point-max) (+ 5000 (* 20 3 height))))
+          (goto-char (point-max))
+          (forward-line -2)
+          (set-window-start window (point))
+          (set-window-point window (point))
+          (run-hook-with-args 'pre-redisplay-functions window)
+          (should (looking-at "a:4999:a\na:5000:a\n")))))))
 
 (ert-deftest live-occur-shows-the-name-that-a-buffer-has ()
   (live-occur-test--with '("x\n")
@@ -258,8 +282,7 @@ All buffers and processes that it makes are taken away after it."
 
 (ert-deftest live-occur-sends-only-lines-that-changed ()
   (live-occur-test--with (list (apply #'concat (make-list 1000 "line\n")))
-    (let* ((live-occur-highlight nil)
-           (list (live-occur "x"))
+    (let* ((list (live-occur "x"))
            sent)
       (live-occur-test--rows list)
       (cl-letf* ((send (symbol-function 'process-send-string))
@@ -284,7 +307,7 @@ All buffers and processes that it makes are taken away after it."
                        "splice 0 600 1 0\n"
                        "splice 0 500 0 1\nx\n"
                        "splice 0 0 1 1\nxline\n"
-                       "show\n")))
+                       "changes\n")))
       (should (equal (live-occur-test--rows list)
                      "a:1:xline\na:501:x\na:701:linx\na:1002:x\n")))))
 
@@ -296,7 +319,7 @@ All buffers and processes that it makes are taken away after it."
                  (due 0)
                  ((symbol-function 'live-occur--send)
                   (lambda (session text function)
-                    (if (not (equal text "show\n"))
+                    (if (not (equal text "changes\n"))
                         (funcall send session text function)
                       (setq due (1+ due) all (1+ all) most (max most due))
                       (funcall send session text
@@ -402,8 +425,7 @@ All buffers and processes that it makes are taken away after it."
           (list (progn (setq buffer-read-only t) (live-occur "o"))))
       (live-occur-test--mark list)
       (with-current-buffer list
-        (live-occur-toggle-case)
-        (live-occur-toggle-parts))
+        (live-occur-toggle-case))
       (live-occur-test--rows list)
       (live-occur-test--at list 1)
       (with-current-buffer list
@@ -609,9 +631,8 @@ All buffers and processes that it makes are taken away after it."
     (let ((list (live-occur "a" buffers)))
       (should (equal (live-occur-test--rows list) "a:1:a\nb:1:a\nc:1:a\n"))
       (kill-buffer (nth 1 buffers))
-      (live-occur-test--at list 2)
       (with-current-buffer list
-        (should-error (live-occur-visit) :type 'user-error))
+        (should (equal (live-occur-test--text-shown) "a:1:a\nc:1:a\n")))
       (with-current-buffer (nth 2 buffers)
         (insert "a"))
       (should (equal (live-occur-test--rows list) "a:1:a\nc:1:a\nc:2:a\n"))
@@ -667,18 +688,7 @@ All buffers and processes that it makes are taken away after it."
 
 ;;;; Matched parts
 
-(ert-deftest live-occur-finds-the-places-of-parts ()
-  (pcase-dolist (`(,line ,parts ,more ,places)
-                 '(("abab" ("b" "b") ("b" "b") ((1 . 2) (3 . 4)))
-                   ("abab" ("b") () ((3 . 4)))
-                   ("aba" ("a") ("a") ((0 . 1)))
-                   ("aba" ("a") () ((2 . 3)))
-                   ("xabxab" ("ab" "xab") ("ab") ((1 . 3) (3 . 6)))
-                   ("aaaa" ("aa" "aa") ("aa" "aa") ((0 . 2) (2 . 4)))
-                   ("aaa" ("aa") ("aa") ((0 . 2)))
-                   ("aaa" ("aa") () ((1 . 3)))
-                   ("" () () ())))
-    (should (equal (live-occur--places line parts more) places)))
+(ert-deftest live-occur-knows-places-in-characters ()
   (should (equal (live-occur--in-characters "a\303\251b" '((1 . 2) (2 . 3) (3 . 4)))
                  '((1 . 2) (1 . 2) (2 . 3)))))
 
@@ -705,19 +715,8 @@ All buffers and processes that it makes are taken away after it."
         (live-occur-toggle-inverse))
       (should (equal (live-occur-test--mark list) nil))
       (with-current-buffer list
-        (live-occur-toggle-inverse)
-        (live-occur-toggle-parts))
-      (should (equal (live-occur-test--mark list) '((4 "a") (4 "a") (4 "a") (4 "a")))))))
-
-(ert-deftest live-occur-highlights-by-a-new-program-where-one-was-killed ()
-  (live-occur-test--with '("ab\n")
-    (let ((list (live-occur "b")))
-      (should (equal (live-occur-test--mark list) '((5 "b"))))
-      (with-current-buffer list
-        (signal-process (live-occur--session-process live-occur--parts) 'KILL))
-      (insert "cb\n")
-      (live-occur-test--mark list)
-      (should (equal (live-occur-test--mark list) '((5 "b") (5 "b")))))))
+        (live-occur-toggle-inverse))
+      (should (equal (live-occur-test--mark list) '((4 "a") (5 "a") (5 "aa")))))))
 
 (ert-deftest live-occur-ends-a-program-that-is-stopped ()
   (live-occur-test--with '("a\n")
@@ -772,47 +771,37 @@ All buffers and processes that it makes are taken away after it."
                                 '(0 . 0) 0))))
         (should (eq (window-buffer) (nth 1 buffers)))))))
 
-(ert-deftest live-occur-visits-lines-around ()
-  (live-occur-test--with '("a\nb\nc\nd\na\n")
-    (let ((list (live-occur "a")))
-      (with-current-buffer list
-        (live-occur-set-context 0 1))
-      (live-occur-test--mark list)
-      (live-occur-test--at list 2)
-      (with-current-buffer list
-        (live-occur-visit))
-      (should (equal (line-number-at-pos) 2))
-      (live-occur-test--at list 3)
-      (with-current-buffer list
-        (should-error (live-occur-visit) :type 'user-error))
-      (live-occur-test--at list 1)
-      (with-current-buffer list
-        (live-occur--next-error 1))
-      (with-current-buffer a
-        (should (equal (line-number-at-pos) 5)))
-      (with-current-buffer list
-        (live-occur--next-error -1))
-      (with-current-buffer a
-        (should (equal (line-number-at-pos) 1))))))
-
 (ert-deftest live-occur-highlights-no-lines-around ()
   (live-occur-test--with '("a\nb\nc\na\n")
     (let ((list (live-occur "a")))
       (with-current-buffer list
         (live-occur-set-context 0 1))
-      (should (equal (live-occur-test--mark list) '((4 "a") nil nil (4 "a")))))))
+      (should (equal (live-occur-test--mark list) '((4 "a") (4 "a")))))))
 
-(ert-deftest live-occur-visits-parts ()
-  (live-occur-test--with '("é ab é ab\n")
+(ert-deftest live-occur-visits-the-first-part ()
+  (live-occur-test--with '("é xab é ab\n")
     (live-occur-test--in-windows
       (let ((list (live-occur "ab")))
-        (with-current-buffer list
-          (live-occur-toggle-parts))
         (live-occur-test--rows list)
-        (live-occur-test--at list 2)
+        (live-occur-test--at list 1)
         (with-current-buffer list
           (live-occur-visit))
-        (should (= (current-column) 7))))))
+        (should (= (current-column) 3))))))
+
+(ert-deftest live-occur-corrects-numbers-at-once ()
+  (live-occur-test--with '("a1\nb\na2\na3\n" "a4\n")
+    (live-occur-test--in-windows
+      (let ((list (live-occur "a" buffers)))
+        (live-occur-test--rows list)
+        (goto-char (point-min))
+        (forward-line 1)
+        (insert "c\nd\n")
+        (with-timeout (10 (error "Numbers are not corrected"))
+          (while (not (equal (with-current-buffer list (live-occur-test--text-shown))
+                             "a:1:a1\na:5:a2\na:6:a3\nb:1:a4\n"))
+            (accept-process-output nil 0.01)))
+        (with-current-buffer list
+          (should-not (live-occur-test--busy-p)))))))
 
 (ert-deftest live-occur-visits-lines-that-have-moved ()
   (live-occur-test--with (list (concat "o1\n" (apply #'concat (make-list 200 "x\n")) "o2\n"))
@@ -917,7 +906,7 @@ All buffers and processes that it makes are taken away after it."
   (with-current-buffer list
     (pcase (random 9)
       (8 (live-occur-set-context (random 3) (random 3)))
-      ((or 0 1 2 3) (live-occur--toggle (nth (random 5) live-occur--flag-letters)))
+      ((or 0 1 2 3) (live-occur--toggle (nth (random 3) live-occur--flag-letters)))
       (4 (live-occur--choose-syntax (nth (random 3) '(basic extended fixed))))
       (5 (live-occur--add (nth (random 6) '("a" "b$" "^" "a*b" "\\(a" "[ab]B"))))
       (6 (when live-occur--patterns
@@ -926,8 +915,9 @@ All buffers and processes that it makes are taken away after it."
     (unless live-occur--patterns
       (live-occur--add "a"))))
 
-(defun live-occur-test--searched (list folder)
-  "What grep writes for all that LIST has, with files in FOLDER."
+(defun live-occur-test--searched (list folder &optional parts)
+  "What grep writes for all that LIST has, with files in FOLDER.
+With PARTS non-nil it is the matched parts."
   (with-current-buffer list
     (let ((default-directory (file-name-as-directory folder))
           (coding-system-for-write 'utf-8-emacs-unix)
@@ -947,11 +937,50 @@ All buffers and processes that it makes are taken away after it."
                                       (pcase live-occur--the-syntax
                                         ('basic "") ('extended "E") ('fixed "F")))))
                "-f" "patterns"
-               (append (pcase (buffer-local-value 'live-occur--the-context list)
-                         (`(,before . ,after)
-                          (list (format "-B%d" before) (format "-A%d" after))))
+               (append (if parts
+                           '("-o")
+                         (pcase (buffer-local-value 'live-occur--the-context list)
+                           (`(,before . ,after)
+                            (list (format "-B%d" before) (format "-A%d" after)))))
                        '("--") (nreverse names)))
         (buffer-string)))))
+
+(defun live-occur-test--parts (list)
+  "The matched parts of the hits of LIST, as grep writes them."
+  (with-current-buffer list
+    (let (all)
+      (live-occur--map-hits
+       (lambda (hit)
+         (pcase-dolist (`(,start . ,end) (live-occur--hit-parts hit))
+           (push (format "%s:%d:%s\n"
+                         (live-occur--source-name (live-occur--hit-source hit))
+                         (1+ (live-occur--line-of hit))
+                         (live-occur--text (substring (live-occur--hit-bytes hit) start end)))
+                 all)))
+       0 (live-occur--total))
+      (apply #'concat (nreverse all)))))
+
+(defun live-occur-test--badly-marked (list)
+  "A row of LIST in which other characters are highlighted than should be, or nil."
+  (with-current-buffer list
+    (goto-char (point-min))
+    (let (bad)
+      (live-occur--map-hits
+       (lambda (hit)
+         (goto-char (next-single-property-change (point) 'live-occur-number))
+         (let ((byte 0))
+           (while (not (eolp))
+             (let ((next (+ byte (length (live-occur--bytes (string (char-after)))))))
+               (unless (eq (and (eq (get-text-property (point) 'face) 'live-occur-match) t)
+                           (and (cl-loop for (start . end) in (live-occur--hit-parts hit)
+                                         thereis (and (< start next) (< byte end)))
+                                t))
+                 (setq bad (buffer-substring (line-beginning-position) (line-end-position))))
+               (setq byte next))
+             (forward-char 1)))
+         (forward-line 1))
+       0 (live-occur--total))
+      bad)))
 
 (defvar live-occur-test--edits
   (string-to-number (or (getenv "EDITS") "4000"))
@@ -963,7 +992,6 @@ All buffers and processes that it makes are taken away after it."
   (live-occur-test--with (cl-loop for most in '(0 10 200 900)
                                   collect (live-occur-test--text most))
     (let* ((folder (make-temp-file "live-occur" t))
-           (live-occur-max-rows nil)
            (indirect (make-indirect-buffer (nth 3 buffers) "indirect"))
            (list (live-occur "ab" buffers))
            (compared 0) (rows 0) (lost 0))
@@ -987,7 +1015,11 @@ All buffers and processes that it makes are taken away after it."
               (when (= (random 3) 0)
                 (let ((shown (live-occur-test--rows list)))
                   (cl-incf compared)
-                  (cl-incf rows (length (buffer-local-value 'live-occur--rows list)))
+                  (when (= (random 4) 0)
+                    (should (equal (live-occur-test--parts list)
+                                   (live-occur-test--searched list folder t)))
+                    (should-not (live-occur-test--badly-marked list)))
+                  (cl-incf rows (with-current-buffer list (live-occur--total)))
                   (unless (equal shown (live-occur-test--searched list folder))
                     (ert-fail (list "differs" compared shown
                                     (live-occur-test--searched list folder))))))))
@@ -1003,30 +1035,62 @@ All buffers and processes that it makes are taken away after it."
   "The median of NUMBERS."
   (nth (/ (length numbers) 2) (sort (copy-sequence numbers) #'<)))
 
+(defun live-occur-test--large (lines every)
+  "A text of LINES lines, of which one of EVERY has a needle."
+  (with-temp-buffer
+    (dotimes (line lines)
+      (insert (format "%07d the quick brown fox jumps over the lazy %s\n"
+                      line (if (= 0 (mod line every)) "needle" "dog"))))
+    (buffer-string)))
+
+(defun live-occur-test--times (lines every turns)
+  "Measure TURNS edits with their updates in a text of LINES lines.
+One line of EVERY matches.  The answer is the seconds to open the list, and
+those of the edits: of the command, and up to the row in view."
+  (live-occur-test--with (list (live-occur-test--large lines every))
+    (live-occur-test--in-windows
+      (let* ((live-occur-idle-rows 0)
+             (began (float-time))
+             (list (live-occur "needle"))
+             (opened (with-current-buffer list
+                       (live-occur-test--wait)
+                       (- (float-time) began)))
+             edits updates)
+        (dotimes (turn turns)
+          (goto-char (nth (mod turn 3) (list (point-min) (/ (point-max) 2) (point-max))))
+          (forward-line 0)
+          (let ((start (float-time)))
+            (insert (format "%d new needle\n" turn))
+            (push (- (float-time) start) edits)
+            (with-current-buffer list
+              (live-occur--update)
+              (while (live-occur-test--busy-p)
+                (accept-process-output
+                 (live-occur--session-process live-occur--session) 1)))
+            (push (- (float-time) start) updates)))
+        (with-current-buffer list
+          (should (= (live-occur--total) (+ turns (/ (+ lines every -1) every)))))
+        (list opened edits updates)))))
+
 (ert-deftest live-occur-is-quick-in-a-large-buffer ()
-  "An edit of 200,000 lines and its report take less than a tenth of a second."
-  (live-occur-test--with
-      (list (with-temp-buffer
-              (dotimes (line 200000)
-                (insert (format "%06d the quick brown fox jumps over the lazy dog\n" line)))
-              (buffer-string)))
-    (let* ((began (float-time))
-           (list (live-occur "999 the.*fox"))
-           (opened (progn (live-occur-test--rows list) (- (float-time) began)))
-           times)
-      (should (= 200 (length (buffer-local-value 'live-occur--rows list))))
-      (dotimes (turn 30)
-        (goto-char (nth (mod turn 3) (list (point-min) (/ (point-max) 2) (point-max))))
-        (forward-line 0)
-        (garbage-collect)
-        (let ((start (float-time)))
-          (insert (format "%d999 the new fox\n" turn))
-          (live-occur-test--rows list)
-          (push (- (float-time) start) times)))
-      (should (= 230 (length (buffer-local-value 'live-occur--rows list))))
-      (live-occur-test--tell "200,000 lines: opened in %.2f s; an edit and its report: median %.1f ms, at most %.1f ms"
-               opened (* 1000 (live-occur-test--median times)) (* 1000 (apply #'max times)))
-      (should (< (live-occur-test--median times) 0.1)))))
+  "An edit of 200,000 lines and its update take less than a tenth of a second."
+  (pcase-let ((`(,opened ,_ ,updates) (live-occur-test--times 200000 10 30)))
+    (live-occur-test--tell
+     "200,000 lines: opened in %.2f s; an edit and its update: median %.1f ms, at most %.1f ms"
+     opened (* 1000 (live-occur-test--median updates)) (* 1000 (apply #'max updates)))
+    (should (< (live-occur-test--median updates) 0.1))))
+
+(defun live-occur-test-times ()
+  "Print a table of times."
+  (live-occur-test--tell "%10s %10s %10s %10s %10s %10s" "lines" "hits" "open, s"
+                         "edit, ms" "update, ms" "at most")
+  (pcase-dolist (`(,lines ,every) '((100000 10) (1000000 1000) (1000000 10) (1000000 1)))
+    (pcase-let ((`(,opened ,edits ,updates) (live-occur-test--times lines every 60)))
+      (live-occur-test--tell "%10d %10d %10.2f %10.2f %10.2f %10.2f"
+                             lines (/ lines every) opened
+                             (* 1000 (live-occur-test--median edits))
+                             (* 1000 (live-occur-test--median updates))
+                             (* 1000 (apply #'max updates))))))
 
 ;;;; The file
 
