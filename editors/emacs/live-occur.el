@@ -309,15 +309,13 @@ A copy of a buffer has its local variables, and another text."
           (remove-hook 'kill-buffer-hook #'live-occur--killed t))))))
 
 (defun live-occur--newlines (start end)
-  "Answer how many newlines stand from START to END, and lose point."
+  "Answer how many newlines are from START to END."
   (save-restriction
     (narrow-to-region start end)
-    (goto-char start)
-    (let ((left (forward-line (buffer-size))))
-      (- (buffer-size) left (if (bolp) 0 1)))))
+    (1- (line-number-at-pos (point-max)))))
 
 (defun live-occur--line-at (source position)
-  "Answer the line of SOURCE in which POSITION stands, and lose point."
+  "Answer the line of SOURCE in which POSITION is."
   (let ((anchor (live-occur--source-anchor source))
         (line (live-occur--source-anchor-line source)))
     (cond ((< position (/ anchor 2)) (live-occur--newlines 1 position))
@@ -325,9 +323,20 @@ A copy of a buffer has its local variables, and another text."
           (t (+ line (live-occur--newlines anchor position))))))
 
 (defun live-occur--go-to-line (source line)
-  "Move to the beginning of LINE of SOURCE."
+  "Move to the beginning of LINE of SOURCE.
+Newlines are counted much faster than lines are walked over, so where it is
+far away its position is guessed first, and corrected."
   (goto-char (live-occur--source-anchor source))
-  (forward-line (- line (live-occur--source-anchor-line source))))
+  (let ((left (- line (live-occur--source-anchor-line source)))
+        (width (/ (buffer-size) (1+ (abs (live-occur--source-newlines source))))))
+    (cl-loop repeat 3 while (> (abs left) 2000)
+             do (let ((from (point)))
+                  (goto-char (max (point-min) (min (point-max) (+ from (* left width)))))
+                  (forward-line 0)
+                  (if (< from (point))
+                      (cl-decf left (live-occur--newlines from (point)))
+                    (cl-incf left (live-occur--newlines (point) from)))))
+    (forward-line left)))
 
 (defun live-occur--lose (source)
   "Forget the edits of SOURCE: all of its text is to be sent."
@@ -1175,8 +1184,7 @@ A character of which only some bytes are in a place is in it."
   (when (and (< from to) (buffer-live-p (live-occur--source-buffer source)))
     (with-current-buffer (live-occur--source-buffer source)
       (live-occur--in-whole-buffer
-        (goto-char (point-min))
-        (when (= 0 (forward-line from))
+        (when (= 0 (live-occur--go-to-line source from))
           (cl-loop for line from from below to until (eobp)
                    concat (live-occur--head source (1+ line) "-")
                    concat (propertize
@@ -1227,8 +1235,7 @@ A character of which only some bytes are in a place is in it."
       (user-error "The buffer of this row is gone"))
     (with-current-buffer (live-occur--source-buffer source)
       (live-occur--in-whole-buffer
-        (goto-char (point-min))
-        (forward-line (live-occur--line-of hit))
+        (live-occur--go-to-line source (live-occur--line-of hit))
         (cons (current-buffer)
               (min (line-end-position) (+ (point) (live-occur--column hit))))))))
 

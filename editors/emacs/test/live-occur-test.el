@@ -1043,10 +1043,11 @@ With PARTS non-nil it is the matched parts."
                       line (if (= 0 (mod line every)) "needle" "dog"))))
     (buffer-string)))
 
-(defun live-occur-test--times (lines every turns)
+(defun live-occur-test--times (lines every turns away)
   "Measure TURNS edits with their updates in a text of LINES lines.
-One line of EVERY matches.  The answer is the seconds to open the list, and
-those of the edits: of the command, and up to the row in view."
+One line of EVERY matches.  Each edit is AWAY lines after the one before, or
+before it at the end.  The answer is the seconds to open the list, and those
+of the edits: of the command alone, and with the update."
   (live-occur-test--with (list (live-occur-test--large lines every))
     (live-occur-test--in-windows
       (let* ((live-occur-idle-rows 0)
@@ -1056,8 +1057,9 @@ those of the edits: of the command, and up to the row in view."
                        (live-occur-test--wait)
                        (- (float-time) began)))
              edits updates)
+        (goto-char (/ (point-max) 3))
         (dotimes (turn turns)
-          (goto-char (nth (mod turn 3) (list (point-min) (/ (point-max) 2) (point-max))))
+          (setq away (* away (if (= 0 (forward-line away)) 1 -1)))
           (forward-line 0)
           (let ((start (float-time)))
             (insert (format "%d new needle\n" turn))
@@ -1074,7 +1076,7 @@ those of the edits: of the command, and up to the row in view."
 
 (ert-deftest live-occur-is-quick-in-a-large-buffer ()
   "An edit of 200,000 lines and its update take less than a tenth of a second."
-  (pcase-let ((`(,opened ,_ ,updates) (live-occur-test--times 200000 10 30)))
+  (pcase-let ((`(,opened ,_ ,updates) (live-occur-test--times 200000 10 30 10)))
     (live-occur-test--tell
      "200,000 lines: opened in %.2f s; an edit and its update: median %.1f ms, at most %.1f ms"
      opened (* 1000 (live-occur-test--median updates)) (* 1000 (apply #'max updates)))
@@ -1082,12 +1084,14 @@ those of the edits: of the command, and up to the row in view."
 
 (defun live-occur-test-times ()
   "Print a table of times."
-  (live-occur-test--tell "%10s %10s %10s %10s %10s %10s" "lines" "hits" "open, s"
-                         "edit, ms" "update, ms" "at most")
-  (pcase-dolist (`(,lines ,every) '((100000 10) (1000000 1000) (1000000 10) (1000000 1)))
-    (pcase-let ((`(,opened ,edits ,updates) (live-occur-test--times lines every 60)))
-      (live-occur-test--tell "%10d %10d %10.2f %10.2f %10.2f %10.2f"
-                             lines (/ lines every) opened
+  (live-occur-test--tell "%10s %10s %10s %10s %10s %10s %10s" "lines" "hits" "lines away"
+                         "open, s" "edit, ms" "update, ms" "at most")
+  (pcase-dolist (`(,lines ,every ,away)
+                 '((100000 10 10) (1000000 1000 10) (1000000 10 10) (1000000 10 300000)
+                   (1000000 1 10)))
+    (pcase-let ((`(,opened ,edits ,updates) (live-occur-test--times lines every 60 away)))
+      (live-occur-test--tell "%10d %10d %10d %10.2f %10.2f %10.2f %10.2f"
+                             lines (/ lines every) away opened
                              (* 1000 (live-occur-test--median edits))
                              (* 1000 (live-occur-test--median updates))
                              (* 1000 (apply #'max updates))))))
