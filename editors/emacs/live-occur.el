@@ -569,6 +569,9 @@ SOURCE is number FILE of SESSION."
 (defvar-local live-occur--page nil
   "The number of hits, while the list shows a page of them; or else nil.")
 (defvar-local live-occur--made 0 "How many rows at the beginning were made while idle.")
+(defvar-local live-occur--previewing nil "Whether a pattern is being typed.")
+(defvar-local live-occur--trying nil "Whether a reply to patterns is on its way.")
+(defvar-local live-occur--wanted nil "The patterns that are wanted after it.")
 (defvar-local live-occur--idle-timer nil "The timer that looks for edits.")
 (defvar-local live-occur--timer nil "A timer that was set for once, or nil.")
 (defvar-local live-occur--fault nil "What is to be reported of the program, or nil.")
@@ -599,6 +602,8 @@ SOURCE is number FILE of SESSION."
     (setq live-occur--fault nil
           live-occur--asked nil
           live-occur--again nil
+          live-occur--trying nil
+          live-occur--wanted nil
           live-occur--fresh t
           live-occur--session
           (live-occur--start (lambda (session) (live-occur--ended list session))))
@@ -647,7 +652,7 @@ SOURCE is number FILE of SESSION."
 (defun live-occur--fault-and-help ()
   "Why this list is no longer kept right, and what helps, if it was ever shown."
   (concat (or live-occur--fault "The program has ended")
-          (when live-occur--sources
+          (when live-occur--patterns
             (substitute-command-keys
              "; \\<live-occur-mode-map>\\[live-occur-restart] in the list starts it again"))))
 
@@ -813,7 +818,8 @@ SOURCE is number FILE of SESSION."
 (defun live-occur--update (&optional always)
   "Send what has changed, and ask for what changed of the hits.
 If nothing has changed ask for none, but with ALWAYS non-nil."
-  (when (live-occur--can-go-on)
+  (when (and (live-occur--can-go-on)
+             (not (or live-occur--previewing (live-occur--editing-p))))
     (live-occur--look-at-names)
     (when (or (live-occur--flush-all) always)
       (if live-occur--asked
@@ -898,6 +904,9 @@ It is in CHANGES, and how lines of sources had moved until then in MOVES."
   (pcase-dolist (`(,source . ,before) moves)
     (setf (live-occur--source-moves source)
           (cl-ldiff (live-occur--source-moves source) before)))
+  (when live-occur--page
+    (setq live-occur--page nil)
+    (live-occur--forget-rows))
   (force-mode-line-update)
   (live-occur--make-in-view))
 
@@ -1367,23 +1376,6 @@ It is a list of the pattern's number, the kind, and the place in characters."
               (live-occur--underlined (nth number patterns) place)))
     (_ (message "occur answered: %s" reply))))
 
-(defun live-occur--read-text (prompt initial fault offered)
-  "Read a pattern with PROMPT and the text INITIAL, and offer OFFERED.
-FAULT is nil, or the kind and the place at which INITIAL was refused."
-  (let ((place (cadr fault)))
-    (minibuffer-with-setup-hook
-        (lambda ()
-          (when fault
-            (let ((at (+ (minibuffer-prompt-end) place)))
-              (if (< at (point-max))
-                  (overlay-put (make-overlay at (1+ at)) 'face 'live-occur-fault)
-                (overlay-put (make-overlay at at) 'after-string
-                             (propertize " " 'face 'live-occur-fault 'cursor t))))))
-      (read-from-minibuffer
-       (concat (and fault (format "%s at %d; " (car fault) place)) prompt)
-       (and initial (if fault (cons initial (1+ place)) initial))
-       nil nil 'live-occur-history offered))))
-
 (defun live-occur--symbol-at-point (syntax)
   "The symbol at point as a pattern in SYNTAX that matches it, or nil."
   (when-let ((symbol (thing-at-point 'symbol t)))
@@ -1392,37 +1384,189 @@ FAULT is nil, or the kind and the place at which INITIAL was refused."
       ('basic (replace-regexp-in-string "[][\\.*^$]" "\\\\\\&" symbol))
       (_ (replace-regexp-in-string "[][\\.*^$+?(){}|]" "\\\\\\&" symbol)))))
 
+(defun live-occur--want (patterns &optional report)
+  "Make PATTERNS those of this list, once the program has answered.
+Call REPORT with the reply, and the number of patterns that were kept: a
+refusal counts from there.  Of several wishes the last one is kept."
+  (if live-occur--trying
+      (setq live-occur--wanted (list patterns report))
+    (let* ((list (current-buffer))
+           (kept (cl-loop for old in live-occur--patterns
+                          for new in patterns
+                          while (equal old new) count t))
+           (answered (lambda (reply)
+                       (when (buffer-live-p list)
+                         (with-current-buffer list
+                           (live-occur--got reply patterns kept report))))))
+      (setq live-occur--trying t)
+      (if (nthcdr kept patterns)
+          (live-occur--send live-occur--session
+                            (live-occur--patterns-command (nthcdr kept patterns))
+                            answered)
+        (funcall answered "ok")))))
+
+(defun live-occur--got (reply patterns kept report)
+  "Take REPLY to the wish for PATTERNS, of which KEPT were there, and REPORT it."
+  (when (equal reply "ok")
+    (dotimes (_ (- (length live-occur--patterns) kept))
+      (live-occur--send live-occur--session (format "drop %d\n" kept)
+                        (live-occur--expect-ok (current-buffer))))
+    (setq live-occur--patterns patterns))
+  (setq live-occur--trying nil)
+  (when report
+    (funcall report reply kept))
+  (cond (live-occur--wanted
+         (apply #'live-occur--want (prog1 live-occur--wanted
+                                     (setq live-occur--wanted nil))))
+        ((not (equal reply "ok")))
+        (live-occur--previewing (live-occur--ask-for-page))
+        (t (live-occur--update t))))
+
+(defun live-occur--put (patterns)
+  "Make PATTERNS those of this list, and wait until they are.
+Answer the reply, and the number of patterns that were kept, in a list."
+  (live-occur--check)
+  (let ((session live-occur--session) answer)
+    (live-occur--want patterns (lambda (&rest reply) (setq answer reply)))
+    (while (and (not answer) (live-occur--running-p session))
+      (accept-process-output (live-occur--session-process session) 1))
+    (unless answer
+      (live-occur--check))
+    answer))
+
 (defun live-occur--add (text)
   "Add the patterns in TEXT, one a line, and answer the reply."
-  (let ((patterns (split-string text "\n")))
-    (live-occur--ask (live-occur--patterns-command patterns)
-                     (lambda ()
-                       (setq live-occur--patterns
-                             (append live-occur--patterns patterns))))))
+  (car (live-occur--put (append live-occur--patterns (split-string text "\n")))))
 
-(defun live-occur--add-by-asking (list prompt initial)
-  "Read patterns with PROMPT and the text INITIAL until LIST takes one."
+(defun live-occur--without (place)
+  "The patterns of this list before PLACE, and those after it, as a pair."
+  (cons (seq-take live-occur--patterns place)
+        (seq-drop live-occur--patterns (1+ place))))
+
+(defun live-occur--drop (place)
+  "Drop the pattern at PLACE."
+  (pcase-let ((`(,before . ,after) (live-occur--without place)))
+    (live-occur--put (append before after))))
+
+(defun live-occur--fault-in-text (reply text first kept)
+  "The fault in TEXT that REPLY reports, or nil: its kind and its place.
+The patterns in TEXT are those from number FIRST on, and REPLY counts from
+number KEPT."
+  (let ((patterns (split-string text "\n")))
+    (pcase (live-occur--fault-in
+            reply (append (make-list (max 0 (- first kept)) "")
+                          (seq-drop patterns (max 0 (- kept first)))))
+      (`(,number ,kind ,place)
+       (list kind (apply #'+ place
+                         (mapcar (lambda (before) (1+ (length before)))
+                                 (seq-take patterns (- (+ number kept) first)))))))))
+
+(defun live-occur--show-fault (fault)
+  "Show FAULT in this minibuffer, or that there is none where it is nil."
+  (remove-overlays (point-min) (point-max) 'live-occur-fault t)
+  (pcase fault
+    (`(,kind ,place)
+     (let* ((at (min (+ (minibuffer-prompt-end) place) (point-max)))
+            (overlay (make-overlay at (min (1+ at) (point-max))))
+            (end (make-overlay (point-max) (point-max))))
+       (overlay-put overlay 'face 'live-occur-fault)
+       (overlay-put end 'after-string
+                    (concat (when (= at (point-max))
+                              (propertize " " 'face 'live-occur-fault 'cursor t))
+                            (propertize (format " [%s]" kind) 'face 'live-occur-ended
+                                        'cursor t)))
+       (overlay-put overlay 'live-occur-fault t)
+       (overlay-put end 'live-occur-fault t)))))
+
+(defun live-occur--try (list minibuffer before after)
+  "Let LIST show what the text in MINIBUFFER matches, between BEFORE and AFTER."
+  (when (and (buffer-live-p list) (buffer-live-p minibuffer))
+    (let ((text (with-current-buffer minibuffer (minibuffer-contents-no-properties))))
+      (with-current-buffer list
+        (when (live-occur--can-go-on)
+          (setq live-occur--previewing t)
+          (live-occur--flush-all)
+          (live-occur--want
+           (append before (unless (string-empty-p text) (split-string text "\n")) after)
+           (lambda (reply kept)
+             (when (buffer-live-p minibuffer)
+               (with-current-buffer minibuffer
+                 (when (equal text (minibuffer-contents-no-properties))
+                   (live-occur--show-fault
+                    (unless (equal reply "ok")
+                      (or (live-occur--fault-in-text reply text (length before) kept)
+                          (list reply 0))))))))))))))
+
+(defun live-occur--follow-typing (list before after)
+  "Let LIST follow what is typed in this minibuffer, between BEFORE and AFTER."
+  (let ((minibuffer (current-buffer))
+        (text (minibuffer-contents-no-properties))
+        timer)
+    (add-hook 'minibuffer-exit-hook
+              (lambda () (when timer (cancel-timer timer)))
+              nil t)
+    (add-hook 'post-command-hook
+              (lambda ()
+                (let ((now (minibuffer-contents-no-properties)))
+                  (unless (equal now text)
+                    (setq text now)
+                    (when timer (cancel-timer timer))
+                    (setq timer (run-with-timer live-occur-typing-delay nil #'live-occur--try
+                                                list minibuffer before after)))))
+              nil t)))
+
+(defun live-occur--read-text (list prompt initial fault before after)
+  "Read a pattern for LIST with PROMPT and the text INITIAL.
+FAULT is nil, or the kind and the place at which INITIAL was refused.  The
+pattern goes between the patterns BEFORE and AFTER."
   (let ((offered (live-occur--symbol-at-point
                   (buffer-local-value 'live-occur--the-syntax list)))
-        fault added)
-    (while (not added)
-      (let* ((text (live-occur--read-text prompt initial fault offered))
-             (patterns (split-string text "\n"))
-             (reply (with-current-buffer list (live-occur--add text))))
-        (if (equal reply "ok")
-            (setq added t)
-          (pcase (live-occur--fault-in reply patterns)
-            (`(,number ,kind ,place)
-             (dolist (before (seq-take patterns number))
-               (cl-incf place (1+ (length before))))
-             (setq initial text
-                   fault (list kind place)))
-            (_ (user-error "The program answered: %s" reply))))))))
+        (place (cadr fault)))
+    (minibuffer-with-setup-hook
+        (lambda ()
+          (live-occur--show-fault fault)
+          (when live-occur-typing-delay
+            (live-occur--follow-typing list before after)))
+      (read-from-minibuffer
+       (concat (and fault (format "%s at %d; " (car fault) place)) prompt)
+       (and initial (if fault (cons initial (1+ place)) initial))
+       nil nil 'live-occur-history offered))))
+
+(defun live-occur--add-by-asking (list prompt &optional initial before after)
+  "Read patterns with PROMPT and the text INITIAL until LIST takes them.
+They go between the patterns BEFORE and AFTER."
+  (let ((old (buffer-local-value 'live-occur--patterns list))
+        fault done)
+    (unwind-protect
+        (while (not done)
+          (setq initial (live-occur--read-text list prompt initial fault before after))
+          (pcase-let* ((patterns (split-string initial "\n"))
+                       (`(,reply ,kept)
+                        (with-current-buffer list
+                          (live-occur--put (append before patterns after)))))
+            (if (equal reply "ok")
+                (setq done t)
+              (setq fault (or (live-occur--fault-in-text reply initial (length before) kept)
+                              (user-error "The program answered: %s" reply))))))
+      (when (buffer-live-p list)
+        (with-current-buffer list
+          (live-occur--end-preview (if done live-occur--patterns old)))))))
+
+(defun live-occur--end-preview (patterns)
+  "Keep PATTERNS, and show again what the list had where they are the old ones."
+  (when live-occur--previewing
+    (setq live-occur--previewing nil)
+    (if (equal patterns live-occur--patterns)
+        (live-occur--update t)
+      (setq live-occur--page nil)
+      (live-occur--forget-rows)
+      (when (live-occur--can-go-on)
+        (live-occur--want patterns)))))
 
 (defun live-occur-add-pattern ()
   "Add a pattern: lines that any of the patterns matches are listed."
   (interactive)
-  (live-occur--add-by-asking (current-buffer) "Add pattern: " nil))
+  (live-occur--add-by-asking (current-buffer) "Add pattern: " nil live-occur--patterns))
 
 (defun live-occur--read-place (prompt)
   "Read with PROMPT which of the patterns is meant, and answer its number."
@@ -1433,25 +1577,64 @@ FAULT is nil, or the kind and the place at which INITIAL was refused."
          (or (seq-position live-occur--patterns pattern)
              (user-error "There is no such pattern"))))))
 
-(defun live-occur--drop (place)
-  "Drop the pattern at PLACE."
-  (live-occur--ask (format "drop %d\n" place)
-                   (lambda ()
-                     (setq live-occur--patterns
-                           (append (seq-take live-occur--patterns place)
-                                   (seq-drop live-occur--patterns (1+ place)))))))
-
 (defun live-occur-drop-pattern ()
   "Drop a pattern.  Without any, no line is listed."
   (interactive)
   (live-occur--drop (live-occur--read-place "Drop pattern: ")))
 
-(defun live-occur-edit-pattern ()
-  "Edit a pattern.  The new one stands behind the others."
+(defun live-occur-change-pattern ()
+  "Change a pattern."
   (interactive)
-  (let ((place (live-occur--read-place "Edit pattern: ")))
-    (live-occur--add-by-asking (current-buffer) "Pattern: " (nth place live-occur--patterns))
-    (live-occur--drop place)))
+  (let ((place (live-occur--read-place "Change pattern: ")))
+    (pcase-let ((`(,before . ,after) (live-occur--without place)))
+      (live-occur--add-by-asking (current-buffer) "Pattern: "
+                                 (nth place live-occur--patterns) before after))))
+
+;;;; Pages
+
+;; While a pattern is typed the list shows a page: the first hits, and the
+;; number of all.  The hits that the program reported before are kept meanwhile.
+
+(defun live-occur--ask-for-page ()
+  "Ask for the hits that are in view, and show them when they come."
+  (let* ((list (current-buffer))
+         (sources live-occur--sources)
+         (count (apply #'max 50 (mapcar #'window-body-height
+                                        (get-buffer-window-list nil nil t)))))
+    (live-occur--send
+     live-occur--session (format "page 0 %d\n" count)
+     (lambda (_status)
+       (pcase-let ((`(,total . ,hits) (live-occur--take-page sources)))
+         (when (and (buffer-live-p list)
+                    (buffer-local-value 'live-occur--previewing list))
+           (with-current-buffer list
+             (live-occur--show-page total hits))))))))
+
+(defun live-occur--take-page (sources)
+  "The number of hits in the page in this buffer, and those of SOURCES in it."
+  (goto-char (+ (point-min) (length "hits ")))
+  (let ((total (string-to-number (buffer-substring (point) (line-end-position))))
+        hits)
+    (while (progn (forward-line 1) (not (eobp)))
+      (let* ((row (buffer-substring (point) (line-beginning-position 2)))
+             (file (live-occur--place-in row 0)))
+        (push (live-occur--hit-in (nth file sources) row (- (string-search " " row 2) 1) 0)
+              hits)))
+    (cons total (nreverse hits))))
+
+(defun live-occur--show-page (total hits)
+  "Show HITS, which are the first of TOTAL, instead of the rows."
+  (setq live-occur--page total)
+  (with-silent-modifications
+    (erase-buffer)
+    (dolist (hit hits)
+      (live-occur--insert-head (live-occur--hit-source hit) (1+ (live-occur--hit-place hit)))
+      (live-occur--insert-text hit)
+      (insert "\n"))
+    (goto-char (point-min))
+    (dolist (window (get-buffer-window-list nil nil t))
+      (set-window-point window (point-min))))
+  (force-mode-line-update))
 
 ;;;; Syntax and flags
 
@@ -1634,7 +1817,7 @@ Where both numbers are 0 no other lines are shown."
                      ("f" . live-occur-toggle-follow)
                      ("a" . live-occur-add-pattern)
                      ("d" . live-occur-drop-pattern)
-                     ("e" . live-occur-edit-pattern)
+                     ("c" . live-occur-change-pattern)
                      ("G" . live-occur-basic)
                      ("E" . live-occur-extended)
                      ("F" . live-occur-fixed)
@@ -1712,21 +1895,34 @@ whatever it is narrowed to."
         (progn
           (with-current-buffer list
             (live-occur-mode)
-            (live-occur--begin))
-          (if (not pattern)
-              (live-occur--add-by-asking list "List lines that match: " nil)
-            (let ((reply (with-current-buffer list (live-occur--add pattern))))
-              (unless (equal reply "ok")
-                (user-error "The program answered: %s" reply))))
-          (with-current-buffer list
-            (mapc #'live-occur--add-source sources)
-            (live-occur--update t))
+            (live-occur--begin)
+            (mapc #'live-occur--add-source sources))
+          (live-occur--fill list pattern)
           (setq done t))
       (unless done
-        (kill-buffer list)))
+        (live-occur--leave list)))
     (setq next-error-last-buffer list)
     (display-buffer list)
     list))
+
+(defun live-occur--fill (list pattern)
+  "Let LIST have PATTERN, or one that is typed where it is nil."
+  (if pattern
+      (let ((reply (with-current-buffer list (live-occur--add pattern))))
+        (unless (equal reply "ok")
+          (user-error "The program answered: %s" reply)))
+    (when live-occur-typing-delay
+      (display-buffer list))
+    (live-occur--add-by-asking list "List lines that match: "))
+  (with-current-buffer list
+    (live-occur--update t)))
+
+(defun live-occur--leave (list)
+  "Kill LIST, and show in its window what was there before."
+  (when-let ((window (get-buffer-window list t)))
+    (quit-restore-window window 'kill))
+  (when (buffer-live-p list)
+    (kill-buffer list)))
 
 (provide 'live-occur)
 

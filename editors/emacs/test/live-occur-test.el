@@ -164,8 +164,8 @@ All buffers and processes that it makes are taken away after it."
         (should (equal (live-occur-test--rows list) "a:1:one\na:3:three\n"))
         (cl-letf (((symbol-function 'completing-read) (lambda (&rest _) "one"))
                   ((symbol-function 'read-from-minibuffer) (live-occur-test--answers "wo")))
-          (live-occur-edit-pattern))
-        (should (equal live-occur--patterns '("hr" "wo")))
+          (live-occur-change-pattern))
+        (should (equal live-occur--patterns '("wo" "hr")))
         (should (equal (live-occur-test--rows list) "a:2:two\na:3:three\n"))))))
 
 (ert-deftest live-occur-has-flags ()
@@ -685,6 +685,95 @@ All buffers and processes that it makes are taken away after it."
   (live-occur-test--with '("a\n")
     (with-current-buffer (live-occur "a")
       (should-error (live-occur "a") :type 'user-error))))
+
+;;;; Typing
+
+(defun live-occur-test--type (keys)
+  "Type KEYS, and list what was seen after each key in the minibuffer.
+It is the text there, that of the list, and what is said of a fault."
+  (let* ((live-occur-typing-delay 0)
+         (map (make-sparse-keymap))
+         (overriding-terminal-local-map nil)
+         seen
+         (look (lambda ()
+                 (let* ((list (buffer-local-value 'live-occur-test--list (current-buffer)))
+                        (end (cl-find-if (lambda (overlay) (overlay-get overlay 'after-string))
+                                         (progn
+                                           (with-current-buffer list
+                                             (dotimes (_ 3)
+                                               (accept-process-output nil 0.01))
+                                             (live-occur-test--wait))
+                                           (overlays-in (point-min) (point-max))))))
+                   (push (list (minibuffer-contents-no-properties)
+                               (with-current-buffer list (live-occur-test--text-shown))
+                               (and end (string-trim (substring-no-properties
+                                                      (overlay-get end 'after-string)))))
+                         seen))))
+         (setup (lambda ()
+                  (setq-local live-occur-test--list
+                              (cl-find-if (lambda (buffer)
+                                            (string-prefix-p "*Live Occur*" (buffer-name buffer)))
+                                          (buffer-list)))
+                  (add-hook 'post-command-hook look 90 t))))
+    (define-key map (kbd "C-c t") #'live-occur)
+    (define-key map (kbd "C-c a") #'live-occur-add-pattern)
+    (define-key map (kbd "C-c c") #'live-occur-change-pattern)
+    (unwind-protect
+        (progn
+          (use-global-map (make-composed-keymap map (current-global-map)))
+          (add-hook 'minibuffer-setup-hook setup)
+          (execute-kbd-macro (kbd keys)))
+      (remove-hook 'minibuffer-setup-hook setup)
+      (use-global-map global-map))
+    (cdr (nreverse seen))))
+
+(defvar live-occur-test--list nil "The list that is followed.")
+
+(ert-deftest live-occur-follows-typing ()
+  (live-occur-test--with '("one\ntwo(\nthree\n")
+    (live-occur-test--in-windows
+      (set-window-buffer nil a)
+      (should (equal (live-occur-test--type "C-c t o \\ ( DEL DEL n RET")
+                     '(("o" "a:1:one\na:2:two(\n" nil)
+                       ("o\\" "a:1:one\na:2:two(\n" "[TrailingBackslash]")
+                       ("o\\(" "a:1:one\na:2:two(\n" "[UnclosedGroup]")
+                       ("o\\" "a:1:one\na:2:two(\n" "[TrailingBackslash]")
+                       ("o" "a:1:one\na:2:two(\n" nil)
+                       ("on" "a:1:one\n" nil))))
+      (let ((list (get-buffer "*Live Occur*")))
+        (should (equal (live-occur-test--rows list) "a:1:one\n"))
+        (with-selected-window (get-buffer-window list)
+          (should (equal (live-occur-test--type "C-c a t h C-g")
+                         '(("t" "a:1:one\na:2:two(\na:3:three\n" nil)
+                           ("th" "a:1:one\na:3:three\n" nil))))
+          (should (equal (live-occur-test--text-shown) "a:1:one\n"))
+          (should (equal (live-occur-test--rows list) "a:1:one\n"))
+          (should (equal live-occur--patterns '("on")))
+          (should (equal (live-occur-test--type "C-c c DEL DEL t w RET")
+                         '(("o" "a:1:one\na:2:two(\n" nil)
+                           ("" "" nil)
+                           ("t" "a:2:two(\na:3:three\n" nil)
+                           ("tw" "a:2:two(\n" nil))))
+          (should (equal (live-occur-test--rows list) "a:2:two(\n"))
+          (should (equal live-occur--patterns '("tw"))))))))
+
+(ert-deftest live-occur-goes-away-by-quitting ()
+  (live-occur-test--with '("one\n")
+    (live-occur-test--in-windows
+      (set-window-buffer nil a)
+      (let ((processes (process-list)))
+        (should (equal (live-occur-test--type "C-c t o C-g") '(("o" "a:1:one\n" nil))))
+        (should-not (get-buffer "*Live Occur*"))
+        (should (equal (process-list) processes))
+        (should (= (count-windows) 1))))))
+
+(ert-deftest live-occur-shows-a-page-while-typing ()
+  (live-occur-test--with (list (apply #'concat (make-list 5000 "a\n")))
+    (live-occur-test--in-windows
+      (set-window-buffer nil a)
+      (let ((seen (live-occur-test--type "C-c t a RET")))
+        (should (= (length (split-string (nth 1 (car seen)) "\n" t)) 50)))
+      (should (= (length (split-string (live-occur-test--rows "*Live Occur*") "\n" t)) 5000)))))
 
 ;;;; Matched parts
 
