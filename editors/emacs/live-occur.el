@@ -31,6 +31,9 @@
 (require 'cl-lib)
 (require 'subr-x)
 
+(declare-function dired-get-marked-files "dired")
+(declare-function project-buffers "project")
+
 ;;;; Options
 
 (defgroup live-occur nil
@@ -569,6 +572,7 @@ SOURCE is number FILE of SESSION."
 (defvar-local live-occur--page nil
   "The number of hits, while the list shows a page of them; or else nil.")
 (defvar-local live-occur--made 0 "How many rows at the beginning were made while idle.")
+(defvar-local live-occur--editing nil "Whether the rows are edited.")
 (defvar-local live-occur--previewing nil "Whether a pattern is being typed.")
 (defvar-local live-occur--trying nil "Whether a reply to patterns is on its way.")
 (defvar-local live-occur--wanted nil "The patterns that are wanted after it.")
@@ -812,14 +816,16 @@ SOURCE is number FILE of SESSION."
       (when live-occur--timer
         (cancel-timer live-occur--timer)
         (setq live-occur--timer nil))
-      (live-occur--update)
-      (live-occur--make-ahead list))))
+      (if live-occur--editing
+          (live-occur--follow-lines)
+        (live-occur--update)
+        (live-occur--make-ahead list)))))
 
 (defun live-occur--update (&optional always)
   "Send what has changed, and ask for what changed of the hits.
 If nothing has changed ask for none, but with ALWAYS non-nil."
   (when (and (live-occur--can-go-on)
-             (not (or live-occur--previewing (live-occur--editing-p))))
+             (not (or live-occur--previewing live-occur--editing)))
     (live-occur--look-at-names)
     (when (or (live-occur--flush-all) always)
       (if live-occur--asked
@@ -957,6 +963,8 @@ have moved."
         (live-occur--go-to-row row)
         (delete-region (point) (progn (forward-line removed) (point)))
         (insert (make-string added ?\n))))
+    (when live-occur--editing
+      (setq buffer-undo-list nil))
     (setq live-occur--made (min live-occur--made row))))
 
 (defun live-occur--forget-rows ()
@@ -1028,7 +1036,7 @@ Each is a pair of a function that moves it, and its position."
 
 (defun live-occur--make-rows (first count)
   "Make COUNT rows from FIRST on, and bring their numbers up to date."
-  (unless (or live-occur--page (live-occur--editing-p))
+  (unless (or live-occur--page live-occur--editing)
     (with-silent-modifications
       (save-excursion
         (live-occur--go-to-row first)
@@ -1124,17 +1132,13 @@ A character of which only some bytes are in a place is in it."
       (setq live-occur--renumbering nil)
       (live-occur--make-in-view))))
 
-(defun live-occur--editing-p ()
-  "Whether the rows of this list are edited."
-  (derived-mode-p 'live-occur-edit-mode))
-
 (defun live-occur--make-ahead (list)
   "Make some rows of LIST, and go on while Emacs is idle."
   (when (and (buffer-live-p list) (current-idle-time))
     (with-current-buffer list
       (let ((most (min (live-occur--total) live-occur-idle-rows)))
         (when (and (< live-occur--made most)
-                   (not (or live-occur--page (live-occur--editing-p))))
+                   (not (or live-occur--page live-occur--editing)))
           (live-occur--make-rows live-occur--made (min 200 (- most live-occur--made)))
           (cl-incf live-occur--made 200)
           (run-with-timer 0.02 nil #'live-occur--make-ahead list))))))
@@ -1323,6 +1327,169 @@ This is the `next-error-function' of lists."
   (setq-local live-occur-follow (not live-occur-follow))
   (setq live-occur--followed nil)
   (message "Lines are%s shown as point moves" (if live-occur-follow "" " not")))
+
+;;;; Editing rows
+
+;; While rows are edited, each change of one is made in its line as well, and
+;; the list gets no other rows.  Heads and newlines are read-only.  A head
+;; keeps the text that the row and its line had last, so that a line that
+;; has changed otherwise is not overwritten.
+
+(defvar live-occur-mode-map)
+
+(defvar live-occur-edit-map
+  (let ((map (make-sparse-keymap)))
+    (define-key map (kbd "C-c C-c") #'live-occur-end-edit)
+    (define-key map (kbd "C-c C-o") #'live-occur-display)
+    map)
+  "Keys in lists of which the rows are edited.")
+
+(defun live-occur-edit ()
+  "Edit the rows of this list, and with each its line.
+\\<live-occur-edit-map>\\[live-occur-end-edit] ends it.  Undo works in the list, and in the buffers."
+  (interactive)
+  (live-occur--check)
+  (live-occur--update)
+  (while (and live-occur--asked (live-occur--can-go-on))
+    (accept-process-output (live-occur--session-process live-occur--session) 1))
+  (unless (or (<= (live-occur--total) live-occur-idle-rows)
+              (yes-or-no-p (format "Make all %d rows to edit them? " (live-occur--total))))
+    (user-error "The rows are not edited"))
+  (live-occur--make-rows 0 (live-occur--total))
+  (with-silent-modifications
+    (save-excursion
+      (goto-char (point-min))
+      (live-occur--map-hits (lambda (hit)
+                              (live-occur--protect-row hit)
+                              (forward-line 1))
+                            0 (live-occur--total))))
+  (setq live-occur--editing t
+        buffer-read-only nil
+        buffer-undo-list nil
+        mode-name "Live-Occur-Edit")
+  (use-local-map live-occur-edit-map)
+  (add-hook 'after-change-functions #'live-occur--row-changed nil t)
+  (force-mode-line-update)
+  (message "%s" (substitute-command-keys
+                 "Edit the rows; \\<live-occur-edit-map>\\[live-occur-end-edit] ends it")))
+
+(defun live-occur-end-edit ()
+  "Edit the rows of this list no longer, and bring it up to date."
+  (interactive)
+  (remove-hook 'after-change-functions #'live-occur--row-changed t)
+  (setq live-occur--editing nil
+        buffer-read-only t
+        buffer-undo-list t
+        mode-name "Live-Occur")
+  (use-local-map live-occur-mode-map)
+  (live-occur--forget-rows)
+  (live-occur--update))
+
+(defun live-occur--protect-row (hit)
+  "Make the head and the newline of the row of HIT at point read-only.
+All of it is where its buffer is read-only, or its text is shortened."
+  (let* ((source (live-occur--hit-source hit))
+         (head (next-single-property-change (point) 'live-occur-number))
+         (end (line-end-position))
+         (text (buffer-substring-no-properties head end))
+         (why (cond ((buffer-local-value 'buffer-read-only (live-occur--source-buffer source))
+                     (format "buffer %s" (live-occur--source-name source)))
+                    ((not (equal text (live-occur--text (live-occur--hit-bytes hit))))
+                     "a row that is shortened"))))
+    (add-text-properties (point) head
+                         (list 'read-only (or why "the head of a row") 'live-occur-text text
+                               'front-sticky '(read-only) 'rear-nonsticky t))
+    (put-text-property end (1+ end) 'read-only (or why "the end of a row"))
+    (when why
+      (put-text-property head end 'read-only why)
+      (put-text-property (1- end) end 'rear-nonsticky nil))))
+
+(defun live-occur--row-changed (start end _removed)
+  "Make the change of a row, from START to END, in its line as well.
+Newlines in it become spaces."
+  (save-match-data
+    (save-excursion
+      (subst-char-in-region start end ?\n ?\s)
+      (goto-char start)
+      (forward-line 0)
+      (when-let ((hit (live-occur--hit (live-occur--row-at (point)))))
+        (let* ((head (next-single-property-change (point) 'live-occur-number))
+               (text (buffer-substring-no-properties head (line-end-position)))
+               (old (get-text-property (point) 'live-occur-text))
+               (problem (live-occur--change-line hit old text)))
+          (if problem
+              (message "%s; the row alone is edited" problem)
+            (live-occur--note-text text)))))))
+
+(defun live-occur--note-text (text)
+  "Keep that the row at point and its line have TEXT."
+  (with-silent-modifications
+    (put-text-property (point) (next-single-property-change (point) 'live-occur-number)
+                       'live-occur-text text)))
+
+(defun live-occur--change-line (hit old new)
+  "Put the text NEW in the place of OLD in the line of HIT.
+Answer nil, or why it can't be done."
+  (let* ((source (live-occur--hit-source hit))
+         (line (live-occur--line-of hit)))
+    (with-current-buffer (live-occur--source-buffer source)
+      (live-occur--in-whole-buffer
+        (live-occur--go-to-line source line)
+        (cond (buffer-read-only
+               (format "Buffer %s is read-only" (buffer-name)))
+              ((not (equal old (buffer-substring-no-properties (point) (line-end-position))))
+               (format "The line of this row in %s is gone, or was edited there"
+                       (buffer-name)))
+              (t (condition-case problem
+                     (let ((inhibit-modification-hooks nil))
+                       (live-occur--replace-text old new)
+                       nil)
+                   (error (error-message-string problem)))))))))
+
+(defun live-occur--replace-text (old new)
+  "Replace the text OLD after point by NEW, but for what is the same at the ends."
+  (let* ((first (abs (1- (abs (let ((same (compare-strings old nil nil new nil nil)))
+                                (if (eq same t) (1+ (length old)) same))))))
+         (last (cl-loop for count from 0 below (- (min (length old) (length new)) first)
+                        while (eq (aref old (- (length old) count 1))
+                                  (aref new (- (length new) count 1)))
+                        finally return count))
+         (from (+ (point) first)))
+    (goto-char from)
+    (insert (substring new first (- (length new) last)))
+    (delete-region (point) (+ (point) (- (length old) first last)))))
+
+(defun live-occur--follow-lines ()
+  "Bring the rows in view up to date with their lines while rows are edited."
+  (dolist (window (get-buffer-window-list nil nil t))
+    (let ((inhibit-modification-hooks t)
+          (inhibit-read-only t))
+      (save-excursion
+        (goto-char (window-start window))
+        (live-occur--map-hits
+         (lambda (hit)
+           (let ((head (next-single-property-change (point) 'live-occur-number))
+                 (old (get-text-property (point) 'live-occur-text))
+                 (new (live-occur--text-of-line hit)))
+             (unless (equal old new)
+               (save-excursion
+                 (goto-char head)
+                 (when (equal old (buffer-substring-no-properties head (line-end-position)))
+                   (live-occur--replace-text old new)
+                   (goto-char head)
+                   (forward-line 0)
+                   (live-occur--note-text new))))
+             (forward-line 1)))
+         (live-occur--row-at (point)) (window-body-height window))))))
+
+(defun live-occur--text-of-line (hit)
+  "The text of the line of HIT as it is now."
+  (let ((source (live-occur--hit-source hit))
+        (line (live-occur--line-of hit)))
+    (with-current-buffer (live-occur--source-buffer source)
+      (live-occur--in-whole-buffer
+        (live-occur--go-to-line source line)
+        (buffer-substring-no-properties (point) (line-end-position))))))
 
 ;;;; Patterns
 
@@ -1818,6 +1985,7 @@ Where both numbers are 0 no other lines are shown."
                      ("a" . live-occur-add-pattern)
                      ("d" . live-occur-drop-pattern)
                      ("c" . live-occur-change-pattern)
+                     ("e" . live-occur-edit)
                      ("G" . live-occur-basic)
                      ("E" . live-occur-extended)
                      ("F" . live-occur-fixed)
@@ -1854,9 +2022,13 @@ Where both numbers are 0 no other lines are shown."
   (add-hook 'post-command-hook #'live-occur--follow nil t)
   (add-hook 'pre-redisplay-functions #'live-occur--make-in-view nil t))
 
+(defun live-occur--list-p (buffer)
+  "Whether BUFFER is a list."
+  (provided-mode-derived-p (buffer-local-value 'major-mode buffer) 'live-occur-mode))
+
 (defun live-occur--checked (buffer)
   "BUFFER, if it may be searched."
-  (when (provided-mode-derived-p (buffer-local-value 'major-mode buffer) 'live-occur-mode)
+  (when (live-occur--list-p buffer)
     (user-error "%s is a list itself" (buffer-name buffer)))
   buffer)
 
@@ -1923,6 +2095,63 @@ whatever it is narrowed to."
     (quit-restore-window window 'kill))
   (when (buffer-live-p list)
     (kill-buffer list)))
+
+;;;; Which buffers
+
+(defun live-occur--in (buffers)
+  "List lines of those of BUFFERS that may be searched."
+  (live-occur nil (or (seq-remove (lambda (buffer)
+                                    (or (string-prefix-p " " (buffer-name buffer))
+                                        (live-occur--list-p buffer)))
+                                  buffers)
+                      (user-error "There is no such buffer"))))
+
+;;;###autoload
+(defun live-occur-in-project ()
+  "List the lines that match in the buffers of the current project."
+  (interactive)
+  (live-occur--in (project-buffers (project-current t))))
+
+;;;###autoload
+(defun live-occur-in-mode (mode)
+  "List the lines that match in the buffers of the major mode MODE."
+  (interactive
+   (list (intern (completing-read
+                  (format-prompt "Buffers of mode" major-mode)
+                  (delete-dups (mapcar (lambda (buffer)
+                                         (buffer-local-value 'major-mode buffer))
+                                       (buffer-list)))
+                  nil t nil nil (symbol-name major-mode)))))
+  (live-occur--in (seq-filter (lambda (buffer)
+                                (provided-mode-derived-p
+                                 (buffer-local-value 'major-mode buffer) mode))
+                              (buffer-list))))
+
+;;;###autoload
+(defun live-occur-in-buffers-matching (regexp)
+  "List the lines that match in the buffers of which REGEXP matches the name."
+  (interactive (list (read-regexp "Buffers whose names match: ")))
+  (live-occur--in (seq-filter (lambda (buffer) (string-match-p regexp (buffer-name buffer)))
+                              (buffer-list))))
+
+;;;###autoload
+(defun live-occur-in-dired ()
+  "List the lines that match in the marked files of this Dired buffer."
+  (interactive)
+  (live-occur--in (mapcar #'find-file-noselect
+                          (seq-filter #'file-regular-p (dired-get-marked-files)))))
+
+;;;###autoload
+(defun live-occur-isearch ()
+  "List the lines that match what is searched for.
+A regexp is taken as a basic regular expression, and any other text as a
+fixed string."
+  (interactive)
+  (let ((text isearch-string)
+        (live-occur-syntax (if isearch-regexp 'basic 'fixed))
+        (live-occur-flags (and isearch-case-fold-search '(?i))))
+    (isearch-done)
+    (live-occur text)))
 
 (provide 'live-occur)
 
