@@ -571,6 +571,7 @@ SOURCE is number FILE of SESSION."
 (defvar-local live-occur--fresh nil "Whether the program has reported no hit yet.")
 (defvar-local live-occur--page nil
   "The number of hits, while the list shows a page of them; or else nil.")
+(defvar-local live-occur--before-page nil "Which rows were in view before the page.")
 (defvar-local live-occur--made 0 "How many rows at the beginning were made while idle.")
 (defvar-local live-occur--editing nil "Whether the rows are edited.")
 (defvar-local live-occur--previewing nil "Whether a pattern is being typed.")
@@ -967,23 +968,28 @@ have moved."
       (setq buffer-undo-list nil))
     (setq live-occur--made (min live-occur--made row))))
 
-(defun live-occur--forget-rows ()
-  "Show all hits of this list anew."
-  (let ((row (live-occur--row-at (point)))
-        (rows (mapcar (lambda (window)
-                        (list window (live-occur--row-at (window-start window))
-                              (live-occur--row-at (window-point window))))
-                      (get-buffer-window-list nil nil t))))
+(defun live-occur--rows-of-windows ()
+  "The row of point, and for each window the rows of its start and its point."
+  (cons (live-occur--row-at (point))
+        (mapcar (lambda (window)
+                  (list window (live-occur--row-at (window-start window))
+                        (live-occur--row-at (window-point window))))
+                (get-buffer-window-list nil nil t))))
+
+(defun live-occur--forget-rows (&optional rows)
+  "Show all hits of this list anew, at ROWS or where it is."
+  (pcase-let ((`(,row . ,windows) (or rows (live-occur--rows-of-windows))))
     (with-silent-modifications
       (erase-buffer))
     (live-occur--replace-rows 0 0 (live-occur--total))
-    (live-occur--go-to-row row)
     (save-excursion
-      (pcase-dolist (`(,window ,first ,row) rows)
-        (live-occur--go-to-row first)
-        (set-window-start window (point) t)
-        (live-occur--go-to-row row)
-        (set-window-point window (point))))
+      (pcase-dolist (`(,window ,first ,row) windows)
+        (when (and (window-live-p window) (eq (window-buffer window) (current-buffer)))
+          (live-occur--go-to-row first)
+          (set-window-start window (point) t)
+          (live-occur--go-to-row row)
+          (set-window-point window (point)))))
+    (live-occur--go-to-row row)
     (live-occur--make-in-view)))
 
 (defun live-occur--look-at-names ()
@@ -1002,11 +1008,13 @@ have moved."
 An element is a list of a function that moves it, the line of its row after
 MOVES, and its column."
   (unless (or live-occur--page (= count 0))
-    (save-excursion
-      (live-occur--go-to-row row)
-      (let ((start (point))
-            (end (progn (forward-line count) (point))))
-        (cl-loop for (move . position) in (live-occur--positions)
+    (let ((positions (live-occur--positions)) start end)
+      (save-excursion
+        (live-occur--go-to-row row)
+        (setq start (point))
+        (forward-line count)
+        (setq end (point))
+        (cl-loop for (move . position) in positions
                  when (and (<= start position) (< position end))
                  collect (let ((hit (live-occur--hit (live-occur--row-at position))))
                            (goto-char position)
@@ -1106,16 +1114,15 @@ A character of which only some bytes are in a place is in it."
     (string-bytes (char-to-string character))))
 
 (defun live-occur--make-in-view (&optional window &rest _)
-  "Make the rows in WINDOW, or in all windows of this list."
+  "Make the rows in WINDOW and near it, or in all windows of this list.
+A window may be moved to its point when it is redrawn, so rows there are made."
   (dolist (window (if window (list window) (get-buffer-window-list nil nil t)))
     (let* ((height (window-body-height window))
            (start (live-occur--row-at (window-start window)))
            (row (live-occur--row-at (window-point window))))
-      (live-occur--make-rows start height)
-      (live-occur--show-around start height)
-      (unless (<= start row (+ start height -1))
-        (live-occur--make-rows (max 0 (- row height)) (* 2 height))
-        (live-occur--show-around (max 0 (- row height)) (* 2 height))))))
+      (dolist (near (if (<= start row (+ start height)) (list start) (list start row)))
+        (live-occur--make-rows (max 0 (- near height)) (* 3 height))
+        (live-occur--show-around (max 0 (- near height)) (* 3 height))))))
 
 (defun live-occur--renumber-soon (list)
   "Correct the numbers of the rows of LIST that are in view, before long."
@@ -1725,8 +1732,9 @@ They go between the patterns BEFORE and AFTER."
     (setq live-occur--previewing nil)
     (if (equal patterns live-occur--patterns)
         (live-occur--update t)
-      (setq live-occur--page nil)
-      (live-occur--forget-rows)
+      (when live-occur--page
+        (setq live-occur--page nil)
+        (live-occur--forget-rows live-occur--before-page))
       (when (live-occur--can-go-on)
         (live-occur--want patterns)))))
 
@@ -1791,6 +1799,8 @@ They go between the patterns BEFORE and AFTER."
 
 (defun live-occur--show-page (total hits)
   "Show HITS, which are the first of TOTAL, instead of the rows."
+  (unless live-occur--page
+    (setq live-occur--before-page (live-occur--rows-of-windows)))
   (setq live-occur--page total)
   (with-silent-modifications
     (erase-buffer)
