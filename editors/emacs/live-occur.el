@@ -1389,6 +1389,7 @@ This is the `next-error-function' of lists."
         buffer-undo-list t
         mode-name "Live-Occur")
   (use-local-map live-occur-mode-map)
+  (set-buffer-modified-p nil)
   (live-occur--forget-rows)
   (live-occur--update))
 
@@ -1730,13 +1731,19 @@ They go between the patterns BEFORE and AFTER."
   "Keep PATTERNS, and show again what the list had where they are the old ones."
   (when live-occur--previewing
     (setq live-occur--previewing nil)
-    (if (equal patterns live-occur--patterns)
-        (live-occur--update t)
-      (when live-occur--page
-        (setq live-occur--page nil)
-        (live-occur--forget-rows live-occur--before-page))
-      (when (live-occur--can-go-on)
-        (live-occur--want patterns)))))
+    (cond ((not (equal patterns live-occur--patterns))
+           (live-occur--end-page)
+           (if (live-occur--can-go-on)
+               (live-occur--want patterns)
+             (setq live-occur--patterns patterns)))
+          ((live-occur--can-go-on) (live-occur--update t))
+          (t (live-occur--end-page)))))
+
+(defun live-occur--end-page ()
+  "Put the rows back where the list has a page."
+  (when live-occur--page
+    (setq live-occur--page nil)
+    (live-occur--forget-rows live-occur--before-page)))
 
 (defun live-occur-add-pattern ()
   "Add a pattern: lines that any of the patterns matches are listed."
@@ -1897,7 +1904,10 @@ Where both numbers are 0 no other lines are shown."
     "  "
     (if live-occur--fault
         (propertize (live-occur--fault-and-help) 'face 'live-occur-ended)
-      (live-occur--numbers)))
+      (live-occur--numbers))
+    (when live-occur--editing
+      (substitute-command-keys
+       "  \\<live-occur-edit-map>rows are edited, \\[live-occur-end-edit] ends it")))
    t t))
 
 (defun live-occur--numbers ()
@@ -2011,6 +2021,36 @@ Where both numbers are 0 no other lines are shown."
     (define-key map [follow-link] 'mouse-face)
     map)
   "Keys in lists of `live-occur'.")
+
+(easy-menu-define live-occur-menu live-occur-mode-map
+  "Menu of lists of `live-occur'."
+  '("Live-Occur"
+    ["Go to Line" live-occur-visit]
+    ["Show Line" live-occur-display]
+    ["Show Lines as Point Moves" live-occur-toggle-follow
+     :style toggle :selected live-occur-follow]
+    ["Edit Rows" live-occur-edit]
+    "--"
+    ["Add Pattern..." live-occur-add-pattern]
+    ["Change Pattern..." live-occur-change-pattern :active live-occur--patterns]
+    ["Drop Pattern..." live-occur-drop-pattern :active live-occur--patterns]
+    ["Both Cases of Letters" live-occur-toggle-case
+     :style toggle :selected (memq ?i live-occur--the-flags)]
+    ["Lines That Don't Match" live-occur-toggle-inverse
+     :style toggle :selected (memq ?v live-occur--the-flags)]
+    ["Whole Lines" live-occur-toggle-whole-lines
+     :style toggle :selected (memq ?x live-occur--the-flags)]
+    ["Basic Expressions" live-occur-basic
+     :style radio :selected (eq live-occur--the-syntax 'basic)]
+    ["Extended Expressions" live-occur-extended
+     :style radio :selected (eq live-occur--the-syntax 'extended)]
+    ["Fixed Strings" live-occur-fixed
+     :style radio :selected (eq live-occur--the-syntax 'fixed)]
+    "--"
+    ["Lines Around..." live-occur-set-context]
+    ["Add Buffer..." live-occur-add-buffer]
+    ["Leave Out Buffer..." live-occur-remove-buffer]
+    ["Start the Program Again" live-occur-restart]))
 
 (define-derived-mode live-occur-mode special-mode "Live-Occur"
   "A list of the lines that match, kept right while buffers are edited.

@@ -720,6 +720,9 @@ It is the text there, that of the list, and what is said of a fault."
     (define-key map (kbd "C-c t") #'live-occur)
     (define-key map (kbd "C-c a") #'live-occur-add-pattern)
     (define-key map (kbd "C-c c") #'live-occur-change-pattern)
+    (define-key map (kbd "C-c k") (lambda ()
+                                    (interactive)
+                                    (live-occur-test--kill live-occur-test--list)))
     (unwind-protect
         (progn
           (use-global-map (make-composed-keymap map (current-global-map)))
@@ -786,6 +789,73 @@ It is the text there, that of the list, and what is said of a fault."
       (let ((seen (live-occur-test--type "C-c t a RET")))
         (should (= (length (split-string (nth 1 (car seen)) "\n" t)) 50)))
       (should (= (length (split-string (live-occur-test--rows "*Live Occur*") "\n" t)) 5000)))))
+
+;;;; The program killed in each state
+
+(defun live-occur-test--kill (list)
+  "Kill the program of LIST, and wait until that is known."
+  (with-current-buffer list
+    (signal-process (live-occur--session-process live-occur--session) 'KILL)
+    (with-timeout (10 (error "The end of the program is not known"))
+      (while (not live-occur--fault)
+        (accept-process-output nil 0.01)))))
+
+(defun live-occur-test--restart (list)
+  "Start the program of LIST again, and answer the rows."
+  (with-current-buffer list
+    (should (string-search "was killed by signal 9" (live-occur--header)))
+    (live-occur-restart))
+  (live-occur-test--rows list))
+
+(ert-deftest live-occur-outlives-its-program ()
+  (live-occur-test--with '("one\ntwo\nthree\n" "four\n")
+    (live-occur-test--in-windows
+      (let ((list (live-occur "o" buffers))
+            (rows "a:1:one\na:2:two\nb:1:four\n"))
+        (ert-info ("while the first reply is on its way")
+          (live-occur-test--kill list)
+          (should (equal (live-occur-test--restart list) rows)))
+        (ert-info ("while nothing is asked for")
+          (live-occur-test--kill list)
+          (should (equal (live-occur-test--text-shown-in list) rows))
+          (should (equal (live-occur-test--restart list) rows)))
+        (ert-info ("with edits that are not sent")
+          (insert "o\n")
+          (live-occur-test--kill list)
+          (delete-char -2)
+          (should (equal (live-occur-test--restart list) rows)))
+        (ert-info ("while changes are on their way")
+          (with-current-buffer list
+            (signal-process (live-occur--session-process live-occur--session) 'STOP)
+            (with-current-buffer a
+              (goto-char (point-min))
+              (insert "x\n"))
+            (live-occur--update))
+          (live-occur-test--kill list)
+          (goto-char (point-min))
+          (delete-char 2)
+          (should (equal (live-occur-test--restart list) rows)))
+        (ert-info ("while a pattern is typed")
+          (with-selected-window (get-buffer-window list)
+            (live-occur-test--type "C-c a t C-c k h C-g")
+            (should (equal (live-occur-test--text-shown) rows))
+            (should (equal live-occur--patterns '("o"))))
+          (should (equal (live-occur-test--restart list) rows)))
+        (ert-info ("while rows are edited")
+          (with-current-buffer list
+            (live-occur-edit)
+            (live-occur-test--kill list)
+            (goto-char (point-min))
+            (search-forward "one")
+            (insert "s")
+            (live-occur-end-edit))
+          (should (equal (live-occur-test--restart list)
+                         "a:1:ones\na:2:two\nb:1:four\n")))))))
+
+(defun live-occur-test--text-shown-in (list)
+  "The text that LIST shows."
+  (with-current-buffer list
+    (live-occur-test--text-shown)))
 
 ;;;; Matched parts
 
