@@ -10,19 +10,23 @@
 
 ;;; Commentary:
 
-;; `live-occur' asks for a pattern and lists the lines of the current buffer
-;; that match, as `occur' does; with a prefix argument, those of several
-;; buffers.  The list is kept right while these buffers are edited.
+;; `live-occur' lists the lines of the current buffer that match a pattern, as
+;; `occur' does, while the pattern is typed; with a prefix argument, those of
+;; several buffers.  Other commands take the buffers of a project, of a mode,
+;; or with a name, the files that are marked in Dired, and what isearch looks
+;; for.  The list is kept right while these buffers are edited.
 ;;
 ;; What matches is decided by the program `occur' of Gaxtrel, one process for
 ;; each list: patterns are those of POSIX grep, and a row that is shown is a
 ;; line that grep would write.  Each change of a buffer is sent as the lines
-;; that it touched, so that only these are searched.
+;; that it touched, so that only these are searched, and the program answers
+;; what changed of the lines that match.
 ;;
-;; In the list, i v x o c turn on and off what these options of grep do, G E F
-;; choose the syntax of the patterns, and a, d and e add, drop and edit one.
+;; In the list, i v x turn on and off what these options of grep do, G E F
+;; choose the syntax of the patterns, and a, c and d add, change and drop one.
 ;; RET goes to the line of the row, and so do `next-error' and
-;; `previous-error'.  C-h m tells all keys.
+;; `previous-error'; e edits the rows, and the lines with them.  C-h m
+;; describes all keys.
 ;;
 ;; Set `live-occur-program' where `occur' is not on your path.
 
@@ -244,7 +248,7 @@ Answer whether it begins."
 ;;;; Buffers that are searched
 
 ;; Lines are counted as the gaps between newlines, from 0: a text that ends
-;; in a newline has an empty line behind it, which is never sent.
+;; in a newline has an empty line after it, which is never sent.
 
 (cl-defstruct (live-occur--source (:copier nil))
   "A buffer that is searched, and what the session holds of it."
@@ -283,8 +287,8 @@ Answer whether it begins."
   (seq-filter (lambda (other) (live-occur--same-text-p buffer other))
               (buffer-list)))
 
-(defun live-occur--told ()
-  "The sources that are told of edits of this buffer.
+(defun live-occur--sources-of-text ()
+  "The sources that gather edits of this buffer.
 A copy of a buffer has its local variables, and another text."
   (seq-filter (lambda (source)
                 (live-occur--same-text-p (live-occur--source-buffer source) (current-buffer)))
@@ -360,21 +364,21 @@ far away its position is guessed first, and corrected."
 
 ;;;; Changes
 
-;; A change is told before and after it is made, but not always in pairs, and
-;; not always with the same bounds.  What was told before is kept with the
-;; number of lines in it; what is told after has to lie inside, and the size of
+;; A change is reported before and after it is made, but not always in pairs,
+;; and not always with the same bounds.  What is reported before is kept with
+;; the number of lines in it; what is reported after has to lie inside, and the size of
 ;; the buffer has to be what both say.  Where it is not, or where the tick
-;; shows that a change was not told at all, the whole text is sent anew.
+;; shows that a change was not reported at all, the whole text is sent again.
 
 (defun live-occur--before-change (start end)
   "Take note of the lines from START to END, which are about to change."
-  (dolist (source (live-occur--told))
+  (dolist (source (live-occur--sources-of-text))
     (condition-case nil
         (live-occur--before source start end)
       (error (live-occur--lose source)))))
 
 (defun live-occur--before (source start end)
-  "Keep what stands between START and END of SOURCE.
+  "Keep what is between START and END of SOURCE.
 It is kept as the position of START, the distance of END from the buffer's
 end, the line of START, the number of lines that are touched, whether these
 are whole lines, and the buffer's size."
@@ -400,7 +404,7 @@ are whole lines, and the buffer's size."
 
 (defun live-occur--after-change (start end removed)
   "Gather the change that put START to END in the place of REMOVED characters."
-  (dolist (source (live-occur--told))
+  (dolist (source (live-occur--sources-of-text))
     (condition-case nil
         (live-occur--after source start end removed)
       (error (live-occur--lose source)))
@@ -436,7 +440,7 @@ are whole lines, and the buffer's size."
       (_ (live-occur--lose source)))))
 
 (defconst live-occur--gap 50
-  "Edits with at most so many lines between them are sent as one.")
+  "Edits with at most this number of lines between them are sent as one.")
 
 (defconst live-occur--most-edits 32
   "Where there would be more edits than this, all are sent as one.")
@@ -977,7 +981,7 @@ have moved."
                 (get-buffer-window-list nil nil t))))
 
 (defun live-occur--forget-rows (&optional rows)
-  "Show all hits of this list anew, at ROWS or where it is."
+  "Show all hits of this list again, at ROWS or where it is."
   (pcase-let ((`(,row . ,windows) (or rows (live-occur--rows-of-windows))))
     (with-silent-modifications
       (erase-buffer))
@@ -993,7 +997,7 @@ have moved."
     (live-occur--make-in-view)))
 
 (defun live-occur--look-at-names ()
-  "Show the rows anew where a buffer has got another name."
+  "Show the rows again where a buffer has got another name."
   (let (new)
     (dolist (source live-occur--sources)
       (when-let ((name (buffer-name (live-occur--source-buffer source))))
@@ -1538,7 +1542,7 @@ It is a list of the pattern's number, the kind, and the place in characters."
                 (length pattern)))))))
 
 (defun live-occur--underlined (pattern place)
-  "PATTERN with the character at PLACE underlined, or a space behind it."
+  "PATTERN with the character at PLACE underlined, or a space after it."
   (let ((text (if (< place (length pattern)) (copy-sequence pattern) (concat pattern " "))))
     (add-face-text-property place (1+ place) 'live-occur-fault nil text)
     text))
@@ -1890,24 +1894,26 @@ Where both numbers are 0 no other lines are shown."
   "The header line: what is set, and what is shown."
   (replace-regexp-in-string
    "%" "%%"
-   (concat
-    " " (symbol-name live-occur--the-syntax)
-    (and live-occur--the-flags
-         (concat " -" (apply #'string live-occur--the-flags)))
-    (and live-occur--the-context
-         (format " -B %d -A %d"
-                 (car live-occur--the-context) (cdr live-occur--the-context)))
-    "  "
-    (mapconcat (lambda (pattern) (propertize pattern 'face 'live-occur-pattern))
-               live-occur--patterns "  ")
-    (unless live-occur--patterns "no pattern")
-    "  "
-    (if live-occur--fault
-        (propertize (live-occur--fault-and-help) 'face 'live-occur-ended)
-      (live-occur--numbers))
-    (when live-occur--editing
-      (substitute-command-keys
-       "  \\<live-occur-edit-map>rows are edited, \\[live-occur-end-edit] ends it")))
+   (propertize
+    (concat
+     " " (symbol-name live-occur--the-syntax)
+     (and live-occur--the-flags
+          (concat " -" (apply #'string live-occur--the-flags)))
+     (and live-occur--the-context
+          (format " -B %d -A %d"
+                  (car live-occur--the-context) (cdr live-occur--the-context)))
+     "  "
+     (mapconcat (lambda (pattern) (propertize pattern 'face 'live-occur-pattern))
+                live-occur--patterns "  ")
+     (unless live-occur--patterns "no pattern")
+     "  "
+     (if live-occur--fault
+         (propertize (live-occur--fault-and-help) 'face 'live-occur-ended)
+       (live-occur--numbers))
+     (when live-occur--editing
+       (substitute-command-keys
+        "  \\<live-occur-edit-map>rows are edited, \\[live-occur-end-edit] ends it")))
+    'help-echo "In the list: C-h m describes the keys")
    t t))
 
 (defun live-occur--numbers ()
@@ -1931,7 +1937,7 @@ Where both numbers are 0 no other lines are shown."
   (live-occur--update t))
 
 (defun live-occur--add-source (buffer)
-  "Put BUFFER behind the buffers of this list."
+  "Put BUFFER after the buffers of this list."
   (let ((source (make-live-occur--source :buffer buffer :list (current-buffer)
                                          :id live-occur--named
                                          :name (buffer-name buffer))))
