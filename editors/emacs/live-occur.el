@@ -546,19 +546,49 @@ the session has them."
         (live-occur--splice source session file start removed added)
         (setf (live-occur--source-lines source) (+ held added (- removed)))))))
 
+(defconst live-occur--block 20000
+  "How many characters of a text are sent at once, but for longer lines.")
+
 (defun live-occur--splice (source session file start removed added)
   "Put the ADDED lines after point in the place of REMOVED ones at START.
-SOURCE is number FILE of SESSION."
-  (let ((list (live-occur--source-list source))
-        (from (point)))
-    (forward-line added)
-    (live-occur--send
-     session
-     (live-occur--command
-      (format "splice %d %d %d " file start removed)
-      (live-occur--bytes (buffer-substring-no-properties from (point)))
-      added)
-     (live-occur--expect-ok list))))
+SOURCE is number FILE of SESSION.  Where a pipe is full Emacs sleeps, and far
+too long.  So a long text is sent in blocks, and few are in the pipe."
+  (let ((process (live-occur--session-process session))
+        (expect-ok (live-occur--expect-ok (live-occur--source-list source)))
+        (due 0)
+        done)
+    (while (not done)
+      (let* ((from (point))
+             (count (live-occur--skip-block added)))
+        (live-occur--send
+         session
+         (live-occur--command
+          (format "splice %d %d %d " file start removed)
+          (live-occur--bytes (buffer-substring-no-properties from (point)))
+          count)
+         (lambda (reply)
+           (cl-decf due)
+           (funcall expect-ok reply)))
+        (cl-incf due)
+        (cl-incf start count)
+        (cl-decf added count)
+        (setq removed 0
+              done (<= added 0))
+        (while (and (not done) (> due 2) (eq (process-status process) 'run))
+          (accept-process-output process 1 nil 1))))))
+
+(defun live-occur--skip-block (most)
+  "Move over a block of lines, but at most MOST, and answer how many they are."
+  (let ((from (point)))
+    (goto-char (min (point-max) (+ from live-occur--block)))
+    (unless (bolp)
+      (forward-line 1))
+    (let ((count (+ (live-occur--newlines from (point)) (if (bolp) 0 1))))
+      (if (< 0 count most)
+          count
+        (goto-char from)
+        (forward-line most)
+        most))))
 
 ;;;; A list
 
