@@ -790,6 +790,50 @@ It is the text there, that of the list, and what is said of a fault."
         (should (= (length (split-string (nth 1 (car seen)) "\n" t)) 50)))
       (should (= (length (split-string (live-occur-test--rows "*Live Occur*") "\n" t)) 5000)))))
 
+(defun live-occur-test--grepped (pattern folder)
+  "The first rows that grep writes for PATTERN in the file a of FOLDER.
+It is nil where the pattern is refused."
+  (let ((default-directory (file-name-as-directory folder))
+        (coding-system-for-read 'utf-8-emacs-unix))
+    (with-temp-buffer
+      (unless (eq 2 (call-process live-occur-test--grep nil '(t nil) nil
+                                  "-n" "-e" pattern "--" "a" "/dev/null"))
+        (goto-char (point-min))
+        (forward-line 50)
+        (buffer-substring (point-min) (point))))))
+
+(ert-deftest live-occur-follows-random-typing ()
+  "After each key the list has what grep writes, or is as it was."
+  (random "live-occur typing")
+  (let ((folder (make-temp-file "live-occur" t)) (accepted 0) (refused 0))
+    (unwind-protect
+        (dotimes (_ 6)
+          (live-occur-test--with (list (live-occur-test--text 400))
+            (live-occur-test--in-windows
+              (set-window-buffer nil a)
+              (let ((coding-system-for-write 'utf-8-emacs-unix))
+                (write-region nil nil (expand-file-name "a" folder) nil 'quiet))
+              (let ((keys (cl-loop with length = 0
+                                   repeat 25
+                                   for key = (nth (random (if (= length 0) 11 13))
+                                                  '("a" "b" "a" "x" "." "*" "\\" "(" ")" "["
+                                                    "]" "DEL" "DEL"))
+                                   do (cl-incf length (if (equal key "DEL") -1 1))
+                                   collect key))
+                    (before ""))
+                (pcase-dolist (`(,text ,rows ,fault)
+                               (live-occur-test--type
+                                (concat "C-c t " (string-join keys " ") " C-g")))
+                  (let ((wanted (if (equal text "") ""
+                                  (live-occur-test--grepped text folder))))
+                    (should (eq (null wanted) (and fault t)))
+                    (should (equal rows (or wanted before)))
+                    (setq before rows)
+                    (if wanted (cl-incf accepted) (cl-incf refused))))))))
+      (delete-directory folder t))
+    (should (> accepted 50))
+    (should (> refused 10))))
+
 ;;;; The program killed in each state
 
 (defun live-occur-test--kill (list)
