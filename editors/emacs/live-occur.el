@@ -1191,7 +1191,8 @@ A window may be moved to its point when it is redrawn, so rows there are made."
 
 (defun live-occur--show-around (first count)
   "Show the lines around COUNT rows from FIRST on."
-  (when (or live-occur--the-context live-occur--overlaid)
+  (when (and (or live-occur--the-context live-occur--overlaid)
+             (not live-occur--page))
     (setq live-occur--overlaid (and live-occur--the-context t))
     (if (not live-occur--the-context)
         (remove-overlays (point-min) (point-max) 'live-occur-around t)
@@ -1387,7 +1388,8 @@ This is the `next-error-function' of lists."
 
 (defun live-occur-edit ()
   "Edit the rows of this list, and with each its line.
-\\<live-occur-edit-map>\\[live-occur-end-edit] ends it.  Undo works in the list, and in the buffers."
+Undo works in the list, and in the buffers.
+\\<live-occur-edit-map>\\[live-occur-end-edit] ends it."
   (interactive)
   (live-occur--check)
   (live-occur--update)
@@ -1458,7 +1460,9 @@ Newlines in it become spaces."
         (let* ((head (next-single-property-change (point) 'live-occur-number))
                (text (buffer-substring-no-properties head (line-end-position)))
                (old (get-text-property (point) 'live-occur-text))
-               (problem (live-occur--change-line hit old text)))
+               (problem (if (live-occur--text-of-line hit)
+                            (live-occur--change-line hit old text)
+                          "The buffer of this row is gone")))
           (if problem
               (message "%s; the row alone is edited" problem)
             (live-occur--note-text text)))))))
@@ -1472,11 +1476,10 @@ Newlines in it become spaces."
 (defun live-occur--change-line (hit old new)
   "Put the text NEW in the place of OLD in the line of HIT.
 Answer nil, or why it can't be done."
-  (let* ((source (live-occur--hit-source hit))
-         (line (live-occur--line-of hit)))
+  (let ((source (live-occur--hit-source hit)))
     (with-current-buffer (live-occur--source-buffer source)
       (live-occur--in-whole-buffer
-        (live-occur--go-to-line source line)
+        (live-occur--go-to-line source (live-occur--line-of hit))
         (cond (buffer-read-only
                (format "Buffer %s is read-only" (buffer-name)))
               ((not (equal old (buffer-substring-no-properties (point) (line-end-position))))
@@ -1513,7 +1516,7 @@ Answer nil, or why it can't be done."
            (let ((head (next-single-property-change (point) 'live-occur-number))
                  (old (get-text-property (point) 'live-occur-text))
                  (new (live-occur--text-of-line hit)))
-             (unless (equal old new)
+             (unless (or (null new) (equal old new))
                (save-excursion
                  (goto-char head)
                  (when (equal old (buffer-substring-no-properties head (line-end-position)))
@@ -1525,13 +1528,14 @@ Answer nil, or why it can't be done."
          (live-occur--row-at (point)) (window-body-height window))))))
 
 (defun live-occur--text-of-line (hit)
-  "The text of the line of HIT as it is now."
+  "The text of the line of HIT as it is now, or nil if its buffer is gone."
   (let ((source (live-occur--hit-source hit))
         (line (live-occur--line-of hit)))
-    (with-current-buffer (live-occur--source-buffer source)
-      (live-occur--in-whole-buffer
-        (live-occur--go-to-line source line)
-        (buffer-substring-no-properties (point) (line-end-position))))))
+    (when (buffer-live-p (live-occur--source-buffer source))
+      (with-current-buffer (live-occur--source-buffer source)
+        (live-occur--in-whole-buffer
+          (live-occur--go-to-line source line)
+          (buffer-substring-no-properties (point) (line-end-position)))))))
 
 ;;;; Patterns
 

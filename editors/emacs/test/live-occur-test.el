@@ -1382,6 +1382,27 @@ With PARTS non-nil it is the matched parts."
        0 (live-occur--total))
       bad)))
 
+(defun live-occur-test--numbers-right (list)
+  "Check the numbers of rows of LIST that no edit has touched since the last update.
+The answer is how many they are."
+  (with-current-buffer list
+    (live-occur-test--wait)
+    (let ((checked 0))
+      (live-occur--map-hits
+       (lambda (hit)
+         (let ((source (live-occur--hit-source hit))
+               (line (live-occur--line-of hit)))
+           (unless (or (live-occur--source-lost source)
+                       (/= (live-occur--source-tick source)
+                           (buffer-chars-modified-tick (live-occur--source-buffer source)))
+                       (cl-loop for (at _ is) in (live-occur--source-edits source)
+                                thereis (<= at line (+ at is))))
+             (cl-incf checked)
+             (should (equal (live-occur--bytes (live-occur--text-of-line hit))
+                            (live-occur--hit-bytes hit))))))
+       0 (live-occur--total))
+      checked)))
+
 (defvar live-occur-test--edits
   (string-to-number (or (getenv "EDITS") "4000"))
   "How many random edits are made.")
@@ -1394,7 +1415,7 @@ With PARTS non-nil it is the matched parts."
     (let* ((folder (make-temp-file "live-occur" t))
            (indirect (make-indirect-buffer (nth 3 buffers) "indirect"))
            (list (live-occur "ab" buffers))
-           (compared 0) (rows 0) (lost 0))
+           (compared 0) (rows 0) (lost 0) (numbers 0))
       (unwind-protect
           (progn
             (live-occur-test--rows list)
@@ -1410,6 +1431,8 @@ With PARTS non-nil it is the matched parts."
                      (apply #'narrow-to-region (live-occur-test--region))
                      (live-occur-test--edit)))
                   (_ (live-occur-test--edit))))
+              (when (= (random 4) 0)
+                (cl-incf numbers (live-occur-test--numbers-right list)))
               (when (= (random 12) 0)
                 (live-occur-test--change list))
               (when (= (random 3) 0)
@@ -1425,8 +1448,9 @@ With PARTS non-nil it is the matched parts."
                                     (live-occur-test--searched list folder))))))))
         (advice-remove 'live-occur--lose 'live-occur-test)
         (delete-directory folder t))
-      (live-occur-test--tell "%d edits, %d comparisons of %d rows, none differ; %d texts sent anew"
-               live-occur-test--edits compared rows lost)
+      (live-occur-test--tell
+       "%d edits, %d comparisons of %d rows, none differ; %d numbers before an update, none wrong; %d texts sent again"
+       live-occur-test--edits compared rows numbers lost)
       (should (> compared (/ live-occur-test--edits 5))))))
 
 ;;;; Time
