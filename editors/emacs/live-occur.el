@@ -202,7 +202,9 @@ one that can't be written to is ended; its sentinel reports either."
              (delete-process (live-occur--session-process session))))))
 
 (defun live-occur--read (session text)
-  "Take TEXT from the program of SESSION, and hand out the replies in it."
+  "Take TEXT from the program of SESSION, and hand out the replies in it.
+What takes a reply may send more, and so get here again: the reply is taken
+out of the buffer before."
   (let ((output (process-buffer (live-occur--session-process session))))
     (when (buffer-live-p output)
       (with-current-buffer output
@@ -210,18 +212,16 @@ one that can't be written to is ended; its sentinel reports either."
         (insert text)
         (while (and (buffer-live-p output)
                     (live-occur--go-to-last-line session))
-          (let ((start (point))
-                (reply (buffer-substring (point) (line-end-position)))
+          (let ((reply (buffer-substring (point) (line-end-position)))
+                (rows (delete-and-extract-region (point-min) (point)))
                 (function (pop (live-occur--session-waiting session))))
+            (delete-region (point-min) (line-beginning-position 2))
+            (setf (live-occur--session-scanned session) (point-min))
             (when function
-              (save-restriction
-                (narrow-to-region (point-min) start)
-                (save-current-buffer
-                  (funcall function reply))))
-            (when (buffer-live-p output)
-              (goto-char start)
-              (delete-region (point-min) (line-beginning-position 2))
-              (setf (live-occur--session-scanned session) (point-min)))))))))
+              (with-temp-buffer
+                (set-buffer-multibyte nil)
+                (insert rows)
+                (funcall function reply)))))))))
 
 (defun live-occur--go-to-last-line (session)
   "Move to the last line of the first reply that SESSION has sent.
@@ -600,6 +600,7 @@ too long.  So a long text is sent in blocks, and few are in the pipe."
 (defvar-local live-occur--the-flags nil "The flags that are on.")
 (defvar-local live-occur--the-context nil
   "How many lines are shown before and after each that matches, as a pair, or nil.")
+(defvar-local live-occur--sending nil "Whether edits are being sent.")
 (defvar-local live-occur--asked nil "Whether a reply for the rows is on its way.")
 (defvar-local live-occur--again nil "Whether another one is wanted after it.")
 (defvar-local live-occur--fresh nil "Whether the program has reported no hit yet.")
@@ -869,17 +870,22 @@ If nothing has changed ask for none, but with ALWAYS non-nil."
 
 (defun live-occur--flush-all ()
   "Send what has changed in all sources, and answer whether anything has.
-To be broken off between would leave the session out of step.  A buffer may
-be killed without a word, as temporary ones are."
+To be broken off between, or begun again, would leave the session out of
+step.  A buffer may be killed without a word, as temporary ones are."
   (let ((inhibit-quit t) (any nil))
-    (dolist (source live-occur--sources)
-      (unless (buffer-live-p (live-occur--source-buffer source))
-        (live-occur--close source)
-        (setq any t)))
-    (cl-loop for source in live-occur--sources
-             for file from 0
-             do (when (live-occur--flush source live-occur--session file)
-                  (setq any t)))
+    (unless live-occur--sending
+      (setq live-occur--sending t)
+      (unwind-protect
+          (progn
+            (dolist (source live-occur--sources)
+              (unless (buffer-live-p (live-occur--source-buffer source))
+                (live-occur--close source)
+                (setq any t)))
+            (cl-loop for source in live-occur--sources
+                     for file from 0
+                     do (when (live-occur--flush source live-occur--session file)
+                          (setq any t))))
+        (setq live-occur--sending nil)))
     any))
 
 (defun live-occur--ask-for-changes ()

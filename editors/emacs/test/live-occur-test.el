@@ -513,6 +513,29 @@ All buffers and processes that it makes are taken away after it."
       (replace-regexp-in-region "8$" "7" (point-min))
       (should (equal (length (split-string (live-occur-test--rows list) "\n" t)) 12)))))
 
+;;;; What comes back
+
+(ert-deftest live-occur-reads-replies-while-it-takes-one ()
+  (live-occur-test--with '("a\n")
+    (let ((list (live-occur "a")) seen)
+      (live-occur-test--rows list)
+      (let* ((session (buffer-local-value 'live-occur--session list))
+             (take (lambda (name)
+                     (lambda (reply)
+                       (push (list name (buffer-string) reply) seen)
+                       (when (eq name 'first)
+                         (live-occur--read session "4 - ab\nstatus 0\no"))))))
+        (setf (live-occur--session-waiting session)
+              (mapcar take '(first second third fourth)))
+        (live-occur--read session "h 0 1 2 3 1\nr 2 - status 5\nstatus 1\nhits 1\np 0 ")
+        (live-occur--read session "k\nrefused NoSuchFile")
+        (live-occur--read session "\n"))
+      (should (equal (nreverse seen)
+                     '((first "h 0 1 2 3 1\nr 2 - status 5\n" "status 1")
+                       (second "hits 1\np 0 4 - ab\n" "status 0")
+                       (third "" "ok")
+                       (fourth "" "refused NoSuchFile")))))))
+
 ;;;; Refusals
 
 (ert-deftest live-occur-refuses-a-pattern ()
