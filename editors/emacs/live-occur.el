@@ -1547,7 +1547,7 @@ Answer nil, or why it can't be done."
 
 (defun live-occur--ask (command done)
   "Send COMMAND, wait for its reply, and answer it.
-If it is accepted call DONE and ask for a report."
+If it is accepted call DONE, and ask for what changed."
   (live-occur--check)
   (let* ((list (current-buffer))
          (session live-occur--session)
