@@ -12,6 +12,8 @@
 (require 'ert)
 (require 'live-occur)
 (require 'checkdoc)
+(require 'dired)
+(require 'project)
 
 (setq live-occur-program (or (getenv "OCCUR") "occur"))
 
@@ -22,9 +24,8 @@
 
 (defun live-occur-test--busy-p ()
   "Whether a reply of this list is on its way."
-  (or live-occur--parts-asked
-      (and (live-occur--running-p live-occur--session)
-           (live-occur--session-waiting live-occur--session))))
+  (and (live-occur--running-p live-occur--session)
+       (live-occur--session-waiting live-occur--session)))
 
 (defun live-occur-test--wait ()
   "Wait until all replies of this list have come."
@@ -37,26 +38,43 @@
   (with-current-buffer list
     (live-occur--update)
     (live-occur-test--wait)
-    (buffer-substring-no-properties (point-min) (point-max))))
+    (live-occur--make-rows 0 (live-occur--total))
+    (live-occur--show-around 0 (live-occur--total))
+    (live-occur-test--text-shown)))
 
-(defun live-occur-test--mark (list)
-  "Find the parts of all rows of LIST, and answer the places of each row."
-  (live-occur-test--rows list)
-  (with-current-buffer list
-    (live-occur--mark 0 (length live-occur--rows))
-    (live-occur-test--wait)
+(defun live-occur-test--text-shown ()
+  "The text of this list with the lines around rows."
+  (save-excursion
     (goto-char (point-min))
     (let (all)
       (while (not (eobp))
-        (let ((at (next-single-property-change (point) 'live-occur-head)) parts)
-          (while (setq at (text-property-any at (line-end-position) 'face 'live-occur-match))
-            (let ((end (next-single-property-change at 'face nil (line-end-position))))
-              (push (- at (line-beginning-position)) parts)
-              (push (buffer-substring-no-properties at end) parts)
-              (setq at end)))
-          (push (nreverse parts) all))
+        (let ((around (cl-find-if (lambda (overlay) (overlay-get overlay 'live-occur-around))
+                                  (overlays-in (point) (line-beginning-position 2)))))
+          (push (or (and around (overlay-get around 'before-string)) "") all)
+          (push (buffer-substring-no-properties (point) (line-beginning-position 2)) all)
+          (push (or (and around (overlay-get around 'after-string)) "") all))
         (forward-line 1))
-      (nreverse all))))
+      (substring-no-properties (apply #'concat (nreverse all))))))
+
+(defun live-occur-test--mark (list)
+  "The places of parts in each row of LIST."
+  (live-occur-test--rows list)
+  (with-current-buffer list
+    (save-excursion
+      (goto-char (point-min))
+      (let (all)
+        (while (not (eobp))
+          (let ((at (next-single-property-change (point) 'live-occur-number)) parts)
+            (while (and (< at (line-end-position))
+                        (setq at (text-property-any at (line-end-position)
+                                                    'face 'live-occur-match)))
+              (let ((end (next-single-property-change at 'face nil (line-end-position))))
+                (push (- at (line-beginning-position)) parts)
+                (push (buffer-substring-no-properties at end) parts)
+                (setq at end)))
+            (push (nreverse parts) all))
+          (forward-line 1))
+        (nreverse all)))))
 
 (defun live-occur-test--buffers (texts)
   "New buffers called a, b and so on that hold TEXTS."
@@ -148,8 +166,8 @@ All buffers and processes that it makes are taken away after it."
         (should (equal (live-occur-test--rows list) "a:1:one\na:3:three\n"))
         (cl-letf (((symbol-function 'completing-read) (lambda (&rest _) "one"))
                   ((symbol-function 'read-from-minibuffer) (live-occur-test--answers "wo")))
-          (live-occur-edit-pattern))
-        (should (equal live-occur--patterns '("hr" "wo")))
+          (live-occur-change-pattern))
+        (should (equal live-occur--patterns '("wo" "hr")))
         (should (equal (live-occur-test--rows list) "a:2:two\na:3:three\n"))))))
 
 (ert-deftest live-occur-has-flags ()
@@ -162,14 +180,12 @@ All buffers and processes that it makes are taken away after it."
                          ("i" . "a:1:a\n")
                          ("v" . "a:2:A\na:3:ba ab\na:4:c\nb:1:c\n")
                          ("x" . "a:2:A\na:4:c\nb:1:c\n")
-                         ("c" . "a:2\nb:1\n")
-                         ("v" . "a:2\nb:0\n")
-                         ("c" . "a:1:a\na:3:ba ab\n")
-                         ("o" . "a:1:a\na:3:a\na:3:a\n")))
+                         ("v" . "a:1:a\na:3:ba ab\n")
+                         ("i" . "a:1:a\na:2:A\na:3:ba ab\n")))
           (call-interactively (key-binding (kbd key)))
           (should (equal (live-occur-test--rows list) rows)))
-        (should (equal live-occur--the-flags '(?o)))
-        (should (string-prefix-p " basic -o  a  3 rows, 2 buffers" (live-occur--header)))))))
+        (should (equal live-occur--the-flags '(?i)))
+        (should (string-prefix-p " basic -i  a  3 rows, 2 buffers" (live-occur--header)))))))
 
 (ert-deftest live-occur-has-syntaxes ()
   (live-occur-test--with '("a+b\naab\n")
@@ -198,7 +214,7 @@ All buffers and processes that it makes are taken away after it."
       (with-current-buffer list
         (live-occur-set-context 0 1)
         (should (equal (live-occur-test--rows list) "a:1:a\na-2-b-1:c\n--\na:5:a\n"))
-        (should (string-prefix-p " basic -B 0 -A 1  a  4 rows" (live-occur--header)))
+        (should (string-prefix-p " basic -B 0 -A 1  a  2 rows" (live-occur--header)))
         (live-occur-set-context 2 0)
         (should (equal (live-occur-test--rows list) "a:1:a\n--\na-3-c\na-4-d\na:5:a\n"))
         (live-occur-add-buffer (nth 1 buffers))
@@ -218,13 +234,23 @@ All buffers and processes that it makes are taken away after it."
            (list (live-occur "a")))
       (should (equal (live-occur-test--rows list) "a-1-b\na:2:a\n")))))
 
-(ert-deftest live-occur-shows-no-more-rows-than-it-may ()
-  (live-occur-test--with (list (apply #'concat (make-list 50 "a\n")))
-    (let* ((live-occur-max-rows 7)
-           (list (live-occur "a")))
-      (should (= (length (split-string (live-occur-test--rows list) "\n" t)) 7))
-      (with-current-buffer list
-        (should (string-search "the first 7 of 50 rows" (live-occur--header)))))))
+(ert-deftest live-occur-makes-rows-in-view ()
+  (live-occur-test--with (list (apply #'concat (make-list 5000 "a\n")))
+    (live-occur-test--in-windows
+      (let* ((live-occur-idle-rows 0)
+             (list (live-occur "a"))
+             (window (get-buffer-window list))
+             (height (window-body-height window)))
+        (with-current-buffer list
+          (live-occur-test--wait)
+          (should (= (live-occur--total) 5000 (count-lines 1 (point-max))))
+          (should (< (point-max) (+ 5000 (* 20 3 height))))
+          (goto-char (point-max))
+          (forward-line -2)
+          (set-window-start window (point))
+          (set-window-point window (point))
+          (run-hook-with-args 'pre-redisplay-functions window)
+          (should (looking-at "a:4999:a\na:5000:a\n")))))))
 
 (ert-deftest live-occur-shows-the-name-that-a-buffer-has ()
   (live-occur-test--with '("x\n")
@@ -258,8 +284,7 @@ All buffers and processes that it makes are taken away after it."
 
 (ert-deftest live-occur-sends-only-lines-that-changed ()
   (live-occur-test--with (list (apply #'concat (make-list 1000 "line\n")))
-    (let* ((live-occur-highlight nil)
-           (list (live-occur "x"))
+    (let* ((list (live-occur "x"))
            sent)
       (live-occur-test--rows list)
       (cl-letf* ((send (symbol-function 'process-send-string))
@@ -284,7 +309,7 @@ All buffers and processes that it makes are taken away after it."
                        "splice 0 600 1 0\n"
                        "splice 0 500 0 1\nx\n"
                        "splice 0 0 1 1\nxline\n"
-                       "show\n")))
+                       "changes\n")))
       (should (equal (live-occur-test--rows list)
                      "a:1:xline\na:501:x\na:701:linx\na:1002:x\n")))))
 
@@ -296,7 +321,7 @@ All buffers and processes that it makes are taken away after it."
                  (due 0)
                  ((symbol-function 'live-occur--send)
                   (lambda (session text function)
-                    (if (not (equal text "show\n"))
+                    (if (not (equal text "changes\n"))
                         (funcall send session text function)
                       (setq due (1+ due) all (1+ all) most (max most due))
                       (funcall send session text
@@ -402,8 +427,7 @@ All buffers and processes that it makes are taken away after it."
           (list (progn (setq buffer-read-only t) (live-occur "o"))))
       (live-occur-test--mark list)
       (with-current-buffer list
-        (live-occur-toggle-case)
-        (live-occur-toggle-parts))
+        (live-occur-toggle-case))
       (live-occur-test--rows list)
       (live-occur-test--at list 1)
       (with-current-buffer list
@@ -488,6 +512,29 @@ All buffers and processes that it makes are taken away after it."
       (should (equal (live-occur-test--rows list) ""))
       (replace-regexp-in-region "8$" "7" (point-min))
       (should (equal (length (split-string (live-occur-test--rows list) "\n" t)) 12)))))
+
+;;;; What comes back
+
+(ert-deftest live-occur-reads-replies-while-it-takes-one ()
+  (live-occur-test--with '("a\n")
+    (let ((list (live-occur "a")) seen)
+      (live-occur-test--rows list)
+      (let* ((session (buffer-local-value 'live-occur--session list))
+             (take (lambda (name)
+                     (lambda (reply)
+                       (push (list name (buffer-string) reply) seen)
+                       (when (eq name 'first)
+                         (live-occur--read session "4 - ab\nstatus 0\no"))))))
+        (setf (live-occur--session-waiting session)
+              (mapcar take '(first second third fourth)))
+        (live-occur--read session "h 0 1 2 3 1\nr 2 - status 5\nstatus 1\nhits 1\np 0 ")
+        (live-occur--read session "k\nrefused NoSuchFile")
+        (live-occur--read session "\n"))
+      (should (equal (nreverse seen)
+                     '((first "h 0 1 2 3 1\nr 2 - status 5\n" "status 1")
+                       (second "hits 1\np 0 4 - ab\n" "status 0")
+                       (third "" "ok")
+                       (fourth "" "refused NoSuchFile")))))))
 
 ;;;; Refusals
 
@@ -609,9 +656,8 @@ All buffers and processes that it makes are taken away after it."
     (let ((list (live-occur "a" buffers)))
       (should (equal (live-occur-test--rows list) "a:1:a\nb:1:a\nc:1:a\n"))
       (kill-buffer (nth 1 buffers))
-      (live-occur-test--at list 2)
       (with-current-buffer list
-        (should-error (live-occur-visit) :type 'user-error))
+        (should (equal (live-occur-test--text-shown) "a:1:a\nc:1:a\n")))
       (with-current-buffer (nth 2 buffers)
         (insert "a"))
       (should (equal (live-occur-test--rows list) "a:1:a\nc:1:a\nc:2:a\n"))
@@ -665,20 +711,222 @@ All buffers and processes that it makes are taken away after it."
     (with-current-buffer (live-occur "a")
       (should-error (live-occur "a") :type 'user-error))))
 
+;;;; Typing
+
+(defun live-occur-test--type (keys)
+  "Type KEYS, and list what was seen after each key in the minibuffer.
+It is the text there, that of the list, and what is said of a fault."
+  (let* ((live-occur-typing-delay 0)
+         (map (make-sparse-keymap))
+         (overriding-terminal-local-map nil)
+         seen
+         (look (lambda ()
+                 (let* ((list (buffer-local-value 'live-occur-test--list (current-buffer)))
+                        (end (cl-find-if (lambda (overlay) (overlay-get overlay 'after-string))
+                                         (progn
+                                           (with-current-buffer list
+                                             (dotimes (_ 3)
+                                               (accept-process-output nil 0.01))
+                                             (live-occur-test--wait))
+                                           (overlays-in (point-min) (point-max))))))
+                   (push (list (minibuffer-contents-no-properties)
+                               (with-current-buffer list (live-occur-test--text-shown))
+                               (and end (string-trim (substring-no-properties
+                                                      (overlay-get end 'after-string)))))
+                         seen))))
+         (setup (lambda ()
+                  (setq-local live-occur-test--list
+                              (cl-find-if (lambda (buffer)
+                                            (string-prefix-p "*Live Occur*" (buffer-name buffer)))
+                                          (buffer-list)))
+                  (add-hook 'post-command-hook look 90 t))))
+    (define-key map (kbd "C-c t") #'live-occur)
+    (define-key map (kbd "C-c a") #'live-occur-add-pattern)
+    (define-key map (kbd "C-c c") #'live-occur-change-pattern)
+    (define-key map (kbd "C-c k") (lambda ()
+                                    (interactive)
+                                    (live-occur-test--kill live-occur-test--list)))
+    (unwind-protect
+        (progn
+          (use-global-map (make-composed-keymap map (current-global-map)))
+          (add-hook 'minibuffer-setup-hook setup)
+          (execute-kbd-macro (kbd keys)))
+      (remove-hook 'minibuffer-setup-hook setup)
+      (use-global-map global-map))
+    (cdr (nreverse seen))))
+
+(defvar live-occur-test--list nil "The list that is followed.")
+
+(ert-deftest live-occur-follows-typing ()
+  (live-occur-test--with '("one\ntwo(\nthree\n")
+    (live-occur-test--in-windows
+      (set-window-buffer nil a)
+      (should (equal (live-occur-test--type "C-c t o \\ ( DEL DEL n RET")
+                     '(("o" "a:1:one\na:2:two(\n" nil)
+                       ("o\\" "a:1:one\na:2:two(\n" "[TrailingBackslash]")
+                       ("o\\(" "a:1:one\na:2:two(\n" "[UnclosedGroup]")
+                       ("o\\" "a:1:one\na:2:two(\n" "[TrailingBackslash]")
+                       ("o" "a:1:one\na:2:two(\n" nil)
+                       ("on" "a:1:one\n" nil))))
+      (let ((list (get-buffer "*Live Occur*")))
+        (should (equal (live-occur-test--rows list) "a:1:one\n"))
+        (with-selected-window (get-buffer-window list)
+          (live-occur-toggle-inverse)
+          (should (equal (live-occur-test--rows list) "a:2:two(\na:3:three\n"))
+          (goto-char (point-max))
+          (forward-line -1)
+          (live-occur-test--type "C-c a t h C-g")
+          (should (looking-at "a:3:three\n"))
+          (live-occur-test--rows list)
+          (should (looking-at "a:3:three\n"))
+          (live-occur-toggle-inverse)
+          (should (equal (live-occur-test--rows list) "a:1:one\n"))
+          (should (equal (live-occur-test--type "C-c a t h C-g")
+                         '(("t" "a:1:one\na:2:two(\na:3:three\n" nil)
+                           ("th" "a:1:one\na:3:three\n" nil))))
+          (should (equal (live-occur-test--text-shown) "a:1:one\n"))
+          (should (equal (live-occur-test--rows list) "a:1:one\n"))
+          (should (equal live-occur--patterns '("on")))
+          (should (equal (live-occur-test--type "C-c c DEL DEL t w RET")
+                         '(("o" "a:1:one\na:2:two(\n" nil)
+                           ("" "" nil)
+                           ("t" "a:2:two(\na:3:three\n" nil)
+                           ("tw" "a:2:two(\n" nil))))
+          (should (equal (live-occur-test--rows list) "a:2:two(\n"))
+          (should (equal live-occur--patterns '("tw"))))))))
+
+(ert-deftest live-occur-goes-away-by-quitting ()
+  (live-occur-test--with '("one\n")
+    (live-occur-test--in-windows
+      (set-window-buffer nil a)
+      (let ((processes (process-list)))
+        (should (equal (live-occur-test--type "C-c t o C-g") '(("o" "a:1:one\n" nil))))
+        (should-not (get-buffer "*Live Occur*"))
+        (should (equal (process-list) processes))
+        (should (= (count-windows) 1))))))
+
+(ert-deftest live-occur-shows-a-page-while-typing ()
+  (live-occur-test--with (list (apply #'concat (make-list 5000 "a\n")))
+    (live-occur-test--in-windows
+      (set-window-buffer nil a)
+      (let ((seen (live-occur-test--type "C-c t a RET")))
+        (should (= (length (split-string (nth 1 (car seen)) "\n" t)) 50)))
+      (should (= (length (split-string (live-occur-test--rows "*Live Occur*") "\n" t)) 5000)))))
+
+(defun live-occur-test--grepped (pattern folder)
+  "The first rows that grep writes for PATTERN in the file a of FOLDER.
+It is nil where the pattern is refused."
+  (let ((default-directory (file-name-as-directory folder))
+        (coding-system-for-read 'utf-8-emacs-unix))
+    (with-temp-buffer
+      (unless (eq 2 (call-process live-occur-test--grep nil '(t nil) nil
+                                  "-n" "-e" pattern "--" "a" "/dev/null"))
+        (goto-char (point-min))
+        (forward-line 50)
+        (buffer-substring (point-min) (point))))))
+
+(ert-deftest live-occur-follows-random-typing ()
+  "After each key the list has what grep writes, or is as it was."
+  (random "live-occur typing")
+  (let ((folder (make-temp-file "live-occur" t)) (accepted 0) (refused 0))
+    (unwind-protect
+        (dotimes (_ 6)
+          (live-occur-test--with (list (live-occur-test--text 400))
+            (live-occur-test--in-windows
+              (set-window-buffer nil a)
+              (let ((coding-system-for-write 'utf-8-emacs-unix))
+                (write-region nil nil (expand-file-name "a" folder) nil 'quiet))
+              (let ((keys (cl-loop with length = 0
+                                   repeat 25
+                                   for key = (nth (random (if (= length 0) 11 13))
+                                                  '("a" "b" "a" "x" "." "*" "\\" "(" ")" "["
+                                                    "]" "DEL" "DEL"))
+                                   do (cl-incf length (if (equal key "DEL") -1 1))
+                                   collect key))
+                    (before ""))
+                (pcase-dolist (`(,text ,rows ,fault)
+                               (live-occur-test--type
+                                (concat "C-c t " (string-join keys " ") " C-g")))
+                  (let ((wanted (if (equal text "") ""
+                                  (live-occur-test--grepped text folder))))
+                    (should (eq (null wanted) (and fault t)))
+                    (should (equal rows (or wanted before)))
+                    (setq before rows)
+                    (if wanted (cl-incf accepted) (cl-incf refused))))))))
+      (delete-directory folder t))
+    (should (> accepted 50))
+    (should (> refused 10))))
+
+;;;; The program killed in each state
+
+(defun live-occur-test--kill (list)
+  "Kill the program of LIST, and wait until that is known."
+  (with-current-buffer list
+    (signal-process (live-occur--session-process live-occur--session) 'KILL)
+    (with-timeout (10 (error "The end of the program is not known"))
+      (while (not live-occur--fault)
+        (accept-process-output nil 0.01)))))
+
+(defun live-occur-test--restart (list)
+  "Start the program of LIST again, and answer the rows."
+  (with-current-buffer list
+    (should (string-search "was killed by signal 9" (live-occur--header)))
+    (live-occur-restart))
+  (live-occur-test--rows list))
+
+(ert-deftest live-occur-outlives-its-program ()
+  (live-occur-test--with '("one\ntwo\nthree\n" "four\n")
+    (live-occur-test--in-windows
+      (let ((list (live-occur "o" buffers))
+            (rows "a:1:one\na:2:two\nb:1:four\n"))
+        (ert-info ("while the first reply is on its way")
+          (live-occur-test--kill list)
+          (should (equal (live-occur-test--restart list) rows)))
+        (ert-info ("while nothing is asked for")
+          (live-occur-test--kill list)
+          (should (equal (live-occur-test--text-shown-in list) rows))
+          (should (equal (live-occur-test--restart list) rows)))
+        (ert-info ("with edits that are not sent")
+          (insert "o\n")
+          (live-occur-test--kill list)
+          (delete-char -2)
+          (should (equal (live-occur-test--restart list) rows)))
+        (ert-info ("while changes are on their way")
+          (with-current-buffer list
+            (signal-process (live-occur--session-process live-occur--session) 'STOP)
+            (with-current-buffer a
+              (goto-char (point-min))
+              (insert "x\n"))
+            (live-occur--update))
+          (live-occur-test--kill list)
+          (goto-char (point-min))
+          (delete-char 2)
+          (should (equal (live-occur-test--restart list) rows)))
+        (ert-info ("while a pattern is typed")
+          (with-selected-window (get-buffer-window list)
+            (live-occur-test--type "C-c a t C-c k h C-g")
+            (should (equal (live-occur-test--text-shown) rows))
+            (should (equal live-occur--patterns '("o"))))
+          (should (equal (live-occur-test--restart list) rows)))
+        (ert-info ("while rows are edited")
+          (with-current-buffer list
+            (live-occur-edit)
+            (live-occur-test--kill list)
+            (goto-char (point-min))
+            (search-forward "one")
+            (insert "s")
+            (live-occur-end-edit))
+          (should (equal (live-occur-test--restart list)
+                         "a:1:ones\na:2:two\nb:1:four\n")))))))
+
+(defun live-occur-test--text-shown-in (list)
+  "The text that LIST shows."
+  (with-current-buffer list
+    (live-occur-test--text-shown)))
+
 ;;;; Matched parts
 
-(ert-deftest live-occur-finds-the-places-of-parts ()
-  (pcase-dolist (`(,line ,parts ,more ,places)
-                 '(("abab" ("b" "b") ("b" "b") ((1 . 2) (3 . 4)))
-                   ("abab" ("b") () ((3 . 4)))
-                   ("aba" ("a") ("a") ((0 . 1)))
-                   ("aba" ("a") () ((2 . 3)))
-                   ("xabxab" ("ab" "xab") ("ab") ((1 . 3) (3 . 6)))
-                   ("aaaa" ("aa" "aa") ("aa" "aa") ((0 . 2) (2 . 4)))
-                   ("aaa" ("aa") ("aa") ((0 . 2)))
-                   ("aaa" ("aa") () ((1 . 3)))
-                   ("" () () ())))
-    (should (equal (live-occur--places line parts more) places)))
+(ert-deftest live-occur-knows-places-in-characters ()
   (should (equal (live-occur--in-characters "a\303\251b" '((1 . 2) (2 . 3) (3 . 4)))
                  '((1 . 2) (1 . 2) (2 . 3)))))
 
@@ -705,19 +953,8 @@ All buffers and processes that it makes are taken away after it."
         (live-occur-toggle-inverse))
       (should (equal (live-occur-test--mark list) nil))
       (with-current-buffer list
-        (live-occur-toggle-inverse)
-        (live-occur-toggle-parts))
-      (should (equal (live-occur-test--mark list) '((4 "a") (4 "a") (4 "a") (4 "a")))))))
-
-(ert-deftest live-occur-highlights-by-a-new-program-where-one-was-killed ()
-  (live-occur-test--with '("ab\n")
-    (let ((list (live-occur "b")))
-      (should (equal (live-occur-test--mark list) '((5 "b"))))
-      (with-current-buffer list
-        (signal-process (live-occur--session-process live-occur--parts) 'KILL))
-      (insert "cb\n")
-      (live-occur-test--mark list)
-      (should (equal (live-occur-test--mark list) '((5 "b") (5 "b")))))))
+        (live-occur-toggle-inverse))
+      (should (equal (live-occur-test--mark list) '((4 "a") (5 "a") (5 "aa")))))))
 
 (ert-deftest live-occur-ends-a-program-that-is-stopped ()
   (live-occur-test--with '("a\n")
@@ -772,47 +1009,37 @@ All buffers and processes that it makes are taken away after it."
                                 '(0 . 0) 0))))
         (should (eq (window-buffer) (nth 1 buffers)))))))
 
-(ert-deftest live-occur-visits-lines-around ()
-  (live-occur-test--with '("a\nb\nc\nd\na\n")
-    (let ((list (live-occur "a")))
-      (with-current-buffer list
-        (live-occur-set-context 0 1))
-      (live-occur-test--mark list)
-      (live-occur-test--at list 2)
-      (with-current-buffer list
-        (live-occur-visit))
-      (should (equal (line-number-at-pos) 2))
-      (live-occur-test--at list 3)
-      (with-current-buffer list
-        (should-error (live-occur-visit) :type 'user-error))
-      (live-occur-test--at list 1)
-      (with-current-buffer list
-        (live-occur--next-error 1))
-      (with-current-buffer a
-        (should (equal (line-number-at-pos) 5)))
-      (with-current-buffer list
-        (live-occur--next-error -1))
-      (with-current-buffer a
-        (should (equal (line-number-at-pos) 1))))))
-
 (ert-deftest live-occur-highlights-no-lines-around ()
   (live-occur-test--with '("a\nb\nc\na\n")
     (let ((list (live-occur "a")))
       (with-current-buffer list
         (live-occur-set-context 0 1))
-      (should (equal (live-occur-test--mark list) '((4 "a") nil nil (4 "a")))))))
+      (should (equal (live-occur-test--mark list) '((4 "a") (4 "a")))))))
 
-(ert-deftest live-occur-visits-parts ()
-  (live-occur-test--with '("é ab é ab\n")
+(ert-deftest live-occur-visits-the-first-part ()
+  (live-occur-test--with '("é xab é ab\n")
     (live-occur-test--in-windows
       (let ((list (live-occur "ab")))
-        (with-current-buffer list
-          (live-occur-toggle-parts))
         (live-occur-test--rows list)
-        (live-occur-test--at list 2)
+        (live-occur-test--at list 1)
         (with-current-buffer list
           (live-occur-visit))
-        (should (= (current-column) 7))))))
+        (should (= (current-column) 3))))))
+
+(ert-deftest live-occur-corrects-numbers-at-once ()
+  (live-occur-test--with '("a1\nb\na2\na3\n" "a4\n")
+    (live-occur-test--in-windows
+      (let ((list (live-occur "a" buffers)))
+        (live-occur-test--rows list)
+        (goto-char (point-min))
+        (forward-line 1)
+        (insert "c\nd\n")
+        (with-timeout (10 (error "Numbers are not corrected"))
+          (while (not (equal (with-current-buffer list (live-occur-test--text-shown))
+                             "a:1:a1\na:5:a2\na:6:a3\nb:1:a4\n"))
+            (accept-process-output nil 0.01)))
+        (with-current-buffer list
+          (should-not (live-occur-test--busy-p)))))))
 
 (ert-deftest live-occur-visits-lines-that-have-moved ()
   (live-occur-test--with (list (concat "o1\n" (apply #'concat (make-list 200 "x\n")) "o2\n"))
@@ -863,6 +1090,191 @@ All buffers and processes that it makes are taken away after it."
       (live-occur-test--rows list)
       (with-current-buffer list
         (should (looking-at "a:5:x3"))))))
+
+;;;; Which buffers
+
+(ert-deftest live-occur-takes-buffers-by-name-and-mode ()
+  (live-occur-test--with '("one\n" "one\n" "one\n")
+    (rename-buffer "live-occur-x1")
+    (with-current-buffer (nth 1 buffers)
+      (rename-buffer "live-occur-x2")
+      (emacs-lisp-mode))
+    (let ((live-occur-typing-delay nil))
+      (cl-letf (((symbol-function 'read-from-minibuffer) (lambda (&rest _) "o")))
+        (should (equal (live-occur-test--rows (live-occur-in-buffers-matching "^live-occur-x"))
+                       "live-occur-x1:1:one\nlive-occur-x2:1:one\n"))
+        (should (member "live-occur-x2:1:one"
+                        (split-string (live-occur-test--rows
+                                       (live-occur-in-mode 'emacs-lisp-mode))
+                                      "\n")))
+        (should-error (live-occur-in-buffers-matching "^no such name$") :type 'user-error)))))
+
+(ert-deftest live-occur-takes-buffers-of-a-project-and-of-dired ()
+  (live-occur-test--with '("")
+    (let* ((folder (make-temp-file "live-occur" t))
+           (default-directory (file-name-as-directory folder))
+           (project-find-functions (list (lambda (_) (cons 'transient default-directory)))))
+      (unwind-protect
+          (cl-letf (((symbol-function 'read-from-minibuffer) (lambda (&rest _) "o")))
+            (write-region "one\n" nil "f1" nil 'quiet)
+            (write-region "two\n" nil "f2" nil 'quiet)
+            (with-current-buffer (dired-noselect folder)
+              (dired-mark-files-regexp "f[12]")
+              (should (equal (live-occur-test--rows (live-occur-in-dired))
+                             "f1:1:one\nf2:1:two\n")))
+            (with-current-buffer (find-file-noselect "f1")
+              (let ((rows (live-occur-test--rows (live-occur-in-project))))
+                (should (string-search "f1:1:one\n" rows))
+                (should (string-search "f2:1:two\n" rows)))))
+        (delete-directory folder t)))))
+
+(ert-deftest live-occur-takes-over-from-isearch ()
+  (live-occur-test--with '("a.b\nA.B\naxb\n")
+    (live-occur-test--in-windows
+      (set-window-buffer nil a)
+      (set-buffer a)
+      (goto-char (point-min))
+      (let ((map (make-sparse-keymap)))
+        (set-keymap-parent map isearch-mode-map)
+        (define-key map (kbd "M-s l") #'live-occur-isearch)
+        (let ((isearch-mode-map map))
+          (execute-kbd-macro (kbd "C-s a . b M-s l"))))
+      (should (equal (live-occur-test--rows "*Live Occur*") "a:1:a.b\na:2:A.B\n"))
+      (with-current-buffer "*Live Occur*"
+        (should (eq live-occur--the-syntax 'fixed))))))
+
+;;;; Editing rows
+
+(ert-deftest live-occur-edits-rows ()
+  (live-occur-test--with '("one\ntwo\nthree\n" "four\n")
+    (live-occur-test--in-windows
+      (let ((list (live-occur "o" buffers)))
+        (should (equal (live-occur-test--rows list) "a:1:one\na:2:two\nb:1:four\n"))
+        (with-selected-window (get-buffer-window list)
+          (live-occur-test--press "M-< e M-f C-f C-f C-f X")
+          (should (equal (buffer-string) "a:1:Xone\na:2:two\nb:1:four\n"))
+          (should (equal (with-current-buffer a (buffer-string)) "Xone\ntwo\nthree\n"))
+          (live-occur-test--press "C-n C-e C-q C-j Y")
+          (should (equal (with-current-buffer a (buffer-string)) "Xone\ntwo Y\nthree\n"))
+          (undo-boundary)
+          (undo 2)
+          (should (equal (with-current-buffer a (buffer-string)) "Xone\ntwo\nthree\n"))
+          (should (equal (buffer-substring-no-properties (point-min) (point-max))
+                         "a:1:Xone\na:2:two\nb:1:four\n"))
+          (should-error (progn (goto-char (point-min)) (insert "x")) :type 'text-read-only)
+          (should-error (progn (goto-char (point-max)) (insert "x")) :type 'text-read-only)
+          (should-error (delete-char -1) :type 'text-read-only)
+          (goto-char (point-max))
+          (forward-char -5)
+          (insert "ab")
+          (should (equal (with-current-buffer (nth 1 buffers) (buffer-string)) "abfour\n"))
+          (search-backward "two")
+          (delete-char 3)
+          (should (equal (with-current-buffer a (buffer-string)) "Xone\n\nthree\n"))
+          (live-occur-test--press "C-c C-c"))
+        (should (equal (live-occur-test--rows list) "a:1:Xone\nb:1:abfour\n"))
+        (with-current-buffer list
+          (should buffer-read-only)
+          (should (eq (key-binding "e") #'live-occur-edit)))))))
+
+(defun live-occur-test--press (keys)
+  "Press KEYS in the selected window."
+  (execute-kbd-macro (kbd keys)))
+
+(ert-deftest live-occur-refuses-to-edit-what-it-may-not ()
+  (live-occur-test--with '("one\ntwo\no3\n" "four\n" )
+    (with-current-buffer (nth 1 buffers)
+      (setq buffer-read-only t))
+    (let ((list (live-occur "o" buffers)) told)
+      (should (equal (live-occur-test--rows list) "a:1:one\na:2:two\na:3:o3\nb:1:four\n"))
+      (with-current-buffer list
+        (live-occur-edit)
+        (goto-char (point-max))
+        (forward-char -3)
+        (should (equal (should-error (insert "x") :type 'text-read-only)
+                       '(text-read-only "buffer b")))
+        (forward-char 2)
+        (should-error (insert "x") :type 'text-read-only)
+        (with-current-buffer a
+          (goto-char (point-min))
+          (forward-line 1)
+          (delete-region (point) (line-beginning-position 2)))
+        (cl-letf (((symbol-function 'message)
+                   (lambda (&rest words) (setq told (apply #'format words)))))
+          (goto-char (point-min))
+          (search-forward "two")
+          (insert "x")
+          (should (equal told "The line of this row in a is gone, or was edited there; the row alone is edited"))
+          (search-forward "o3")
+          (insert "x")
+          (with-current-buffer a
+            (should (equal (buffer-string) "one\no3x\n"))
+            (setq buffer-read-only t))
+          (insert "y")
+          (should (equal told "Buffer a is read-only; the row alone is edited")))
+        (live-occur-end-edit))
+      (should (equal (live-occur-test--rows list) "a:1:one\na:2:o3x\nb:1:four\n")))))
+
+(ert-deftest live-occur-follows-lines-while-rows-are-edited ()
+  (live-occur-test--with '("one\ntwo\n")
+    (live-occur-test--in-windows
+      (let ((list (live-occur "o")))
+        (live-occur-test--rows list)
+        (setq buffer-undo-list nil)
+        (with-selected-window (get-buffer-window list)
+          (live-occur-edit)
+          (goto-char (point-min))
+          (search-forward "tw")
+          (insert "12"))
+        (undo-boundary)
+        (should (equal (buffer-string) "one\ntw12o\n"))
+        (undo)
+        (should (equal (buffer-string) "one\ntwo\n"))
+        (with-current-buffer list
+          (live-occur--look list)
+          (should (equal (live-occur-test--text-shown) "a:1:one\na:2:two\n"))
+          (search-backward "tw")
+          (insert "3"))
+        (should (equal (buffer-string) "one\n3two\n"))
+        (with-current-buffer list
+          (live-occur-end-edit))
+        (should (equal (live-occur-test--rows list) "a:1:one\na:2:3two\n"))))))
+
+(ert-deftest live-occur-edits-rows-at-random ()
+  "After each of many edits of rows and undos, the lines are those of the rows."
+  (random "live-occur rows")
+  (live-occur-test--with '("ab\nc\naé\nba\n\na\n" "a\nx\n€a")
+    (let ((list (live-occur "a" buffers)))
+      (live-occur-test--rows list)
+      (with-current-buffer list
+        (live-occur-edit)
+        (dotimes (_ 300)
+          (live-occur--go-to-row (random (live-occur--total)))
+          (let* ((start (next-single-property-change (point) 'live-occur-number))
+                 (place (+ start (random (1+ (- (line-end-position) start)))))
+                 (end (min (line-end-position) (+ place (random 3)))))
+            (pcase (random 6)
+              ((or 0 1) (goto-char place) (insert (live-occur-test--text 2)))
+              (2 (delete-region place end))
+              (3 (upcase-region place end))
+              (4 (goto-char place) (delete-region place end) (insert "é"))
+              (5 (ignore-errors (undo (1+ (random 2)))))))
+          (undo-boundary)
+          (goto-char (point-min))
+          (live-occur--map-hits
+           (lambda (hit)
+             (should (equal (buffer-substring-no-properties
+                             (next-single-property-change (point) 'live-occur-number)
+                             (line-end-position))
+                            (live-occur--text-of-line hit)))
+             (forward-line 1))
+           0 (live-occur--total)))
+        (live-occur-end-edit))
+      (should (equal (with-current-buffer a (count-lines 1 (point-max))) 6))
+      (let ((folder (make-temp-file "live-occur" t)))
+        (unwind-protect
+            (should (equal (live-occur-test--rows list) (live-occur-test--searched list folder)))
+          (delete-directory folder t))))))
 
 ;;;; Random edits
 
@@ -917,7 +1329,7 @@ All buffers and processes that it makes are taken away after it."
   (with-current-buffer list
     (pcase (random 9)
       (8 (live-occur-set-context (random 3) (random 3)))
-      ((or 0 1 2 3) (live-occur--toggle (nth (random 5) live-occur--flag-letters)))
+      ((or 0 1 2 3) (live-occur--toggle (nth (random 3) live-occur--flag-letters)))
       (4 (live-occur--choose-syntax (nth (random 3) '(basic extended fixed))))
       (5 (live-occur--add (nth (random 6) '("a" "b$" "^" "a*b" "\\(a" "[ab]B"))))
       (6 (when live-occur--patterns
@@ -926,8 +1338,9 @@ All buffers and processes that it makes are taken away after it."
     (unless live-occur--patterns
       (live-occur--add "a"))))
 
-(defun live-occur-test--searched (list folder)
-  "What grep writes for all that LIST has, with files in FOLDER."
+(defun live-occur-test--searched (list folder &optional parts)
+  "What grep writes for all that LIST has, with files in FOLDER.
+With PARTS non-nil it is the matched parts."
   (with-current-buffer list
     (let ((default-directory (file-name-as-directory folder))
           (coding-system-for-write 'utf-8-emacs-unix)
@@ -947,11 +1360,71 @@ All buffers and processes that it makes are taken away after it."
                                       (pcase live-occur--the-syntax
                                         ('basic "") ('extended "E") ('fixed "F")))))
                "-f" "patterns"
-               (append (pcase (buffer-local-value 'live-occur--the-context list)
-                         (`(,before . ,after)
-                          (list (format "-B%d" before) (format "-A%d" after))))
+               (append (if parts
+                           '("-o")
+                         (pcase (buffer-local-value 'live-occur--the-context list)
+                           (`(,before . ,after)
+                            (list (format "-B%d" before) (format "-A%d" after)))))
                        '("--") (nreverse names)))
         (buffer-string)))))
+
+(defun live-occur-test--parts (list)
+  "The matched parts of the hits of LIST, as grep writes them."
+  (with-current-buffer list
+    (let (all)
+      (live-occur--map-hits
+       (lambda (hit)
+         (pcase-dolist (`(,start . ,end) (live-occur--hit-parts hit))
+           (push (format "%s:%d:%s\n"
+                         (live-occur--source-name (live-occur--hit-source hit))
+                         (1+ (live-occur--line-of hit))
+                         (live-occur--text (substring (live-occur--hit-bytes hit) start end)))
+                 all)))
+       0 (live-occur--total))
+      (apply #'concat (nreverse all)))))
+
+(defun live-occur-test--badly-marked (list)
+  "A row of LIST in which other characters are highlighted than should be, or nil."
+  (with-current-buffer list
+    (goto-char (point-min))
+    (let (bad)
+      (live-occur--map-hits
+       (lambda (hit)
+         (goto-char (next-single-property-change (point) 'live-occur-number))
+         (let ((byte 0))
+           (while (not (eolp))
+             (let ((next (+ byte (length (live-occur--bytes (string (char-after)))))))
+               (unless (eq (and (eq (get-text-property (point) 'face) 'live-occur-match) t)
+                           (and (cl-loop for (start . end) in (live-occur--hit-parts hit)
+                                         thereis (and (< start next) (< byte end)))
+                                t))
+                 (setq bad (buffer-substring (line-beginning-position) (line-end-position))))
+               (setq byte next))
+             (forward-char 1)))
+         (forward-line 1))
+       0 (live-occur--total))
+      bad)))
+
+(defun live-occur-test--numbers-right (list)
+  "Check the numbers of rows of LIST that no edit has touched since the last update.
+The answer is how many they are."
+  (with-current-buffer list
+    (live-occur-test--wait)
+    (let ((checked 0))
+      (live-occur--map-hits
+       (lambda (hit)
+         (let ((source (live-occur--hit-source hit))
+               (line (live-occur--line-of hit)))
+           (unless (or (live-occur--source-lost source)
+                       (/= (live-occur--source-tick source)
+                           (buffer-chars-modified-tick (live-occur--source-buffer source)))
+                       (cl-loop for (at _ is) in (live-occur--source-edits source)
+                                thereis (<= at line (+ at is))))
+             (cl-incf checked)
+             (should (equal (live-occur--bytes (live-occur--text-of-line hit))
+                            (live-occur--hit-bytes hit))))))
+       0 (live-occur--total))
+      checked)))
 
 (defvar live-occur-test--edits
   (string-to-number (or (getenv "EDITS") "4000"))
@@ -963,10 +1436,9 @@ All buffers and processes that it makes are taken away after it."
   (live-occur-test--with (cl-loop for most in '(0 10 200 900)
                                   collect (live-occur-test--text most))
     (let* ((folder (make-temp-file "live-occur" t))
-           (live-occur-max-rows nil)
            (indirect (make-indirect-buffer (nth 3 buffers) "indirect"))
            (list (live-occur "ab" buffers))
-           (compared 0) (rows 0) (lost 0))
+           (compared 0) (rows 0) (lost 0) (numbers 0))
       (unwind-protect
           (progn
             (live-occur-test--rows list)
@@ -982,19 +1454,26 @@ All buffers and processes that it makes are taken away after it."
                      (apply #'narrow-to-region (live-occur-test--region))
                      (live-occur-test--edit)))
                   (_ (live-occur-test--edit))))
+              (when (= (random 4) 0)
+                (cl-incf numbers (live-occur-test--numbers-right list)))
               (when (= (random 12) 0)
                 (live-occur-test--change list))
               (when (= (random 3) 0)
                 (let ((shown (live-occur-test--rows list)))
                   (cl-incf compared)
-                  (cl-incf rows (length (buffer-local-value 'live-occur--rows list)))
+                  (when (= (random 4) 0)
+                    (should (equal (live-occur-test--parts list)
+                                   (live-occur-test--searched list folder t)))
+                    (should-not (live-occur-test--badly-marked list)))
+                  (cl-incf rows (with-current-buffer list (live-occur--total)))
                   (unless (equal shown (live-occur-test--searched list folder))
                     (ert-fail (list "differs" compared shown
                                     (live-occur-test--searched list folder))))))))
         (advice-remove 'live-occur--lose 'live-occur-test)
         (delete-directory folder t))
-      (live-occur-test--tell "%d edits, %d comparisons of %d rows, none differ; %d texts sent anew"
-               live-occur-test--edits compared rows lost)
+      (live-occur-test--tell
+       "%d edits, %d comparisons of %d rows, none differ; %d numbers before an update, none wrong; %d texts sent again"
+       live-occur-test--edits compared rows numbers lost)
       (should (> compared (/ live-occur-test--edits 5))))))
 
 ;;;; Time
@@ -1003,30 +1482,66 @@ All buffers and processes that it makes are taken away after it."
   "The median of NUMBERS."
   (nth (/ (length numbers) 2) (sort (copy-sequence numbers) #'<)))
 
+(defun live-occur-test--large (lines every)
+  "A text of LINES lines, of which one of EVERY has a needle."
+  (with-temp-buffer
+    (dotimes (line lines)
+      (insert (format "%07d the quick brown fox jumps over the lazy %s\n"
+                      line (if (= 0 (mod line every)) "needle" "dog"))))
+    (buffer-string)))
+
+(defun live-occur-test--times (lines every turns away)
+  "Measure TURNS edits with their updates in a text of LINES lines.
+One line of EVERY matches.  Each edit is AWAY lines after the one before, or
+before it at the end.  The answer is the seconds to open the list, and those
+of the edits: of the command alone, and with the update."
+  (live-occur-test--with (list (live-occur-test--large lines every))
+    (live-occur-test--in-windows
+      (let* ((live-occur-idle-rows 0)
+             (began (float-time))
+             (list (live-occur "needle"))
+             (opened (with-current-buffer list
+                       (live-occur-test--wait)
+                       (- (float-time) began)))
+             edits updates)
+        (goto-char (/ (point-max) 3))
+        (dotimes (turn turns)
+          (setq away (* away (if (= 0 (forward-line away)) 1 -1)))
+          (forward-line 0)
+          (let ((start (float-time)))
+            (insert (format "%d new needle\n" turn))
+            (push (- (float-time) start) edits)
+            (with-current-buffer list
+              (live-occur--update)
+              (while (live-occur-test--busy-p)
+                (accept-process-output
+                 (live-occur--session-process live-occur--session) 1)))
+            (push (- (float-time) start) updates)))
+        (with-current-buffer list
+          (should (= (live-occur--total) (+ turns (/ (+ lines every -1) every)))))
+        (list opened edits updates)))))
+
 (ert-deftest live-occur-is-quick-in-a-large-buffer ()
-  "An edit of 200,000 lines and its report take less than a tenth of a second."
-  (live-occur-test--with
-      (list (with-temp-buffer
-              (dotimes (line 200000)
-                (insert (format "%06d the quick brown fox jumps over the lazy dog\n" line)))
-              (buffer-string)))
-    (let* ((began (float-time))
-           (list (live-occur "999 the.*fox"))
-           (opened (progn (live-occur-test--rows list) (- (float-time) began)))
-           times)
-      (should (= 200 (length (buffer-local-value 'live-occur--rows list))))
-      (dotimes (turn 30)
-        (goto-char (nth (mod turn 3) (list (point-min) (/ (point-max) 2) (point-max))))
-        (forward-line 0)
-        (garbage-collect)
-        (let ((start (float-time)))
-          (insert (format "%d999 the new fox\n" turn))
-          (live-occur-test--rows list)
-          (push (- (float-time) start) times)))
-      (should (= 230 (length (buffer-local-value 'live-occur--rows list))))
-      (live-occur-test--tell "200,000 lines: opened in %.2f s; an edit and its report: median %.1f ms, at most %.1f ms"
-               opened (* 1000 (live-occur-test--median times)) (* 1000 (apply #'max times)))
-      (should (< (live-occur-test--median times) 0.1)))))
+  "An edit of 200,000 lines and its update take less than a tenth of a second."
+  (pcase-let ((`(,opened ,_ ,updates) (live-occur-test--times 200000 10 30 10)))
+    (live-occur-test--tell
+     "200,000 lines: opened in %.2f s; an edit and its update: median %.1f ms, at most %.1f ms"
+     opened (* 1000 (live-occur-test--median updates)) (* 1000 (apply #'max updates)))
+    (should (< (live-occur-test--median updates) 0.1))))
+
+(defun live-occur-test-times ()
+  "Print a table of times."
+  (live-occur-test--tell "%10s %10s %10s %10s %10s %10s %10s" "lines" "hits" "lines away"
+                         "open, s" "edit, ms" "update, ms" "at most")
+  (pcase-dolist (`(,lines ,every ,away)
+                 '((100000 10 10) (1000000 1000 10) (1000000 10 10) (1000000 10 300000)
+                   (1000000 1 10)))
+    (pcase-let ((`(,opened ,edits ,updates) (live-occur-test--times lines every 60 away)))
+      (live-occur-test--tell "%10d %10d %10d %10.2f %10.2f %10.2f %10.2f"
+                             lines (/ lines every) away opened
+                             (* 1000 (live-occur-test--median edits))
+                             (* 1000 (live-occur-test--median updates))
+                             (* 1000 (apply #'max updates))))))
 
 ;;;; The file
 
