@@ -1,0 +1,728 @@
+-- A list: a buffer with the lines that match, kept right while the searched buffers are edited.
+--
+-- The first line of its buffer is a header. Then there is a row for each hit: a margin, in which the
+-- number is drawn, and the line. Where several buffers are searched, a row with its name is before
+-- the rows of each buffer that has some.
+
+local Hits = require("live_occur.hits")
+local Session = require("live_occur.session")
+local hunks = require("live_occur.hunks")
+local settings = require("live_occur.settings")
+
+local api, fn = vim.api, vim.fn
+local MARGIN = string.rep(" ", 8)
+local GAP = "--"
+
+local List = { all = {} } -- `all` has each list by the number of its buffer
+List.__index = List
+List.margin = #MARGIN
+
+-- Small things
+
+local function say(text, kind)
+  api.nvim_echo({ { "LiveOccur: " .. text, kind or "WarningMsg" } }, true, {})
+end
+
+local function name_of(buffer)
+  local name = api.nvim_buf_is_valid(buffer) and api.nvim_buf_get_name(buffer) or ""
+  return name == "" and "[No Name]" or fn.fnamemodify(name, ":~:.")
+end
+
+-- The lines of a buffer, as they are sent. One with a newline can't be: Neovim keeps NUL as one.
+local function lines_of(buffer, first, last)
+  return api.nvim_buf_get_lines(buffer, first, last, false)
+end
+
+-- A row's text: the line, or its beginning up to a whole character.
+local function row_text(line)
+  local most = settings.max_columns
+  if #line > most then
+    while most > 0 and line:byte(most + 1) >= 128 and line:byte(most + 1) < 192 do
+      most = most - 1
+    end
+    line = line:sub(1, most)
+  end
+  return MARGIN .. line
+end
+
+-- Making a list
+
+-- A new list of these buffers: `patterns` as they were typed, `range` with the first and the last
+-- line that are searched, or nil. Returns nil and a text where a pattern is refused.
+function List.new(pattern, buffers, options)
+  local self = setmetatable({
+    patterns = {},
+    syntax = options.syntax or settings.syntax,
+    flags = {},
+    context = { settings.context[1], settings.context[2] },
+    follow = settings.follow,
+    files = {},
+  }, List)
+  for flag in (options.flags or settings.flags):gmatch("[ivx]") do
+    self.flags[flag] = true
+  end
+  local fault, place = self:start({ pattern })
+  if fault then
+    self:close()
+    return nil, fault, place
+  end
+  self.buffer = api.nvim_create_buf(false, true)
+  List.all[self.buffer] = self
+  api.nvim_buf_set_name(self.buffer, "live-occur://" .. self.buffer)
+  for option, value in pairs({ undolevels = -1, modifiable = false, filetype = "live_occur", bufhidden = "hide" }) do
+    api.nvim_buf_set_option(self.buffer, option, value)
+  end
+  for _, buffer in ipairs(buffers) do
+    self:add_buffer(buffer, options.range)
+  end
+  self:show_header()
+  self:step()
+  return self
+end
+
+-- Starts the program and sends the syntax, the flags and these patterns. Returns a fault, if there
+-- is one.
+function List:start(patterns)
+  local session, fault = Session.start(settings.program, settings.states, function(text)
+    self.ended = text
+    self:show_header()
+    say(text .. "; r in the list starts it again", "ErrorMsg")
+  end)
+  if not session then
+    self.ended = fault
+    return fault
+  end
+  self.session, self.ended, self.asked, self.patterns = session, nil, nil, {}
+  session:send("syntax " .. self.syntax, nil, self:accepted())
+  session:send("flag o on", nil, self:accepted())
+  for flag in pairs(self.flags) do
+    session:send("flag " .. flag .. " on", nil, self:accepted())
+  end
+  return self:try_patterns(patterns)
+end
+
+-- A function for replies that have to be ok. Where one isn't, the session is of no use any more.
+function List:accepted()
+  local session = self.session
+  return function(reply)
+    if reply.kind ~= "ok" then
+      session:close()
+      self.ended = "occur refused a command: " .. reply.text
+      self:show_header()
+      say(self.ended .. "; r in the list starts it again", "ErrorMsg")
+    end
+  end
+end
+
+-- Sends a command that may be refused for its pattern, and waits for the reply. Returns nil where it
+-- is accepted; else the kind of the fault, the number of the pattern, and the place in it.
+function List:try(command, lines)
+  local reply
+  self.session:send(command, lines, function(found)
+    reply = found
+  end)
+  vim.wait(10000, function()
+    return reply or self.session.closed
+  end, 1)
+  if not reply then
+    return self.ended or "no reply comes"
+  elseif reply.kind == "ok" then
+    return nil
+  end
+  local number, kind, place = reply.text:match("^Pattern (%d+) (%S+) (%d+)$")
+  return kind or reply.text, tonumber(number), tonumber(place)
+end
+
+-- Adds patterns, all or none. Returns a fault: a text, and the place in the pattern, if it has one.
+function List:try_patterns(patterns)
+  if #patterns == 0 then
+    return nil
+  end
+  local kind, number, place = self:try("patterns " .. #patterns, patterns)
+  if kind then
+    return List.fault(kind, number and patterns[number + 1], place), place
+  end
+  vim.list_extend(self.patterns, patterns)
+end
+
+function List.fault(kind, pattern, place)
+  if not pattern then
+    return kind
+  end
+  return ("%s at %d in: %s"):format(kind, place, pattern)
+end
+
+-- Starts the program again, with the patterns, the flags and the buffers of the list.
+function List:restart()
+  local patterns = self.patterns
+  if self.session then
+    self.session:close()
+  end
+  local fault = self:start(patterns)
+  self.patterns = patterns
+  if fault then
+    self.ended = fault
+    self:show_header()
+    return say(fault, "ErrorMsg")
+  end
+  local files = self.files
+  self.files = {}
+  self:put(1, -1, {})
+  for _, file in ipairs(files) do
+    self:add_file(file)
+    file.pending, file.sent, file.hits, file.shown, file.view = {}, {}, Hits.new(), 0, nil
+    hunks.note(file.pending, 0, 0, file.to - file.from)
+  end
+  self:step()
+end
+
+-- Ends the list: its process, and all that it has in other buffers.
+function List:close()
+  self.closed = true
+  for _, file in ipairs(self.files) do
+    file.attached = nil
+  end
+  if self.session then
+    self.session:close()
+  end
+  if self.buffer then
+    List.all[self.buffer] = nil
+  end
+end
+
+-- Buffers
+
+-- Sends an empty file for a buffer; its lines follow as edits.
+function List:add_file(file)
+  table.insert(self.files, file)
+  self.session:send("file " .. file.buffer .. " 0", nil, self:accepted())
+end
+
+function List:add_buffer(buffer, range)
+  for _, file in ipairs(self.files) do
+    if file.buffer == buffer then
+      return
+    end
+  end
+  fn.bufload(buffer)
+  local file = { buffer = buffer, pending = {}, sent = {}, hits = Hits.new(), shown = 0 }
+  file.count = api.nvim_buf_line_count(buffer)
+  file.ranged = range ~= nil
+  file.from = range and math.min(range[1] - 1, file.count) or 0
+  file.to = range and math.min(range[2], file.count) or file.count
+  self:add_file(file)
+  self:attach(file)
+  hunks.note(file.pending, 0, 0, file.to - file.from)
+  if #self.files == 2 then
+    self:render_all()
+  end
+  self:later()
+end
+
+function List:remove_file(file)
+  for index, each in ipairs(self.files) do
+    if each == file then
+      local row = self:row_of(file)
+      self:put(row, row + file.shown, {})
+      file.closed, file.attached = true, nil
+      table.remove(self.files, index)
+      self.session:send("close " .. index - 1, nil, self:accepted())
+      self:render_all()
+      return
+    end
+  end
+end
+
+-- Follows the edits of a buffer.
+function List:attach(file)
+  local token = {}
+  file.attached = token
+  api.nvim_buf_attach(file.buffer, false, {
+    on_lines = function(_, _, _, first, last, new_last)
+      if file.attached ~= token then
+        return true
+      end
+      self:edited(file, first, last, new_last)
+    end,
+    on_reload = function()
+      if file.attached == token then
+        self:renew(file)
+      end
+    end,
+    on_detach = function()
+      if file.attached == token then
+        file.attached = nil
+        vim.schedule(function()
+          self:check(file)
+        end)
+      end
+    end,
+  })
+end
+
+-- Notes an edit: lines from `first` up to `last` are now those up to `new_last`.
+function List:edited(file, first, last, new_last)
+  file.count = file.count + new_last - last
+  if file.count == 0 then -- Neovim reports no line, and has an empty one.
+    file.count, new_last = 1, 1
+  end
+  local at, removed, added = first, last - first, new_last - first
+  if file.ranged then
+    file.from, file.to, at, removed, added = hunks.clip(file.from, file.to, first, last, new_last)
+  else
+    file.to = file.count
+  end
+  if at then
+    hunks.note(file.pending, at, removed, added)
+  end
+  self:redraw()
+  self:later()
+end
+
+-- Notes that all lines of a buffer may be others.
+function List:renew(file)
+  local loaded = api.nvim_buf_is_loaded(file.buffer)
+  local old = file.to - file.from
+  file.count = loaded and api.nvim_buf_line_count(file.buffer) or 0
+  file.from = file.ranged and math.min(file.from, file.count) or 0
+  file.to = file.ranged and loaded and math.min(math.max(file.to, file.from), file.count) or file.count
+  hunks.note(file.pending, 0, old, file.to - file.from)
+  self:later()
+end
+
+-- Takes care that what is known of a buffer is right: it may have been unloaded, loaded anew or
+-- wiped since.
+function List:check(file)
+  if self.closed or file.closed then
+    return
+  elseif not api.nvim_buf_is_valid(file.buffer) then
+    return self:remove_file(file)
+  elseif not file.attached and api.nvim_buf_is_loaded(file.buffer) then
+    self:attach(file)
+    return self:renew(file)
+  elseif file.count ~= api.nvim_buf_line_count(file.buffer) then -- An unloaded one has 0.
+    return self:renew(file)
+  end
+end
+
+-- A buffer was loaded: if it is one of this list, its edits are followed again.
+function List:loaded(buffer)
+  for _, file in ipairs(self.files) do
+    if file.buffer == buffer and not file.attached then
+      self:check(file)
+    end
+  end
+end
+
+-- Edits out, changes in
+
+-- Brings the list up to date at the next pause.
+function List:later()
+  self.edits = (self.edits or 0) + 1
+  local edits = self.edits
+  vim.defer_fn(function()
+    if edits == self.edits then
+      self:step()
+    end
+  end, settings.delay)
+end
+
+-- Sends some hunks of a file, with at most `room` lines, and returns the room that is left.
+function List:send_hunks(file, number, room)
+  file.sent = hunks.take(file.pending, room)
+  for _, hunk in ipairs(file.sent) do
+    local lines = lines_of(file.buffer, file.from + hunk.at, file.from + hunk.at + hunk.added)
+    local command = ("splice %d %d %d %d"):format(number, hunk.at, hunk.removed, hunk.added)
+    self.session:send(command, lines, self:accepted())
+    room = room - hunk.added
+  end
+  return room
+end
+
+-- Sends what was edited, at most a slice of it, and asks what changed.
+function List:step()
+  if self.closed or self.ended then
+    return
+  elseif self.asked then
+    self.due = true
+    return
+  elseif fn.mode():sub(1, 1) == "c" then -- The text may be that of a preview.
+    return self:later()
+  end
+  for _, file in ipairs(vim.list_extend({}, self.files)) do
+    self:check(file)
+  end
+  local room = settings.slice
+  self.due = false
+  for number, file in ipairs(self.files) do
+    room = self:send_hunks(file, number - 1, room)
+    self.due = self.due or #file.pending > 0
+  end
+  self.asked = vim.list_extend({}, self.files)
+  self.session:send("changes", nil, function(reply)
+    self:report(reply)
+  end)
+end
+
+-- Brings the list up to date, and waits for it. Returns false if that takes too long.
+function List:wait(milliseconds)
+  self:step()
+  return vim.wait(milliseconds or 10000, function()
+    return self:settled()
+  end, 1)
+end
+
+function List:settled()
+  if self.closed or self.ended then
+    return true
+  end
+  for _, file in ipairs(self.files) do
+    if #file.pending > 0 then
+      return false
+    end
+  end
+  return not self.asked and not self.session:busy()
+end
+
+-- Applies the reply to changes.
+function List:report(reply)
+  local files = self.asked
+  self.asked = nil
+  if reply.kind ~= "status" then
+    return self:accepted()(reply)
+  end
+  local windows = self:keep_windows()
+  for _, file in ipairs(files) do
+    file.sent = {}
+  end
+  for _, block in ipairs(reply.blocks) do
+    local file = files[block.words[1] + 1]
+    if not file.closed then
+      self:apply(file, block, windows)
+    end
+  end
+  if #reply.blocks > 0 then
+    self:to_first_hit(windows)
+    self:restore_windows(windows)
+  end
+  self:show_header()
+  self:redraw()
+  if self.due then
+    self:step()
+  end
+end
+
+-- Applies one h line, with its hits.
+function List:apply(file, block, windows)
+  local front, removed, added = block.words[2], block.words[3], block.words[4]
+  local hits, had = file.hits, file.hits:count()
+  local index, gone = hits:cut(front, removed, added)
+  for number = 1, block.count do
+    hits:push(block.places[number], block.parts[number])
+  end
+  local heading = #self.files > 1
+  if file.view or self:around() or (heading and (had == 0) ~= (hits:count() == 0)) then
+    return self:render(file, block, windows, index)
+  end
+  if file.shown == 0 and hits:count() == 0 then
+    return
+  end
+  local texts = {}
+  for number = 1, block.count do
+    texts[number] = row_text(block.lines[number])
+  end
+  local row = self:row_of(file) + (heading and 1 or 0) + index
+  self:put(row, row + gone, texts, windows)
+  file.shown = hits:count() + (heading and 1 or 0)
+end
+
+-- Rows
+
+-- Whether lines around hits are shown.
+function List:around()
+  return self.context[1] > 0 or self.context[2] > 0
+end
+
+-- The first row of a file, from 0.
+function List:row_of(file)
+  local row = 1
+  for _, each in ipairs(self.files) do
+    if each == file then
+      break
+    end
+    row = row + each.shown
+  end
+  return row
+end
+
+-- What a row of the list's buffer is: nil for the header, else a table with `file`, and `place` (of
+-- the last report) and `parts` for a hit, `place` and `near` for a line around, or neither.
+function List:at(row)
+  local index = row - 1
+  if index < 0 then
+    return nil
+  end
+  for _, file in ipairs(self.files) do
+    if index < file.shown then
+      index = index + (#self.files > 1 and 0 or 1)
+      if index == 0 then
+        return { file = file, heading = true }
+      elseif file.view then
+        local number, place = file.view.numbers[index], file.view.places[index]
+        return { file = file, place = place, near = not number, parts = number and select(2, file.hits:get(number)) }
+      end
+      local place, parts = file.hits:get(index)
+      return { file = file, place = place, parts = parts }
+    end
+    index = index - file.shown
+  end
+end
+
+-- The line of a buffer, from 0, that a place of the last report is now.
+function List:line_of(file, place)
+  return file.from + hunks.place(file.pending, hunks.place(file.sent, place))
+end
+
+-- Replaces rows of the list's buffer, and moves what is kept of its windows with them.
+function List:put(first, last, texts, windows)
+  local buffer = self.buffer
+  if not buffer or (first == last and #texts == 0) then
+    return
+  end
+  api.nvim_buf_set_option(buffer, "modifiable", true)
+  api.nvim_buf_set_lines(buffer, first, last, false, texts)
+  api.nvim_buf_set_option(buffer, "modifiable", false)
+  api.nvim_buf_set_option(buffer, "modified", false)
+  for _, kept in ipairs(windows or {}) do
+    if kept.row >= last and last >= 0 then
+      kept.row = kept.row + #texts - (last - first)
+    elseif kept.row >= first then
+      kept.row = math.max(first + math.min(kept.row - first, #texts - 1), 0)
+    end
+  end
+end
+
+-- All rows of a file anew: the hits, with the lines around them.
+function List:render(file, block, windows)
+  local texts = {}
+  local hits = file.hits
+  local row = self:row_of(file)
+  if hits:count() > 0 and #self.files > 1 then
+    texts[1] = name_of(file.buffer)
+  end
+  file.view = nil
+  if self:around() then
+    file.view = self:view_of(file, texts)
+  else
+    self:hit_texts(file, texts)
+  end
+  self:put(row, row + file.shown, texts, windows)
+  file.shown = #texts
+end
+
+-- Adds the texts of all hits of a file, as they are in its buffer.
+function List:hit_texts(file, texts)
+  for number = 1, file.hits:count() do
+    local line = self:line_of(file, (file.hits:get(number)))
+    texts[#texts + 1] = row_text(lines_of(file.buffer, line, line + 1)[1] or "")
+  end
+end
+
+-- The rows of a file with lines around: for each its place and the number of its hit, if it is one.
+-- Their texts are added to `texts`.
+function List:view_of(file, texts)
+  local view = { places = {}, numbers = {} }
+  local hits, before, after = file.hits, self.context[1], self.context[2]
+  local function add(place, number)
+    local count = #texts + 1
+    local index = #view.places + 1
+    view.places[index], view.numbers[index] = place or false, number or false
+    local line = place and self:line_of(file, place)
+    texts[count] = line and row_text(lines_of(file.buffer, line, line + 1)[1] or "") or GAP
+  end
+  local shown
+  for number = 1, hits:count() do
+    local place = hits:get(number)
+    local first = math.max(place - before, shown or 0)
+    if shown and first > shown then
+      add(nil)
+    end
+    for near = first, place - 1 do
+      add(near)
+    end
+    add(place, number)
+    local next_place = number < hits:count() and hits:get(number + 1) or hits.lines
+    shown = math.min(place + after, next_place - 1) + 1
+    for near = place + 1, shown - 1 do
+      add(near)
+    end
+  end
+  return view
+end
+
+function List:render_all()
+  local windows = self:keep_windows()
+  for _, file in ipairs(self.files) do
+    self:render(file, nil, windows)
+  end
+  self:restore_windows(windows)
+  self:show_header()
+end
+
+-- What the list shows, as `grep -n` writes it: for each hit its buffer, its line from 1, and its text.
+function List:rows()
+  local rows = {}
+  local texts = lines_of(self.buffer, 0, -1)
+  for row = 1, #texts - 1 do
+    local at = self:at(row)
+    if at and at.parts then
+      rows[#rows + 1] = { at.file.buffer, self:line_of(at.file, at.place) + 1, texts[row + 1]:sub(#MARGIN + 1), at.parts }
+    end
+  end
+  return rows
+end
+
+function List:total()
+  local total = 0
+  for _, file in ipairs(self.files) do
+    total = total + file.hits:count()
+  end
+  return total
+end
+
+-- The header
+
+local function counted(number, what)
+  return number .. " " .. what .. (number == 1 and "" or "s")
+end
+
+function List:header()
+  local flags = ""
+  for _, flag in ipairs({ "i", "v", "x" }) do
+    flags = flags .. (self.flags[flag] and flag or "")
+  end
+  local words = { self.syntax .. (flags ~= "" and " -" .. flags or "") }
+  if self:around() then
+    words[#words + 1] = ("-B %d -A %d"):format(self.context[1], self.context[2])
+  end
+  words[#words + 1] = table.concat(self.patterns, "  ")
+  words[#words + 1] = counted(self:total(), "hit") .. ", " .. counted(#self.files, "buffer")
+  if self.ended then
+    words[#words + 1] = self.ended
+  elseif self.due then
+    words[#words + 1] = "more to come"
+  end
+  return table.concat(words, "  ")
+end
+
+function List:show_header()
+  local text = self.buffer and self:header():gsub("[\n%z]", " ")
+  if self.buffer and text ~= self.shown_header and api.nvim_buf_is_valid(self.buffer) then
+    self.shown_header = text
+    self:put(0, 1, { text })
+  end
+end
+
+-- Windows
+
+function List:windows()
+  return self.buffer and fn.win_findbuf(self.buffer) or {}
+end
+
+function List:keep_windows()
+  local kept = {}
+  for _, window in ipairs(self:windows()) do
+    local cursor = api.nvim_win_get_cursor(window)
+    local top = fn.line("w0", window) - 1
+    kept[#kept + 1] = { window = window, row = cursor[1] - 1, column = cursor[2], above = cursor[1] - 1 - top }
+  end
+  return kept
+end
+
+function List:restore_windows(kept)
+  local count = api.nvim_buf_line_count(self.buffer)
+  for _, each in ipairs(kept) do
+    local row = math.max(0, math.min(each.row, count - 1))
+    local now = api.nvim_win_get_cursor(each.window)
+    local top = math.max(row - each.above, 0) + 1
+    api.nvim_win_call(each.window, function()
+      if now[1] - 1 ~= row or fn.line("w0") ~= top then
+        fn.winrestview({ lnum = row + 1, col = each.column, topline = top })
+      end
+    end)
+  end
+end
+
+-- When the first hits come, a cursor that is on the header moves to the first of them.
+function List:to_first_hit(windows)
+  if self.had_hits or self:total() == 0 then
+    return
+  end
+  self.had_hits = true
+  for _, kept in ipairs(windows) do
+    if kept.row == 0 then
+      kept.row = #self.files > 1 and 2 or 1
+      kept.above = kept.row
+    end
+  end
+end
+
+-- Draws the rows in view anew, soon.
+function List:redraw()
+  if self.redrawing or #self:windows() == 0 then
+    return
+  end
+  self.redrawing = true
+  vim.schedule(function()
+    self.redrawing = false
+    for _, window in ipairs(self:windows()) do
+      -- To set such an option draws the window, also if it was set before.
+      api.nvim_win_set_option(window, "list", api.nvim_win_get_option(window, "list"))
+    end
+  end)
+end
+
+-- Options of the session
+
+-- Sends a change of what matches, and what becomes true of the list by it, unless it is refused.
+function List:change(command, lines, become)
+  local kind, number, place = self:try(command, lines)
+  if kind then
+    local pattern = number and (lines or self.patterns)[number + 1]
+    return List.fault(kind, pattern, place), place
+  end
+  become()
+  self:step()
+end
+
+function List:set_flag(flag, on)
+  return self:change(("flag %s %s"):format(flag, on and "on" or "off"), nil, function()
+    self.flags[flag] = on or nil
+  end)
+end
+
+function List:set_syntax(syntax)
+  return self:change("syntax " .. syntax, nil, function()
+    self.syntax = syntax
+  end)
+end
+
+function List:add_pattern(pattern)
+  return self:change("patterns 1", { pattern }, function()
+    table.insert(self.patterns, pattern)
+  end)
+end
+
+function List:drop_pattern(number)
+  return self:change("drop " .. number - 1, nil, function()
+    table.remove(self.patterns, number)
+  end)
+end
+
+function List:set_context(before, after)
+  self.context = { before, after }
+  self:render_all()
+  self:step()
+end
+
+return List
