@@ -3,6 +3,8 @@
 local bench = require("bench")
 local api, fn = vim.api, vim.fn
 
+local settings = require("live_occur.settings")
+
 local function large(count)
   local lines = {}
   for index = 1, count do
@@ -44,13 +46,23 @@ local function measure(count, pattern)
       require("live_occur.draw").marks(list, row, 40)
     end
   end)
+  local page = 0
   local flag = bench.milliseconds(function()
-    list:set_flag("i", true)
+    page = bench.milliseconds(function()
+      list:set_flag("i", true)
+      vim.wait(60000, function()
+        return list.page or not list.asked
+      end, 1)
+    end)
+    bench.equal(list.page ~= nil, hits >= settings.page_from, "a page is shown")
+    bench.equal(list:at(1).place, pattern == "line" and 0 or 2)
     settle(list)
+    bench.equal(list.page, nil)
+    bench.equal(list:total(), hits + 40)
   end)
   bench.tell(("%d lines, %d hits: opened in %.0f ms, first rows in %.0f ms, all in %.0f ms; an edit %.1f ms (median), "
-    .. "%.1f ms (greatest); 50 rows drawn in %.2f ms; flag i %.0f ms"):format(count, hits, opened, opened + first,
-    opened + first + all, edits[20], edits[40], drawn, flag))
+    .. "%.1f ms (greatest); 50 rows drawn in %.2f ms; flag i: first rows in %.0f ms, all in %.0f ms"):format(count, hits, opened, opened + first,
+    opened + first + all, edits[20], edits[40], drawn, page, flag))
   assert(edits[20] < 100, "an edit takes long")
 end
 

@@ -70,7 +70,9 @@ local function watch(list)
 end
 
 function M.set_window()
-  for name, value in pairs({ wrap = false, number = false, relativenumber = false, cursorline = true, spell = false }) do
+  local values = { wrap = false, number = false, relativenumber = false, cursorline = true, spell = false }
+  values.winfixheight = true
+  for name, value in pairs(values) do
     api.nvim_set_option_value(name, value, { scope = "local" })
   end
 end

@@ -86,17 +86,18 @@ end
 
 -- Patterns
 
--- Asks for a pattern until one is taken, and shows the fault and its place of one that is refused.
-local function ask_pattern(prompt, text, take)
-  vim.ui.input({ prompt = prompt, default = text }, function(pattern)
-    if pattern == nil then
+-- Asks for a pattern until one is taken: the prompt then says why the one before was refused. Where
+-- nothing is typed the list stays as it is; the empty pattern is typed as "\(\)" or "()".
+local function ask_pattern(prompt, text, take, fault)
+  vim.ui.input({ prompt = (fault and fault .. "; " or "") .. prompt, default = text }, function(pattern)
+    if pattern == nil or pattern == "" then
       return
     end
-    local fault, place = take(pattern)
-    if fault then
+    local problem, place = take(pattern)
+    if problem then
+      local kind = place and problem:sub(1, #problem - #pattern - #" in: ") or problem
       vim.schedule(function()
-        M.show_fault(fault, place and pattern, place)
-        ask_pattern(prompt, pattern, take)
+        ask_pattern(prompt, pattern, take, kind)
       end)
     end
   end)
@@ -157,18 +158,18 @@ end
 
 -- Options
 
-local function report(fault, place)
+local function report(fault)
   if fault then
-    say(fault .. (place and "" or ""), "ErrorMsg")
+    say(fault, "ErrorMsg")
   end
 end
 
 function M.toggle(list, flag)
-  report(list:set_flag(flag, not list.flags[flag]))
+  report((list:set_flag(flag, not list.flags[flag])))
 end
 
 function M.set_syntax(list, syntax)
-  report(list:set_syntax(syntax))
+  report((list:set_syntax(syntax)))
 end
 
 function M.ask_context(list)
@@ -225,6 +226,9 @@ function M.quickfix(list)
     items[number] = { bufnr = row[1], lnum = row[2], col = column, text = row[3] }
   end
   fn.setqflist({}, " ", { title = "LiveOccur " .. table.concat(list.patterns, "  "), items = items })
+  if M.current() then -- So that :cnext takes another window than the list's.
+    api.nvim_set_current_win(window_for(items[1] and items[1].bufnr or 0))
+  end
   vim.cmd("botright copen")
 end
 

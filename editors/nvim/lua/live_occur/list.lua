@@ -354,10 +354,16 @@ function List:step()
   end
   local room = settings.slice
   self.due = false
+  local changed = self.changed
   for number, file in ipairs(self.files) do
     room = self:send_hunks(file, number - 1, room)
     self.due = self.due or #file.pending > 0
+    changed = changed or #file.sent > 0
   end
+  if not changed then
+    return
+  end
+  self.changed = false
   self.asked = vim.list_extend({}, self.files)
   self.session:send("changes", nil, function(reply)
     self:report(reply)
@@ -381,7 +387,7 @@ function List:settled()
       return false
     end
   end
-  return not self.asked and not self.session:busy()
+  return not self.asked and not self.changed and not self.session:busy()
 end
 
 -- Applies the reply to changes.
@@ -401,15 +407,19 @@ function List:report(reply)
       self:apply(file, block, windows)
     end
   end
+  if self.page and #reply.blocks == 0 then
+    self:render_all()
+  end
+  self.page = nil
   if #reply.blocks > 0 then
     self:to_first_hit(windows)
     self:restore_windows(windows)
   end
-  self:show_header()
-  self:redraw()
   if self.due then
     self:step()
   end
+  self:show_header()
+  self:redraw()
 end
 
 -- Applies one h line, with its hits.
@@ -461,6 +471,8 @@ function List:at(row)
   local index = row - 1
   if index < 0 then
     return nil
+  elseif self.page and self.page[row] then
+    return self.page[row]
   end
   for _, file in ipairs(self.files) do
     if index < file.shown then
@@ -609,7 +621,7 @@ function List:header()
   words[#words + 1] = counted(self:total(), "hit") .. ", " .. counted(#self.files, "buffer")
   if self.ended then
     words[#words + 1] = self.ended
-  elseif self.due then
+  elseif self.due or self.page then
     words[#words + 1] = "more to come"
   end
   return table.concat(words, "  ")
@@ -653,12 +665,13 @@ function List:restore_windows(kept)
   end
 end
 
--- When the first hits come, a cursor that is on the header moves to the first of them.
+-- When the first hits come, a cursor that is on the header moves to the first one.
 function List:to_first_hit(windows)
-  if self.had_hits or self:total() == 0 then
+  local had = self.had_hits
+  self.had_hits = self:total() > 0
+  if had or not self.had_hits then
     return
   end
-  self.had_hits = true
   for _, kept in ipairs(windows) do
     if kept.row == 0 then
       kept.row = #self.files > 1 and 2 or 1
@@ -692,7 +705,41 @@ function List:change(command, lines, become)
     return List.fault(kind, pattern, place), place
   end
   become()
+  self:ask_page()
+  self.changed = true
   self:step()
+end
+
+-- In a long list the hits are replaced one time for all, which takes a while. So the first ones are
+-- asked for alone, and put into the first rows until then.
+function List:ask_page()
+  if self.asked or self:total() < settings.page_from or not self:settled() then
+    return
+  end
+  local files = vim.list_extend({}, self.files)
+  self.session:send("page 0 " .. 2 * settings.height, nil, function(reply)
+    if reply.kind == "status" and self.asked then
+      self:show_page(files, reply.blocks[1])
+    end
+  end)
+end
+
+-- Puts the hits of a page into as many of the first rows.
+function List:show_page(files, block)
+  local count = math.min(block.count, api.nvim_buf_line_count(self.buffer) - 1)
+  local texts, page = {}, {}
+  for number = 1, count do
+    local file = files[block.files[number] + 1]
+    if file.closed then
+      return
+    end
+    texts[number] = row_text(block.lines[number])
+    page[number] = { file = file, place = block.places[number], parts = block.parts[number] }
+  end
+  self:put(1, 1 + count, texts)
+  self.page = page
+  self:show_header()
+  self:redraw()
 end
 
 function List:set_flag(flag, on)

@@ -12,6 +12,7 @@ local M = {
   highlight = true, -- whether matched parts are highlighted
   max_columns = 1000, -- how many bytes of a line its row shows at most
   slice = 20000, -- how many lines are sent at once
+  page_from = 20000, -- from how many hits on the first ones are asked for alone, where all are replaced
   preview_lines = 20000, -- the greatest number of lines for a preview while a pattern is typed
 }
 
