@@ -51,7 +51,7 @@ test("a list of a range has only its lines, and follows them", function()
   vim.cmd("let &undolevels = &undolevels") -- ends what one undo takes back
   vim.cmd("3delete")
   equal(rows(list), { "3:a3" })
-  vim.cmd("undo")
+  vim.cmd("silent undo")
   equal(rows(list), { "3:a2", "4:a3" })
   vim.cmd("4move 0")
   equal(rows(list), { "4:a2" })
@@ -142,6 +142,30 @@ test("context shows the lines around", function()
     { "        a", "        B", "        a", "        c", "--", "        a" })
   list:set_context(0, 0)
   equal(api.nvim_buf_get_lines(list.buffer, 1, -1, false), { "        a", "        a", "        a" })
+end)
+
+test("edits that are far apart are asked about one by one", function()
+  local lines = {}
+  for index = 1, 1000 do
+    lines[index] = "o" .. index
+  end
+  local buffer = bench.buffer(lines)
+  local list = bench.list("o")
+  rows(list)
+  local Session = require("live_occur.session")
+  local send, sent = Session.send, {}
+  Session.send = function(session, command, ...)
+    sent[#sent + 1] = command
+    return send(session, command, ...)
+  end
+  api.nvim_buf_set_lines(buffer, 999, 1000, false, { "x" })
+  api.nvim_buf_set_lines(buffer, 500, 500, false, { "x", "o" })
+  api.nvim_buf_set_lines(buffer, 0, 1, false, {})
+  api.nvim_buf_set_lines(buffer, 20, 20, false, { "o" })
+  local found = rows(list)
+  Session.send = send
+  equal(sent, { "splice 0 0 21 21", "changes", "splice 0 500 0 2", "changes", "splice 0 1001 1 1", "changes" })
+  equal({ #found, found[1], found[21], found[501] }, { 1000, "1:o2", "21:o", "502:o" })
 end)
 
 test("refused patterns are reported with their place", function()

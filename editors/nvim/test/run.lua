@@ -11,6 +11,8 @@ vim.cmd("runtime plugin/live_occur.lua")
 vim.o.hidden = true
 vim.o.swapfile = false
 
+vim.api.nvim_echo = function() end -- Messages would be between the lines of the tests.
+
 local bench = require("bench")
 require("live_occur").setup({ program = vim.fn.fnamemodify(vim.env.OCCUR or "occur", ":p"), delay = 20 })
 local ran, fault = xpcall(function()

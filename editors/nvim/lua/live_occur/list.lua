@@ -327,16 +327,29 @@ function List:later()
   end, settings.delay)
 end
 
--- Sends some hunks of a file, with at most `room` lines, and returns the room that is left.
+-- Sends some hunks of a file, with at most `room` lines, and returns the room that is left. After
+-- each it asks what changed: after two splices all lines between them would be said to be replaced.
 function List:send_hunks(file, number, room)
-  file.sent = hunks.take(file.pending, room)
-  for _, hunk in ipairs(file.sent) do
+  local sent = hunks.take(file.pending, room)
+  vim.list_extend(file.sent, sent)
+  for _, hunk in ipairs(sent) do
     local lines = lines_of(file.buffer, file.from + hunk.at, file.from + hunk.at + hunk.added)
     local command = ("splice %d %d %d %d"):format(number, hunk.at, hunk.removed, hunk.added)
     self.session:send(command, lines, self:accepted())
+    self:ask_changes(file)
     room = room - hunk.added
   end
   return room
+end
+
+-- Asks what changed, after the first of the hunks of a file that are sent, if there is a file.
+function List:ask_changes(file)
+  local files = vim.list_extend({}, self.files)
+  self.asked = (self.asked or 0) + 1
+  self.changed = false
+  self.session:send("changes", nil, function(reply)
+    self:report(reply, files, file)
+  end)
 end
 
 -- Sends what was edited, at most a slice of it, and asks what changed.
@@ -354,20 +367,13 @@ function List:step()
   end
   local room = settings.slice
   self.due = false
-  local changed = self.changed
   for number, file in ipairs(self.files) do
     room = self:send_hunks(file, number - 1, room)
     self.due = self.due or #file.pending > 0
-    changed = changed or #file.sent > 0
   end
-  if not changed then
-    return
+  if self.changed then
+    self:ask_changes()
   end
-  self.changed = false
-  self.asked = vim.list_extend({}, self.files)
-  self.session:send("changes", nil, function(reply)
-    self:report(reply)
-  end)
 end
 
 -- Brings the list up to date, and waits for it. Returns false if that takes too long.
@@ -390,17 +396,16 @@ function List:settled()
   return not self.asked and not self.changed and not self.session:busy()
 end
 
--- Applies the reply to changes.
-function List:report(reply)
-  local files = self.asked
-  self.asked = nil
+-- Applies a reply to changes: `files` are those of the session at that time.
+function List:report(reply, files, sent)
+  self.asked = self.asked > 1 and self.asked - 1 or nil
+  if sent then
+    table.remove(sent.sent, 1)
+  end
   if reply.kind ~= "status" then
     return self:accepted()(reply)
   end
   local windows = self:keep_windows()
-  for _, file in ipairs(files) do
-    file.sent = {}
-  end
   for _, block in ipairs(reply.blocks) do
     local file = files[block.words[1] + 1]
     if not file.closed then
@@ -415,7 +420,7 @@ function List:report(reply)
     self:to_first_hit(windows)
     self:restore_windows(windows)
   end
-  if self.due then
+  if self.due and not self.asked then
     self:step()
   end
   self:show_header()
