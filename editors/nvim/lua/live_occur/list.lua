@@ -166,7 +166,7 @@ function List:restart()
     return say(fault, "ErrorMsg")
   end
   local files = self.files
-  self.files = {}
+  self.files, self.had_hits, self.page = {}, false, nil
   self:put(1, -1, {})
   for _, file in ipairs(files) do
     self:add_file(file)
