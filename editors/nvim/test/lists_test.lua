@@ -26,6 +26,39 @@ test("a list of several buffers has a row with the name before those of each", f
   equal(rows(list), { "2:1:one", "3:2:one:1" })
 end)
 
+test("a buffer's name is the one that it has", function()
+  local a, b = bench.buffer({ "one" }), bench.buffer({ "one" })
+  local list = bench.list("one", { a, b })
+  rows(list)
+  vim.cmd("silent file first")
+  equal(api.nvim_buf_get_lines(list.buffer, 1, -1, false), { "[No Name]", "        one", "first", "        one" })
+  bench.type(list, "v")
+  equal(rows(list), {})
+  equal(api.nvim_buf_get_lines(list.buffer, 1, -1, false), {})
+end)
+
+test("a page is shown in a long list of several buffers", function()
+  local settings = require("live_occur.settings")
+  local from = settings.page_from
+  settings.page_from = 1
+  local a, b = bench.buffer({ "one", "One" }), bench.buffer({ "x", "one" })
+  local list = bench.list("one", { a, b })
+  rows(list)
+  local page = {}
+  local show = list.show_page
+  list.show_page = function(...)
+    show(...)
+    page = api.nvim_buf_get_lines(list.buffer, 1, -1, false)
+    equal({ list:at(2).file.buffer, list:at(2).place }, { a, 1 })
+  end
+  list:set_flag("i", true)
+  equal(rows(list), { "1:1:one", "1:2:One", "2:2:one" })
+  settings.page_from = from
+  equal(page, { "        one", "        One", "        one", "        one" })
+  local names = { "[No Name]", "        one", "        One", "[No Name]", "        one" }
+  equal(api.nvim_buf_get_lines(list.buffer, 1, -1, false), names)
+end)
+
 test("a list follows edits of each kind", function()
   local buffer = bench.buffer({ "one", "two", "three", "four", "one two" })
   local list = bench.list("o")

@@ -80,6 +80,7 @@ local EDIT_CALLS = {
 
 local function edit(buffer)
   if math.random(3) == 1 then
+    fn.bufload(buffer)
     return pick(EDIT_CALLS)(buffer)
   end
   if api.nvim_get_current_buf() ~= buffer then
@@ -169,7 +170,8 @@ end
 -- Few lines are sent at once, so that edits come between.
 local settings = require("live_occur.settings")
 local slice = settings.slice
-settings.slice = 40
+local page_from = settings.page_from
+settings.slice, settings.page_from = 40, 30
 
 bench.test(("%d random edits in four buffers, seed %d"):format(EDITS, SEED), function()
   math.randomseed(SEED)
@@ -218,4 +220,4 @@ bench.test("random edits around a range of lines", function()
   end
 end)
 
-settings.slice = slice
+settings.slice, settings.page_from = slice, page_from

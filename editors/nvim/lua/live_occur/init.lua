@@ -61,6 +61,12 @@ local function watch(list)
   on("CursorMoved", list.buffer, function()
     require("live_occur.keys").moved(list)
   end)
+  api.nvim_create_autocmd("BufFilePost", {
+    group = group,
+    callback = function()
+      list:rename()
+    end,
+  })
   api.nvim_create_autocmd({ "BufReadPost", "BufNewFile", "BufWinEnter" }, {
     group = group,
     callback = function(event)

@@ -121,11 +121,14 @@ function List:try(command, lines)
   self.session:send(command, lines, function(found)
     reply = found
   end)
-  vim.wait(10000, function()
+  vim.wait(60000, function()
     return reply or self.session.closed
   end, 1)
   if not reply then
-    return self.ended or "no reply comes"
+    self.session:close()
+    self.ended = self.ended or "occur was stopped, since no reply came"
+    self:show_header()
+    return self.ended
   elseif reply.kind == "ok" then
     return nil
   end
@@ -170,7 +173,8 @@ function List:restart()
   self:put(1, -1, {})
   for _, file in ipairs(files) do
     self:add_file(file)
-    file.pending, file.sent, file.hits, file.shown, file.view = {}, {}, Hits.new(), 0, nil
+    file.pending, file.sent, file.hits = {}, {}, Hits.new()
+    file.shown, file.heading, file.view = 0, false, nil
     hunks.note(file.pending, 0, 0, file.to - file.from)
   end
   self:step()
@@ -205,7 +209,7 @@ function List:add_buffer(buffer, range)
     end
   end
   fn.bufload(buffer)
-  local file = { buffer = buffer, pending = {}, sent = {}, hits = Hits.new(), shown = 0 }
+  local file = { buffer = buffer, pending = {}, sent = {}, hits = Hits.new(), shown = 0, heading = false }
   file.count = api.nvim_buf_line_count(buffer)
   file.ranged = range ~= nil
   file.from = range and math.min(range[1] - 1, file.count) or 0
@@ -213,9 +217,7 @@ function List:add_buffer(buffer, range)
   self:add_file(file)
   self:attach(file)
   hunks.note(file.pending, 0, 0, file.to - file.from)
-  if #self.files == 2 then
-    self:render_all()
-  end
+  self:put_headings()
   self:later()
 end
 
@@ -227,8 +229,8 @@ function List:remove_file(file)
       file.closed, file.attached = true, nil
       table.remove(self.files, index)
       self.session:send("close " .. index - 1, nil, self:accepted())
-      self:render_all()
-      return
+      self:put_headings()
+      return self:show_header()
     end
   end
 end
@@ -414,6 +416,8 @@ function List:report(reply, files, sent)
   end
   if self.page and #reply.blocks == 0 then
     self:render_all()
+  elseif self.page then
+    self:rename()
   end
   self.page = nil
   if #reply.blocks > 0 then
@@ -430,25 +434,21 @@ end
 -- Applies one h line, with its hits.
 function List:apply(file, block, windows)
   local front, removed, added = block.words[2], block.words[3], block.words[4]
-  local hits, had = file.hits, file.hits:count()
-  local index, gone = hits:cut(front, removed, added)
+  local index, gone = file.hits:cut(front, removed, added)
   for number = 1, block.count do
-    hits:push(block.places[number], block.parts[number])
+    file.hits:push(block.places[number], block.parts[number])
   end
-  local heading = #self.files > 1
-  if file.view or self:around() or (heading and (had == 0) ~= (hits:count() == 0)) then
-    return self:render(file, block, windows, index)
-  end
-  if file.shown == 0 and hits:count() == 0 then
-    return
+  if self:around() then
+    return self:render(file, windows)
   end
   local texts = {}
   for number = 1, block.count do
     texts[number] = row_text(block.lines[number])
   end
-  local row = self:row_of(file) + (heading and 1 or 0) + index
+  local row = self:row_of(file) + (file.heading and 1 or 0) + index
   self:put(row, row + gone, texts, windows)
-  file.shown = hits:count() + (heading and 1 or 0)
+  file.shown = file.shown + #texts - gone
+  self:put_heading(file, windows)
 end
 
 -- Rows
@@ -481,7 +481,7 @@ function List:at(row)
   end
   for _, file in ipairs(self.files) do
     if index < file.shown then
-      index = index + (#self.files > 1 and 0 or 1)
+      index = index + (file.heading and 0 or 1)
       if index == 0 then
         return { file = file, heading = true }
       elseif file.view then
@@ -519,15 +519,46 @@ function List:put(first, last, texts, windows)
   end
 end
 
+-- Whether a row with the name of a file's buffer is before its rows.
+function List:wants_heading(file)
+  return #self.files > 1 and file.hits:count() > 0
+end
+
+-- Puts the row with the name of a file's buffer, or takes it out.
+function List:put_heading(file, windows)
+  local wanted, row = self:wants_heading(file), self:row_of(file)
+  if wanted ~= file.heading then
+    self:put(row, row + (file.heading and 1 or 0), wanted and { name_of(file.buffer) } or {}, windows)
+    file.shown, file.heading = file.shown + (wanted and 1 or -1), wanted
+  end
+end
+
+function List:put_headings()
+  local windows = self:keep_windows()
+  for _, file in ipairs(self.files) do
+    self:put_heading(file, windows)
+  end
+  self:restore_windows(windows)
+end
+
+-- Writes the names of all buffers anew.
+function List:rename()
+  for _, file in ipairs(self.files) do
+    if file.heading then
+      local row = self:row_of(file)
+      self:put(row, row + 1, { name_of(file.buffer) })
+    end
+  end
+end
+
 -- All rows of a file anew: the hits, with the lines around them.
-function List:render(file, block, windows)
-  local texts = {}
-  local hits = file.hits
+function List:render(file, windows)
   local row = self:row_of(file)
-  if hits:count() > 0 and #self.files > 1 then
+  local texts = {}
+  file.heading, file.view = self:wants_heading(file), nil
+  if file.heading then
     texts[1] = name_of(file.buffer)
   end
-  file.view = nil
   if self:around() then
     file.view = self:view_of(file, texts)
   else
@@ -580,7 +611,7 @@ end
 function List:render_all()
   local windows = self:keep_windows()
   for _, file in ipairs(self.files) do
-    self:render(file, nil, windows)
+    self:render(file, windows)
   end
   self:restore_windows(windows)
   self:show_header()
