@@ -131,7 +131,7 @@ local function other(list, buffers)
 end
 
 -- All rows as they are drawn: numbers, and lines around.
-local function compare_context(list)
+local function compare_drawn(list)
   local draw = require("live_occur.draw")
   local given = {}
   local texts = api.nvim_buf_get_lines(list.buffer, 0, -1, false)
@@ -139,7 +139,7 @@ local function compare_context(list)
   for row = 1, #texts - 1 do
     local at = list:at(row)
     if at.heading then
-      before = #given > 0
+      before = #given > 0 and list:around()
     elseif not at.place then
       given[#given + 1] = "--"
     else
@@ -151,18 +151,16 @@ local function compare_context(list)
       given[#given + 1] = number .. mark .. texts[row + 1]:sub(9)
     end
   end
-  local more = { "-B", list.context[1], "-A", list.context[2] }
+  local more = list:around() and { "-B", list.context[1], "-A", list.context[2] } or {}
   local wanted = vim.tbl_map(function(line)
     return #list.files > 1 and line:gsub("^%d+[:-]", "", 1) or line
   end, bench.grep(list, more))
-  bench.equal(given, wanted, "context")
+  bench.equal(given, wanted, "drawn")
 end
 
 local function compare(list, what)
   bench.compare(list, what)
-  if list:around() then
-    compare_context(list)
-  end
+  compare_drawn(list)
   bench.equal(#list:windows(), 1)
   compared = compared + 1
 end

@@ -70,7 +70,7 @@ function List.new(pattern, buffers, options)
   List.all[self.buffer] = self
   api.nvim_buf_set_name(self.buffer, "live-occur://" .. self.buffer)
   for option, value in pairs({ undolevels = -1, modifiable = false, filetype = "live_occur", bufhidden = "hide" }) do
-    api.nvim_buf_set_option(self.buffer, option, value)
+    vim.bo[self.buffer][option] = value
   end
   for _, buffer in ipairs(buffers) do
     self:add_buffer(buffer, options.range)
@@ -506,10 +506,10 @@ function List:put(first, last, texts, windows)
   if not buffer or (first == last and #texts == 0) then
     return
   end
-  api.nvim_buf_set_option(buffer, "modifiable", true)
+  vim.bo[buffer].modifiable = true
   api.nvim_buf_set_lines(buffer, first, last, false, texts)
-  api.nvim_buf_set_option(buffer, "modifiable", false)
-  api.nvim_buf_set_option(buffer, "modified", false)
+  vim.bo[buffer].modifiable = false
+  vim.bo[buffer].modified = false
   for _, kept in ipairs(windows or {}) do
     if kept.row >= last and last >= 0 then
       kept.row = kept.row + #texts - (last - first)
@@ -725,8 +725,10 @@ function List:redraw()
   vim.schedule(function()
     self.redrawing = false
     for _, window in ipairs(self:windows()) do
-      -- To set such an option draws the window, also if it was set before.
-      api.nvim_win_set_option(window, "list", api.nvim_win_get_option(window, "list"))
+      local options = vim.wo[window]
+      local list = options.list
+      options.list = not list -- A window is drawn where such an option changes.
+      options.list = list
     end
   end)
 end
