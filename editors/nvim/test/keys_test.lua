@@ -154,6 +154,51 @@ test("numbers and parts are drawn over the rows", function()
   equal(draw.marks(list, 2, 5), {})
 end)
 
+-- A second Neovim, with a terminal of 60 columns and 20 lines; and what its screen shows.
+local function with_screen(body)
+  local child = fn.jobstart({ vim.v.progpath, "--embed", "-u", "NONE", "-i", "NONE", "-n" }, { rpc = true })
+  vim.rpcrequest(child, "nvim_ui_attach", 60, 20, { rgb = true })
+  local function run(lua, ...)
+    return vim.rpcrequest(child, "nvim_exec_lua", lua, { ... })
+  end
+  local function screen()
+    return run([[
+      vim.cmd("redraw")
+      local lines = {}
+      for row = 1, vim.o.lines do
+        local cells = {}
+        for column = 1, vim.o.columns do
+          cells[column] = vim.fn.screenstring(row, column)
+        end
+        lines[row] = table.concat(cells):gsub("%s+$", "")
+      end
+      return lines
+    ]])
+  end
+  local ran, fault = pcall(body, run, screen)
+  fn.jobstop(child)
+  assert(ran, fault)
+end
+
+test("the screen shows rows with their numbers, which are right at once", function()
+  local program = require("live_occur.settings").program
+  with_screen(function(run, screen)
+    run([[
+      local path, program = ...
+      vim.opt.runtimepath:prepend(path)
+      require("live_occur").setup({ program = program, delay = 100000 })
+      vim.api.nvim_buf_set_lines(0, 0, -1, false, { "x", "one", "y", "one more" })
+      buffer = vim.api.nvim_get_current_buf()
+      list = require("live_occur").open("one", { buffer })
+      list:wait()
+    ]], vim.opt.runtimepath:get()[1], program)
+    local first = vim.fn.index(screen(), "basic  one  2 hits, 1 buffer") + 1
+    equal(vim.list_slice(screen(), first + 1, first + 2), { "      2 one", "      4 one more" })
+    run([[vim.api.nvim_buf_set_lines(buffer, 2, 2, false, { "new", "new" })]])
+    equal(vim.list_slice(screen(), first + 1, first + 2), { "      2 one", "      6 one more" })
+  end)
+end)
+
 test("a preview shows rows and highlights the buffer", function()
   local buffer = bench.buffer({ "one", "two", "one two" })
   local shown = api.nvim_create_buf(false, true)
