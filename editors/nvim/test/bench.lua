@@ -63,6 +63,7 @@ end
 -- the list before it where it has several.
 function M.rows(list)
   assert(list:wait(20000), "the list doesn't come to rest")
+  assert(not list.ended, list.ended)
   local index = {}
   for number, file in ipairs(list.files) do
     index[file.buffer] = #list.files > 1 and number .. ":" or ""

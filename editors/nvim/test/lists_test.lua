@@ -195,8 +195,15 @@ test("edits that are far apart are asked about one by one", function()
   api.nvim_buf_set_lines(buffer, 500, 500, false, { "x", "o" })
   api.nvim_buf_set_lines(buffer, 0, 1, false, {})
   api.nvim_buf_set_lines(buffer, 20, 20, false, { "o" })
+  local report, shown = list.report, {}
+  list.report = function(...)
+    report(...)
+    local row = list:rows()[990] -- between the last two edits
+    shown[#shown + 1] = row[3] == api.nvim_buf_get_lines(buffer, row[2] - 1, row[2], false)[1]
+  end
   local found = rows(list)
   Session.send = send
+  equal(shown, { true, true, true })
   equal(sent, { "splice 0 0 21 21", "changes", "splice 0 500 0 2", "changes", "splice 0 1001 1 1", "changes" })
   equal({ #found, found[1], found[21], found[501] }, { 1000, "1:o2", "21:o", "502:o" })
 end)

@@ -7,7 +7,8 @@ local EDITS = tonumber(vim.env.EDITS or 4000)
 local SEED = tonumber(vim.env.SEED or os.time() % 100000)
 local PATTERNS = { "a", "b", "ab*", "^$", "b$", "c.a", "a\\{2\\}", "x", "[ab]c", "a+", "" }
 local SYNTAXES = { "basic", "extended", "fixed" }
-local compared = 0
+local compared, numbers = 0, 0
+local hunks = require("live_occur.hunks")
 
 local function pick(list)
   return list[math.random(#list)]
@@ -158,6 +159,34 @@ local function compare_drawn(list)
   bench.equal(given, wanted, "drawn")
 end
 
+-- Whether a place of the old text is among the lines that a hunk replaced.
+local function is_replaced(pending, place)
+  local grown = 0
+  for _, hunk in ipairs(pending) do
+    local before = place - (hunk.at - grown)
+    if before >= 0 and before < hunk.removed then
+      return true
+    end
+    grown = grown + hunk.added - hunk.removed
+  end
+  return false
+end
+
+-- At any time the number of a row is that of its line, unless the line was edited since.
+local function check_numbers(list)
+  local texts = api.nvim_buf_get_lines(list.buffer, 0, -1, false)
+  for row = 1, #texts - 1 do
+    local at = list:at(row)
+    local file, place = at.file, at.place
+    local known = place and api.nvim_buf_is_loaded(file.buffer) and file.attached
+    if known and not is_replaced(file.sent, place) and not is_replaced(file.pending, hunks.place(file.sent, place)) then
+      local line = list:line_of(file, place)
+      bench.equal(texts[row + 1]:sub(9), api.nvim_buf_get_lines(file.buffer, line, line + 1, false)[1], "number")
+      numbers = numbers + 1
+    end
+  end
+end
+
 local function compare(list, what)
   bench.compare(list, what)
   compare_drawn(list)
@@ -175,12 +204,20 @@ bench.test(("%d random edits in four buffers, seed %d"):format(EDITS, SEED), fun
   math.randomseed(SEED)
   local buffers = {}
   for index = 1, 4 do
-    local lines = words(60)
+    local lines = words(300)
     buffers[index] = index <= 2 and bench.file(table.concat(lines, "\n") .. "\n") or bench.buffer(lines)
   end
   local list = bench.list("a", { buffers[1], buffers[2], buffers[3] })
+  local report, fault = list.report, nil
+  list.report = function(...)
+    report(...)
+    fault = fault or select(2, pcall(check_numbers, list))
+  end
   for number = 1, EDITS do
     edit(pick(buffers))
+    if math.random(5) == 1 then
+      check_numbers(list)
+    end
     if math.random(40) == 1 then
       other(list, buffers)
     end
@@ -194,8 +231,10 @@ bench.test(("%d random edits in four buffers, seed %d"):format(EDITS, SEED), fun
     end
   end
   compare(list, "the end")
+  assert(not fault, fault)
 end)
-bench.tell(("%d random edits with seed %d, compared %d times"):format(EDITS, SEED, compared))
+bench.tell(("%d random edits with seed %d, compared %d times; %d numbers of rows checked between"):format(EDITS, SEED,
+  compared, numbers))
 
 bench.test("random edits around a range of lines", function()
   math.randomseed(SEED)

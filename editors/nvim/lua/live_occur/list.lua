@@ -157,19 +157,19 @@ end
 
 -- Starts the program again, with the patterns, the flags and the buffers of the list.
 function List:restart()
-  local patterns = self.patterns
+  local patterns, files = self.patterns, self.files
   if self.session then
     self.session:close()
   end
+  self.files = {} -- The new session has none yet.
   local fault = self:start(patterns)
   self.patterns = patterns
   if fault then
-    self.ended = fault
+    self.files, self.ended = files, fault
     self:show_header()
     return say(fault, "ErrorMsg")
   end
-  local files = self.files
-  self.files, self.had_hits, self.page = {}, false, nil
+  self.had_hits, self.page, self.changed = false, nil, false
   self:put(1, -1, {})
   for _, file in ipairs(files) do
     self:add_file(file)
