@@ -26,8 +26,8 @@ FORCE =
 EMACS = emacs
 NVIM = nvim
 
-.PHONY: all programs gate audit test test-program test-random test-changes test-memory test-editor test-nvim evidence dist \
-    install clean
+.PHONY: all programs gate audit test test-program test-random test-changes test-memory test-editor test-nvim \
+    evidence dist install clean
 
 all: programs
 

@@ -6,6 +6,9 @@ local M = {}
 function M.setup(options)
   local settings = require("live_occur.settings")
   for name, value in pairs(options or {}) do
+    if settings[name] == nil and name ~= "states" then
+      error("live_occur has no setting " .. name, 2)
+    end
     settings[name] = value
   end
 end
@@ -103,7 +106,7 @@ function M.command(call)
   if fault then
     return api.nvim_echo({ { "LiveOccur: " .. fault, "ErrorMsg" } }, true, {})
   end
-  if pattern == "" and call.args == "" then
+  if pattern == "" then
     pattern = fn.input("List lines that match: ")
     if pattern == "" then
       return

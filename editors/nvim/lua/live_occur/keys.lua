@@ -206,7 +206,7 @@ function M.remove_buffer(list)
   vim.ui.select(list.files, {
     prompt = "Leave out buffer",
     format_item = function(file)
-      return fn.bufname(file.buffer)
+      return List.name_of(file.buffer)
     end,
   }, function(file)
     if file then

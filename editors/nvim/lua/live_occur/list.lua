@@ -23,7 +23,8 @@ local function say(text, kind)
   api.nvim_echo({ { "LiveOccur: " .. text, kind or "WarningMsg" } }, true, {})
 end
 
-local function name_of(buffer)
+-- The name of a buffer, as it is shown.
+function List.name_of(buffer)
   local name = api.nvim_buf_is_valid(buffer) and api.nvim_buf_get_name(buffer) or ""
   return name == "" and "[No Name]" or fn.fnamemodify(name, ":~:.")
 end
@@ -277,7 +278,9 @@ function List:edited(file, first, last, new_last)
   if at then
     hunks.note(file.pending, at, removed, added)
   end
-  self:redraw()
+  if new_last ~= last then
+    self:redraw()
+  end
   self:later()
 end
 
@@ -528,7 +531,7 @@ end
 function List:put_heading(file, windows)
   local wanted, row = self:wants_heading(file), self:row_of(file)
   if wanted ~= file.heading then
-    self:put(row, row + (file.heading and 1 or 0), wanted and { name_of(file.buffer) } or {}, windows)
+    self:put(row, row + (file.heading and 1 or 0), wanted and { List.name_of(file.buffer) } or {}, windows)
     file.shown, file.heading = file.shown + (wanted and 1 or -1), wanted
   end
 end
@@ -546,7 +549,7 @@ function List:rename()
   for _, file in ipairs(self.files) do
     if file.heading then
       local row = self:row_of(file)
-      self:put(row, row + 1, { name_of(file.buffer) })
+      self:put(row, row + 1, { List.name_of(file.buffer) })
     end
   end
 end
@@ -557,7 +560,7 @@ function List:render(file, windows)
   local texts = {}
   file.heading, file.view = self:wants_heading(file), nil
   if file.heading then
-    texts[1] = name_of(file.buffer)
+    texts[1] = List.name_of(file.buffer)
   end
   if self:around() then
     file.view = self:view_of(file, texts)

@@ -37,6 +37,7 @@ function M.show(call, space, shown)
   if call.args == "" or vim.startswith(call.args, "++") or last - first > settings.preview_lines then
     return 0
   end
+  require("live_occur.draw").start()
   local most = fn.winheight(0) + settings.height
   local lines = api.nvim_buf_get_lines(buffer, first, last, false)
   local replies = fn.systemlist({ fn.expand(settings.program) }, script_of(call, lines, most))
