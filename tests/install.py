@@ -21,8 +21,8 @@ OCCUR = b"occur"
 
 OTHER_GREP = b"#!/bin/sh\necho 'usage: grep [-abc] pattern [file ...]' >&2\nexit 2\n"
 INSTALLED = ["bin/grep", "bin/occur", "share/man/man1/grep.1", "share/man/man1/occur.1"]
-NVIM_CLIENT = ["doc/live-occur.txt",
-               *sorted(f"lua/live_occur/{file.name}" for file in (REPOSITORY / "editors/nvim/lua/live_occur").iterdir()),
+LUA = REPOSITORY / "editors/nvim/lua/live_occur"
+NVIM_CLIENT = ["doc/live-occur.txt", *sorted(f"lua/live_occur/{file.name}" for file in LUA.iterdir()),
                "plugin/live_occur.lua"]
 PACKED = ["LICENSE-APACHE", "LICENSE-MIT", "README", *INSTALLED[:2],
           "share/emacs/site-lisp/live-occur.el", *INSTALLED[2:],

@@ -229,7 +229,8 @@ test("the help has tags", function()
   fn.writefile(fn.readfile(here .. "/doc/live-occur.txt"), folder .. "/live-occur.txt")
   equal(fn.execute("helptags " .. folder), "")
   local tags = table.concat(fn.readfile(folder .. "/tags"), "\n")
-  for _, tag in ipairs({ ":LiveOccur", ":LiveOccurQuickfix", "live-occur", "live-occur-keys", "live-occur-settings" }) do
+  local wanted = { ":LiveOccur", ":LiveOccurQuickfix", "live-occur", "live-occur-keys", "live-occur-settings" }
+  for _, tag in ipairs(wanted) do
     assert(("\n" .. tags):find("\n" .. tag .. "\t", 1, true), tag .. " is no tag")
   end
 end)

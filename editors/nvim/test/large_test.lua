@@ -1,8 +1,7 @@
--- Times for large buffers. They are printed; the greatest are bounded.
+-- Times for large buffers. They are printed; that of an edit is bounded.
 
 local bench = require("bench")
-local api, fn = vim.api, vim.fn
-
+local api = vim.api
 local settings = require("live_occur.settings")
 
 local function large(count)
@@ -17,8 +16,8 @@ local function settle(list)
   assert(list:wait(120000), "the list doesn't come to rest")
 end
 
-local function measure(count, pattern)
-  local buffer = bench.buffer(large(count))
+-- A list, and the milliseconds until it is opened, has rows, and has all.
+local function open(pattern)
   local list
   local opened = bench.milliseconds(function()
     list = bench.list(pattern)
@@ -31,46 +30,72 @@ local function measure(count, pattern)
   local all = bench.milliseconds(function()
     settle(list)
   end)
-  local hits = list:total()
-  local edits = {}
+  return list, { opened, opened + first, opened + first + all }
+end
+
+-- The milliseconds of each of 40 edits with its update, in order of size. Three of four are one
+-- after the other in the middle, the others anywhere.
+local function edits(list, buffer, count)
+  local times = {}
   for number = 1, 40 do
     local line = number % 4 == 0 and math.random(count) or math.floor(count / 2) + number
     api.nvim_buf_set_lines(buffer, line, line, false, { "error, one more line" })
-    edits[number] = bench.milliseconds(function()
+    times[number] = bench.milliseconds(function()
       settle(list)
     end)
   end
-  table.sort(edits)
-  local drawn = bench.milliseconds(function()
+  table.sort(times)
+  return times
+end
+
+local function drawn(list)
+  local hits = list:total()
+  return bench.milliseconds(function()
     for row = hits - 50, hits do
       require("live_occur.draw").marks(list, row, 40)
     end
   end)
-  local page = 0
-  local flag = bench.milliseconds(function()
-    page = bench.milliseconds(function()
-      list:set_flag("i", true)
-      vim.wait(60000, function()
-        return list.page or not list.asked
-      end, 1)
-    end)
-    bench.equal(list.page ~= nil, hits >= settings.page_from, "a page is shown")
-    bench.equal(list:at(1).place, pattern == "line" and 0 or 2)
-    settle(list)
-    bench.equal(list.page, nil)
-    bench.equal(list:total(), hits + 40)
+end
+
+-- The milliseconds of a change of flag i, until the first hits are shown and until all are.
+local function flag(list, first_place)
+  local hits = list:total()
+  local page = bench.milliseconds(function()
+    list:set_flag("i", true)
+    vim.wait(60000, function()
+      return list.page or not list.asked
+    end, 1)
   end)
-  bench.tell(("%d lines, %d hits: opened in %.0f ms, first rows in %.0f ms, all in %.0f ms; an edit %.1f ms (median), "
-    .. "%.1f ms (greatest); 50 rows drawn in %.2f ms; flag i: first rows in %.0f ms, all in %.0f ms"):format(count, hits, opened, opened + first,
-    opened + first + all, edits[20], edits[40], drawn, page, flag))
-  assert(edits[20] < 100, "an edit takes long")
+  bench.equal(list.page ~= nil, hits >= settings.page_from, "a page is shown")
+  bench.equal(list:at(1).place, first_place)
+  local rest = bench.milliseconds(function()
+    settle(list)
+  end)
+  bench.equal({ list.page, list:total() }, { nil, hits })
+  return page, page + rest
+end
+
+local function measure(count, pattern, first_place)
+  local buffer = bench.buffer(large(count))
+  local list, opened = open(pattern)
+  local hits = list:total()
+  local times = edits(list, buffer, count)
+  bench.equal(list:total(), hits + 40)
+  local marks = drawn(list)
+  local page, all = flag(list, first_place)
+  bench.tell(("%d lines, %d hits: opened in %.0f ms, first rows in %.0f ms, all in %.0f ms"):format(count, hits,
+    unpack(opened)))
+  bench.tell(("    an edit with its update %.1f ms (median), %.1f ms (greatest); 50 rows drawn in %.2f ms"):format(
+    times[20], times[40], marks))
+  bench.tell(("    flag i: first rows in %.0f ms, all in %.0f ms"):format(page, all))
+  assert(times[20] < 100, "an edit takes long")
 end
 
 for count in (vim.env.LINES or "200000 1000000"):gmatch("%d+") do
   bench.test("a buffer of " .. count .. " lines, of which a third match", function()
-    measure(tonumber(count), "error")
+    measure(tonumber(count), "error", 2)
   end)
   bench.test("a buffer of " .. count .. " lines, which all match", function()
-    measure(tonumber(count), "line")
+    measure(tonumber(count), "line", 0)
   end)
 end

@@ -49,7 +49,8 @@ bench.test("hunks turn the old text into the new one, and old places into new on
     for _, hunk in ipairs(whole) do
       text = replaced(text, hunk.at, hunk.removed, 0)
       local lines = vim.list_slice(new, hunk.at + 1, hunk.at + hunk.added)
-      text = vim.list_extend(vim.list_extend(vim.list_slice(text, 1, hunk.at), lines), vim.list_slice(text, hunk.at + 1))
+      local rest_of_text = vim.list_slice(text, hunk.at + 1)
+      text = vim.list_extend(vim.list_extend(vim.list_slice(text, 1, hunk.at), lines), rest_of_text)
     end
     bench.equal(text, new, "sent")
     local touched = {}

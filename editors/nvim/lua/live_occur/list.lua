@@ -620,14 +620,15 @@ function List:render_all()
   self:show_header()
 end
 
--- What the list shows, as `grep -n` writes it: for each hit its buffer, its line from 1, and its text.
+-- The hits that the list shows: for each its buffer, its line from 1, its text and its parts.
 function List:rows()
   local rows = {}
   local texts = lines_of(self.buffer, 0, -1)
   for row = 1, #texts - 1 do
     local at = self:at(row)
     if at and at.parts then
-      rows[#rows + 1] = { at.file.buffer, self:line_of(at.file, at.place) + 1, texts[row + 1]:sub(#MARGIN + 1), at.parts }
+      local line = self:line_of(at.file, at.place) + 1
+      rows[#rows + 1] = { at.file.buffer, line, texts[row + 1]:sub(#MARGIN + 1), at.parts }
     end
   end
   return rows
