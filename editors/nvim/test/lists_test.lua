@@ -214,8 +214,15 @@ test("refused patterns are reported with their place", function()
   local list, fault, place = require("live_occur").open("\\(o", { api.nvim_get_current_buf() })
   equal({ list, fault, place }, { nil, "UnclosedGroup at 0 in: \\(o", 0 })
   list = bench.list("o(")
-  equal({ list:add_pattern("[b-a]") }, { "BadRange at 2 in: [b-a]", 2 })
-  equal({ list:set_syntax("extended") }, { "UnclosedGroup at 1 in: o(", 1 })
+  local faults = {}
+  local function note(...)
+    faults[#faults + 1] = { ... }
+  end
+  list:add_pattern("[b-a]", note)
+  list:set_syntax("extended", note)
+  list:set_flag("x", true, note)
+  rows(list)
+  equal(faults, { { "BadRange at 2 in: [b-a]", 2 }, { "UnclosedGroup at 1 in: o(", 1 }, {} })
   equal(list.syntax, "basic")
   equal(list.patterns, { "o(" })
   equal(rows(list), {})

@@ -87,19 +87,18 @@ end
 -- Patterns
 
 -- Asks for a pattern until one is taken: the prompt then says why the one before was refused. Where
--- nothing is typed the list stays as it is; the empty pattern is typed as "\(\)" or "()".
+-- nothing is typed the list stays as it is.
 local function ask_pattern(prompt, text, take, fault)
   vim.ui.input({ prompt = (fault and fault .. "; " or "") .. prompt, default = text }, function(pattern)
     if pattern == nil or pattern == "" then
       return
     end
-    local problem, place = take(pattern)
-    if problem then
-      local kind = place and problem:sub(1, #problem - #pattern - #" in: ") or problem
-      vim.schedule(function()
+    take(pattern, function(problem, place)
+      if problem then
+        local kind = place and problem:sub(1, #problem - #pattern - #" in: ") or problem
         ask_pattern(prompt, pattern, take, kind)
-      end)
-    end
+      end
+    end)
   end)
 end
 
@@ -132,8 +131,8 @@ local function choose_pattern(list, prompt, take)
 end
 
 function M.add_pattern(list)
-  ask_pattern("Add pattern: ", "", function(pattern)
-    return list:add_pattern(pattern)
+  ask_pattern("Add pattern: ", "", function(pattern, done)
+    list:add_pattern(pattern, done)
   end)
 end
 
@@ -146,12 +145,13 @@ end
 -- The edited pattern comes after the others: the program only adds and drops patterns.
 function M.edit_pattern(list)
   choose_pattern(list, "Edit pattern", function(number)
-    ask_pattern("Edit pattern: ", list.patterns[number], function(pattern)
-      local fault, place = list:add_pattern(pattern)
-      if not fault then
-        list:drop_pattern(number)
-      end
-      return fault, place
+    ask_pattern("Edit pattern: ", list.patterns[number], function(pattern, done)
+      list:add_pattern(pattern, function(fault, place)
+        if not fault then
+          list:drop_pattern(number)
+        end
+        done(fault, place)
+      end)
     end)
   end)
 end
@@ -165,11 +165,11 @@ local function report(fault)
 end
 
 function M.toggle(list, flag)
-  report((list:set_flag(flag, not list.flags[flag])))
+  list:set_flag(flag, not list.flags[flag], report)
 end
 
 function M.set_syntax(list, syntax)
-  report((list:set_syntax(syntax)))
+  list:set_syntax(syntax, report)
 end
 
 function M.ask_context(list)

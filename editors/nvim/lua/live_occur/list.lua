@@ -115,45 +115,35 @@ function List:accepted()
   end
 end
 
--- Sends a command that may be refused for its pattern, and waits for the reply. Returns nil where it
--- is accepted; else the kind of the fault, the number of the pattern, and the place in it.
-function List:try(command, lines)
-  local reply
-  self.session:send(command, lines, function(found)
-    reply = found
-  end)
-  vim.wait(60000, function()
-    return reply or self.session.closed
-  end, 1)
-  if not reply then
-    self.session:close()
-    self.ended = self.ended or "occur was stopped, since no reply came"
-    self:show_header()
-    return self.ended
-  elseif reply.kind == "ok" then
-    return nil
-  end
+-- What a refusal says: a text, and the place in the pattern of a fault, if it is in one of these.
+local function fault_of(reply, patterns)
   local number, kind, place = reply.text:match("^Pattern (%d+) (%S+) (%d+)$")
-  return kind or reply.text, tonumber(number), tonumber(place)
+  local pattern = number and patterns[tonumber(number) + 1]
+  if not pattern then
+    return reply.text
+  end
+  return ("%s at %s in: %s"):format(kind, place, pattern), tonumber(place)
 end
 
--- Adds patterns, all or none. Returns a fault: a text, and the place in the pattern, if it has one.
+-- Sends the first patterns of a session, and waits for the reply: it has no lines that would be
+-- searched yet. Returns a fault, and the place in the pattern, if there is one.
 function List:try_patterns(patterns)
   if #patterns == 0 then
     return nil
   end
-  local kind, number, place = self:try("patterns " .. #patterns, patterns)
-  if kind then
-    return List.fault(kind, number and patterns[number + 1], place), place
+  local reply
+  self.session:send("patterns " .. #patterns, patterns, function(found)
+    reply = found
+  end)
+  vim.wait(10000, function()
+    return reply or self.session.closed
+  end, 1)
+  if not reply then
+    return self.ended or "no reply comes"
+  elseif reply.kind ~= "ok" then
+    return fault_of(reply, patterns)
   end
   vim.list_extend(self.patterns, patterns)
-end
-
-function List.fault(kind, pattern, place)
-  if not pattern then
-    return kind
-  end
-  return ("%s at %d in: %s"):format(kind, place, pattern)
 end
 
 -- Starts the program again, with the patterns, the flags and the buffers of the list.
@@ -389,16 +379,22 @@ function List:wait(milliseconds)
   end, 1)
 end
 
+-- Whether there are edits that were not sent.
+function List:has_edits()
+  for _, file in ipairs(self.files) do
+    if #file.pending > 0 then
+      return true
+    end
+  end
+  return false
+end
+
+-- Whether the list is right, and no reply is on its way.
 function List:settled()
   if self.closed or self.ended then
     return true
   end
-  for _, file in ipairs(self.files) do
-    if #file.pending > 0 then
-      return false
-    end
-  end
-  return not self.asked and not self.changed and not self.session:busy()
+  return not (self:has_edits() or self.asked or self.changed or self.session:busy())
 end
 
 -- Applies a reply to changes: `files` are those of the session at that time.
@@ -739,23 +735,27 @@ end
 
 -- Options of the session
 
--- Sends a change of what matches, and what becomes true of the list by it, unless it is refused.
-function List:change(command, lines, become)
-  local kind, number, place = self:try(command, lines)
-  if kind then
-    local pattern = number and (lines or self.patterns)[number + 1]
-    return List.fault(kind, pattern, place), place
-  end
-  become()
+-- Sends a change of what matches, and asks what changed. `done` is called with the reply: with
+-- nothing, or with a fault and the place in the pattern, if it has one.
+function List:change(command, lines, done)
+  self.session:send(command, lines, function(reply)
+    if reply.kind == "ok" then
+      done()
+    else
+      done(fault_of(reply, lines or self.patterns))
+    end
+    self:show_header()
+  end)
   self:ask_page()
   self.changed = true
   self:step()
+  self:show_header()
 end
 
 -- In a long list the hits are replaced one time for all, which takes a while. So the first ones are
 -- asked for alone, and put into the first rows until then.
 function List:ask_page()
-  if self.asked or self:total() < settings.page_from or not self:settled() then
+  if self.asked or #self.files == 0 or self:total() < settings.page_from or self:has_edits() then
     return
   end
   local files = vim.list_extend({}, self.files)
@@ -784,28 +784,42 @@ function List:show_page(files, block)
   self:redraw()
 end
 
-function List:set_flag(flag, on)
-  return self:change(("flag %s %s"):format(flag, on and "on" or "off"), nil, function()
-    self.flags[flag] = on or nil
+local function nothing() end
+
+-- The flag is set at once, and taken back if it is refused.
+function List:set_flag(flag, on, done)
+  self.flags[flag] = on or nil
+  self:change(("flag %s %s"):format(flag, on and "on" or "off"), nil, function(fault, place)
+    if fault then
+      self.flags[flag] = not on or nil
+    end
+    (done or nothing)(fault, place)
   end)
 end
 
-function List:set_syntax(syntax)
-  return self:change("syntax " .. syntax, nil, function()
-    self.syntax = syntax
+function List:set_syntax(syntax, done)
+  local before = self.syntax
+  self.syntax = syntax
+  self:change("syntax " .. syntax, nil, function(fault, place)
+    if fault then
+      self.syntax = before
+    end
+    (done or nothing)(fault, place)
   end)
 end
 
-function List:add_pattern(pattern)
-  return self:change("patterns 1", { pattern }, function()
-    table.insert(self.patterns, pattern)
+function List:add_pattern(pattern, done)
+  self:change("patterns 1", { pattern }, function(fault, place)
+    if not fault then
+      table.insert(self.patterns, pattern)
+    end
+    (done or nothing)(fault, place)
   end)
 end
 
 function List:drop_pattern(number)
-  return self:change("drop " .. number - 1, nil, function()
-    table.remove(self.patterns, number)
-  end)
+  table.remove(self.patterns, number)
+  self:change("drop " .. number - 1, nil, nothing)
 end
 
 function List:set_context(before, after)
