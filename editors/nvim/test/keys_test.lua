@@ -202,12 +202,12 @@ test("the screen shows rows with their numbers, which are right at once", functi
 end)
 
 test("a preview shows rows and highlights the buffer", function()
-  local buffer = bench.buffer({ "one", "two", "one two" })
+  local buffer = bench.buffer({ "one", "two\0", "one two" })
   local shown = api.nvim_create_buf(false, true)
   local space = api.nvim_create_namespace("test_preview")
   local call = { args = "two", range = 0, line1 = 1, line2 = 1, bang = false }
   equal(require("live_occur.preview").show(call, space, shown), 2)
-  equal(api.nvim_buf_get_lines(shown, 0, -1, false), { "2 hits", "2:two", "3:one two" })
+  equal(api.nvim_buf_get_lines(shown, 0, -1, false), { "2 hits", "2:two ", "3:one two" })
   local marks = vim.tbl_map(function(mark)
     return { mark[2], mark[3], mark[4].end_col }
   end, api.nvim_buf_get_extmarks(buffer, space, 0, -1, { details = true }))

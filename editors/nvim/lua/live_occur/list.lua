@@ -9,7 +9,7 @@ local Session = require("live_occur.session")
 local hunks = require("live_occur.hunks")
 local settings = require("live_occur.settings")
 
-local api, fn = vim.api, vim.fn
+local api, fn, uv = vim.api, vim.fn, vim.uv or vim.loop
 local MARGIN = string.rep(" ", 8)
 local GAP = "--"
 
@@ -29,7 +29,7 @@ function List.name_of(buffer)
   return name == "" and "[No Name]" or fn.fnamemodify(name, ":~:.")
 end
 
--- The lines of a buffer, as they are sent. One with a newline can't be: Neovim keeps NUL as one.
+-- Some lines of a buffer, as they are sent.
 local function lines_of(buffer, first, last)
   return api.nvim_buf_get_lines(buffer, first, last, false)
 end
@@ -48,8 +48,8 @@ end
 
 -- Making a list
 
--- A new list of these buffers: `patterns` as they were typed, `range` with the first and the last
--- line that are searched, or nil. Returns nil and a text where a pattern is refused.
+-- A new list of these buffers. The options are `syntax`, `flags` and `range`: the first and the last
+-- line that are searched. Returns nil, a text and, where the pattern is refused, the place in it.
 function List.new(pattern, buffers, options)
   local self = setmetatable({
     patterns = {},
@@ -173,9 +173,15 @@ end
 
 -- Ends the list: its process, and all that it has in other buffers.
 function List:close()
+  if self.closed then
+    return
+  end
   self.closed = true
   for _, file in ipairs(self.files) do
     file.attached = nil
+  end
+  if self.timer then
+    self.timer:close()
   end
   if self.session then
     self.session:close()
@@ -279,8 +285,13 @@ function List:renew(file)
   local loaded = api.nvim_buf_is_loaded(file.buffer)
   local old = file.to - file.from
   file.count = loaded and api.nvim_buf_line_count(file.buffer) or 0
-  file.from = file.ranged and math.min(file.from, file.count) or 0
-  file.to = file.ranged and loaded and math.min(math.max(file.to, file.from), file.count) or file.count
+  if file.ranged then
+    file.range = not file.unloaded and { file.from, file.to } or file.range
+    file.from, file.to = math.min(file.range[1], file.count), math.min(file.range[2], file.count)
+  else
+    file.to = file.count
+  end
+  file.unloaded = not loaded
   hunks.note(file.pending, 0, old, file.to - file.from)
   self:later()
 end
@@ -313,13 +324,15 @@ end
 
 -- Brings the list up to date at the next pause.
 function List:later()
-  self.edits = (self.edits or 0) + 1
-  local edits = self.edits
-  vim.defer_fn(function()
-    if edits == self.edits then
+  if not self.timer then
+    self.timer = uv.new_timer()
+    self.at_pause = vim.schedule_wrap(function()
       self:step()
-    end
-  end, settings.delay)
+    end)
+  end
+  if not self.closed then
+    self.timer:start(settings.delay, 0, self.at_pause) -- anew, where it runs
+  end
 end
 
 -- Sends some hunks of a file, with at most `room` lines, and returns the room that is left. After
