@@ -58,6 +58,7 @@ function List.new(pattern, buffers, options)
     context = { settings.context[1], settings.context[2] },
     follow = settings.follow,
     files = {},
+    replies = {}, -- those to changes that are not yet applied
   }, List)
   for flag in (options.flags or settings.flags):gmatch("[ivx]") do
     self.flags[flag] = true
@@ -94,6 +95,7 @@ function List:start(patterns)
     return fault
   end
   self.session, self.ended, self.asked, self.patterns = session, nil, nil, {}
+  self.replies, self.applying, self.paused = {}, nil, false
   session:send("syntax " .. self.syntax, nil, self:accepted())
   session:send("flag o on", nil, self:accepted())
   for flag in pairs(self.flags) do
@@ -410,32 +412,79 @@ function List:settled()
   return not (self:has_edits() or self.asked or self.changed or self.session:busy())
 end
 
--- Applies a reply to changes: `files` are those of the session at that time.
+-- Takes a reply to changes: `files` are those of the session at that time. Replies are applied one
+-- after the other, and a long one in pieces, between which Neovim does what waits.
 function List:report(reply, files, sent)
-  self.asked = self.asked > 1 and self.asked - 1 or nil
+  table.insert(self.replies, { reply, files, sent })
+  if not self.applying then
+    self.applying = coroutine.create(function()
+      while self.replies[1] do
+        self:apply_reply(unpack(table.remove(self.replies, 1)))
+      end
+    end)
+    self:apply_more()
+  end
+end
+
+-- Applies replies up to the next pause or to the end.
+function List:apply_more()
+  local applying = self.applying
+  local ran, fault = coroutine.resume(applying)
+  if self.applying == applying and coroutine.status(applying) == "dead" then
+    self.applying = nil
+  end
+  if not ran then
+    error(fault)
+  end
+end
+
+-- Ends a piece: what waits comes first, and then the next one.
+function List:pause(windows)
+  local applying = self.applying
+  for _, kept in ipairs(windows) do
+    kept.seen = api.nvim_win_get_cursor(kept.window)[1]
+  end
+  vim.defer_fn(function()
+    if self.applying == applying and not self.closed then
+      self:apply_more()
+    end
+  end, 1)
+  self.paused = true
+  self:show_header()
+  coroutine.yield()
+  for index = #windows, 1, -1 do
+    local window, seen = windows[index].window, windows[index].seen
+    if not api.nvim_win_is_valid(window) or api.nvim_win_get_cursor(window)[1] ~= seen then
+      table.remove(windows, index) -- Its cursor was moved since.
+    end
+  end
+end
+
+function List:apply_reply(reply, files, sent)
   if sent then
     table.remove(sent.sent, 1)
   end
   if reply.kind ~= "status" then
+    self.asked = nil
     return self:accepted()(reply)
   end
   local windows = self:keep_windows()
+  local paged = self.page ~= nil
+  self.page = nil
   for _, block in ipairs(reply.blocks) do
-    local file = files[block.words[1] + 1]
-    if not file.closed then
-      self:apply(file, block, windows)
-    end
+    self:apply(files[block.words[1] + 1], block, windows)
   end
-  if self.page and #reply.blocks == 0 then
+  if paged and #reply.blocks == 0 then
     self:render_all()
-  elseif self.page then
+  elseif paged then
     self:rename()
   end
-  self.page = nil
   if #reply.blocks > 0 then
     self:to_first_hit(windows)
     self:restore_windows(windows)
   end
+  self.asked = self.asked > 1 and self.asked - 1 or nil
+  self.paused = false
   if self.due and not self.asked then
     self:step()
   end
@@ -445,22 +494,41 @@ end
 
 -- Applies one h line, with its hits.
 function List:apply(file, block, windows)
+  if file.closed then
+    return
+  end
   local front, removed, added = block.words[2], block.words[3], block.words[4]
   local index, gone = file.hits:cut(front, removed, added)
-  for number = 1, block.count do
-    file.hits:push(block.places[number], block.parts[number])
+  local done = self:apply_piece(file, block, 0, index, gone, windows)
+  while done < block.count do
+    self:pause(windows)
+    if file.closed then
+      return
+    end
+    done = self:apply_piece(file, block, done, index + done, 0)
   end
   if self:around() then
-    return self:render(file, windows)
+    self:render(file, windows)
   end
+end
+
+-- Puts the hits after the first `done` ones of an h line into a list, in place of `gone` ones from
+-- number `index` on; but at most a slice of them. Returns how many are there then. Where lines around
+-- are shown all are put, since the rows are made anew after it.
+function List:apply_piece(file, block, done, index, gone, windows)
+  local last = self:around() and block.count or math.min(block.count, done + settings.slice)
   local texts = {}
-  for number = 1, block.count do
-    texts[number] = row_text(block.lines[number])
+  for number = done + 1, last do
+    file.hits:push(block.places[number], block.parts[number])
+    texts[number - done] = row_text(block.lines[number])
   end
-  local row = self:row_of(file) + (file.heading and 1 or 0) + index
-  self:put(row, row + gone, texts, windows)
-  file.shown = file.shown + #texts - gone
-  self:put_heading(file, windows)
+  if not self:around() then
+    local row = self:row_of(file) + (file.heading and 1 or 0) + index
+    self:put(row, row + gone, texts, windows, block.count)
+    file.shown = file.shown + #texts - gone
+    self:put_heading(file, windows)
+  end
+  return last
 end
 
 -- Rows
@@ -512,21 +580,23 @@ function List:line_of(file, place)
   return file.from + hunks.place(file.pending, hunks.place(file.sent, place))
 end
 
--- Replaces rows of the list's buffer, and moves what is kept of its windows with them.
-function List:put(first, last, texts, windows)
+-- Replaces rows of the list's buffer, and moves what is kept of its windows with them: as if there
+-- were `count` texts, of which the others come later.
+function List:put(first, last, texts, windows, count)
   local buffer = self.buffer
   if not buffer or (first == last and #texts == 0) then
     return
   end
+  count = count or #texts
   vim.bo[buffer].modifiable = true
   api.nvim_buf_set_lines(buffer, first, last, false, texts)
   vim.bo[buffer].modifiable = false
   vim.bo[buffer].modified = false
   for _, kept in ipairs(windows or {}) do
-    if kept.row >= last and last >= 0 then
-      kept.row = kept.row + #texts - (last - first)
+    if kept.row >= last then
+      kept.row = kept.row + count - (last - first)
     elseif kept.row >= first then
-      kept.row = math.max(first + math.min(kept.row - first, #texts - 1), 0)
+      kept.row = math.max(first + math.min(kept.row - first, count - 1), 0)
     end
   end
 end
@@ -670,7 +740,7 @@ function List:header()
   words[#words + 1] = counted(self:total(), "hit") .. ", " .. counted(#self.files, "buffer")
   if self.ended then
     words[#words + 1] = self.ended
-  elseif self.due or self.page then
+  elseif self.due or self.page or self.paused then
     words[#words + 1] = "more to come"
   end
   return table.concat(words, "  ")
