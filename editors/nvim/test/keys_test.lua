@@ -116,6 +116,33 @@ test("the cursor stays on its row", function()
   equal(api.nvim_win_get_cursor(window)[1], 2)
 end)
 
+test("the cursor stays where it is while a long reply comes, unless it is moved", function()
+  local settings = require("live_occur.settings")
+  local slice, lines = settings.slice, {}
+  for index = 1, 100 do
+    lines[index] = "one " .. index
+  end
+  bench.buffer(lines)
+  local list = bench.list("one")
+  rows(list)
+  local window = fn.win_findbuf(list.buffer)[1]
+  settings.slice = 10
+  api.nvim_win_set_cursor(window, { 51, 0 })
+  list:set_flag("i", true)
+  equal(#rows(list), 100)
+  equal(api.nvim_win_get_cursor(window)[1], 51)
+  list:set_flag("x", true)
+  rows(list)
+  list:set_flag("x", false)
+  vim.wait(5000, function()
+    return list.paused
+  end, 1)
+  api.nvim_win_set_cursor(window, { 3, 0 })
+  equal(#rows(list), 100)
+  equal(api.nvim_win_get_cursor(window)[1], 3)
+  settings.slice = slice
+end)
+
 test("the command takes buffers, a range and extended expressions", function()
   local a, b = bench.buffer({ "one", "two" }), bench.buffer({ "one+", "x" })
   vim.cmd("LiveOccur! ++buffers=" .. a .. "," .. b .. " (one|x)\\+|two")

@@ -57,6 +57,20 @@ local function drawn(list)
   end)
 end
 
+-- Runs a body, and returns the greatest number of milliseconds in which Neovim did nothing else.
+local function longest_wait(body)
+  local timer, last, longest = vim.loop.new_timer(), vim.loop.hrtime(), 0
+  local function beat()
+    local now = vim.loop.hrtime()
+    longest, last = math.max(longest, (now - last) / 1e6), now
+  end
+  timer:start(0, 2, vim.schedule_wrap(beat))
+  body()
+  beat()
+  timer:close()
+  return longest
+end
+
 -- The milliseconds of a change of flag i, until the first hits are shown and until all are.
 local function flag(list, first_place)
   local hits = list:total()
@@ -82,12 +96,15 @@ local function measure(count, pattern, first_place)
   local times = edits(list, buffer, count)
   bench.equal(list:total(), hits + 40)
   local marks = drawn(list)
-  local page, all = flag(list, first_place)
+  local page, all
+  local longest = longest_wait(function()
+    page, all = flag(list, first_place)
+  end)
   bench.tell(("%d lines, %d hits: opened in %.0f ms, first rows in %.0f ms, all in %.0f ms"):format(count, hits,
     unpack(opened)))
   bench.tell(("    an edit with its update %.1f ms (median), %.1f ms (greatest); 50 rows drawn in %.2f ms"):format(
     times[20], times[40], marks))
-  bench.tell(("    flag i: first rows in %.0f ms, all in %.0f ms"):format(page, all))
+  bench.tell(("    flag i: first rows in %.0f ms, all in %.0f ms; Neovim waits %.0f ms at most"):format(page, all, longest))
   assert(times[20] < 100, "an edit takes long")
 end
 
