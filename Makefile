@@ -97,7 +97,7 @@ install: build/grep build/occur
 	    install -d "$(DESTDIR)$(SITE_LISP)" && install -m 644 editors/emacs/live-occur.el "$(DESTDIR)$(SITE_LISP)/"; fi
 	if test -n "$(NVIM_SITE)"; then cd editors/nvim && for folder in plugin doc lua/live_occur; do \
 	    install -d "$(DESTDIR)$(NVIM_SITE)/$$folder" && \
-	    install -m 644 $$folder/* "$(DESTDIR)$(NVIM_SITE)/$$folder/" || exit; done; fi
+	    install -m 644 $$folder/*.* "$(DESTDIR)$(NVIM_SITE)/$$folder/" || exit; done; fi
 
 dist: build/grep build/occur
 	tools/dist.sh
