@@ -10,21 +10,24 @@
 # make test-memory  runs the programs, matchers and sessions with each of their allocations refused in turn (needs a C
 #                 compiler and Python 3.11)
 # make test-editor  tests the Emacs client on the built programs (needs Emacs 28)
+# make test-nvim  tests the Neovim client on the built programs (needs Neovim 0.7)
 # make evidence   writes docs/EVIDENCE.md: the newest run of each of the targets above
-# make install    copies the programs and their manual pages below $(DESTDIR)$(PREFIX), and the Emacs client
-#                 to $(DESTDIR)$(SITE_LISP), if SITE_LISP names a folder; another grep that is there is kept, unless
-#                 FORCE=1 is given
-# make dist       packs the programs, their pages and the Emacs client into an archive in build/
+# make install    copies the programs and their manual pages below $(DESTDIR)$(PREFIX), the Emacs client to
+#                 $(DESTDIR)$(SITE_LISP) and the Neovim client to $(DESTDIR)$(NVIM_SITE), if SITE_LISP and NVIM_SITE
+#                 name folders; another grep that is there is kept, unless FORCE=1 is given
+# make dist       packs the programs, their pages and the clients into an archive in build/
 # make clean      removes what make built; what rt keeps of its proofs is kept
 
 # DESTDIR can be set in the environment too. FORCE counts on the command line alone.
 PREFIX = /usr/local
 SITE_LISP =
+NVIM_SITE =
 FORCE =
 EMACS = emacs
+NVIM = nvim
 
-.PHONY: all programs gate audit test test-program test-random test-changes test-memory test-editor evidence dist install \
-    clean
+.PHONY: all programs gate audit test test-program test-random test-changes test-memory test-editor test-nvim \
+    evidence dist install clean
 
 all: programs
 
@@ -75,6 +78,10 @@ test-editor: build/grep build/occur
 	OCCUR=$(CURDIR)/build/occur GREP=$(CURDIR)/build/grep tools/evidence.sh test-editor \
 	    $(EMACS) -Q --batch -L build/emacs -l editors/emacs/test/live-occur-test.el -f ert-run-tests-batch-and-exit
 
+test-nvim: build/grep build/occur
+	OCCUR=$(CURDIR)/build/occur GREP=$(CURDIR)/build/grep tools/evidence.sh test-nvim \
+	    $(NVIM) --headless -u NONE -i NONE -n -S editors/nvim/test/run.lua
+
 # Each of the test targets above adds its run to build/evidence.tsv.
 evidence:
 	tools/evidence_page.sh
@@ -88,6 +95,9 @@ install: build/grep build/occur
 	install -m 644 man/occur.1 "$(DESTDIR)$(PREFIX)/share/man/man1/occur.1"
 	if test -n "$(SITE_LISP)"; then \
 	    install -d "$(DESTDIR)$(SITE_LISP)" && install -m 644 editors/emacs/live-occur.el "$(DESTDIR)$(SITE_LISP)/"; fi
+	if test -n "$(NVIM_SITE)"; then cd editors/nvim && for folder in plugin doc lua/live_occur; do \
+	    install -d "$(DESTDIR)$(NVIM_SITE)/$$folder" && \
+	    install -m 644 $$folder/*.* "$(DESTDIR)$(NVIM_SITE)/$$folder/" || exit; done; fi
 
 dist: build/grep build/occur
 	tools/dist.sh

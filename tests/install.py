@@ -21,8 +21,12 @@ OCCUR = b"occur"
 
 OTHER_GREP = b"#!/bin/sh\necho 'usage: grep [-abc] pattern [file ...]' >&2\nexit 2\n"
 INSTALLED = ["bin/grep", "bin/occur", "share/man/man1/grep.1", "share/man/man1/occur.1"]
+LUA = REPOSITORY / "editors/nvim/lua/live_occur"
+NVIM_CLIENT = ["doc/live-occur.txt", *sorted(f"lua/live_occur/{file.name}" for file in LUA.iterdir()),
+               "plugin/live_occur.lua"]
 PACKED = ["LICENSE-APACHE", "LICENSE-MIT", "README", *INSTALLED[:2],
-          "share/emacs/site-lisp/live-occur.el", *INSTALLED[2:]]
+          "share/emacs/site-lisp/live-occur.el", *INSTALLED[2:],
+          *(f"share/nvim/site/{name}" for name in NVIM_CLIENT)]
 CHECKED_OUT = ["LICENSE-APACHE", "LICENSE-MIT", "Makefile", "VERSION", "dist", "editors", "man", "tools"]
 FAILED = 2
 """The exit status of make where a command failed."""
@@ -133,7 +137,17 @@ def same_grep(bench: Bench) -> Verdict:
     return installed_over(bench, replaced(bench))
 
 
-@grep_case("`make dist` packs both programs, their pages, the Emacs client, the licences and a README.")
+@grep_case("`make install` copies the clients of editors below DESTDIR, to the folders that are named.")
+def clients(bench: Bench) -> Verdict:
+    folders = {"SITE_LISP": bench.folder / "lisp", "NVIM_SITE": bench.folder / "nvim"}
+    status = install(bench, f"DESTDIR={bench.folder / 'stage'}",
+                     *(f"{name}={folder}" for name, folder in folders.items()))
+    lisp, nvim = (files_in(bench.folder / "stage" / folder.relative_to("/")) for folder in folders.values())
+    wanted = Answer("\n".join(["live-occur.el", *NVIM_CLIENT]).encode())
+    return Verdict(wanted, Answer(lisp + b"\n" + nvim, b"", status))
+
+
+@grep_case("`make dist` packs both programs, their pages, the clients of editors, the licences and a README.")
 def packed(bench: Bench) -> Verdict:
     status = make(bench, "dist")
     version = (REPOSITORY / "VERSION").read_text(encoding="ascii").strip()

@@ -35,6 +35,7 @@ MOST_WORDS = {
     "crates/*/README.md": 3_500,
     "tests/README.md": 1_000,
     "editors/emacs/README.md": 1_500,
+    "editors/nvim/*.md": 1_500,
     "*": 34_000,
 }
 """How many words pages have at most, by the pattern of their names."""

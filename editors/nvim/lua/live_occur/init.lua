@@ -1,0 +1,136 @@
+-- The commands: :LiveOccur, :LiveOccurQuickfix.
+
+local api, fn = vim.api, vim.fn
+local M = {}
+
+function M.setup(options)
+  local settings = require("live_occur.settings")
+  for name, value in pairs(options or {}) do
+    if settings[name] == nil and name ~= "states" then
+      error("live_occur has no setting " .. name, 2)
+    end
+    settings[name] = value
+  end
+end
+
+-- The buffers that `++buffers=` names.
+local function buffers_of(names)
+  local buffers = {}
+  if names == "all" then
+    for _, info in ipairs(fn.getbufinfo({ buflisted = 1 })) do
+      buffers[#buffers + 1] = info.bufnr
+    end
+    return buffers
+  end
+  for name in names:gmatch("[^,]+") do
+    local buffer = tonumber(name) and fn.bufnr(tonumber(name)) or fn.bufnr(name)
+    if buffer < 1 then
+      return nil, "there is no buffer " .. name
+    end
+    buffers[#buffers + 1] = buffer
+  end
+  return buffers
+end
+
+-- What the words of :LiveOccur say: the pattern, the buffers and, for an error, a text.
+local function read_words(words)
+  local names, pattern = words:match("^%+%+buffers=(%S+) ?(.*)$")
+  if not names then
+    return words, { api.nvim_get_current_buf() }
+  end
+  local buffers, fault = buffers_of(names)
+  return pattern, buffers, fault
+end
+
+local function show_window(list)
+  local settings = require("live_occur.settings")
+  vim.cmd("botright " .. settings.height .. "split")
+  api.nvim_win_set_buf(0, list.buffer)
+end
+
+local function watch(list)
+  local group = api.nvim_create_augroup("live_occur_" .. list.buffer, {})
+  local function on(events, pattern, callback)
+    api.nvim_create_autocmd(events, { group = group, callback = callback, buffer = pattern })
+  end
+  on({ "BufUnload", "BufWipeout" }, list.buffer, function()
+    list:close()
+    vim.schedule(function()
+      pcall(api.nvim_del_augroup_by_id, group)
+      pcall(api.nvim_buf_delete, list.buffer, { force = true })
+    end)
+  end)
+  on("BufWinEnter", list.buffer, M.set_window)
+  on("CursorMoved", list.buffer, function()
+    require("live_occur.keys").moved(list)
+  end)
+  api.nvim_create_autocmd("BufFilePost", {
+    group = group,
+    callback = function()
+      list:rename()
+    end,
+  })
+  api.nvim_create_autocmd({ "BufReadPost", "BufNewFile", "BufWinEnter" }, {
+    group = group,
+    callback = function(event)
+      list:loaded(event.buf)
+    end,
+  })
+end
+
+function M.set_window()
+  local values = { wrap = false, number = false, relativenumber = false, cursorline = true, spell = false }
+  values.winfixheight = true
+  for name, value in pairs(values) do
+    api.nvim_set_option_value(name, value, { scope = "local" })
+  end
+end
+
+-- Opens a list. Returns it, or nil and a fault with, for a refused pattern, the place.
+function M.open(pattern, buffers, options)
+  local List = require("live_occur.list")
+  require("live_occur.draw").start()
+  local list, fault, place = List.new(pattern, buffers, options or {})
+  if not list then
+    return nil, fault, place
+  end
+  watch(list)
+  show_window(list)
+  require("live_occur.keys").set(list)
+  return list
+end
+
+-- :LiveOccur
+function M.command(call)
+  local pattern, buffers, fault = read_words(call.args)
+  if fault then
+    return api.nvim_echo({ { "LiveOccur: " .. fault, "ErrorMsg" } }, true, {})
+  end
+  if pattern == "" then
+    pattern = fn.input("List lines that match: ")
+    if pattern == "" then
+      return
+    end
+  end
+  local range = call.range > 0 and { call.line1, call.line2 } or nil
+  local list, problem, place = M.open(pattern, buffers, { range = range, syntax = call.bang and "extended" or nil })
+  if not list then
+    require("live_occur.keys").show_fault(problem, place and pattern, place)
+  end
+  return list
+end
+
+-- :LiveOccurQuickfix
+function M.quickfix()
+  local keys = require("live_occur.keys")
+  local list = keys.current()
+  for _, window in ipairs(api.nvim_tabpage_list_wins(0)) do
+    list = list or require("live_occur.list").all[api.nvim_win_get_buf(window)]
+  end
+  if not list then
+    return api.nvim_echo({ { "LiveOccur: there is no list in view", "ErrorMsg" } }, true, {})
+  end
+  keys.quickfix(list)
+end
+
+return M

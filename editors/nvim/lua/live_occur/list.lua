@@ -1,0 +1,914 @@
+-- A list: a buffer with the lines that match, kept right while the searched buffers are edited.
+--
+-- The first line of its buffer is a header. Then there is a row for each hit: a margin, in which the
+-- number is drawn, and the line. Where several buffers are searched, a row with its name is before
+-- the rows of each buffer that has some.
+
+local Hits = require("live_occur.hits")
+local Session = require("live_occur.session")
+local hunks = require("live_occur.hunks")
+local settings = require("live_occur.settings")
+
+local api, fn, uv = vim.api, vim.fn, vim.uv or vim.loop
+local MARGIN = string.rep(" ", 8)
+local GAP = "--"
+
+local List = { all = {} } -- `all` has each list by the number of its buffer
+List.__index = List
+List.margin = #MARGIN
+
+-- Small things
+
+local function say(text, kind)
+  api.nvim_echo({ { "LiveOccur: " .. text, kind or "WarningMsg" } }, true, {})
+end
+
+-- The name of a buffer, as it is shown.
+function List.name_of(buffer)
+  local name = api.nvim_buf_is_valid(buffer) and api.nvim_buf_get_name(buffer) or ""
+  return name == "" and "[No Name]" or fn.fnamemodify(name, ":~:.")
+end
+
+-- Some lines of a buffer, as they are sent.
+local function lines_of(buffer, first, last)
+  return api.nvim_buf_get_lines(buffer, first, last, false)
+end
+
+-- A row's text: the line, or its beginning up to a whole character.
+local function row_text(line)
+  local most = settings.max_columns
+  if #line > most then
+    while most > 0 and line:byte(most + 1) >= 128 and line:byte(most + 1) < 192 do
+      most = most - 1
+    end
+    line = line:sub(1, most)
+  end
+  return MARGIN .. line
+end
+
+-- Making a list
+
+-- A new list of these buffers. The options are `syntax`, `flags` and `range`: the first and the last
+-- line that are searched. Returns nil, a text and, where the pattern is refused, the place in it.
+function List.new(pattern, buffers, options)
+  local self = setmetatable({
+    patterns = {},
+    syntax = options.syntax or settings.syntax,
+    flags = {},
+    context = { settings.context[1], settings.context[2] },
+    follow = settings.follow,
+    files = {},
+    replies = {}, -- those to changes that are not yet applied
+  }, List)
+  for flag in (options.flags or settings.flags):gmatch("[ivx]") do
+    self.flags[flag] = true
+  end
+  local fault, place = self:start({ pattern })
+  if fault then
+    self:close()
+    return nil, fault, place
+  end
+  self.buffer = api.nvim_create_buf(false, true)
+  List.all[self.buffer] = self
+  api.nvim_buf_set_name(self.buffer, "live-occur://" .. self.buffer)
+  for option, value in pairs({ undolevels = -1, modifiable = false, filetype = "live_occur", bufhidden = "hide" }) do
+    vim.bo[self.buffer][option] = value
+  end
+  for _, buffer in ipairs(buffers) do
+    self:add_buffer(buffer, options.range)
+  end
+  self:show_header()
+  self:step()
+  return self
+end
+
+-- Starts the program and sends the syntax, the flags and these patterns. Returns a fault, if there
+-- is one.
+function List:start(patterns)
+  local session, fault = Session.start(settings.program, settings.states, function(text)
+    self.ended = text
+    self:show_header()
+    say(text .. "; r in the list starts it again", "ErrorMsg")
+  end)
+  if not session then
+    self.ended = fault
+    return fault
+  end
+  self.session, self.ended, self.asked, self.patterns = session, nil, nil, {}
+  self.replies, self.applying, self.paused = {}, nil, false
+  session:send("syntax " .. self.syntax, nil, self:accepted())
+  session:send("flag o on", nil, self:accepted())
+  for flag in pairs(self.flags) do
+    session:send("flag " .. flag .. " on", nil, self:accepted())
+  end
+  return self:try_patterns(patterns)
+end
+
+-- A function for replies that have to be ok. Where one isn't, the session is of no use any more.
+function List:accepted()
+  local session = self.session
+  return function(reply)
+    if reply.kind ~= "ok" then
+      session:close()
+      self.ended = "occur refused a command: " .. reply.text
+      self:show_header()
+      say(self.ended .. "; r in the list starts it again", "ErrorMsg")
+    end
+  end
+end
+
+-- What a refusal says: a text, and the place in the pattern of a fault, if it is in one of these.
+local function fault_of(reply, patterns)
+  local number, kind, place = reply.text:match("^Pattern (%d+) (%S+) (%d+)$")
+  local pattern = number and patterns[tonumber(number) + 1]
+  if not pattern then
+    return reply.text
+  end
+  return ("%s at %s in: %s"):format(kind, place, pattern), tonumber(place)
+end
+
+-- Sends the first patterns of a session, and waits for the reply: it has no lines that would be
+-- searched yet. Returns a fault, and the place in the pattern, if there is one.
+function List:try_patterns(patterns)
+  if #patterns == 0 then
+    return nil
+  end
+  local reply
+  self.session:send("patterns " .. #patterns, patterns, function(found)
+    reply = found
+  end)
+  vim.wait(10000, function()
+    return reply or self.session.closed
+  end, 1)
+  if not reply then
+    return self.ended or "no reply comes"
+  elseif reply.kind ~= "ok" then
+    return fault_of(reply, patterns)
+  end
+  vim.list_extend(self.patterns, patterns)
+end
+
+-- Starts the program again, with the patterns, the flags and the buffers of the list.
+function List:restart()
+  local patterns, files = self.patterns, self.files
+  if self.session then
+    self.session:close()
+  end
+  self.files = {} -- The new session has none yet.
+  local fault = self:start(patterns)
+  self.patterns = patterns
+  if fault then
+    self.files, self.ended = files, fault
+    self:show_header()
+    return say(fault, "ErrorMsg")
+  end
+  self.had_hits, self.page, self.changed = false, nil, false
+  self:put(1, -1, {})
+  for _, file in ipairs(files) do
+    self:add_file(file)
+    file.pending, file.sent, file.hits = {}, {}, Hits.new()
+    file.shown, file.heading, file.view = 0, false, nil
+    hunks.note(file.pending, 0, 0, file.to - file.from)
+  end
+  self:step()
+end
+
+-- Ends the list: its process, and all that it has in other buffers.
+function List:close()
+  if self.closed then
+    return
+  end
+  self.closed = true
+  for _, file in ipairs(self.files) do
+    file.attached = nil
+  end
+  if self.timer then
+    self.timer:close()
+  end
+  if self.session then
+    self.session:close()
+  end
+  if self.buffer then
+    List.all[self.buffer] = nil
+  end
+end
+
+-- Buffers
+
+-- Sends an empty file for a buffer; its lines follow as edits.
+function List:add_file(file)
+  table.insert(self.files, file)
+  self.session:send("file " .. file.buffer .. " 0", nil, self:accepted())
+end
+
+function List:add_buffer(buffer, range)
+  for _, file in ipairs(self.files) do
+    if file.buffer == buffer then
+      return
+    end
+  end
+  fn.bufload(buffer)
+  local file = { buffer = buffer, pending = {}, sent = {}, hits = Hits.new(), shown = 0, heading = false }
+  file.count = api.nvim_buf_line_count(buffer)
+  file.ranged = range ~= nil
+  file.from = range and math.min(range[1] - 1, file.count) or 0
+  file.to = range and math.min(range[2], file.count) or file.count
+  self:add_file(file)
+  self:attach(file)
+  hunks.note(file.pending, 0, 0, file.to - file.from)
+  self:put_headings()
+  self:later()
+end
+
+function List:remove_file(file)
+  for index, each in ipairs(self.files) do
+    if each == file then
+      local row = self:row_of(file)
+      self:put(row, row + file.shown, {})
+      file.closed, file.attached = true, nil
+      table.remove(self.files, index)
+      self.session:send("close " .. index - 1, nil, self:accepted())
+      self:put_headings()
+      return self:show_header()
+    end
+  end
+end
+
+-- Follows the edits of a buffer.
+function List:attach(file)
+  local token = {}
+  file.attached = token
+  api.nvim_buf_attach(file.buffer, false, {
+    on_lines = function(_, _, _, first, last, new_last)
+      if file.attached ~= token then
+        return true
+      end
+      self:edited(file, first, last, new_last)
+    end,
+    on_reload = function()
+      if file.attached == token then
+        self:renew(file)
+      end
+    end,
+    on_detach = function()
+      if file.attached == token then
+        file.attached = nil
+        vim.schedule(function()
+          self:check(file)
+        end)
+      end
+    end,
+  })
+end
+
+-- Notes an edit: lines from `first` up to `last` are now those up to `new_last`.
+function List:edited(file, first, last, new_last)
+  file.count = file.count + new_last - last
+  if file.count == 0 then -- Neovim reports no line, and has an empty one.
+    file.count, new_last = 1, 1
+  end
+  local at, removed, added = first, last - first, new_last - first
+  if file.ranged then
+    file.from, file.to, at, removed, added = hunks.clip(file.from, file.to, first, last, new_last)
+  else
+    file.to = file.count
+  end
+  if at then
+    hunks.note(file.pending, at, removed, added)
+  end
+  if new_last ~= last then
+    self:redraw()
+  end
+  self:later()
+end
+
+-- Notes that all lines of a buffer may be others.
+function List:renew(file)
+  local loaded = api.nvim_buf_is_loaded(file.buffer)
+  local old = file.to - file.from
+  file.count = loaded and api.nvim_buf_line_count(file.buffer) or 0
+  if file.ranged then
+    file.range = not file.unloaded and { file.from, file.to } or file.range
+    file.from, file.to = math.min(file.range[1], file.count), math.min(file.range[2], file.count)
+  else
+    file.to = file.count
+  end
+  file.unloaded = not loaded
+  hunks.note(file.pending, 0, old, file.to - file.from)
+  self:later()
+end
+
+-- Takes care that what is known of a buffer is right: it may have been unloaded, loaded anew or
+-- wiped since.
+function List:check(file)
+  if self.closed or file.closed then
+    return
+  elseif not api.nvim_buf_is_valid(file.buffer) then
+    return self:remove_file(file)
+  elseif not file.attached and api.nvim_buf_is_loaded(file.buffer) then
+    self:attach(file)
+    return self:renew(file)
+  elseif file.count ~= api.nvim_buf_line_count(file.buffer) then -- An unloaded one has 0.
+    return self:renew(file)
+  end
+end
+
+-- A buffer was loaded: if it is one of this list, its edits are followed again.
+function List:loaded(buffer)
+  for _, file in ipairs(self.files) do
+    if file.buffer == buffer and not file.attached then
+      self:check(file)
+    end
+  end
+end
+
+-- Edits out, changes in
+
+-- Brings the list up to date at the next pause.
+function List:later()
+  if not self.timer then
+    self.timer = uv.new_timer()
+    self.at_pause = vim.schedule_wrap(function()
+      self:step()
+    end)
+  end
+  if not self.closed then
+    self.timer:start(settings.delay, 0, self.at_pause) -- anew, where it runs
+  end
+end
+
+-- Sends some hunks of a file, with at most `room` lines, and returns the room that is left. After
+-- each it asks what changed: after two splices all lines between them would be said to be replaced.
+function List:send_hunks(file, number, room)
+  local sent = hunks.take(file.pending, room)
+  vim.list_extend(file.sent, sent)
+  for _, hunk in ipairs(sent) do
+    local lines = lines_of(file.buffer, file.from + hunk.at, file.from + hunk.at + hunk.added)
+    local command = ("splice %d %d %d %d"):format(number, hunk.at, hunk.removed, hunk.added)
+    self.session:send(command, lines, self:accepted())
+    self:ask_changes(file)
+    room = room - hunk.added
+  end
+  return room
+end
+
+-- Asks what changed, after the first of the hunks of a file that are sent, if there is a file.
+function List:ask_changes(file)
+  local files = vim.list_extend({}, self.files)
+  self.asked = (self.asked or 0) + 1
+  self.changed = false
+  self.session:send("changes", nil, function(reply)
+    self:report(reply, files, file)
+  end)
+end
+
+-- Sends what was edited, at most a slice of it, and asks what changed.
+function List:step()
+  if self.closed or self.ended then
+    return
+  elseif self.asked then
+    self.due = true
+    return
+  elseif fn.mode():sub(1, 1) == "c" then -- The text may be that of a preview.
+    return self:later()
+  end
+  for _, file in ipairs(vim.list_extend({}, self.files)) do
+    self:check(file)
+  end
+  local room = settings.slice
+  self.due = false
+  for number, file in ipairs(self.files) do
+    room = self:send_hunks(file, number - 1, room)
+    self.due = self.due or #file.pending > 0
+  end
+  if self.changed then
+    self:ask_changes()
+  end
+end
+
+-- Brings the list up to date, and waits for it. Returns false if that takes too long.
+function List:wait(milliseconds)
+  self:step()
+  return vim.wait(milliseconds or 10000, function()
+    return self:settled()
+  end, 1)
+end
+
+-- Whether there are edits that were not sent.
+function List:has_edits()
+  for _, file in ipairs(self.files) do
+    if #file.pending > 0 then
+      return true
+    end
+  end
+  return false
+end
+
+-- Whether the list is right, and no reply is on its way.
+function List:settled()
+  if self.closed or self.ended then
+    return true
+  end
+  return not (self:has_edits() or self.asked or self.changed or self.session:busy())
+end
+
+-- Takes a reply to changes: `files` are those of the session at that time. Replies are applied one
+-- after the other, and a long one in pieces, between which Neovim does what waits.
+function List:report(reply, files, sent)
+  table.insert(self.replies, { reply, files, sent })
+  if not self.applying then
+    self.applying = coroutine.create(function()
+      while self.replies[1] do
+        self:apply_reply(unpack(table.remove(self.replies, 1)))
+      end
+    end)
+    self:apply_more()
+  end
+end
+
+-- Applies replies up to the next pause or to the end.
+function List:apply_more()
+  local applying = self.applying
+  local ran, fault = coroutine.resume(applying)
+  if self.applying == applying and coroutine.status(applying) == "dead" then
+    self.applying = nil
+  end
+  if not ran then
+    error(fault)
+  end
+end
+
+-- Ends a piece: what waits comes first, and then the next one.
+function List:pause(windows)
+  local applying = self.applying
+  for _, kept in ipairs(windows) do
+    kept.seen = api.nvim_win_get_cursor(kept.window)[1]
+  end
+  vim.defer_fn(function()
+    if self.applying == applying and not self.closed then
+      self:apply_more()
+    end
+  end, 1)
+  self.paused = true
+  self:show_header()
+  coroutine.yield()
+  for index = #windows, 1, -1 do
+    local window, seen = windows[index].window, windows[index].seen
+    if not api.nvim_win_is_valid(window) or api.nvim_win_get_cursor(window)[1] ~= seen then
+      table.remove(windows, index) -- Its cursor was moved since.
+    end
+  end
+end
+
+function List:apply_reply(reply, files, sent)
+  if sent then
+    table.remove(sent.sent, 1)
+  end
+  if reply.kind ~= "status" then
+    self.asked = nil
+    return self:accepted()(reply)
+  end
+  local windows = self:keep_windows()
+  local paged = self.page ~= nil
+  self.page = nil
+  for _, block in ipairs(reply.blocks) do
+    self:apply(files[block.words[1] + 1], block, windows)
+  end
+  if paged and #reply.blocks == 0 then
+    self:render_all()
+  elseif paged then
+    self:rename()
+  end
+  if #reply.blocks > 0 then
+    self:to_first_hit(windows)
+    self:restore_windows(windows)
+  end
+  self.asked = self.asked > 1 and self.asked - 1 or nil
+  self.paused = false
+  if self.due and not self.asked then
+    self:step()
+  end
+  self:show_header()
+  self:redraw()
+end
+
+-- Applies one h line, with its hits.
+function List:apply(file, block, windows)
+  if file.closed then
+    return
+  end
+  local front, removed, added = block.words[2], block.words[3], block.words[4]
+  local index, gone = file.hits:cut(front, removed, added)
+  local done = self:apply_piece(file, block, 0, index, gone, windows)
+  while done < block.count do
+    self:pause(windows)
+    if file.closed then
+      return
+    end
+    done = self:apply_piece(file, block, done, index + done, 0)
+  end
+  if self:around() then
+    self:render(file, windows)
+  end
+end
+
+-- Puts the hits after the first `done` ones of an h line into a list, in place of `gone` ones from
+-- number `index` on; but at most a slice of them. Returns how many are there then. Where lines around
+-- are shown all are put, since the rows are made anew after it.
+function List:apply_piece(file, block, done, index, gone, windows)
+  local last = self:around() and block.count or math.min(block.count, done + settings.slice)
+  local texts = {}
+  for number = done + 1, last do
+    file.hits:push(block.places[number], block.parts[number])
+    texts[number - done] = row_text(block.lines[number])
+  end
+  if not self:around() then
+    local row = self:row_of(file) + (file.heading and 1 or 0) + index
+    self:put(row, row + gone, texts, windows, block.count)
+    file.shown = file.shown + #texts - gone
+    self:put_heading(file, windows)
+  end
+  return last
+end
+
+-- Rows
+
+-- Whether lines around hits are shown.
+function List:around()
+  return self.context[1] > 0 or self.context[2] > 0
+end
+
+-- The first row of a file, from 0.
+function List:row_of(file)
+  local row = 1
+  for _, each in ipairs(self.files) do
+    if each == file then
+      break
+    end
+    row = row + each.shown
+  end
+  return row
+end
+
+-- What a row of the list's buffer is: nil for the header, else a table with `file`, and `place` (of
+-- the last report) and `parts` for a hit, `place` and `near` for a line around, or neither.
+function List:at(row)
+  local index = row - 1
+  if index < 0 then
+    return nil
+  elseif self.page and self.page[row] then
+    return self.page[row]
+  end
+  for _, file in ipairs(self.files) do
+    if index < file.shown then
+      index = index + (file.heading and 0 or 1)
+      if index == 0 then
+        return { file = file, heading = true }
+      elseif file.view then
+        local number, place = file.view.numbers[index], file.view.places[index]
+        return { file = file, place = place, near = not number, parts = number and select(2, file.hits:get(number)) }
+      end
+      local place, parts = file.hits:get(index)
+      return { file = file, place = place, parts = parts }
+    end
+    index = index - file.shown
+  end
+end
+
+-- The line of a buffer, from 0, that a place of the last report is now.
+function List:line_of(file, place)
+  return file.from + hunks.place(file.pending, hunks.place(file.sent, place))
+end
+
+-- Replaces rows of the list's buffer, and moves what is kept of its windows with them: as if there
+-- were `count` texts, of which the others come later.
+function List:put(first, last, texts, windows, count)
+  local buffer = self.buffer
+  if not buffer or (first == last and #texts == 0) then
+    return
+  end
+  count = count or #texts
+  vim.bo[buffer].modifiable = true
+  api.nvim_buf_set_lines(buffer, first, last, false, texts)
+  vim.bo[buffer].modifiable = false
+  vim.bo[buffer].modified = false
+  for _, kept in ipairs(windows or {}) do
+    if kept.row >= last then
+      kept.row = kept.row + count - (last - first)
+    elseif kept.row >= first then
+      kept.row = math.max(first + math.min(kept.row - first, count - 1), 0)
+    end
+  end
+end
+
+-- Whether a row with the name of a file's buffer is before its rows.
+function List:wants_heading(file)
+  return #self.files > 1 and file.hits:count() > 0
+end
+
+-- Puts the row with the name of a file's buffer, or takes it out.
+function List:put_heading(file, windows)
+  local wanted, row = self:wants_heading(file), self:row_of(file)
+  if wanted ~= file.heading then
+    self:put(row, row + (file.heading and 1 or 0), wanted and { List.name_of(file.buffer) } or {}, windows)
+    file.shown, file.heading = file.shown + (wanted and 1 or -1), wanted
+  end
+end
+
+function List:put_headings()
+  local windows = self:keep_windows()
+  for _, file in ipairs(self.files) do
+    self:put_heading(file, windows)
+  end
+  self:restore_windows(windows)
+end
+
+-- Writes the names of all buffers anew.
+function List:rename()
+  for _, file in ipairs(self.files) do
+    if file.heading then
+      local row = self:row_of(file)
+      self:put(row, row + 1, { List.name_of(file.buffer) })
+    end
+  end
+end
+
+-- All rows of a file anew: the hits, with the lines around them.
+function List:render(file, windows)
+  local row = self:row_of(file)
+  local texts = {}
+  file.heading, file.view = self:wants_heading(file), nil
+  if file.heading then
+    texts[1] = List.name_of(file.buffer)
+  end
+  if self:around() then
+    file.view = self:view_of(file, texts)
+  else
+    self:hit_texts(file, texts)
+  end
+  self:put(row, row + file.shown, texts, windows)
+  file.shown = #texts
+end
+
+-- Adds the texts of all hits of a file, as they are in its buffer.
+function List:hit_texts(file, texts)
+  for number = 1, file.hits:count() do
+    local line = self:line_of(file, (file.hits:get(number)))
+    texts[#texts + 1] = row_text(lines_of(file.buffer, line, line + 1)[1] or "")
+  end
+end
+
+-- The rows of a file with lines around: for each its place and the number of its hit, if it is one.
+-- Their texts are added to `texts`.
+function List:view_of(file, texts)
+  local view = { places = {}, numbers = {} }
+  local hits, before, after = file.hits, self.context[1], self.context[2]
+  local function add(place, number)
+    local count = #texts + 1
+    local index = #view.places + 1
+    view.places[index], view.numbers[index] = place or false, number or false
+    local line = place and self:line_of(file, place)
+    texts[count] = line and row_text(lines_of(file.buffer, line, line + 1)[1] or "") or GAP
+  end
+  local shown
+  for number = 1, hits:count() do
+    local place = hits:get(number)
+    local first = math.max(place - before, shown or 0)
+    if shown and first > shown then
+      add(nil)
+    end
+    for near = first, place - 1 do
+      add(near)
+    end
+    add(place, number)
+    local next_place = number < hits:count() and hits:get(number + 1) or hits.lines
+    shown = math.min(place + after, next_place - 1) + 1
+    for near = place + 1, shown - 1 do
+      add(near)
+    end
+  end
+  return view
+end
+
+function List:render_all()
+  local windows = self:keep_windows()
+  for _, file in ipairs(self.files) do
+    self:render(file, windows)
+  end
+  self:restore_windows(windows)
+  self:show_header()
+end
+
+-- The hits that the list shows: for each its buffer, its line from 1, its text and its parts.
+function List:rows()
+  local rows = {}
+  local texts = lines_of(self.buffer, 0, -1)
+  for row = 1, #texts - 1 do
+    local at = self:at(row)
+    if at and at.parts then
+      local line = self:line_of(at.file, at.place) + 1
+      rows[#rows + 1] = { at.file.buffer, line, texts[row + 1]:sub(#MARGIN + 1), at.parts }
+    end
+  end
+  return rows
+end
+
+function List:total()
+  local total = 0
+  for _, file in ipairs(self.files) do
+    total = total + file.hits:count()
+  end
+  return total
+end
+
+-- The header
+
+local function counted(number, what)
+  return number .. " " .. what .. (number == 1 and "" or "s")
+end
+
+function List:header()
+  local flags = ""
+  for _, flag in ipairs({ "i", "v", "x" }) do
+    flags = flags .. (self.flags[flag] and flag or "")
+  end
+  local words = { self.syntax .. (flags ~= "" and " -" .. flags or "") }
+  if self:around() then
+    words[#words + 1] = ("-B %d -A %d"):format(self.context[1], self.context[2])
+  end
+  words[#words + 1] = table.concat(self.patterns, "  ")
+  words[#words + 1] = counted(self:total(), "hit") .. ", " .. counted(#self.files, "buffer")
+  if self.ended then
+    words[#words + 1] = self.ended
+  elseif self.due or self.page or self.paused then
+    words[#words + 1] = "more to come"
+  end
+  return table.concat(words, "  ")
+end
+
+function List:show_header()
+  local text = self.buffer and self:header():gsub("[\n%z]", " ")
+  if self.buffer and text ~= self.shown_header and api.nvim_buf_is_valid(self.buffer) then
+    self.shown_header = text
+    self:put(0, 1, { text })
+  end
+end
+
+-- Windows
+
+function List:windows()
+  return self.buffer and fn.win_findbuf(self.buffer) or {}
+end
+
+function List:keep_windows()
+  local kept = {}
+  for _, window in ipairs(self:windows()) do
+    local cursor = api.nvim_win_get_cursor(window)
+    local top = fn.line("w0", window) - 1
+    kept[#kept + 1] = { window = window, row = cursor[1] - 1, column = cursor[2], above = cursor[1] - 1 - top }
+  end
+  return kept
+end
+
+function List:restore_windows(kept)
+  local count = api.nvim_buf_line_count(self.buffer)
+  for _, each in ipairs(kept) do
+    local row = math.max(0, math.min(each.row, count - 1))
+    local now = api.nvim_win_get_cursor(each.window)
+    local top = math.max(row - each.above, 0) + 1
+    api.nvim_win_call(each.window, function()
+      if now[1] - 1 ~= row or fn.line("w0") ~= top then
+        fn.winrestview({ lnum = row + 1, col = each.column, topline = top })
+      end
+    end)
+  end
+end
+
+-- When the first hits come, a cursor that is on the header moves to the first one.
+function List:to_first_hit(windows)
+  local had = self.had_hits
+  self.had_hits = self:total() > 0
+  if had or not self.had_hits then
+    return
+  end
+  for _, kept in ipairs(windows) do
+    if kept.row == 0 then
+      kept.row = #self.files > 1 and 2 or 1
+      kept.above = kept.row
+    end
+  end
+end
+
+-- Draws the rows in view anew, soon.
+function List:redraw()
+  if self.redrawing or #self:windows() == 0 then
+    return
+  end
+  self.redrawing = true
+  vim.schedule(function()
+    self.redrawing = false
+    for _, window in ipairs(self:windows()) do
+      local options = vim.wo[window]
+      local list = options.list
+      options.list = not list -- A window is drawn where such an option changes.
+      options.list = list
+    end
+  end)
+end
+
+-- Options of the session
+
+-- Sends a change of what matches, and asks what changed. `done` is called with the reply: with
+-- nothing, or with a fault and the place in the pattern, if it has one.
+function List:change(command, lines, done)
+  self.session:send(command, lines, function(reply)
+    if reply.kind == "ok" then
+      done()
+    else
+      done(fault_of(reply, lines or self.patterns))
+    end
+    self:show_header()
+  end)
+  self:ask_page()
+  self.changed = true
+  self:step()
+  self:show_header()
+end
+
+-- In a long list the hits are replaced one time for all, which takes a while. So the first ones are
+-- asked for alone, and put into the first rows until then.
+function List:ask_page()
+  if self.asked or #self.files == 0 or self:total() < settings.page_from or self:has_edits() then
+    return
+  end
+  local files = vim.list_extend({}, self.files)
+  self.session:send("page 0 " .. 2 * settings.height, nil, function(reply)
+    if reply.kind == "status" and self.asked then
+      self:show_page(files, reply.blocks[1])
+    end
+  end)
+end
+
+-- Puts the hits of a page into as many of the first rows.
+function List:show_page(files, block)
+  local count = math.min(block.count, api.nvim_buf_line_count(self.buffer) - 1)
+  local texts, page = {}, {}
+  for number = 1, count do
+    local file = files[block.files[number] + 1]
+    if file.closed then
+      return
+    end
+    texts[number] = row_text(block.lines[number])
+    page[number] = { file = file, place = block.places[number], parts = block.parts[number] }
+  end
+  self:put(1, 1 + count, texts)
+  self.page = page
+  self:show_header()
+  self:redraw()
+end
+
+local function nothing() end
+
+-- The flag is set at once, and taken back if it is refused.
+function List:set_flag(flag, on, done)
+  self.flags[flag] = on or nil
+  self:change(("flag %s %s"):format(flag, on and "on" or "off"), nil, function(fault, place)
+    if fault then
+      self.flags[flag] = not on or nil
+    end
+    (done or nothing)(fault, place)
+  end)
+end
+
+function List:set_syntax(syntax, done)
+  local before = self.syntax
+  self.syntax = syntax
+  self:change("syntax " .. syntax, nil, function(fault, place)
+    if fault then
+      self.syntax = before
+    end
+    (done or nothing)(fault, place)
+  end)
+end
+
+function List:add_pattern(pattern, done)
+  self:change("patterns 1", { pattern }, function(fault, place)
+    if not fault then
+      table.insert(self.patterns, pattern)
+    end
+    (done or nothing)(fault, place)
+  end)
+end
+
+function List:drop_pattern(number)
+  table.remove(self.patterns, number)
+  self:change("drop " .. number - 1, nil, nothing)
+end
+
+function List:set_context(before, after)
+  self.context = { before, after }
+  self:render_all()
+  self:step()
+end
+
+return List

@@ -1,0 +1,19 @@
+-- The settings, which `require("live_occur").setup` changes.
+
+local M = {
+  program = "occur", -- the program, as a name or a path
+  states = nil, -- its --states; nil is the program's default
+  delay = 150, -- milliseconds without an edit before a list is brought up to date
+  syntax = "basic", -- what a list begins with: basic, extended or fixed
+  flags = "", -- the flags that a list begins with, of i, v and x
+  context = { 0, 0 }, -- how many lines a list shows at first before and after each that matches
+  height = 12, -- the height of a list's window
+  follow = false, -- whether the line of the row at the cursor is shown
+  highlight = true, -- whether matched parts are highlighted
+  max_columns = 1000, -- how many bytes of a line its row shows at most
+  slice = 20000, -- how many lines are sent at once
+  page_from = 20000, -- from how many hits on the first ones are asked for alone, where all are replaced
+  preview_lines = 20000, -- the greatest number of lines for a preview while a pattern is typed
+}
+
+return M

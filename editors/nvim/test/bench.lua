@@ -1,0 +1,144 @@
+-- What the tests share.
+
+local api, fn = vim.api, vim.fn
+local M = { passed = 0, failed = 0 }
+
+function M.tell(text)
+  io.stdout:write(text .. "\n")
+end
+
+function M.fail(title, text)
+  M.failed = M.failed + 1
+  M.tell("FAILED: " .. title .. "\n" .. text)
+end
+
+-- Runs one test in a Neovim with one empty buffer.
+function M.test(title, body)
+  local ran, fault = xpcall(body, debug.traceback)
+  if ran then
+    M.passed = M.passed + 1
+  else
+    M.fail(title, fault)
+  end
+  vim.cmd("silent! only!")
+  vim.cmd("silent! %bwipeout!")
+  local live = vim.tbl_count(require("live_occur.list").all)
+  if live > 0 then
+    M.fail(title, live .. " lists are left")
+    require("live_occur.list").all = {}
+  end
+end
+
+function M.equal(given, wanted, what)
+  if not vim.deep_equal(given, wanted) then
+    error((what or "") .. "\nwanted " .. vim.inspect(wanted) .. "\ngiven " .. vim.inspect(given), 2)
+  end
+end
+
+-- A new buffer with these lines, in the current window.
+function M.buffer(lines)
+  vim.cmd("enew!")
+  api.nvim_buf_set_lines(0, 0, -1, false, lines)
+  return api.nvim_get_current_buf()
+end
+
+-- A file with this text, opened in the current window.
+function M.file(text)
+  local name = fn.tempname()
+  local out = assert(io.open(name, "wb"))
+  out:write(text)
+  out:close()
+  vim.cmd("edit! " .. name)
+  return api.nvim_get_current_buf(), name
+end
+
+-- Opens a list on buffers, the current one at first, and comes back to the window before.
+function M.list(pattern, buffers, options)
+  local list, fault = require("live_occur").open(pattern, buffers or { api.nvim_get_current_buf() }, options)
+  vim.cmd("wincmd p")
+  return assert(list, fault)
+end
+
+-- The rows of a list that is up to date, as `number:line`, with the buffer's place among those of
+-- the list before it where it has several.
+function M.rows(list)
+  assert(list:wait(20000), "the list doesn't come to rest")
+  assert(not list.ended, list.ended)
+  local index = {}
+  for number, file in ipairs(list.files) do
+    index[file.buffer] = #list.files > 1 and number .. ":" or ""
+  end
+  return vim.tbl_map(function(row)
+    return index[row[1]] .. row[2] .. ":" .. row[3]
+  end, list:rows())
+end
+
+-- Types keys in the list's window.
+function M.type(list, keys)
+  local window = fn.win_findbuf(list.buffer)[1]
+  api.nvim_win_call(window, function()
+    api.nvim_feedkeys(api.nvim_replace_termcodes(keys, true, true, true), "xt", false)
+  end)
+end
+
+-- What grep writes for the texts of buffers, as M.rows has it.
+function M.grep(list, more)
+  local words = { vim.env.GREP or "grep", "-n" }
+  local letters = { extended = "-E", fixed = "-F" }
+  words[#words + 1] = letters[list.syntax]
+  for flag in pairs(list.flags) do
+    words[#words + 1] = "-" .. flag
+  end
+  vim.list_extend(words, more or {})
+  for _, pattern in ipairs(list.patterns) do
+    vim.list_extend(words, { "-e", pattern })
+  end
+  if #list.patterns == 0 then
+    vim.list_extend(words, { "-f", "/dev/null" })
+  end
+  local folder = fn.tempname()
+  fn.mkdir(folder)
+  for number, file in ipairs(list.files) do
+    local lines = {}
+    if api.nvim_buf_is_loaded(file.buffer) then
+      lines = api.nvim_buf_get_lines(file.buffer, file.ranged and file.from or 0, file.ranged and file.to or -1, false)
+    end
+    local out = assert(io.open(folder .. "/" .. number, "wb"))
+    out:write(#lines > 0 and table.concat(lines, "\n") .. "\n" or "")
+    out:close()
+    words[#words + 1] = tostring(number)
+  end
+  local command = table.concat(vim.tbl_map(fn.shellescape, words), " ")
+  local out = fn.systemlist("cd " .. folder .. " && " .. command .. " || test $? = 1")
+  assert(vim.v.shell_error == 0, table.concat(out, "\n"))
+  fn.delete(folder, "rf")
+  return vim.tbl_map(function(line)
+    return (line:gsub("\n", "\0"))
+  end, out)
+end
+
+-- Compares a list with grep: its rows and, if lines are selected by a match, their parts.
+function M.compare(list, what)
+  M.equal(M.rows(list), M.grep(list), what)
+  if list.flags.v then
+    return
+  end
+  local parts = {}
+  for _, row in ipairs(list:rows()) do
+    for first, last in row[4]:gmatch("(%d+)%-(%d+)") do
+      parts[#parts + 1] = row[2] .. ":" .. row[3]:sub(first + 1, last)
+    end
+  end
+  local wanted = vim.tbl_map(function(line)
+    return #list.files > 1 and line:gsub("^%d+:", "", 1) or line
+  end, M.grep(list, { "-o" }))
+  M.equal(parts, wanted, (what or "") .. " parts")
+end
+
+function M.milliseconds(body)
+  local start = vim.loop.hrtime()
+  body()
+  return (vim.loop.hrtime() - start) / 1e6
+end
+
+return M
