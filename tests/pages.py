@@ -31,7 +31,7 @@ MOST_WORDS = {
     "docs/PERFORMANCE.md": 1_500,
     "docs/CHANGING.md": 1_900,
     "docs/ROADMAP.md": 1_000,
-    "docs/GLOSSARY.md": 800,
+    "docs/GLOSSARY.md": 820,
     "crates/*/README.md": 3_500,
     "tests/README.md": 1_000,
     "editors/emacs/README.md": 1_500,
@@ -121,8 +121,9 @@ def links(bench: Bench) -> Verdict:
 
 
 def words_of(pattern: str) -> int:
-    """How many words the pages of a pattern have."""
-    return sum(len(text.split()) for page, text in pages().items() if fnmatch(page, pattern))
+    """How many words the pages of a pattern have, without what tests keep beside them."""
+    counted = (text for page, text in pages().items() if fnmatch(page, pattern) and "/test/" not in page)
+    return sum(len(text.split()) for text in counted)
 
 
 for pattern, most in MOST_WORDS.items():
