@@ -27,7 +27,7 @@ MOST_WORDS = {
     "docs/SPECIFICATION.md": 5_300,
     "docs/ARCHITECTURE.md": 2_600,
     "docs/PROVING.md": 6_000,
-    "docs/DECISIONS.md": 4_200,
+    "docs/DECISIONS.md": 4_300,
     "docs/PERFORMANCE.md": 1_500,
     "docs/CHANGING.md": 1_900,
     "docs/ROADMAP.md": 1_000,
