@@ -52,8 +52,7 @@ It is a file, or a name to look for in the variable `exec-path'."
 
 (defcustom live-occur-states nil
   "How many states of its automaton the matcher of each pattern may keep.
-It makes a difference to time and memory alone.  A change counts from the
-next start of the program on."
+A change counts from the next start of the program on."
   :type '(choice (const :tag "As many as the program has by default" nil)
                  (integer :tag "Number from 1 to 65536")))
 
@@ -89,7 +88,6 @@ It is nil for lists that wait until the pattern is entered."
 
 (defcustom live-occur-idle-rows 10000
   "How many rows of a list are made while Emacs is idle, at most.
-All hits are in the list, and each row is made when it comes into view.
 A row that is not made yet is empty where the list is searched or copied."
   :type 'natnum)
 
@@ -102,10 +100,7 @@ The whole line is searched."
   "Face for the name of the buffer in a row.")
 
 (defface live-occur-line '((t :inherit shadow))
-  "Face for the number of the line in a row.")
-
-(defface live-occur-around '((t :inherit shadow))
-  "Face for the rows of lines around those that match.")
+  "Face for the number of the line in a row, and for lines around those that match.")
 
 (defface live-occur-match '((t :inherit match))
   "Face for the matched parts of a row.")
@@ -130,9 +125,10 @@ The whole line is searched."
 (cl-defstruct (live-occur--session (:copier nil))
   "A running program."
   process
-  (waiting nil :documentation "Functions that wait for a reply, oldest first.")
-  (scanned 1 :documentation "Where in the process's buffer to look on.")
-  (said "" :documentation "What the program wrote to standard error."))
+  errors                                ; the process that reads its standard error
+  (said "")                             ; what it has read
+  (waiting nil)                         ; functions that wait for a reply, oldest first
+  (scanned 1))                          ; where in the buffer of `process' to look on
 
 (defun live-occur--start (ended)
   "Start the program, and answer its session.
@@ -151,6 +147,7 @@ ENDED is called with the session when the program ends by itself."
     (with-current-buffer output
       (setq buffer-undo-list t)
       (set-buffer-multibyte nil))
+    (setf (live-occur--session-errors session) errors)
     (condition-case problem
         (setf (live-occur--session-process session)
               (make-process
@@ -158,7 +155,7 @@ ENDED is called with the session when the program ends by itself."
                :buffer output :stderr errors
                :command (cons live-occur-program
                               (and live-occur-states
-                                   (list "--states" (number-to-string live-occur-states))))
+                                   (list "--states" (format "%d" live-occur-states))))
                :filter (lambda (_process text) (live-occur--read session text))
                :sentinel (lambda (process _event)
                            (unless (process-live-p process)
@@ -168,21 +165,17 @@ ENDED is called with the session when the program ends by itself."
       (error
        (delete-process errors)
        (kill-buffer output)
-       (user-error "Can't start %s: %s"
-                   live-occur-program (error-message-string problem))))
-    (process-put (live-occur--session-process session) 'errors errors)
+       (user-error "Can't start %s: %s" live-occur-program (error-message-string problem))))
     session))
 
 (defun live-occur--end (session)
   "End the program of SESSION, if there is one."
   (when session
     (let* ((process (live-occur--session-process session))
-           (errors (process-get process 'errors))
            (output (process-buffer process)))
       (set-process-sentinel process #'ignore)
       (delete-process process)
-      (delete-process errors)
-      (setf (live-occur--session-waiting session) nil)
+      (delete-process (live-occur--session-errors session))
       (when (buffer-live-p output)
         (kill-buffer output)))))
 
@@ -210,8 +203,7 @@ out of the buffer before."
       (with-current-buffer output
         (goto-char (point-max))
         (insert text)
-        (while (and (buffer-live-p output)
-                    (live-occur--go-to-last-line session))
+        (while (and (buffer-live-p output) (live-occur--go-to-last-line session))
           (let ((reply (buffer-substring (point) (line-end-position)))
                 (rows (delete-and-extract-region (point-min) (point)))
                 (function (pop (live-occur--session-waiting session))))
@@ -221,29 +213,22 @@ out of the buffer before."
               (with-temp-buffer
                 (set-buffer-multibyte nil)
                 (insert rows)
-                (funcall function reply)))))))))
+                (funcall function reply)))))
+        (when (buffer-live-p output)
+          (setf (live-occur--session-scanned session)
+                (max (point-min) (- (point-max) (length "\nstatus 0\n")))))))))
 
 (defun live-occur--go-to-last-line (session)
   "Move to the last line of the first reply that SESSION has sent.
-Answer whether it is whole.  A reply of several lines begins with h or hits."
+Answer whether it is whole.  A reply of several lines begins with h or hits,
+and ends in the line of its status."
   (goto-char (point-min))
-  (and (or (not (eq (char-after) ?h))
-           (live-occur--go-to-status session))
-       (save-excursion (search-forward "\n" nil t))))
-
-(defun live-occur--go-to-status (session)
-  "Move to the line of the status after the rows that SESSION has sent.
-Answer whether it begins."
-  (goto-char (live-occur--session-scanned session))
-  (let* ((case-fold-search nil)
-         (found (search-forward "\nstatus " nil t)))
-    (goto-char (if found
-                   (match-beginning 0)
-                 (max (point-min) (- (point-max) (length "\nstatus")))))
-    (setf (live-occur--session-scanned session) (point))
-    (when found
-      (forward-char 1)
-      t)))
+  (let ((case-fold-search nil))
+    (when (or (not (eq (char-after) ?h))
+              (progn (goto-char (live-occur--session-scanned session))
+                     (search-forward "\nstatus " nil 'move)))
+      (forward-line 0)
+      (save-excursion (search-forward "\n" nil t)))))
 
 ;;;; Buffers that are searched
 
@@ -254,54 +239,47 @@ Answer whether it begins."
   "A buffer that is searched, and what the session holds of it."
   buffer
   list                                  ; the buffer with the rows
-  id                                    ; its name in the session, a number
   name                                  ; what the rows call it
-  (lines 0 :documentation "How many lines the session holds.")
-  (newlines 0 :documentation "How many newlines the buffer has.")
-  (edits nil :documentation "What changed since: see `live-occur--changed'.")
-  (moves nil :documentation "How lines moved since the hits were reported.")
-  (pieces nil :documentation "The hits, in `live-occur--piece's.")
-  (hits 0 :documentation "How many they are.")
-  (tick nil :documentation "The buffer's tick up to which edits are known.")
-  (lost t :documentation "Whether a change was missed, so that all is to be sent.")
-  (anchor 1 :documentation "A position of which the line is known.")
-  (anchor-line 0 :documentation "That line.")
-  (open nil :documentation "A change that is being made: see `live-occur--before'."))
+  (lines 0)                             ; how many lines the session holds
+  (newlines 0)                          ; how many newlines the buffer has
+  edits                                 ; what changed since: see `live-occur--changed'
+  moves                                 ; how lines moved since the hits were reported
+  pieces                                ; the hits, in `live-occur--piece's
+  (hits 0)                              ; how many they are
+  tick                                  ; the buffer's tick up to which edits are known
+  (lost t)                              ; whether a change was missed, so all is to be sent
+  (anchor 1)                            ; a position of which the line is known
+  (anchor-line 0)                       ; that line
+  open)                                 ; a change that is being made: `live-occur--before'
 
 (defvar-local live-occur--sources-here nil
   "The sources that have this buffer's text.")
 (put 'live-occur--sources-here 'permanent-local t)
 
+(defconst live-occur--hooks
+  '((before-change-functions . live-occur--before-change)
+    (after-change-functions . live-occur--after-change)
+    (kill-buffer-hook . live-occur--killed))
+  "The hooks of a buffer that is searched.")
+
 ;; A change of the major mode, as by `revert-buffer', leaves these in place.
-(put 'live-occur--before-change 'permanent-local-hook t)
-(put 'live-occur--after-change 'permanent-local-hook t)
-(put 'live-occur--killed 'permanent-local-hook t)
+(pcase-dolist (`(,_ . ,function) live-occur--hooks)
+  (put function 'permanent-local-hook t))
 
-(defun live-occur--same-text-p (buffer other)
-  "Whether BUFFER and OTHER share their text."
-  (eq (or (buffer-base-buffer buffer) buffer)
-      (or (buffer-base-buffer other) other)))
-
-(defun live-occur--family (buffer)
-  "All buffers that share the text of BUFFER."
-  (seq-filter (lambda (other) (live-occur--same-text-p buffer other))
-              (buffer-list)))
-
-(defun live-occur--sources-of-text ()
-  "The sources that gather edits of this buffer.
-A copy of a buffer has its local variables, and another text."
-  (seq-filter (lambda (source)
-                (live-occur--same-text-p (live-occur--source-buffer source) (current-buffer)))
-              live-occur--sources-here))
+(defun live-occur--has-text-p (buffer source)
+  "Whether BUFFER has the text of SOURCE."
+  (let ((other (live-occur--source-buffer source)))
+    (eq (or (buffer-base-buffer buffer) buffer)
+        (or (buffer-base-buffer other) other))))
 
 (defun live-occur--track (source)
   "Gather the edits of SOURCE from now on."
-  (dolist (buffer (live-occur--family (live-occur--source-buffer source)))
-    (with-current-buffer buffer
-      (cl-pushnew source live-occur--sources-here)
-      (add-hook 'before-change-functions #'live-occur--before-change nil t)
-      (add-hook 'after-change-functions #'live-occur--after-change nil t)
-      (add-hook 'kill-buffer-hook #'live-occur--killed nil t))))
+  (dolist (buffer (buffer-list))
+    (when (live-occur--has-text-p buffer source)
+      (with-current-buffer buffer
+        (cl-pushnew source live-occur--sources-here)
+        (pcase-dolist (`(,hook . ,function) live-occur--hooks)
+          (add-hook hook function nil t))))))
 
 (defun live-occur--untrack (source)
   "Gather no more edits of SOURCE."
@@ -311,9 +289,8 @@ A copy of a buffer has its local variables, and another text."
         (cl-callf2 delq source live-occur--sources-here)
         (unless live-occur--sources-here
           (kill-local-variable 'live-occur--sources-here)
-          (remove-hook 'before-change-functions #'live-occur--before-change t)
-          (remove-hook 'after-change-functions #'live-occur--after-change t)
-          (remove-hook 'kill-buffer-hook #'live-occur--killed t))))))
+          (pcase-dolist (`(,hook . ,function) live-occur--hooks)
+            (remove-hook hook function t)))))))
 
 (defun live-occur--newlines (start end)
   "Answer how many newlines are from START to END."
@@ -354,13 +331,16 @@ far away its position is guessed first, and corrected."
         (live-occur--source-anchor source) 1
         (live-occur--source-anchor-line source) 0))
 
-(defmacro live-occur--in-whole-buffer (&rest body)
-  "Run BODY in the whole of the current buffer, and stay where it is."
-  (declare (indent 0) (debug t))
-  `(save-excursion
-     (save-restriction
-       (widen)
-       ,@body)))
+(defmacro live-occur--in-text (source &rest body)
+  "Run BODY in the whole buffer of SOURCE, and stay there where it was.
+It is not run where the buffer is gone."
+  (declare (indent 1) (debug t))
+  `(when (buffer-live-p (live-occur--source-buffer ,source))
+     (with-current-buffer (live-occur--source-buffer ,source)
+       (save-excursion
+         (save-restriction
+           (widen)
+           ,@body)))))
 
 ;;;; Changes
 
@@ -370,74 +350,82 @@ far away its position is guessed first, and corrected."
 ;; the buffer has to be what both say.  Where it is not, or where the tick
 ;; shows that a change was not reported at all, the whole text is sent again.
 
+(defun live-occur--gather (function &rest bounds)
+  "Call FUNCTION with each source that has this text, and BOUNDS.
+A copy of a buffer has its local variables, and another text."
+  (dolist (source live-occur--sources-here)
+    (when (live-occur--has-text-p (current-buffer) source)
+      (condition-case nil
+          (apply function source bounds)
+        (error (live-occur--lose source))))))
+
 (defun live-occur--before-change (start end)
   "Take note of the lines from START to END, which are about to change."
-  (dolist (source (live-occur--sources-of-text))
-    (condition-case nil
-        (live-occur--before source start end)
-      (error (live-occur--lose source)))))
+  (live-occur--gather #'live-occur--before start end))
+
+(defun live-occur--after-change (start end removed)
+  "Gather the change that put START to END in the place of REMOVED characters."
+  (live-occur--gather #'live-occur--after start end removed))
+
+(defun live-occur--known-p (source)
+  "Whether all edits of SOURCE are known, and none is lost."
+  (and (not (live-occur--source-lost source))
+       (= (live-occur--source-tick source)
+          (buffer-chars-modified-tick (live-occur--source-buffer source)))))
+
+(defun live-occur--begins-line-p (position)
+  "Whether a line begins at POSITION."
+  (memq (char-before position) '(nil ?\n)))
 
 (defun live-occur--before (source start end)
   "Keep what is between START and END of SOURCE.
 It is kept as the position of START, the distance of END from the buffer's
 end, the line of START, the number of lines that are touched, whether these
 are whole lines, and the buffer's size."
-  (unless (live-occur--source-lost source)
-    (if (/= (live-occur--source-tick source) (buffer-chars-modified-tick))
-        (live-occur--lose source)
-      (live-occur--in-whole-buffer
-        (let ((line (live-occur--line-at source start))
-              (count (1+ (live-occur--newlines start end))))
-          (setf (live-occur--source-anchor source) start
-                (live-occur--source-anchor-line source) line
-                (live-occur--source-open source)
-                (list start (- (point-max) end) line count
-                      (live-occur--whole-lines-p start end) (buffer-size))))))))
-
-(defun live-occur--begins-line-p (position)
-  "Whether a line begins at POSITION."
-  (eq (char-before position) (and (> position (point-min)) ?\n)))
-
-(defun live-occur--whole-lines-p (start end)
-  "Whether START and END both stand at beginnings of lines."
-  (and (live-occur--begins-line-p start) (live-occur--begins-line-p end)))
-
-(defun live-occur--after-change (start end removed)
-  "Gather the change that put START to END in the place of REMOVED characters."
-  (dolist (source (live-occur--sources-of-text))
-    (condition-case nil
-        (live-occur--after source start end removed)
-      (error (live-occur--lose source)))
-    (when (current-idle-time)
-      (live-occur--soon (live-occur--source-list source)))))
+  (if (not (live-occur--known-p source))
+      (unless (live-occur--source-lost source)
+        (live-occur--lose source))
+    (live-occur--in-text source
+      (let ((line (live-occur--line-at source start)))
+        (setf (live-occur--source-anchor source) start
+              (live-occur--source-anchor-line source) line
+              (live-occur--source-open source)
+              (list start (- (point-max) end) line (1+ (live-occur--newlines start end))
+                    (and (live-occur--begins-line-p start) (live-occur--begins-line-p end))
+                    (buffer-size)))))))
 
 (defun live-occur--after (source start end removed)
   "Gather the change from START to END of SOURCE, of REMOVED characters."
-  (unless (or (live-occur--source-lost source)
-              (= (live-occur--source-tick source) (buffer-chars-modified-tick)))
+  (when (current-idle-time)
+    (live-occur--later (live-occur--source-list source) live-occur-delay #'live-occur--look))
+  (unless (or (live-occur--source-lost source) (live-occur--known-p source))
     (pcase (live-occur--source-open source)
-      ((and `(,from ,tail ,line ,count ,whole ,size)
-            (guard (and (<= from start)
-                        (<= end (- (1+ (buffer-size)) tail))
-                        (= (buffer-size) (+ size (- end start) (- removed))))))
-       (live-occur--in-whole-buffer
-         (let* ((to (- (point-max) tail))
-                (now (1+ (live-occur--newlines from to)))
-                (whole-now (live-occur--whole-lines-p from to))
-                (less (if (and whole whole-now) 1 0)))
-           (setf (live-occur--source-open source)
-                 (list from tail line now whole-now (buffer-size))
-                 (live-occur--source-tick source) (buffer-chars-modified-tick)
-                 (live-occur--source-edits source)
-                 (live-occur--changed (live-occur--source-edits source)
-                                      line (- count less) (- now less)))
-           (cl-incf (live-occur--source-newlines source) (- now count))
-           (unless (= count now)
-             (push (list (if (live-occur--begins-line-p from) line (1+ line))
-                         (1- count) (1- now))
-                   (live-occur--source-moves source))
-             (live-occur--renumber-soon (live-occur--source-list source))))))
+      ((and `(,from ,tail . ,_)
+            (guard (<= from start end (- (1+ (buffer-size)) tail)))
+            `(,_ ,_ ,line ,count ,whole ,size)
+            (guard (= (buffer-size) (+ size (- end start) (- removed)))))
+       (live-occur--in-text source
+         (live-occur--took source line count whole from (- (point-max) tail))))
       (_ (live-occur--lose source)))))
+
+(defun live-occur--took (source line count whole from to)
+  "Note that COUNT lines of SOURCE from LINE on became those from FROM to TO.
+WHOLE says whether they were whole lines."
+  (let* ((now (1+ (live-occur--newlines from to)))
+         (begins (live-occur--begins-line-p from))
+         (whole-now (and begins (live-occur--begins-line-p to)))
+         (less (if (and whole whole-now) 1 0)))
+    (setf (live-occur--source-open source)
+          (list from (- (point-max) to) line now whole-now (buffer-size))
+          (live-occur--source-tick source) (buffer-chars-modified-tick)
+          (live-occur--source-edits source)
+          (live-occur--changed (live-occur--source-edits source)
+                               line (- count less) (- now less)))
+    (cl-incf (live-occur--source-newlines source) (- now count))
+    (unless (= count now)
+      (push (list (if begins line (1+ line)) (1- count) (1- now))
+            (live-occur--source-moves source))
+      (live-occur--later (live-occur--source-list source) 0 #'live-occur--make-in-view))))
 
 (defconst live-occur--gap 50
   "Edits with at most this number of lines between them are sent as one.")
@@ -450,35 +438,17 @@ are whole lines, and the buffer's size."
 A change is a list of where it begins now, how many lines there were, and
 how many there are.  They come in order, with lines between them that did
 not change."
-  (let ((low start) (high (+ start old)) (more 0) before after)
+  (let ((low start) (high (+ start old)) (more 0) before after
+        (gap (if (length= edits live-occur--most-edits) most-positive-fixnum live-occur--gap)))
     (pcase-dolist (`(,at ,was ,is) edits)
-      (cond ((< (+ at is live-occur--gap) low) (push (list at was is) before))
-            ((> at (+ high live-occur--gap)) (push (list (+ at (- new old)) was is) after))
+      (cond ((> (- low at is) gap) (push (list at was is) before))
+            ((> (- at high) gap) (push (list (+ at (- new old)) was is) after))
             (t (setq low (min low at)
                      high (max high (+ at is))
-                     more (+ more (- is was))))))
-    (let ((all (nconc (nreverse before)
-                      (list (list low (- high low more) (+ (- high low) (- new old))))
-                      (nreverse after))))
-      (if (length> all live-occur--most-edits)
-          (list (live-occur--joined all))
-        all))))
-
-(defun live-occur--joined (edits)
-  "One change that has all of EDITS."
-  (pcase-let* ((`(,low) (car edits))
-               (`(,at ,_ ,is) (car (last edits)))
-               (now (- (+ at is) low)))
-    (list low
-          (- now (cl-loop for (_ was is) in edits sum (- is was)))
-          now)))
-
-(defun live-occur--dirty-p (source)
-  "Whether SOURCE has edits that were not sent."
-  (or (live-occur--source-lost source)
-      (live-occur--source-edits source)
-      (/= (live-occur--source-tick source)
-          (buffer-chars-modified-tick (live-occur--source-buffer source)))))
+                     more (+ more (- was is))))))
+    (nconc (nreverse before)
+           (list (list low (- high low (- more)) (+ (- high low) (- new old))))
+           (nreverse after))))
 
 (defun live-occur--moved (line moves)
   "The number that LINE has now.
@@ -500,31 +470,24 @@ MOVES say how lines have moved, the last one first."
   "The text that BYTES are, for people to read."
   (decode-coding-string bytes 'utf-8-emacs-unix t))
 
-(defun live-occur--command (words lines count)
-  "A command of WORDS with COUNT lines that are in the bytes LINES."
-  (concat words (number-to-string count) "\n" lines
-          (if (or (= count 0) (string-suffix-p "\n" lines)) "" "\n")))
-
 (defun live-occur--flush (source session file)
   "Send the edits of SOURCE, which is number FILE of SESSION.
 Answer whether there were any."
-  (when (live-occur--dirty-p source)
-    (with-current-buffer (live-occur--source-buffer source)
-      (live-occur--in-whole-buffer
-        (when (/= (or (live-occur--source-tick source) -1) (buffer-chars-modified-tick))
-          (live-occur--lose source))
-        (when (live-occur--source-lost source)
-          (setf (live-occur--source-newlines source)
-                (live-occur--newlines (point-min) (point-max))
-                (live-occur--source-edits source)
-                (list (list 0 (live-occur--source-lines source)
-                            (1+ (live-occur--source-newlines source))))))
-        (let ((lines (+ (live-occur--source-newlines source)
-                        (if (live-occur--begins-line-p (point-max)) 0 1))))
-          (live-occur--send-edits source session file lines)
-          (unless (= lines (live-occur--source-lines source))
-            (live-occur--tell-fault (live-occur--source-list source)
-                                    "lines were lost count of"))))
+  (unless (or (live-occur--source-lost source) (live-occur--known-p source))
+    (live-occur--lose source))
+  (when (or (live-occur--source-lost source) (live-occur--source-edits source))
+    (live-occur--in-text source
+      (when (live-occur--source-lost source)
+        (setf (live-occur--source-newlines source)
+              (live-occur--newlines (point-min) (point-max))
+              (live-occur--source-edits source)
+              (list (list 0 (live-occur--source-lines source)
+                          (1+ (live-occur--source-newlines source))))))
+      (let ((lines (+ (live-occur--source-newlines source)
+                      (if (live-occur--begins-line-p (point-max)) 0 1))))
+        (live-occur--send-edits source session file lines)
+        (unless (= lines (live-occur--source-lines source))
+          (live-occur--tell-fault (live-occur--source-list source) "lines were lost count of")))
       (setf (live-occur--source-edits source) nil
             (live-occur--source-lost source) nil
             (live-occur--source-tick source) (buffer-chars-modified-tick)))
@@ -532,8 +495,8 @@ Answer whether there were any."
 
 (defun live-occur--send-edits (source session file lines)
   "Send the edits of SOURCE, of LINES lines now, which is FILE of SESSION.
-The last one goes first, so that the lines of the others still stand where
-the session has them."
+The last one goes first, so that the session has the lines of the others
+where they were."
   (let* ((edits (live-occur--source-edits source))
          (shift (cl-loop for (_ was is) in edits sum (- is was))))
     (pcase-dolist (`(,at ,was ,is) (reverse edits))
@@ -553,28 +516,21 @@ the session has them."
   "Put the ADDED lines after point in the place of REMOVED ones at START.
 SOURCE is number FILE of SESSION.  Where a pipe is full Emacs sleeps, and far
 too long.  So a long text is sent in blocks, and few are in the pipe."
-  (let ((process (live-occur--session-process session))
-        (expect-ok (live-occur--expect-ok (live-occur--source-list source)))
-        (due 0)
-        done)
+  (let ((process (live-occur--session-process session)) done)
     (while (not done)
       (let* ((from (point))
              (count (live-occur--skip-block added)))
-        (live-occur--send
-         session
-         (live-occur--command
-          (format "splice %d %d %d " file start removed)
-          (live-occur--bytes (buffer-substring-no-properties from (point)))
-          count)
-         (lambda (reply)
-           (cl-decf due)
-           (funcall expect-ok reply)))
-        (cl-incf due)
+        (live-occur--order
+         (live-occur--source-list source)
+         (live-occur--command (format "splice %d %d %d" file start removed) count
+                              (live-occur--bytes (buffer-substring-no-properties from (point)))))
         (cl-incf start count)
         (cl-decf added count)
         (setq removed 0
               done (<= added 0))
-        (while (and (not done) (> due 2) (eq (process-status process) 'run))
+        (while (and (not done)
+                    (length> (live-occur--session-waiting session) 2)
+                    (eq (process-status process) 'run))
           (accept-process-output process 1 nil 1))))))
 
 (defun live-occur--skip-block (most)
@@ -593,101 +549,112 @@ too long.  So a long text is sent in blocks, and few are in the pipe."
 ;;;; A list
 
 (defvar-local live-occur--session nil "The program of this list.")
+(defvar-local live-occur--fault nil "What is to be reported of the program, or nil.")
 (defvar-local live-occur--sources nil "The sources of this list, in their order.")
-(defvar-local live-occur--named 0 "How many sources this list has had.")
 (defvar-local live-occur--patterns nil "The patterns, in their order.")
 (defvar-local live-occur--the-syntax 'basic "The syntax of the patterns.")
 (defvar-local live-occur--the-flags nil "The flags that are on.")
 (defvar-local live-occur--the-context nil
   "How many lines are shown before and after each that matches, as a pair, or nil.")
 (defvar-local live-occur--sending nil "Whether edits are being sent.")
-(defvar-local live-occur--asked nil "Whether a reply for the rows is on its way.")
-(defvar-local live-occur--again nil "Whether another one is wanted after it.")
+(defvar-local live-occur--asked nil
+  "Whether changes of hits are on their way; `again' to ask for more then.")
 (defvar-local live-occur--fresh nil "Whether the program has reported no hit yet.")
-(defvar-local live-occur--page nil
-  "The number of hits, while the list shows a page of them; or else nil.")
-(defvar-local live-occur--before-page nil "Which rows were in view before the page.")
-(defvar-local live-occur--made 0 "How many rows at the beginning were made while idle.")
-(defvar-local live-occur--editing nil "Whether the rows are edited.")
-(defvar-local live-occur--previewing nil "Whether a pattern is being typed.")
 (defvar-local live-occur--trying nil "Whether a reply to patterns is on its way.")
 (defvar-local live-occur--wanted nil "The patterns that are wanted after it.")
+(defvar-local live-occur--previewing nil "Whether a pattern is being typed.")
+(defvar-local live-occur--page nil
+  "While there is a page of the hits, their number and what was in view before.")
+(defvar-local live-occur--editing nil "Whether the rows are edited.")
+(defvar-local live-occur--made 0 "How many rows at the beginning were made while idle.")
 (defvar-local live-occur--idle-timer nil "The timer that looks for edits.")
-(defvar-local live-occur--timer nil "A timer that was set for once, or nil.")
-(defvar-local live-occur--fault nil "What is to be reported of the program, or nil.")
-(defvar-local live-occur--overlaid nil "Whether lines around rows are shown.")
-(defvar-local live-occur--renumbering nil "Whether the numbers in view are to be corrected.")
+(defvar-local live-occur--due nil "The functions that a timer calls once.")
 (defvar-local live-occur--followed nil "The row that was followed last.")
 
-(defvar live-occur--flag-letters '(?i ?v ?x)
+(defconst live-occur--flag-letters '(?i ?v ?x)
   "The flags that a list has, in the order in which they are shown.")
 
-(defun live-occur--words ()
-  "The commands that put flags and patterns of this list into a new session."
-  `("flag o on\n"
-    ,(format "syntax %s\n" live-occur--the-syntax)
-    ,@(mapcar (lambda (letter) (format "flag %c on\n" letter)) live-occur--the-flags)
-    ,@(when live-occur--patterns
-        (list (live-occur--patterns-command live-occur--patterns)))))
+(defmacro live-occur--in (list &rest body)
+  "Run BODY in LIST, if that buffer is alive."
+  (declare (indent 1) (debug t))
+  `(when (buffer-live-p ,list)
+     (with-current-buffer ,list ,@body)))
 
-(defun live-occur--patterns-command (patterns)
-  "A command with PATTERNS."
-  (live-occur--command "patterns "
-                       (live-occur--bytes (concat (string-join patterns "\n") "\n"))
-                       (length patterns)))
+(defun live-occur--later (list seconds function)
+  "Call FUNCTION in LIST in SECONDS, unless a timer does so already."
+  (live-occur--in list
+    (unless (memq function live-occur--due)
+      (push function live-occur--due)
+      (run-with-timer seconds nil
+                      (lambda ()
+                        (live-occur--in list
+                          (cl-callf2 remq function live-occur--due)
+                          (funcall function)))))))
+
+(defun live-occur--command (words count lines)
+  "A command of WORDS with COUNT lines that are in the bytes LINES."
+  (concat words " " (number-to-string count) "\n" lines
+          (if (or (= count 0) (string-suffix-p "\n" lines)) "" "\n")))
+
+(defun live-occur--order (list command)
+  "Send COMMAND to the program of LIST, which has to accept it."
+  (live-occur--in list
+    (live-occur--send live-occur--session command
+                      (lambda (reply)
+                        (unless (equal reply "ok")
+                          (live-occur--tell-fault list (concat "occur answered: " reply)))))))
 
 (defun live-occur--begin ()
   "Start the program of this list, and send it all that it has to hold."
   (let ((list (current-buffer)))
     (setq live-occur--fault nil
           live-occur--asked nil
-          live-occur--again nil
           live-occur--trying nil
           live-occur--wanted nil
           live-occur--fresh t
           live-occur--session
           (live-occur--start (lambda (session) (live-occur--ended list session))))
-    (dolist (command (live-occur--words))
-      (live-occur--send live-occur--session command (live-occur--expect-ok list)))
+    (live-occur--order list "flag o on\n")
+    (live-occur--order list (format "syntax %s\n" live-occur--the-syntax))
+    (dolist (letter live-occur--the-flags)
+      (live-occur--order list (format "flag %c on\n" letter)))
+    (when live-occur--patterns
+      (live-occur--order list (live-occur--patterns-command live-occur--patterns)))
     (mapc #'live-occur--open live-occur--sources)))
 
-(defun live-occur--expect-ok (list)
-  "A function that reports in LIST a reply that is not ok."
-  (lambda (reply)
-    (unless (equal reply "ok")
-      (live-occur--tell-fault list (concat "occur answered: " reply)))))
+(defun live-occur--patterns-command (patterns)
+  "A command with PATTERNS."
+  (live-occur--command
+   "patterns" (length patterns)
+   (live-occur--bytes (mapconcat (lambda (pattern) (concat pattern "\n")) patterns ""))))
 
 (defun live-occur--open (source)
   "Put SOURCE, which is the last, into the session of this list, without lines."
   (setf (live-occur--source-lines source) 0)
   (live-occur--lose source)
-  (live-occur--send live-occur--session
-                    (format "file %d 0\n" (live-occur--source-id source))
-                    (live-occur--expect-ok (current-buffer))))
+  (live-occur--order (current-buffer) "file buffer 0\n"))
 
 (defun live-occur--ended (list session)
   "Report in LIST that the program of SESSION has ended."
   (when (and (buffer-live-p list)
              (eq session (buffer-local-value 'live-occur--session list)))
     (let* ((process (live-occur--session-process session))
-           (said (string-trim (live-occur--session-said session)))
-           (how (if (eq (process-status process) 'signal)
-                    (format "was killed by signal %d" (process-exit-status process))
-                  (format "ended with status %d" (process-exit-status process)))))
+           (said (car (split-string (live-occur--session-said session) "\n"))))
       (live-occur--tell-fault
-       list (concat (file-name-nondirectory live-occur-program) " " how
-                    (unless (string-empty-p said)
-                      (concat " (" (car (split-string said "\n")) ")")))))))
+       list (concat (file-name-nondirectory live-occur-program)
+                    (format (if (eq (process-status process) 'signal)
+                                " was killed by signal %d"
+                              " ended with status %d")
+                            (process-exit-status process))
+                    (unless (equal said "")
+                      (format " (%s)" said)))))))
 
 (defun live-occur--tell-fault (list what)
   "Report in LIST that it is no longer kept right, since WHAT happened."
-  (when (buffer-live-p list)
-    (with-current-buffer list
-      (setq live-occur--fault what
-            live-occur--asked nil
-            live-occur--again nil)
-      (force-mode-line-update)
-      (message "%s: %s" (buffer-name) (live-occur--fault-and-help)))))
+  (live-occur--in list
+    (setq live-occur--fault what)
+    (force-mode-line-update)
+    (message "%s: %s" (buffer-name) (live-occur--fault-and-help))))
 
 (defun live-occur--fault-and-help ()
   "Why this list is no longer kept right, and what helps, if it was ever shown."
@@ -707,6 +674,14 @@ too long.  So a long text is sent in blocks, and few are in the pipe."
     (unless live-occur--fault
       (accept-process-output nil 0.2))
     (user-error "%s" (live-occur--fault-and-help))))
+
+(defun live-occur--wait-for (done)
+  "Wait until the function DONE answers what is not nil, and answer that."
+  (let (answer)
+    (while (not (setq answer (funcall done)))
+      (live-occur--check)
+      (accept-process-output (live-occur--session-process live-occur--session) 1))
+    answer))
 
 ;;;; Hits
 
@@ -750,25 +725,23 @@ too long.  So a long text is sent in blocks, and few are in the pipe."
    :last (live-occur--place-in rows (live-occur--after-rows rows 0 (1- count)))))
 
 (defun live-occur--part-of (piece from to)
-  "The hits FROM to TO of PIECE in a list of one piece, or nil if there are none."
-  (when (< from to)
-    (let* ((rows (live-occur--piece-rows piece))
-           (start (live-occur--after-rows rows 0 from)))
-      (list (live-occur--piece-of
-             (substring rows start (live-occur--after-rows rows start (- to from)))
-             (- to from) (live-occur--piece-shift piece))))))
+  "The hits FROM to TO of PIECE as a piece."
+  (let* ((rows (live-occur--piece-rows piece))
+         (start (live-occur--after-rows rows 0 from))
+         (end (live-occur--after-rows rows start (- to from))))
+    (live-occur--piece-of (substring rows start end) (- to from)
+                          (live-occur--piece-shift piece))))
 
 (defun live-occur--count-below (piece line)
   "How many hits of PIECE have a place below LINE."
-  (let* ((rows (live-occur--piece-rows piece))
-         (line (- line (live-occur--piece-shift piece))))
+  (let ((rows (live-occur--piece-rows piece))
+        (line (- line (live-occur--piece-shift piece)))
+        (start 0))
     (cond ((< (live-occur--piece-last piece) line) (live-occur--piece-count piece))
           ((>= (live-occur--piece-first piece) line) 0)
-          (t (let ((start 0) (below 0))
-               (while (< (live-occur--place-in rows start) line)
-                 (cl-incf below)
-                 (setq start (live-occur--after-rows rows start 1)))
-               below)))))
+          (t (cl-loop while (< (live-occur--place-in rows start) line)
+                      do (setq start (live-occur--after-rows rows start 1))
+                      count t)))))
 
 (defun live-occur--count (pieces)
   "How many hits PIECES have."
@@ -782,8 +755,8 @@ too long.  So a long text is sent in blocks, and few are in the pipe."
             (count (live-occur--piece-count piece)))
         (cond ((= below count) (push piece head))
               ((= below 0) (push piece tail))
-              (t (push (car (live-occur--part-of piece 0 below)) head)
-                 (push (car (live-occur--part-of piece below count)) tail)))))
+              (t (push (live-occur--part-of piece 0 below) head)
+                 (push (live-occur--part-of piece below count) tail)))))
     (cons (nreverse head) (nreverse tail))))
 
 (defun live-occur--hit-in (source rows start shift)
@@ -795,10 +768,9 @@ too long.  So a long text is sent in blocks, and few are in the pipe."
      :source source
      :place (+ shift (live-occur--place-in rows start))
      :parts (unless (equal parts "-")
-              (mapcar (lambda (part)
-                        (cons (string-to-number part)
-                              (string-to-number (substring part (1+ (string-search "-" part))))))
-                      (split-string parts ",")))
+              (cl-loop for part in (split-string parts ",")
+                       for (start end) = (split-string part "-")
+                       collect (cons (string-to-number start) (string-to-number end))))
      :bytes (substring rows (1+ second) (string-search "\n" rows second)))))
 
 (defun live-occur--total ()
@@ -807,27 +779,19 @@ too long.  So a long text is sent in blocks, and few are in the pipe."
 
 (defun live-occur--map-hits (function first count)
   "Call FUNCTION with each of COUNT hits of this list, from number FIRST on."
-  (cl-block nil
-    (dolist (source live-occur--sources)
-      (if (>= first (live-occur--source-hits source))
-          (cl-decf first (live-occur--source-hits source))
-        (dolist (piece (live-occur--source-pieces source))
-          (let ((some (- (live-occur--piece-count piece) first)))
-            (if (<= some 0)
-                (cl-decf first (live-occur--piece-count piece))
-              (live-occur--map-piece function source piece first (min some count))
-              (setq first 0)
-              (when (<= (cl-decf count some) 0)
-                (cl-return)))))))))
-
-(defun live-occur--map-piece (function source piece first count)
-  "Call FUNCTION with COUNT hits of PIECE of SOURCE, from number FIRST on."
-  (let* ((rows (live-occur--piece-rows piece))
-         (start (live-occur--after-rows rows 0 first)))
-    (dotimes (_ count)
-      (funcall function
-               (live-occur--hit-in source rows start (live-occur--piece-shift piece)))
-      (setq start (live-occur--after-rows rows start 1)))))
+  (dolist (source live-occur--sources)
+    (dolist (piece (live-occur--source-pieces source))
+      (let ((some (min count (- (live-occur--piece-count piece) first))))
+        (if (<= some 0)
+            (cl-decf first (live-occur--piece-count piece))
+          (let* ((rows (live-occur--piece-rows piece))
+                 (start (live-occur--after-rows rows 0 first)))
+            (dotimes (_ some)
+              (funcall function (live-occur--hit-in source rows start
+                                                    (live-occur--piece-shift piece)))
+              (setq start (live-occur--after-rows rows start 1))))
+          (cl-decf count some)
+          (setq first 0))))))
 
 (defun live-occur--hit (row)
   "The hit of the row of number ROW, or nil."
@@ -835,27 +799,26 @@ too long.  So a long text is sent in blocks, and few are in the pipe."
     (live-occur--map-hits (lambda (hit) (setq found hit)) row 1)
     found))
 
+(defun live-occur--line-of (hit)
+  "The line at which HIT is now."
+  (live-occur--moved (live-occur--hit-place hit)
+                     (live-occur--source-moves (live-occur--hit-source hit))))
+
+(defmacro live-occur--at-line-of (hit &rest body)
+  "Run BODY at the line of HIT in its buffer, unless that is gone."
+  (declare (indent 1) (debug t))
+  `(live-occur--in-text (live-occur--hit-source ,hit)
+     (live-occur--go-to-line (live-occur--hit-source ,hit) (live-occur--line-of ,hit))
+     ,@body))
+
 ;;;; Changes of hits
 
-(defun live-occur--soon (list)
-  "Bring LIST up to date in a moment, though Emacs may be idle for long."
-  (when (buffer-live-p list)
-    (with-current-buffer list
-      (unless live-occur--timer
-        (setq live-occur--timer
-              (run-with-timer live-occur-delay nil #'live-occur--look list))))))
-
-(defun live-occur--look (list)
-  "Bring LIST up to date if anything has changed, and make some rows."
-  (when (buffer-live-p list)
-    (with-current-buffer list
-      (when live-occur--timer
-        (cancel-timer live-occur--timer)
-        (setq live-occur--timer nil))
-      (if live-occur--editing
-          (live-occur--follow-lines)
-        (live-occur--update)
-        (live-occur--make-ahead list)))))
+(defun live-occur--look ()
+  "Bring this list up to date if anything has changed, and make some rows."
+  (if live-occur--editing
+      (live-occur--follow-lines)
+    (live-occur--update)
+    (live-occur--make-ahead)))
 
 (defun live-occur--update (&optional always)
   "Send what has changed, and ask for what changed of the hits.
@@ -865,14 +828,14 @@ If nothing has changed ask for none, but with ALWAYS non-nil."
     (live-occur--look-at-names)
     (when (or (live-occur--flush-all) always)
       (if live-occur--asked
-          (setq live-occur--again t)
+          (setq live-occur--asked 'again)
         (live-occur--ask-for-changes)))))
 
 (defun live-occur--flush-all ()
   "Send what has changed in all sources, and answer whether anything has.
 To be broken off between, or begun again, would leave the session out of
 step.  A buffer may be killed without a word, as temporary ones are."
-  (let ((inhibit-quit t) (any nil))
+  (let ((inhibit-quit t) any)
     (unless live-occur--sending
       (setq live-occur--sending t)
       (unwind-protect
@@ -892,22 +855,18 @@ step.  A buffer may be killed without a word, as temporary ones are."
   "Ask for what changed of the hits, and apply it when it comes."
   (let ((list (current-buffer))
         (fresh live-occur--fresh)
-        (moves (mapcar (lambda (source)
-                         (cons source (live-occur--source-moves source)))
+        (moves (mapcar (lambda (source) (cons source (live-occur--source-moves source)))
                        live-occur--sources)))
     (setq live-occur--asked t
-          live-occur--again nil
           live-occur--fresh nil)
     (live-occur--send
      live-occur--session "changes\n"
      (lambda (_status)
        (let ((changes (live-occur--take-changes (mapcar #'car moves) fresh)))
-         (when (buffer-live-p list)
-           (with-current-buffer list
-             (setq live-occur--asked nil)
-             (live-occur--apply-all changes moves)
-             (when live-occur--again
-               (live-occur--ask-for-changes)))))))))
+         (live-occur--in list
+           (live-occur--apply-all changes moves)
+           (when (eq 'again (prog1 live-occur--asked (setq live-occur--asked nil)))
+             (live-occur--ask-for-changes))))))))
 
 (defun live-occur--take-changes (sources fresh)
   "Read the reply in this buffer, for SOURCES by their numbers.
@@ -917,10 +876,9 @@ they replace all hits that are known."
   (let ((all most-positive-fixnum) found)
     (goto-char (point-min))
     (while (not (eobp))
-      (pcase-let ((`(,file ,front ,removed ,added ,count)
+      (pcase-let ((`(,_ ,file ,front ,removed ,added ,count)
                    (mapcar #'string-to-number
-                           (cdr (split-string
-                                 (buffer-substring (point) (line-end-position)) " ")))))
+                           (split-string (buffer-substring (point) (line-end-position)) " "))))
         (forward-line 1)
         (push (list (nth file sources) front (if fresh all removed) added
                     (live-occur--take-pieces count))
@@ -972,8 +930,7 @@ have moved."
     (setf (live-occur--source-pieces source) (nconc head new tail))
     (cl-incf (live-occur--source-hits source) (- more less))
     (live-occur--replace-rows row less more)
-    (pcase-dolist (`(,move ,line ,column) spots)
-      (live-occur--restore-spot move source line column))))
+    (live-occur--go-to-spots spots)))
 
 (defun live-occur--row-of-source (source)
   "The number of the first row of SOURCE."
@@ -1002,34 +959,19 @@ have moved."
     (with-silent-modifications
       (save-excursion
         (live-occur--go-to-row row)
-        (delete-region (point) (progn (forward-line removed) (point)))
+        (delete-region (point) (line-beginning-position (1+ removed)))
         (insert (make-string added ?\n))))
     (when live-occur--editing
       (setq buffer-undo-list nil))
-    (setq live-occur--made (min live-occur--made row))))
+    (cl-callf min live-occur--made row)))
 
-(defun live-occur--rows-of-windows ()
-  "The row of point, and for each window the rows of its start and its point."
-  (cons (live-occur--row-at (point))
-        (mapcar (lambda (window)
-                  (list window (live-occur--row-at (window-start window))
-                        (live-occur--row-at (window-point window))))
-                (get-buffer-window-list nil nil t))))
-
-(defun live-occur--forget-rows (&optional rows)
-  "Show all hits of this list again, at ROWS or where it is."
-  (pcase-let ((`(,row . ,windows) (or rows (live-occur--rows-of-windows))))
+(defun live-occur--forget-rows (&optional spots)
+  "Show all hits of this list again, at SPOTS or where it is."
+  (let ((spots (or spots (live-occur--spots 0 (live-occur--total)))))
     (with-silent-modifications
       (erase-buffer))
     (live-occur--replace-rows 0 0 (live-occur--total))
-    (save-excursion
-      (pcase-dolist (`(,window ,first ,row) windows)
-        (when (and (window-live-p window) (eq (window-buffer window) (current-buffer)))
-          (live-occur--go-to-row first)
-          (set-window-start window (point) t)
-          (live-occur--go-to-row row)
-          (set-window-point window (point)))))
-    (live-occur--go-to-row row)
+    (live-occur--go-to-spots spots)
     (live-occur--make-in-view)))
 
 (defun live-occur--look-at-names ()
@@ -1043,71 +985,86 @@ have moved."
     (when (and new (not live-occur--page))
       (live-occur--forget-rows))))
 
-(defun live-occur--spots (row count moves)
+(defun live-occur--spots (row count &optional moves)
   "List what of point and of the windows is in the COUNT rows from ROW on.
-An element is a list of a function that moves it, the line of its row after
-MOVES, and its column."
+An element is a list of a function that moves it, the source of its row, or
+nil after the last one, the line after MOVES, and the column."
   (unless (or live-occur--page (= count 0))
-    (let ((positions (live-occur--positions)) start end)
+    (let ((positions (live-occur--positions)))
       (save-excursion
         (live-occur--go-to-row row)
-        (setq start (point))
-        (forward-line count)
-        (setq end (point))
-        (cl-loop for (move . position) in positions
-                 when (and (<= start position) (< position end))
+        (cl-loop with start = (point) and end = (line-beginning-position (1+ count))
+                 for (move . position) in positions
+                 when (and (<= start position)
+                           (or (< position end) (= position end (point-max))))
                  collect (let ((hit (live-occur--hit (live-occur--row-at position))))
                            (goto-char position)
-                           (list move
-                                 (live-occur--moved (live-occur--hit-place hit) moves)
+                           (list move (and hit (live-occur--hit-source hit))
+                                 (and hit (live-occur--moved (live-occur--hit-place hit) moves))
                                  (- position (line-beginning-position)))))))))
 
 (defun live-occur--positions ()
   "Point, and the points of the windows of this list and where they begin.
 Each is a pair of a function that moves it, and its position."
-  (cons (cons #'goto-char (point))
-        (cl-loop for window in (get-buffer-window-list nil nil t)
-                 collect (cons (apply-partially #'set-window-point window)
-                               (window-point window))
-                 collect (cons (lambda (position) (set-window-start window position t))
-                               (window-start window)))))
+  (let* ((list (current-buffer))
+         (all (list (cons #'goto-char (point)))))
+    (dolist (window (get-buffer-window-list nil nil t) all)
+      (let ((mover (lambda (function)
+                     (lambda (position)
+                       (when (eq list (window-buffer window))
+                         (funcall function window position))))))
+        (push (cons (funcall mover #'set-window-point) (window-point window)) all)
+        (push (cons (funcall mover #'live-occur--set-start) (window-start window)) all)))))
 
-(defun live-occur--restore-spot (move source line column)
-  "Call MOVE with the position of COLUMN in the first row of SOURCE from LINE on."
-  (let ((row (+ (live-occur--row-of-source source)
-                (cl-loop for piece in (live-occur--source-pieces source)
-                         sum (live-occur--count-below piece line)))))
-    (live-occur--make-rows row 1)
-    (funcall move (save-excursion
-                    (live-occur--go-to-row row)
-                    (min (+ (point) column) (line-end-position))))))
+(defun live-occur--set-start (window position)
+  "Let WINDOW begin at POSITION, if its point is in view then."
+  (set-window-start window position t))
+
+(defun live-occur--go-to-spots (spots)
+  "Go back to SPOTS, or to rows after them."
+  (pcase-dolist (`(,move ,source ,line ,column) spots)
+    (let ((row (if source
+                   (+ (live-occur--row-of-source source)
+                      (cl-loop for piece in (live-occur--source-pieces source)
+                               sum (live-occur--count-below piece line)))
+                 (live-occur--total))))
+      (live-occur--make-rows row 1)
+      (funcall move (save-excursion
+                      (live-occur--go-to-row row)
+                      (min (+ (point) column) (line-end-position)))))))
 
 (defun live-occur--make-rows (first count)
   "Make COUNT rows from FIRST on, and bring their numbers up to date."
   (unless (or live-occur--page live-occur--editing)
     (with-silent-modifications
-      (save-excursion
-        (live-occur--go-to-row first)
-        (live-occur--map-hits (lambda (hit)
-                                (live-occur--make-row hit)
-                                (forward-line 1))
-                              first count)))))
+      (live-occur--map-rows #'live-occur--make-row first count))))
+
+(defun live-occur--map-rows (function first count)
+  "Call FUNCTION with each hit of COUNT rows from FIRST on, at its row."
+  (save-excursion
+    (live-occur--go-to-row first)
+    (live-occur--map-hits (lambda (hit)
+                            (save-excursion (funcall function hit))
+                            (forward-line 1))
+                          first count)))
 
 (defun live-occur--make-row (hit)
   "Make the row of HIT at point, or correct its number, and lose point."
-  (let ((source (live-occur--hit-source hit))
-        (number (1+ (live-occur--line-of hit))))
+  (let ((number (1+ (live-occur--line-of hit))))
     (cond ((eolp)
-           (live-occur--insert-head source number)
+           (live-occur--insert-head hit number)
            (live-occur--insert-text hit))
           ((/= number (get-text-property (point) 'live-occur-number))
-           (let ((end (next-single-property-change (point) 'live-occur-number)))
-             (delete-region (point) end)
-             (live-occur--insert-head source number))))))
+           (delete-region (point) (live-occur--after-head))
+           (live-occur--insert-head hit number)))))
 
-(defun live-occur--insert-head (source number)
-  "Insert the head of the row of line NUMBER of SOURCE."
-  (insert (propertize (live-occur--head source number ":")
+(defun live-occur--after-head ()
+  "Where the text of the row at point begins."
+  (next-single-property-change (point) 'live-occur-number))
+
+(defun live-occur--insert-head (hit number)
+  "Insert the head of the row of HIT with the line's NUMBER."
+  (insert (propertize (live-occur--head (live-occur--hit-source hit) number ":")
                       'live-occur-number number 'mouse-face 'highlight)))
 
 (defun live-occur--head (source number mark)
@@ -1140,18 +1097,13 @@ A character of which only some bytes are in a place is in it."
         (pcase-dolist (`(,start . ,end) places)
           (let ((end (min end (length line))) first)
             (while (< byte end)
-              (cl-incf byte (live-occur--width (aref text character)))
+              (cl-incf byte (length (live-occur--bytes (substring text character
+                                                                  (1+ character)))))
               (when (and (not first) (> byte start))
                 (setq first character))
               (cl-incf character))
             (push (cons (or first (max 0 (1- character))) character) found)))
         (nreverse found)))))
-
-(defun live-occur--width (character)
-  "The number of bytes that CHARACTER has in a session."
-  (if (eq (char-charset character) 'eight-bit)
-      1
-    (string-bytes (char-to-string character))))
 
 (defun live-occur--make-in-view (&optional window &rest _)
   "Make the rows in WINDOW and near it, or in all windows of this list.
@@ -1164,31 +1116,13 @@ A window may be moved to its point when it is redrawn, so rows there are made."
         (live-occur--make-rows (max 0 (- near height)) (* 3 height))
         (live-occur--show-around (max 0 (- near height)) (* 3 height))))))
 
-(defun live-occur--renumber-soon (list)
-  "Correct the numbers of the rows of LIST that are in view, before long."
-  (when (and (buffer-live-p list) (get-buffer-window list t))
-    (with-current-buffer list
-      (unless live-occur--renumbering
-        (setq live-occur--renumbering t)
-        (run-with-timer 0 nil #'live-occur--renumber list)))))
-
-(defun live-occur--renumber (list)
-  "Correct the numbers of the rows of LIST that are in view."
-  (when (buffer-live-p list)
-    (with-current-buffer list
-      (setq live-occur--renumbering nil)
-      (live-occur--make-in-view))))
-
-(defun live-occur--make-ahead (list)
-  "Make some rows of LIST, and go on while Emacs is idle."
-  (when (and (buffer-live-p list) (current-idle-time))
-    (with-current-buffer list
-      (let ((most (min (live-occur--total) live-occur-idle-rows)))
-        (when (and (< live-occur--made most)
-                   (not (or live-occur--page live-occur--editing)))
-          (live-occur--make-rows live-occur--made (min 200 (- most live-occur--made)))
-          (cl-incf live-occur--made 200)
-          (run-with-timer 0.02 nil #'live-occur--make-ahead list))))))
+(defun live-occur--make-ahead ()
+  "Make some rows of this list, and go on while Emacs is idle."
+  (let ((left (- (min (live-occur--total) live-occur-idle-rows) live-occur--made)))
+    (when (and (current-idle-time) (> left 0) (not live-occur--page) (not live-occur--editing))
+      (live-occur--make-rows live-occur--made (min 200 left))
+      (cl-incf live-occur--made 200)
+      (live-occur--later (current-buffer) 0.02 #'live-occur--make-ahead))))
 
 ;;;; Lines around
 
@@ -1197,64 +1131,47 @@ A window may be moved to its point when it is redrawn, so rows there are made."
 
 (defun live-occur--show-around (first count)
   "Show the lines around COUNT rows from FIRST on."
-  (when (and (or live-occur--the-context live-occur--overlaid)
-             (not live-occur--page))
-    (setq live-occur--overlaid (and live-occur--the-context t))
-    (if (not live-occur--the-context)
-        (remove-overlays (point-min) (point-max) 'live-occur-around t)
-      (let (hits)
-        (live-occur--map-hits (lambda (hit) (push hit hits))
-                              (max 0 (1- first)) (+ count (if (= first 0) 1 2)))
-        (setq hits (nreverse hits))
-        (save-excursion
-          (live-occur--go-to-row first)
-          (cl-loop for (before hit after) on (if (= first 0) (cons nil hits) hits)
-                   repeat count while hit
-                   do (live-occur--show-around-row before hit after)
-                   (forward-line 1)))))))
+  (when (and live-occur--the-context (not live-occur--page))
+    (let ((hits (list (and (> first 0) (live-occur--hit (1- first))))))
+      (live-occur--map-hits (lambda (hit) (push hit hits)) first (1+ count))
+      (setq hits (nreverse hits))
+      (live-occur--map-rows (lambda (_)
+                              (apply #'live-occur--show-around-row (seq-take hits 3))
+                              (pop hits))
+                            first count))))
 
-(defun live-occur--show-around-row (before hit after)
+(defun live-occur--show-around-row (before hit &optional after)
   "Show the lines around HIT, of the row at point, between hits BEFORE and AFTER."
-  (let* ((line (live-occur--line-of hit))
-         (source (live-occur--hit-source hit))
-         (free (if (live-occur--same-source-p before hit)
-                   (+ 1 (live-occur--line-of before) (cdr live-occur--the-context))
-                 0))
-         (first (max free (- line (car live-occur--the-context))))
-         (end (if (live-occur--same-source-p hit after)
-                  (live-occur--line-of after)
-                most-positive-fixnum)))
+  (pcase-let* ((`(,above . ,below) live-occur--the-context)
+               (source (live-occur--hit-source hit))
+               (line (live-occur--line-of hit))
+               (near (lambda (other)
+                       (and other (eq source (live-occur--hit-source other))
+                            (live-occur--line-of other))))
+               (last (funcall near before))
+               (free (if last (+ 1 last below) 0))
+               (first (max free (- line above))))
     (live-occur--overlay-row
-     (concat (when (and before (or (= free 0) (> first free)))
-               (propertize "--\n" 'face 'live-occur-around))
+     (concat (when (and before (or (not last) (> first free)))
+               (propertize "--\n" 'face 'live-occur-line))
              (live-occur--lines-around source first line))
      (live-occur--lines-around
-      source (1+ line) (min end (+ 1 line (cdr live-occur--the-context)))))))
-
-(defun live-occur--line-of (hit)
-  "The line at which HIT is now."
-  (live-occur--moved (live-occur--hit-place hit)
-                     (live-occur--source-moves (live-occur--hit-source hit))))
-
-(defun live-occur--same-source-p (hit other)
-  "Whether HIT and OTHER are of one source."
-  (and hit other (eq (live-occur--hit-source hit) (live-occur--hit-source other))))
+      source (1+ line) (min (or (funcall near after) most-positive-fixnum) (+ 1 line below))))))
 
 (defun live-occur--lines-around (source from to)
   "The lines FROM to TO of SOURCE as they are shown around rows."
-  (when (and (< from to) (buffer-live-p (live-occur--source-buffer source)))
-    (with-current-buffer (live-occur--source-buffer source)
-      (live-occur--in-whole-buffer
-        (when (= 0 (live-occur--go-to-line source from))
-          (cl-loop for line from from below to until (eobp)
-                   concat (live-occur--head source (1+ line) "-")
-                   concat (propertize
-                           (concat (buffer-substring-no-properties
-                                    (point) (min (line-end-position)
-                                                 (+ (point) live-occur-max-columns)))
-                                   "\n")
-                           'face 'live-occur-around)
-                   do (forward-line 1)))))))
+  (when (< from to)
+    (live-occur--in-text source
+      (when (= 0 (live-occur--go-to-line source from))
+        (cl-loop for line from from below to until (eobp)
+                 concat (live-occur--head source (1+ line) "-")
+                 concat (propertize
+                         (concat (buffer-substring-no-properties
+                                  (point) (min (line-end-position)
+                                               (+ (point) live-occur-max-columns)))
+                                 "\n")
+                         'face 'live-occur-line)
+                 do (forward-line 1))))))
 
 (defun live-occur--overlay-row (before after)
   "Show the strings BEFORE and AFTER around the row at point."
@@ -1271,34 +1188,23 @@ A window may be moved to its point when it is redrawn, so rows there are made."
 
 ;;;; Going to a line
 
-(defun live-occur--this-row ()
-  "The number of the row at point, from 0."
-  (let ((row (live-occur--row-at (point))))
-    (unless (< row (live-occur--rows))
-      (user-error "There is no row here"))
-    row))
-
 (defun live-occur--rows ()
   "How many rows are shown."
   (if live-occur--page 0 (live-occur--total)))
 
-(defun live-occur--column (hit)
-  "In which column of its line the first part of HIT begins."
-  (or (caar (live-occur--in-characters (live-occur--hit-bytes hit)
-                                       (seq-take (live-occur--hit-parts hit) 1)))
-      0))
-
-(defun live-occur--place (row)
-  "The buffer and the position of the row of number ROW."
-  (let* ((hit (live-occur--hit row))
-         (source (live-occur--hit-source hit)))
-    (unless (buffer-live-p (live-occur--source-buffer source))
-      (user-error "The buffer of this row is gone"))
-    (with-current-buffer (live-occur--source-buffer source)
-      (live-occur--in-whole-buffer
-        (live-occur--go-to-line source (live-occur--line-of hit))
-        (cons (current-buffer)
-              (min (line-end-position) (+ (point) (live-occur--column hit))))))))
+(defun live-occur--place ()
+  "The buffer and the position of the row at point, where its first part begins."
+  (let* ((row (live-occur--row-at (point)))
+         (hit (if (< row (live-occur--rows))
+                  (live-occur--hit row)
+                (user-error "There is no row here")))
+         (column (or (caar (live-occur--in-characters (live-occur--hit-bytes hit)
+                                                      (seq-take (live-occur--hit-parts hit) 1)))
+                     0)))
+    (setq next-error-last-buffer (current-buffer))
+    (or (live-occur--at-line-of hit
+          (cons (current-buffer) (min (line-end-position) (+ (point) column))))
+        (user-error "The buffer of this row is gone"))))
 
 (defun live-occur--move-to (position)
   "Move to POSITION of this buffer, and widen it if need be."
@@ -1312,11 +1218,9 @@ A window may be moved to its point when it is redrawn, so rows there are made."
   "Go to the line of the row at point.
 The list keeps its window."
   (interactive)
-  (pcase-let ((`(,buffer . ,position) (live-occur--place (live-occur--this-row)))
-              (in-list (eq (window-buffer) (current-buffer))))
-    (setq next-error-last-buffer (current-buffer))
+  (pcase-let ((`(,buffer . ,position) (live-occur--place)))
     (pop-to-buffer buffer
-                   (unless in-list
+                   (unless (eq (window-buffer) (current-buffer))
                      '((display-buffer-reuse-window display-buffer-same-window))))
     (live-occur--move-to position)))
 
@@ -1330,8 +1234,7 @@ The list keeps its window."
 (defun live-occur-display ()
   "Show the line of the row at point in another window, and stay here."
   (interactive)
-  (pcase-let ((`(,buffer . ,position) (live-occur--place (live-occur--this-row))))
-    (setq next-error-last-buffer (current-buffer))
+  (pcase-let ((`(,buffer . ,position) (live-occur--place)))
     (when-let ((window (display-buffer buffer t)))
       (with-selected-window window
         (live-occur--move-to position)))))
@@ -1340,7 +1243,7 @@ The list keeps its window."
   "Move COUNT rows on."
   (interactive "p")
   (let ((row (+ (live-occur--row-at (point)) (or count 1))))
-    (unless (<= 0 row (1- (live-occur--rows)))
+    (unless (< -1 row (live-occur--rows))
       (user-error "There are no more rows"))
     (live-occur--go-to-row row)))
 
@@ -1399,26 +1302,16 @@ Undo works in the list, and in the buffers.
   (interactive)
   (live-occur--check)
   (live-occur--update)
-  (while (and live-occur--asked (live-occur--can-go-on))
-    (accept-process-output (live-occur--session-process live-occur--session) 1))
-  (unless (or (<= (live-occur--total) live-occur-idle-rows)
-              (yes-or-no-p (format "Make all %d rows to edit them? " (live-occur--total))))
-    (user-error "The rows are not edited"))
-  (live-occur--make-rows 0 (live-occur--total))
-  (with-silent-modifications
-    (save-excursion
-      (goto-char (point-min))
-      (live-occur--map-hits (lambda (hit)
-                              (live-occur--protect-row hit)
-                              (forward-line 1))
-                            0 (live-occur--total))))
-  (setq live-occur--editing t
-        buffer-read-only nil
-        buffer-undo-list nil
-        mode-name "Live-Occur-Edit")
-  (use-local-map live-occur-edit-map)
+  (live-occur--wait-for (lambda () (not live-occur--asked)))
+  (let ((total (live-occur--total)))
+    (unless (or (<= total live-occur-idle-rows)
+                (yes-or-no-p (format "Make all %d rows to edit them? " total)))
+      (user-error "The rows are not edited"))
+    (live-occur--make-rows 0 total)
+    (with-silent-modifications
+      (live-occur--map-rows #'live-occur--protect-row 0 total)))
   (add-hook 'after-change-functions #'live-occur--row-changed nil t)
-  (force-mode-line-update)
+  (live-occur--let-edit t live-occur-edit-map "Live-Occur-Edit")
   (message "%s" (substitute-command-keys
                  "Edit the rows; \\<live-occur-edit-map>\\[live-occur-end-edit] ends it")))
 
@@ -1426,20 +1319,25 @@ Undo works in the list, and in the buffers.
   "Edit the rows of this list no longer, and bring it up to date."
   (interactive)
   (remove-hook 'after-change-functions #'live-occur--row-changed t)
-  (setq live-occur--editing nil
-        buffer-read-only t
-        buffer-undo-list t
-        mode-name "Live-Occur")
-  (use-local-map live-occur-mode-map)
+  (live-occur--let-edit nil live-occur-mode-map "Live-Occur")
   (set-buffer-modified-p nil)
   (live-occur--forget-rows)
   (live-occur--update))
+
+(defun live-occur--let-edit (on map name)
+  "Let rows be edited if ON, with the keys of MAP, and NAME in the mode line."
+  (setq live-occur--editing on
+        buffer-read-only (not on)
+        buffer-undo-list (not on)
+        mode-name name)
+  (use-local-map map)
+  (force-mode-line-update))
 
 (defun live-occur--protect-row (hit)
   "Make the head and the newline of the row of HIT at point read-only.
 All of it is where its buffer is read-only, or its text is shortened."
   (let* ((source (live-occur--hit-source hit))
-         (head (next-single-property-change (point) 'live-occur-number))
+         (head (live-occur--after-head))
          (end (line-end-position))
          (text (buffer-substring-no-properties head end))
          (why (cond ((buffer-local-value 'buffer-read-only (live-occur--source-buffer source))
@@ -1463,8 +1361,8 @@ Newlines in it become spaces."
       (goto-char start)
       (forward-line 0)
       (when-let ((hit (live-occur--hit (live-occur--row-at (point)))))
-        (let* ((head (next-single-property-change (point) 'live-occur-number))
-               (text (buffer-substring-no-properties head (line-end-position)))
+        (let* ((text (buffer-substring-no-properties (live-occur--after-head)
+                                                     (line-end-position)))
                (old (get-text-property (point) 'live-occur-text))
                (problem (if (live-occur--text-of-line hit)
                             (live-occur--change-line hit old text)
@@ -1476,95 +1374,58 @@ Newlines in it become spaces."
 (defun live-occur--note-text (text)
   "Keep that the row at point and its line have TEXT."
   (with-silent-modifications
-    (put-text-property (point) (next-single-property-change (point) 'live-occur-number)
-                       'live-occur-text text)))
+    (put-text-property (point) (live-occur--after-head) 'live-occur-text text)))
 
 (defun live-occur--change-line (hit old new)
   "Put the text NEW in the place of OLD in the line of HIT.
 Answer nil, or why it can't be done."
-  (let ((source (live-occur--hit-source hit)))
-    (with-current-buffer (live-occur--source-buffer source)
-      (live-occur--in-whole-buffer
-        (live-occur--go-to-line source (live-occur--line-of hit))
-        (cond (buffer-read-only
-               (format "Buffer %s is read-only" (buffer-name)))
-              ((not (equal old (buffer-substring-no-properties (point) (line-end-position))))
-               (format "The line of this row in %s is gone, or was edited there"
-                       (buffer-name)))
-              (t (condition-case problem
-                     (let ((inhibit-modification-hooks nil))
-                       (live-occur--replace-text old new)
-                       nil)
-                   (error (error-message-string problem)))))))))
+  (live-occur--at-line-of hit
+    (cond (buffer-read-only
+           (format "Buffer %s is read-only" (buffer-name)))
+          ((not (equal old (buffer-substring-no-properties (point) (line-end-position))))
+           (format "The line of this row in %s is gone, or was edited there" (buffer-name)))
+          (t (condition-case problem
+                 (let ((inhibit-modification-hooks nil))
+                   (live-occur--replace-text old new)
+                   nil)
+               (error (error-message-string problem)))))))
 
 (defun live-occur--replace-text (old new)
   "Replace the text OLD after point by NEW, but for what is the same at the ends."
-  (let* ((first (abs (1- (abs (let ((same (compare-strings old nil nil new nil nil)))
-                                (if (eq same t) (1+ (length old)) same))))))
-         (last (cl-loop for count from 0 below (- (min (length old) (length new)) first)
-                        while (eq (aref old (- (length old) count 1))
-                                  (aref new (- (length new) count 1)))
-                        finally return count))
-         (from (+ (point) first)))
-    (goto-char from)
+  (let* ((first (length (fill-common-string-prefix old new)))
+         (last (length (fill-common-string-prefix (reverse (substring old first))
+                                                  (reverse (substring new first))))))
+    (forward-char first)
     (insert (substring new first (- (length new) last)))
-    (delete-region (point) (+ (point) (- (length old) first last)))))
+    (delete-char (- (length old) first last))))
 
 (defun live-occur--follow-lines ()
   "Bring the rows in view up to date with their lines while rows are edited."
-  (dolist (window (get-buffer-window-list nil nil t))
-    (let ((inhibit-modification-hooks t)
-          (inhibit-read-only t))
+  (let ((inhibit-modification-hooks t)
+        (inhibit-read-only t))
+    (dolist (window (get-buffer-window-list nil nil t))
+      (live-occur--map-rows #'live-occur--follow-line
+                            (live-occur--row-at (window-start window))
+                            (window-body-height window)))))
+
+(defun live-occur--follow-line (hit)
+  "Put the line of HIT in the row at point, unless this was edited alone."
+  (let ((old (get-text-property (point) 'live-occur-text))
+        (new (live-occur--text-of-line hit))
+        (start (live-occur--after-head)))
+    (when (and new (not (equal old new))
+               (equal old (buffer-substring-no-properties start (line-end-position))))
       (save-excursion
-        (goto-char (window-start window))
-        (live-occur--map-hits
-         (lambda (hit)
-           (let ((head (next-single-property-change (point) 'live-occur-number))
-                 (old (get-text-property (point) 'live-occur-text))
-                 (new (live-occur--text-of-line hit)))
-             (unless (or (null new) (equal old new))
-               (save-excursion
-                 (goto-char head)
-                 (when (equal old (buffer-substring-no-properties head (line-end-position)))
-                   (live-occur--replace-text old new)
-                   (goto-char head)
-                   (forward-line 0)
-                   (live-occur--note-text new))))
-             (forward-line 1)))
-         (live-occur--row-at (point)) (window-body-height window))))))
+        (goto-char start)
+        (live-occur--replace-text old new))
+      (live-occur--note-text new))))
 
 (defun live-occur--text-of-line (hit)
   "The text of the line of HIT as it is now, or nil if its buffer is gone."
-  (let ((source (live-occur--hit-source hit))
-        (line (live-occur--line-of hit)))
-    (when (buffer-live-p (live-occur--source-buffer source))
-      (with-current-buffer (live-occur--source-buffer source)
-        (live-occur--in-whole-buffer
-          (live-occur--go-to-line source line)
-          (buffer-substring-no-properties (point) (line-end-position)))))))
+  (live-occur--at-line-of hit
+    (buffer-substring-no-properties (point) (line-end-position))))
 
 ;;;; Patterns
-
-(defun live-occur--ask (command done)
-  "Send COMMAND, wait for its reply, and answer it.
-If it is accepted call DONE, and ask for what changed."
-  (live-occur--check)
-  (let* ((list (current-buffer))
-         (session live-occur--session)
-         answer)
-    (live-occur--send session command
-                      (lambda (reply)
-                        (setq answer reply)
-                        (when (and (equal reply "ok") (buffer-live-p list))
-                          (with-current-buffer list
-                            (funcall done)))))
-    (while (and (not answer) (live-occur--running-p session))
-      (accept-process-output (live-occur--session-process session) 1))
-    (unless answer
-      (live-occur--check))
-    (when (equal answer "ok")
-      (live-occur--update t))
-    answer))
 
 (defun live-occur--fault-in (reply patterns)
   "The fault of one of PATTERNS in REPLY, or nil.
@@ -1572,11 +1433,10 @@ It is a list of the pattern's number, the kind, and the place in characters."
   (save-match-data
     (when (string-match "\\`refused Pattern \\([0-9]+\\) \\([A-Za-z]+\\) \\([0-9]+\\)\\'" reply)
       (let* ((number (string-to-number (match-string 1 reply)))
-             (pattern (nth number patterns))
-             (kind (match-string 2 reply))
              (place (string-to-number (match-string 3 reply)))
+             (pattern (nth number patterns))
              (bytes (live-occur--bytes pattern)))
-        (list number kind
+        (list number (match-string 2 reply)
               (if (< place (length bytes))
                   (caar (live-occur--in-characters bytes (list (cons place (1+ place)))))
                 (length pattern)))))))
@@ -1586,14 +1446,6 @@ It is a list of the pattern's number, the kind, and the place in characters."
   (let ((text (if (< place (length pattern)) (copy-sequence pattern) (concat pattern " "))))
     (add-face-text-property place (1+ place) 'live-occur-fault nil text)
     text))
-
-(defun live-occur--tell-refusal (reply patterns)
-  "Tell in the echo area that REPLY refused a change of PATTERNS."
-  (pcase (live-occur--fault-in reply patterns)
-    (`(,number ,kind ,place)
-     (message "%s at %d: %s" kind place
-              (live-occur--underlined (nth number patterns) place)))
-    (_ (message "occur answered: %s" reply))))
 
 (defun live-occur--symbol-at-point (syntax)
   "The symbol at point as a pattern in SYNTAX that matches it, or nil."
@@ -1605,35 +1457,27 @@ It is a list of the pattern's number, the kind, and the place in characters."
 
 (defun live-occur--want (patterns &optional report)
   "Make PATTERNS those of this list, once the program has answered.
-Call REPORT with the reply, and the number of patterns that were kept: a
-refusal counts from there.  Of several wishes the last one is kept."
+Call REPORT with the reply.  Of several wishes the last one is kept."
   (if live-occur--trying
       (setq live-occur--wanted (list patterns report))
     (let* ((list (current-buffer))
-           (kept (cl-loop for old in live-occur--patterns
-                          for new in patterns
-                          while (equal old new) count t))
            (answered (lambda (reply)
-                       (when (buffer-live-p list)
-                         (with-current-buffer list
-                           (live-occur--got reply patterns kept report))))))
+                       (live-occur--in list
+                         (live-occur--got reply patterns report)))))
       (setq live-occur--trying t)
-      (if (nthcdr kept patterns)
-          (live-occur--send live-occur--session
-                            (live-occur--patterns-command (nthcdr kept patterns))
-                            answered)
-        (funcall answered "ok")))))
+      (if (or (null patterns) (equal patterns live-occur--patterns))
+          (funcall answered "ok")
+        (live-occur--send live-occur--session (live-occur--patterns-command patterns) answered)))))
 
-(defun live-occur--got (reply patterns kept report)
-  "Take REPLY to the wish for PATTERNS, of which KEPT were there, and REPORT it."
-  (when (equal reply "ok")
-    (dotimes (_ (- (length live-occur--patterns) kept))
-      (live-occur--send live-occur--session (format "drop %d\n" kept)
-                        (live-occur--expect-ok (current-buffer))))
+(defun live-occur--got (reply patterns report)
+  "Take REPLY to the wish for PATTERNS, and REPORT it."
+  (when (and (equal reply "ok") (not (equal patterns live-occur--patterns)))
+    (dolist (_ live-occur--patterns)
+      (live-occur--order (current-buffer) "drop 0\n"))
     (setq live-occur--patterns patterns))
   (setq live-occur--trying nil)
   (when report
-    (funcall report reply kept))
+    (funcall report reply))
   (cond (live-occur--wanted
          (apply #'live-occur--want (prog1 live-occur--wanted
                                      (setq live-occur--wanted nil))))
@@ -1642,43 +1486,29 @@ refusal counts from there.  Of several wishes the last one is kept."
         (t (live-occur--update t))))
 
 (defun live-occur--put (patterns)
-  "Make PATTERNS those of this list, and wait until they are.
-Answer the reply, and the number of patterns that were kept, in a list."
+  "Make PATTERNS those of this list, wait until they are, and answer the reply."
   (live-occur--check)
-  (let ((session live-occur--session) answer)
-    (live-occur--want patterns (lambda (&rest reply) (setq answer reply)))
-    (while (and (not answer) (live-occur--running-p session))
-      (accept-process-output (live-occur--session-process session) 1))
-    (unless answer
-      (live-occur--check))
-    answer))
+  (let (answer)
+    (live-occur--want patterns (lambda (reply) (setq answer reply)))
+    (live-occur--wait-for (lambda () answer))))
 
 (defun live-occur--add (text)
   "Add the patterns in TEXT, one a line, and answer the reply."
-  (car (live-occur--put (append live-occur--patterns (split-string text "\n")))))
-
-(defun live-occur--without (place)
-  "The patterns of this list before PLACE, and those after it, as a pair."
-  (cons (seq-take live-occur--patterns place)
-        (seq-drop live-occur--patterns (1+ place))))
+  (live-occur--put (append live-occur--patterns (split-string text "\n"))))
 
 (defun live-occur--drop (place)
   "Drop the pattern at PLACE."
-  (pcase-let ((`(,before . ,after) (live-occur--without place)))
-    (live-occur--put (append before after))))
+  (live-occur--put (append (seq-take live-occur--patterns place)
+                           (seq-drop live-occur--patterns (1+ place)))))
 
-(defun live-occur--fault-in-text (reply text first kept)
+(defun live-occur--fault-in-text (reply text first)
   "The fault in TEXT that REPLY reports, or nil: its kind and its place.
-The patterns in TEXT are those from number FIRST on, and REPLY counts from
-number KEPT."
+The patterns in TEXT are those from number FIRST on."
   (let ((patterns (split-string text "\n")))
-    (pcase (live-occur--fault-in
-            reply (append (make-list (max 0 (- first kept)) "")
-                          (seq-drop patterns (max 0 (- kept first)))))
+    (pcase (live-occur--fault-in reply (append (make-list first "") patterns))
       (`(,number ,kind ,place)
-       (list kind (apply #'+ place
-                         (mapcar (lambda (before) (1+ (length before)))
-                                 (seq-take patterns (- (+ number kept) first)))))))))
+       (list kind (apply #'+ place (mapcar (lambda (pattern) (1+ (length pattern)))
+                                           (seq-take patterns (- number first)))))))))
 
 (defun live-occur--show-fault (fault)
   "Show FAULT in this minibuffer, or that there is none where it is nil."
@@ -1686,52 +1516,44 @@ number KEPT."
   (pcase fault
     (`(,kind ,place)
      (let* ((at (min (+ (minibuffer-prompt-end) place) (point-max)))
-            (overlay (make-overlay at (min (1+ at) (point-max))))
             (end (make-overlay (point-max) (point-max))))
-       (overlay-put overlay 'face 'live-occur-fault)
        (overlay-put end 'after-string
                     (concat (when (= at (point-max))
                               (propertize " " 'face 'live-occur-fault 'cursor t))
                             (propertize (format " [%s]" kind) 'face 'live-occur-ended
                                         'cursor t)))
-       (overlay-put overlay 'live-occur-fault t)
-       (overlay-put end 'live-occur-fault t)))))
+       (dolist (overlay (list end (make-overlay at (min (1+ at) (point-max)))))
+         (overlay-put overlay 'face 'live-occur-fault)
+         (overlay-put overlay 'live-occur-fault t))))))
 
 (defun live-occur--try (list minibuffer before after)
   "Let LIST show what the text in MINIBUFFER matches, between BEFORE and AFTER."
-  (when (and (buffer-live-p list) (buffer-live-p minibuffer))
-    (let ((text (with-current-buffer minibuffer (minibuffer-contents-no-properties))))
-      (with-current-buffer list
-        (when (live-occur--can-go-on)
-          (setq live-occur--previewing t)
-          (live-occur--flush-all)
-          (live-occur--want
-           (append before (unless (string-empty-p text) (split-string text "\n")) after)
-           (lambda (reply kept)
-             (when (buffer-live-p minibuffer)
-               (with-current-buffer minibuffer
-                 (when (equal text (minibuffer-contents-no-properties))
-                   (live-occur--show-fault
-                    (unless (equal reply "ok")
-                      (or (live-occur--fault-in-text reply text (length before) kept)
-                          (list reply 0))))))))))))))
+  (let ((text (with-current-buffer minibuffer (minibuffer-contents-no-properties))))
+    (live-occur--in list
+      (when (live-occur--can-go-on)
+        (setq live-occur--previewing t)
+        (live-occur--flush-all)
+        (live-occur--want
+         (append before (unless (string-empty-p text) (split-string text "\n")) after)
+         (lambda (reply)
+           (live-occur--in minibuffer
+             (when (equal text (minibuffer-contents-no-properties))
+               (live-occur--show-fault
+                (unless (equal reply "ok")
+                  (or (live-occur--fault-in-text reply text (length before))
+                      (list reply 0))))))))))))
 
 (defun live-occur--follow-typing (list before after)
   "Let LIST follow what is typed in this minibuffer, between BEFORE and AFTER."
-  (let ((minibuffer (current-buffer))
-        (text (minibuffer-contents-no-properties))
-        timer)
-    (add-hook 'minibuffer-exit-hook
-              (lambda () (when timer (cancel-timer timer)))
-              nil t)
+  (let ((text (minibuffer-contents-no-properties))
+        (timer (timer-create)))
+    (add-hook 'minibuffer-exit-hook (lambda () (cancel-timer timer)) nil t)
     (add-hook 'post-command-hook
               (lambda ()
-                (let ((now (minibuffer-contents-no-properties)))
-                  (unless (equal now text)
-                    (setq text now)
-                    (when timer (cancel-timer timer))
-                    (setq timer (run-with-timer live-occur-typing-delay nil #'live-occur--try
-                                                list minibuffer before after)))))
+                (unless (equal text (setq text (minibuffer-contents-no-properties)))
+                  (cancel-timer timer)
+                  (setq timer (run-with-timer live-occur-typing-delay nil #'live-occur--try
+                                              list (current-buffer) before after))))
               nil t)))
 
 (defun live-occur--read-text (list prompt initial fault before after)
@@ -1739,17 +1561,17 @@ number KEPT."
 FAULT is nil, or the kind and the place at which INITIAL was refused.  The
 pattern goes between the patterns BEFORE and AFTER."
   (let ((offered (live-occur--symbol-at-point
-                  (buffer-local-value 'live-occur--the-syntax list)))
-        (place (cadr fault)))
+                  (buffer-local-value 'live-occur--the-syntax list))))
     (minibuffer-with-setup-hook
         (lambda ()
           (live-occur--show-fault fault)
           (when live-occur-typing-delay
             (live-occur--follow-typing list before after)))
-      (read-from-minibuffer
-       (concat (and fault (format "%s at %d; " (car fault) place)) prompt)
-       (and initial (if fault (cons initial (1+ place)) initial))
-       nil nil 'live-occur-history offered))))
+      (pcase fault
+        (`(,kind ,place)
+         (setq prompt (format "%s at %d; %s" kind place prompt)
+               initial (cons initial (1+ place)))))
+      (read-from-minibuffer prompt initial nil nil 'live-occur-history offered))))
 
 (defun live-occur--add-by-asking (list prompt &optional initial before after)
   "Read patterns with PROMPT and the text INITIAL until LIST takes them.
@@ -1759,35 +1581,25 @@ They go between the patterns BEFORE and AFTER."
     (unwind-protect
         (while (not done)
           (setq initial (live-occur--read-text list prompt initial fault before after))
-          (pcase-let* ((patterns (split-string initial "\n"))
-                       (`(,reply ,kept)
-                        (with-current-buffer list
-                          (live-occur--put (append before patterns after)))))
-            (if (equal reply "ok")
-                (setq done t)
-              (setq fault (or (live-occur--fault-in-text reply initial (length before) kept)
-                              (user-error "The program answered: %s" reply))))))
-      (when (buffer-live-p list)
-        (with-current-buffer list
-          (live-occur--end-preview (if done live-occur--patterns old)))))))
+          (let ((reply (with-current-buffer list
+                         (live-occur--put (append before (split-string initial "\n") after)))))
+            (setq done (equal reply "ok")
+                  fault (live-occur--fault-in-text reply initial (length before)))
+            (unless (or done fault)
+              (user-error "The program answered: %s" reply))))
+      (live-occur--in list
+        (live-occur--end-preview (if done live-occur--patterns old))))))
 
 (defun live-occur--end-preview (patterns)
   "Keep PATTERNS, and show again what the list had where they are the old ones."
   (when live-occur--previewing
     (setq live-occur--previewing nil)
-    (cond ((not (equal patterns live-occur--patterns))
-           (live-occur--end-page)
-           (if (live-occur--can-go-on)
-               (live-occur--want patterns)
-             (setq live-occur--patterns patterns)))
-          ((live-occur--can-go-on) (live-occur--update t))
-          (t (live-occur--end-page)))))
-
-(defun live-occur--end-page ()
-  "Put the rows back where the list has a page."
-  (when live-occur--page
-    (setq live-occur--page nil)
-    (live-occur--forget-rows live-occur--before-page)))
+    (let ((on (live-occur--can-go-on)))
+      (unless (and on (equal patterns live-occur--patterns))
+        (live-occur--end-page))
+      (if on
+          (live-occur--want patterns)
+        (setq live-occur--patterns patterns)))))
 
 (defun live-occur-add-pattern ()
   "Add a pattern: lines that any of the patterns matches are listed."
@@ -1799,9 +1611,9 @@ They go between the patterns BEFORE and AFTER."
   (pcase (length live-occur--patterns)
     (0 (user-error "There is no pattern"))
     (1 0)
-    (_ (let ((pattern (completing-read prompt live-occur--patterns nil t)))
-         (or (seq-position live-occur--patterns pattern)
-             (user-error "There is no such pattern"))))))
+    (_ (or (seq-position live-occur--patterns
+                         (completing-read prompt live-occur--patterns nil t))
+           (user-error "There is no such pattern")))))
 
 (defun live-occur-drop-pattern ()
   "Drop a pattern.  Without any, no line is listed."
@@ -1812,9 +1624,9 @@ They go between the patterns BEFORE and AFTER."
   "Change a pattern."
   (interactive)
   (let ((place (live-occur--read-place "Change pattern: ")))
-    (pcase-let ((`(,before . ,after) (live-occur--without place)))
-      (live-occur--add-by-asking (current-buffer) "Pattern: "
-                                 (nth place live-occur--patterns) before after))))
+    (live-occur--add-by-asking (current-buffer) "Pattern: " (nth place live-occur--patterns)
+                               (seq-take live-occur--patterns place)
+                               (seq-drop live-occur--patterns (1+ place)))))
 
 ;;;; Pages
 
@@ -1823,40 +1635,36 @@ They go between the patterns BEFORE and AFTER."
 
 (defun live-occur--ask-for-page ()
   "Ask for the hits that are in view, and show them when they come."
-  (let* ((list (current-buffer))
-         (sources live-occur--sources)
-         (count (apply #'max 50 (mapcar #'window-body-height
-                                        (get-buffer-window-list nil nil t)))))
+  (let ((list (current-buffer))
+        (sources live-occur--sources)
+        (count (apply #'max 50 (mapcar #'window-body-height
+                                       (get-buffer-window-list nil nil t)))))
     (live-occur--send
      live-occur--session (format "page 0 %d\n" count)
      (lambda (_status)
        (pcase-let ((`(,total . ,hits) (live-occur--take-page sources)))
-         (when (and (buffer-live-p list)
-                    (buffer-local-value 'live-occur--previewing list))
-           (with-current-buffer list
+         (live-occur--in list
+           (when live-occur--previewing
              (live-occur--show-page total hits))))))))
 
 (defun live-occur--take-page (sources)
   "The number of hits in the page in this buffer, and those of SOURCES in it."
   (goto-char (+ (point-min) (length "hits ")))
-  (let ((total (string-to-number (buffer-substring (point) (line-end-position))))
-        hits)
-    (while (progn (forward-line 1) (not (eobp)))
-      (let* ((row (buffer-substring (point) (line-beginning-position 2)))
-             (file (live-occur--place-in row 0)))
-        (push (live-occur--hit-in (nth file sources) row (- (string-search " " row 2) 1) 0)
-              hits)))
-    (cons total (nreverse hits))))
+  (cons (string-to-number (buffer-substring (point) (line-end-position)))
+        (cl-loop while (progn (forward-line 1) (not (eobp)))
+                 collect (let ((row (buffer-substring (point) (line-beginning-position 2))))
+                           (live-occur--hit-in (nth (live-occur--place-in row 0) sources)
+                                               row (1- (string-search " " row 2)) 0)))))
 
 (defun live-occur--show-page (total hits)
   "Show HITS, which are the first of TOTAL, instead of the rows."
-  (unless live-occur--page
-    (setq live-occur--before-page (live-occur--rows-of-windows)))
-  (setq live-occur--page total)
+  (setq live-occur--page (cons total (if live-occur--page
+                                         (cdr live-occur--page)
+                                       (live-occur--spots 0 (live-occur--total)))))
   (with-silent-modifications
     (erase-buffer)
     (dolist (hit hits)
-      (live-occur--insert-head (live-occur--hit-source hit) (1+ (live-occur--hit-place hit)))
+      (live-occur--insert-head hit (1+ (live-occur--hit-place hit)))
       (live-occur--insert-text hit)
       (insert "\n"))
     (goto-char (point-min))
@@ -1864,14 +1672,34 @@ They go between the patterns BEFORE and AFTER."
       (set-window-point window (point-min))))
   (force-mode-line-update))
 
+(defun live-occur--end-page ()
+  "Put the rows back where the list has a page."
+  (when live-occur--page
+    (live-occur--forget-rows (cdr (prog1 live-occur--page (setq live-occur--page nil))))))
+
 ;;;; Syntax and flags
+
+(defun live-occur--set (words variable value)
+  "Send the command of WORDS, and wait for the reply.
+If it is accepted VARIABLE of this list has VALUE."
+  (live-occur--check)
+  (let ((list (current-buffer)) answer)
+    (live-occur--send live-occur--session (concat words "\n")
+                      (lambda (reply)
+                        (setq answer reply)
+                        (when (equal reply "ok")
+                          (live-occur--in list (set variable value)))))
+    (live-occur--wait-for (lambda () answer))
+    (pcase (live-occur--fault-in answer live-occur--patterns)
+      (`(,number ,kind ,place)
+       (message "%s at %d: %s" kind place
+                (live-occur--underlined (nth number live-occur--patterns) place)))
+      ((guard (equal answer "ok")) (live-occur--update t))
+      (_ (message "occur answered: %s" answer)))))
 
 (defun live-occur--choose-syntax (syntax)
   "Read all patterns in SYNTAX."
-  (let ((reply (live-occur--ask (format "syntax %s\n" syntax)
-                                (lambda () (setq live-occur--the-syntax syntax)))))
-    (unless (equal reply "ok")
-      (live-occur--tell-refusal reply live-occur--patterns))))
+  (live-occur--set (format "syntax %s" syntax) 'live-occur--the-syntax syntax))
 
 (defun live-occur-basic ()
   "Read the patterns as basic regular expressions."
@@ -1890,16 +1718,12 @@ They go between the patterns BEFORE and AFTER."
 
 (defun live-occur--toggle (letter)
   "Turn the flag LETTER on or off."
-  (let* ((on (not (memq letter live-occur--the-flags)))
-         (flags (if on
-                    (seq-filter (lambda (other)
-                                  (or (eq other letter) (memq other live-occur--the-flags)))
-                                live-occur--flag-letters)
-                  (remq letter live-occur--the-flags)))
-         (reply (live-occur--ask (format "flag %c %s\n" letter (if on "on" "off"))
-                                 (lambda () (setq live-occur--the-flags flags)))))
-    (unless (equal reply "ok")
-      (live-occur--tell-refusal reply live-occur--patterns))))
+  (let ((on (not (memq letter live-occur--the-flags))))
+    (live-occur--set (format "flag %c %s" letter (if on "on" "off"))
+                     'live-occur--the-flags
+                     (seq-filter (lambda (other)
+                                   (if (eq other letter) on (memq other live-occur--the-flags)))
+                                 live-occur--flag-letters))))
 
 (defun live-occur-toggle-case ()
   "Match both cases of letters, or no longer: flag i."
@@ -1925,6 +1749,7 @@ Where both numbers are 0 no other lines are shown."
   (unless (and (natnump before) (natnump after))
     (user-error "A number of lines is 0 or more"))
   (setq live-occur--the-context (unless (= 0 before after) (cons before after)))
+  (remove-overlays (point-min) (point-max) 'live-occur-around t)
   (live-occur--make-in-view)
   (force-mode-line-update))
 
@@ -1932,36 +1757,29 @@ Where both numbers are 0 no other lines are shown."
 
 (defun live-occur--header ()
   "The header line: what is set, and what is shown."
-  (replace-regexp-in-string
-   "%" "%%"
-   (propertize
-    (concat
-     " " (symbol-name live-occur--the-syntax)
-     (and live-occur--the-flags
-          (concat " -" (apply #'string live-occur--the-flags)))
-     (and live-occur--the-context
-          (format " -B %d -A %d"
-                  (car live-occur--the-context) (cdr live-occur--the-context)))
-     "  "
-     (mapconcat (lambda (pattern) (propertize pattern 'face 'live-occur-pattern))
-                live-occur--patterns "  ")
-     (unless live-occur--patterns "no pattern")
-     "  "
-     (if live-occur--fault
-         (propertize (live-occur--fault-and-help) 'face 'live-occur-ended)
-       (live-occur--numbers))
-     (when live-occur--editing
-       (substitute-command-keys
-        "  \\<live-occur-edit-map>rows are edited, \\[live-occur-end-edit] ends it")))
-    'help-echo "In the list: C-h m describes the keys")
-   t t))
-
-(defun live-occur--numbers ()
-  "How many rows there are, of how many buffers."
-  (let ((rows (or live-occur--page (live-occur--total)))
+  (let ((rows (or (car live-occur--page) (live-occur--total)))
         (buffers (length live-occur--sources)))
-    (format "%d row%s, %d buffer%s"
-            rows (if (= rows 1) "" "s") buffers (if (= buffers 1) "" "s"))))
+    (string-replace
+     "%" "%%"
+     (propertize
+      (concat
+       " " (symbol-name live-occur--the-syntax)
+       (and live-occur--the-flags (concat " -" live-occur--the-flags))
+       (pcase live-occur--the-context
+         (`(,before . ,after) (format " -B %d -A %d" before after)))
+       "  "
+       (mapconcat (lambda (pattern) (propertize pattern 'face 'live-occur-pattern))
+                  live-occur--patterns "  ")
+       (unless live-occur--patterns "no pattern")
+       "  "
+       (if live-occur--fault
+           (propertize (live-occur--fault-and-help) 'face 'live-occur-ended)
+         (format "%d row%s, %d buffer%s"
+                 rows (if (= rows 1) "" "s") buffers (if (= buffers 1) "" "s")))
+       (when live-occur--editing
+         (substitute-command-keys
+          "  \\<live-occur-edit-map>rows are edited, \\[live-occur-end-edit] ends it")))
+      'help-echo "In the list: C-h m describes the keys"))))
 
 (defun live-occur-refresh (&rest _)
   "Bring the list up to date now."
@@ -1979,27 +1797,23 @@ Where both numbers are 0 no other lines are shown."
 (defun live-occur--add-source (buffer)
   "Put BUFFER after the buffers of this list."
   (let ((source (make-live-occur--source :buffer buffer :list (current-buffer)
-                                         :id live-occur--named
                                          :name (buffer-name buffer))))
-    (cl-incf live-occur--named)
-    (setq live-occur--sources (append live-occur--sources (list source)))
+    (cl-callf append live-occur--sources (list source))
     (live-occur--track source)
     (when (live-occur--can-go-on)
       (live-occur--open source))))
 
 (defun live-occur--close (source)
   "Take SOURCE out of its list."
-  (let ((list (live-occur--source-list source)))
-    (live-occur--untrack source)
-    (when (buffer-live-p list)
-      (with-current-buffer list
-        (when-let ((file (seq-position live-occur--sources source)))
-          (live-occur--replace-rows (live-occur--row-of-source source)
-                                    (live-occur--source-hits source) 0)
-          (setq live-occur--sources (remq source live-occur--sources))
-          (when (live-occur--can-go-on)
-            (live-occur--send live-occur--session (format "close %d\n" file) #'ignore))
-          (live-occur--soon list))))))
+  (live-occur--untrack source)
+  (live-occur--in (live-occur--source-list source)
+    (when-let ((file (seq-position live-occur--sources source #'eq)))
+      (live-occur--replace-rows (live-occur--row-of-source source)
+                                (live-occur--source-hits source) 0)
+      (setq live-occur--sources (remq source live-occur--sources))
+      (when (live-occur--can-go-on)
+        (live-occur--send live-occur--session (format "close %d\n" file) #'ignore))
+      (live-occur--later (current-buffer) live-occur-delay #'live-occur--look))))
 
 (defun live-occur--killed ()
   "Take this buffer, which is killed, out of all lists."
@@ -2008,61 +1822,67 @@ Where both numbers are 0 no other lines are shown."
       (live-occur--close source))))
 
 (defun live-occur--discard ()
-  "End the programs of this list, which is killed."
+  "End the program of this list, which is killed."
   (when live-occur--idle-timer
     (cancel-timer live-occur--idle-timer))
-  (when live-occur--timer
-    (cancel-timer live-occur--timer))
   (mapc #'live-occur--untrack live-occur--sources)
-  (live-occur--end live-occur--session)
-  (setq live-occur--session nil))
+  (live-occur--end live-occur--session))
+
+(defun live-occur--source-of (buffer)
+  "The source of this list that BUFFER is, or nil."
+  (cl-find (get-buffer buffer) live-occur--sources :key #'live-occur--source-buffer))
 
 (defun live-occur-add-buffer (buffer)
   "Search BUFFER as well."
   (interactive "bSearch buffer: ")
-  (setq buffer (live-occur--checked (get-buffer buffer)))
-  (when (cl-find buffer live-occur--sources :key #'live-occur--source-buffer)
-    (user-error "%s is searched already" (buffer-name buffer)))
-  (live-occur--add-source buffer)
+  (when (live-occur--source-of buffer)
+    (user-error "%s is searched already" buffer))
+  (live-occur--add-source (live-occur--checked (get-buffer buffer)))
   (live-occur--update t))
 
 (defun live-occur-remove-buffer (buffer)
   "Search BUFFER no longer."
   (interactive
    (list (completing-read "Leave out buffer: "
-                          (mapcar (lambda (source)
-                                    (buffer-name (live-occur--source-buffer source)))
-                                  live-occur--sources)
-                          nil t)))
-  (when-let ((source (cl-find (get-buffer buffer) live-occur--sources
-                              :key #'live-occur--source-buffer)))
+                          (mapcar #'live-occur--source-name live-occur--sources) nil t)))
+  (when-let ((source (live-occur--source-of buffer)))
     (live-occur--close source)
     (live-occur--update t)))
 
+(defconst live-occur--commands
+  '(("RET" live-occur-visit "Go to Line")
+    ("SPC" live-occur-display "Show Line")
+    ("f" live-occur-toggle-follow "Show Lines as Point Moves"
+     :style toggle :selected live-occur-follow)
+    ("e" live-occur-edit "Edit Rows")
+    ("a" live-occur-add-pattern "Add Pattern...")
+    ("c" live-occur-change-pattern "Change Pattern..." :active live-occur--patterns)
+    ("d" live-occur-drop-pattern "Drop Pattern..." :active live-occur--patterns)
+    ("i" live-occur-toggle-case "Both Cases of Letters"
+     :style toggle :selected (memq ?i live-occur--the-flags))
+    ("v" live-occur-toggle-inverse "Lines That Don't Match"
+     :style toggle :selected (memq ?v live-occur--the-flags))
+    ("x" live-occur-toggle-whole-lines "Whole Lines"
+     :style toggle :selected (memq ?x live-occur--the-flags))
+    ("G" live-occur-basic "Basic Expressions"
+     :style radio :selected (eq live-occur--the-syntax 'basic))
+    ("E" live-occur-extended "Extended Expressions"
+     :style radio :selected (eq live-occur--the-syntax 'extended))
+    ("F" live-occur-fixed "Fixed Strings"
+     :style radio :selected (eq live-occur--the-syntax 'fixed))
+    ("C" live-occur-set-context "Lines Around...")
+    ("+" live-occur-add-buffer "Add Buffer...")
+    ("-" live-occur-remove-buffer "Leave Out Buffer...")
+    ("r" live-occur-restart "Start the Program Again"))
+  "Keys in lists, with their commands and what these are in the menu.")
+
 (defvar live-occur-mode-map
   (let ((map (make-sparse-keymap)))
-    (pcase-dolist (`(,key . ,command)
-                   '(("RET" . live-occur-visit)
-                     ("SPC" . live-occur-display)
-                     ("C-o" . live-occur-display)
-                     ("n" . live-occur-next)
-                     ("p" . live-occur-previous)
-                     ("f" . live-occur-toggle-follow)
-                     ("a" . live-occur-add-pattern)
-                     ("d" . live-occur-drop-pattern)
-                     ("c" . live-occur-change-pattern)
-                     ("e" . live-occur-edit)
-                     ("G" . live-occur-basic)
-                     ("E" . live-occur-extended)
-                     ("F" . live-occur-fixed)
-                     ("i" . live-occur-toggle-case)
-                     ("v" . live-occur-toggle-inverse)
-                     ("x" . live-occur-toggle-whole-lines)
-                     ("C" . live-occur-set-context)
-                     ("+" . live-occur-add-buffer)
-                     ("-" . live-occur-remove-buffer)
-                     ("r" . live-occur-restart)))
+    (pcase-dolist (`(,key ,command . ,_) live-occur--commands)
       (define-key map (kbd key) command))
+    (define-key map (kbd "C-o") #'live-occur-display)
+    (define-key map (kbd "n") #'live-occur-next)
+    (define-key map (kbd "p") #'live-occur-previous)
     (define-key map [mouse-2] #'live-occur-visit-by-mouse)
     (define-key map [follow-link] 'mouse-face)
     map)
@@ -2070,33 +1890,9 @@ Where both numbers are 0 no other lines are shown."
 
 (easy-menu-define live-occur-menu live-occur-mode-map
   "Menu of lists of `live-occur'."
-  '("Live-Occur"
-    ["Go to Line" live-occur-visit]
-    ["Show Line" live-occur-display]
-    ["Show Lines as Point Moves" live-occur-toggle-follow
-     :style toggle :selected live-occur-follow]
-    ["Edit Rows" live-occur-edit]
-    "--"
-    ["Add Pattern..." live-occur-add-pattern]
-    ["Change Pattern..." live-occur-change-pattern :active live-occur--patterns]
-    ["Drop Pattern..." live-occur-drop-pattern :active live-occur--patterns]
-    ["Both Cases of Letters" live-occur-toggle-case
-     :style toggle :selected (memq ?i live-occur--the-flags)]
-    ["Lines That Don't Match" live-occur-toggle-inverse
-     :style toggle :selected (memq ?v live-occur--the-flags)]
-    ["Whole Lines" live-occur-toggle-whole-lines
-     :style toggle :selected (memq ?x live-occur--the-flags)]
-    ["Basic Expressions" live-occur-basic
-     :style radio :selected (eq live-occur--the-syntax 'basic)]
-    ["Extended Expressions" live-occur-extended
-     :style radio :selected (eq live-occur--the-syntax 'extended)]
-    ["Fixed Strings" live-occur-fixed
-     :style radio :selected (eq live-occur--the-syntax 'fixed)]
-    "--"
-    ["Lines Around..." live-occur-set-context]
-    ["Add Buffer..." live-occur-add-buffer]
-    ["Leave Out Buffer..." live-occur-remove-buffer]
-    ["Start the Program Again" live-occur-restart]))
+  (cons "Live-Occur"
+        (mapcar (pcase-lambda (`(,_ ,command ,label . ,how)) (vconcat (list label command) how))
+                live-occur--commands)))
 
 (define-derived-mode live-occur-mode special-mode "Live-Occur"
   "A list of the lines that match, kept right while buffers are edited.
@@ -2111,8 +1907,10 @@ Where both numbers are 0 no other lines are shown."
         live-occur--the-flags (seq-filter (lambda (letter) (memq letter live-occur-flags))
                                           live-occur--flag-letters)
         live-occur--the-context live-occur-context
-        live-occur--idle-timer (run-with-idle-timer live-occur-delay t
-                                                    #'live-occur--look (current-buffer)))
+        live-occur--idle-timer (let ((list (current-buffer)))
+                                 (run-with-idle-timer
+                                  live-occur-delay t
+                                  (lambda () (live-occur--in list (live-occur--look))))))
   (add-hook 'kill-buffer-hook #'live-occur--discard nil t)
   (add-hook 'change-major-mode-hook #'live-occur--discard nil t)
   (add-hook 'post-command-hook #'live-occur--follow nil t)
@@ -2130,19 +1928,15 @@ Where both numbers are 0 no other lines are shown."
 
 (defun live-occur--read-buffers ()
   "Read the names of buffers, until one is empty."
-  (let (buffers name)
-    (while (not (string-empty-p
-                 (setq name (read-buffer
-                             (if buffers "Next buffer to search (RET to end): "
-                               (format-prompt "First buffer to search" (buffer-name)))
-                             (if buffers "" (current-buffer)) nil
-                             (lambda (name)
-                               (not (memq (get-buffer (if (consp name) (car name) name))
-                                          buffers)))))))
-      (unless (get-buffer name)
-        (user-error "There is no buffer %s" name))
-      (push (get-buffer name) buffers))
-    (nreverse buffers)))
+  (cl-loop for name = (read-buffer (if buffers "Next buffer to search (RET to end): "
+                                     (format-prompt "First buffer to search" (buffer-name)))
+                                   (if buffers "" (current-buffer)) t
+                                   (lambda (name)
+                                     (not (memq (get-buffer (if (consp name) (car name) name))
+                                                buffers))))
+           until (string-empty-p name)
+           collect (get-buffer name) into buffers
+           finally return buffers))
 
 ;;;###autoload
 (defun live-occur (&optional pattern buffers)
@@ -2194,7 +1988,7 @@ whatever it is narrowed to."
 
 ;;;; Which buffers
 
-(defun live-occur--in (buffers)
+(defun live-occur--in-buffers (buffers)
   "List lines of those of BUFFERS that may be searched."
   (live-occur nil (or (seq-remove (lambda (buffer)
                                     (or (string-prefix-p " " (buffer-name buffer))
@@ -2206,7 +2000,7 @@ whatever it is narrowed to."
 (defun live-occur-in-project ()
   "List the lines that match in the buffers of the current project."
   (interactive)
-  (live-occur--in (project-buffers (project-current t))))
+  (live-occur--in-buffers (project-buffers (project-current t))))
 
 ;;;###autoload
 (defun live-occur-in-mode (mode)
@@ -2218,24 +2012,24 @@ whatever it is narrowed to."
                                          (buffer-local-value 'major-mode buffer))
                                        (buffer-list)))
                   nil t nil nil (symbol-name major-mode)))))
-  (live-occur--in (seq-filter (lambda (buffer)
-                                (provided-mode-derived-p
-                                 (buffer-local-value 'major-mode buffer) mode))
-                              (buffer-list))))
+  (live-occur--in-buffers (seq-filter (lambda (buffer)
+                                        (provided-mode-derived-p
+                                         (buffer-local-value 'major-mode buffer) mode))
+                                      (buffer-list))))
 
 ;;;###autoload
 (defun live-occur-in-buffers-matching (regexp)
   "List the lines that match in the buffers of which REGEXP matches the name."
   (interactive (list (read-regexp "Buffers whose names match: ")))
-  (live-occur--in (seq-filter (lambda (buffer) (string-match-p regexp (buffer-name buffer)))
-                              (buffer-list))))
+  (live-occur--in-buffers (seq-filter (lambda (buffer) (string-match-p regexp (buffer-name buffer)))
+                                      (buffer-list))))
 
 ;;;###autoload
 (defun live-occur-in-dired ()
   "List the lines that match in the marked files of this Dired buffer."
   (interactive)
-  (live-occur--in (mapcar #'find-file-noselect
-                          (seq-filter #'file-regular-p (dired-get-marked-files)))))
+  (live-occur--in-buffers (mapcar #'find-file-noselect
+                                  (seq-filter #'file-regular-p (dired-get-marked-files)))))
 
 ;;;###autoload
 (defun live-occur-isearch ()

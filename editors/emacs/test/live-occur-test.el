@@ -1231,7 +1231,7 @@ It is nil where the pattern is refused."
         (undo)
         (should (equal (buffer-string) "one\ntwo\n"))
         (with-current-buffer list
-          (live-occur--look list)
+          (live-occur--look)
           (should (equal (live-occur-test--text-shown) "a:1:one\na:2:two\n"))
           (search-backward "tw")
           (insert "3"))
