@@ -11,22 +11,14 @@
 ;;; Commentary:
 
 ;; `live-occur' lists the lines of the current buffer that match a pattern, as
-;; `occur' does, while the pattern is typed; with a prefix argument, those of
-;; several buffers.  Other commands take the buffers of a project, of a mode,
-;; or with a name, the files that are marked in Dired, and what isearch looks
-;; for.  The list is kept right while these buffers are edited.
+;; `occur' does, while the pattern is typed; other commands take the buffers
+;; of a project, of a mode, or with a name, marked files of Dired, and what
+;; isearch looks for.  The list is kept right while the buffers are edited, and
+;; its rows can be edited themselves.  C-h m in it describes the keys.
 ;;
 ;; What matches is decided by the program `occur' of Gaxtrel, one process for
-;; each list: patterns are those of POSIX grep, and a row that is shown is a
-;; line that grep would write.  Each change of a buffer is sent as the lines
-;; that it touched, so that only these are searched, and the program answers
-;; what changed of the lines that match.
-;;
-;; In the list, i v x turn on and off what these options of grep do, G E F
-;; choose the syntax of the patterns, and a, c and d add, change and drop one.
-;; RET goes to the line of the row, and so do `next-error' and
-;; `previous-error'; e edits the rows, and the lines with them.  C-h m
-;; describes all keys.
+;; each list.  Each change of a buffer is sent as the lines that it touched, and
+;; the program answers what changed of the lines that match.
 ;;
 ;; Set `live-occur-program' where `occur' is not on your path.
 
@@ -62,9 +54,7 @@ A change counts from the next start of the program on."
 
 (defcustom live-occur-syntax 'basic
   "The syntax of patterns with which a list begins."
-  :type '(choice (const :tag "Basic regular expressions" basic)
-                 (const :tag "Extended regular expressions" extended)
-                 (const :tag "Fixed strings" fixed)))
+  :type '(choice (const basic) (const extended) (const fixed)))
 
 (defcustom live-occur-flags nil
   "The flags with which a list begins, as letters of options of grep."
@@ -74,8 +64,7 @@ A change counts from the next start of the program on."
 
 (defcustom live-occur-context nil
   "How many lines a list shows around each line that matches, when it begins."
-  :type '(choice (const :tag "None" nil)
-                 (cons :tag "Number of lines" (natnum :tag "Before") (natnum :tag "After"))))
+  :type '(choice (const :tag "None" nil) (cons (natnum :tag "Before") (natnum :tag "After"))))
 
 (defcustom live-occur-follow nil
   "Whether the line of a row is shown as soon as point moves to the row."
@@ -133,8 +122,6 @@ The whole line is searched."
 (defun live-occur--start (ended)
   "Start the program, and answer its session.
 ENDED is called with the session when the program ends by itself."
-  (unless (executable-find live-occur-program)
-    (user-error "There is no program %s: set live-occur-program" live-occur-program))
   (let* ((default-directory temporary-file-directory)
          (process-adaptive-read-buffering nil)
          (session (make-live-occur--session))
@@ -145,7 +132,6 @@ ENDED is called with the session when the program ends by itself."
                   :filter (lambda (_process text)
                             (cl-callf concat (live-occur--session-said session) text)))))
     (with-current-buffer output
-      (setq buffer-undo-list t)
       (set-buffer-multibyte nil))
     (setf (live-occur--session-errors session) errors)
     (condition-case problem
@@ -165,7 +151,7 @@ ENDED is called with the session when the program ends by itself."
       (error
        (delete-process errors)
        (kill-buffer output)
-       (user-error "Can't start %s: %s" live-occur-program (error-message-string problem))))
+       (user-error "%s: set live-occur-program" (error-message-string problem))))
     session))
 
 (defun live-occur--end (session)
@@ -239,7 +225,6 @@ and ends in the line of its status."
   "A buffer that is searched, and what the session holds of it."
   buffer
   list                                  ; the buffer with the rows
-  name                                  ; what the rows call it
   (lines 0)                             ; how many lines the session holds
   (newlines 0)                          ; how many newlines the buffer has
   edits                                 ; what changed since: see `live-occur--changed'
@@ -306,20 +291,25 @@ and ends in the line of its status."
           ((< position anchor) (- line (live-occur--newlines position anchor)))
           (t (+ line (live-occur--newlines anchor position))))))
 
+(defun live-occur--width (source)
+  "How many characters a line of SOURCE has on average."
+  (/ (buffer-size) (1+ (abs (live-occur--source-newlines source)))))
+
 (defun live-occur--go-to-line (source line)
   "Move to the beginning of LINE of SOURCE.
 Newlines are counted much faster than lines are walked over, so where it is
 far away its position is guessed first, and corrected."
   (goto-char (live-occur--source-anchor source))
-  (let ((left (- line (live-occur--source-anchor-line source)))
-        (width (/ (buffer-size) (1+ (abs (live-occur--source-newlines source))))))
+  (let ((left (- line (live-occur--source-anchor-line source))))
     (cl-loop repeat 3 while (> (abs left) 2000)
              do (let ((from (point)))
-                  (goto-char (max (point-min) (min (point-max) (+ from (* left width)))))
+                  (goto-char (max (point-min)
+                                  (min (point-max)
+                                       (+ from (* left (live-occur--width source))))))
                   (forward-line 0)
-                  (if (< from (point))
-                      (cl-decf left (live-occur--newlines from (point)))
-                    (cl-incf left (live-occur--newlines (point) from)))))
+                  (cl-decf left (if (< from (point))
+                                    (live-occur--newlines from (point))
+                                  (- (live-occur--newlines (point) from))))))
     (forward-line left)))
 
 (defun live-occur--lose (source)
@@ -350,22 +340,47 @@ It is not run where the buffer is gone."
 ;; the buffer has to be what both say.  Where it is not, or where the tick
 ;; shows that a change was not reported at all, the whole text is sent again.
 
-(defun live-occur--gather (function &rest bounds)
-  "Call FUNCTION with each source that has this text, and BOUNDS.
+(defun live-occur--gather (function)
+  "Call FUNCTION with each source that has this text.
 A copy of a buffer has its local variables, and another text."
   (dolist (source live-occur--sources-here)
     (when (live-occur--has-text-p (current-buffer) source)
       (condition-case nil
-          (apply function source bounds)
+          (funcall function source)
         (error (live-occur--lose source))))))
 
 (defun live-occur--before-change (start end)
-  "Take note of the lines from START to END, which are about to change."
-  (live-occur--gather #'live-occur--before start end))
+  "Take note of the lines from START to END, which are about to change.
+They are kept as the position of START, the distance of END from the
+buffer's end, the line of START, the number of lines that are touched,
+whether these are whole lines, and the buffer's size."
+  (live-occur--gather
+   (lambda (source)
+     (if (not (live-occur--known-p source))
+         (live-occur--lose source)
+       (live-occur--in-text source
+         (let ((line (live-occur--line-at source start)))
+           (setf (live-occur--source-anchor source) start
+                 (live-occur--source-anchor-line source) line
+                 (live-occur--source-open source)
+                 (list start (- (point-max) end) line (1+ (live-occur--newlines start end))
+                       (and (live-occur--begins-line-p start) (live-occur--begins-line-p end))
+                       (buffer-size)))))))))
 
 (defun live-occur--after-change (start end removed)
   "Gather the change that put START to END in the place of REMOVED characters."
-  (live-occur--gather #'live-occur--after start end removed))
+  (live-occur--gather
+   (lambda (source)
+     (when (current-idle-time)
+       (live-occur--later (live-occur--source-list source) live-occur-delay #'live-occur--look))
+     (unless (or (live-occur--source-lost source) (live-occur--known-p source))
+       (pcase (live-occur--source-open source)
+         ((and `(,from ,tail ,line ,count ,whole ,size)
+               (guard (<= from start end (- (1+ (buffer-size)) tail)))
+               (guard (= (buffer-size) (+ size (- end start) (- removed)))))
+          (live-occur--in-text source
+            (live-occur--took source line count whole from (- (point-max) tail))))
+         (_ (live-occur--lose source)))))))
 
 (defun live-occur--known-p (source)
   "Whether all edits of SOURCE are known, and none is lost."
@@ -376,37 +391,6 @@ A copy of a buffer has its local variables, and another text."
 (defun live-occur--begins-line-p (position)
   "Whether a line begins at POSITION."
   (memq (char-before position) '(nil ?\n)))
-
-(defun live-occur--before (source start end)
-  "Keep what is between START and END of SOURCE.
-It is kept as the position of START, the distance of END from the buffer's
-end, the line of START, the number of lines that are touched, whether these
-are whole lines, and the buffer's size."
-  (if (not (live-occur--known-p source))
-      (unless (live-occur--source-lost source)
-        (live-occur--lose source))
-    (live-occur--in-text source
-      (let ((line (live-occur--line-at source start)))
-        (setf (live-occur--source-anchor source) start
-              (live-occur--source-anchor-line source) line
-              (live-occur--source-open source)
-              (list start (- (point-max) end) line (1+ (live-occur--newlines start end))
-                    (and (live-occur--begins-line-p start) (live-occur--begins-line-p end))
-                    (buffer-size)))))))
-
-(defun live-occur--after (source start end removed)
-  "Gather the change from START to END of SOURCE, of REMOVED characters."
-  (when (current-idle-time)
-    (live-occur--later (live-occur--source-list source) live-occur-delay #'live-occur--look))
-  (unless (or (live-occur--source-lost source) (live-occur--known-p source))
-    (pcase (live-occur--source-open source)
-      ((and `(,from ,tail . ,_)
-            (guard (<= from start end (- (1+ (buffer-size)) tail)))
-            `(,_ ,_ ,line ,count ,whole ,size)
-            (guard (= (buffer-size) (+ size (- end start) (- removed)))))
-       (live-occur--in-text source
-         (live-occur--took source line count whole from (- (point-max) tail))))
-      (_ (live-occur--lose source)))))
 
 (defun live-occur--took (source line count whole from to)
   "Note that COUNT lines of SOURCE from LINE on became those from FROM to TO.
@@ -516,35 +500,22 @@ where they were."
   "Put the ADDED lines after point in the place of REMOVED ones at START.
 SOURCE is number FILE of SESSION.  Where a pipe is full Emacs sleeps, and far
 too long.  So a long text is sent in blocks, and few are in the pipe."
-  (let ((process (live-occur--session-process session)) done)
-    (while (not done)
-      (let* ((from (point))
-             (count (live-occur--skip-block added)))
+  (let ((process (live-occur--session-process session))
+        (size (1+ (/ live-occur--block (1+ (live-occur--width source))))))
+    (while (>= added 0)
+      (let ((from (point))
+            (count (min size added)))
+        (forward-line count)
         (live-occur--order
          (live-occur--source-list source)
          (live-occur--command (format "splice %d %d %d" file start removed) count
                               (live-occur--bytes (buffer-substring-no-properties from (point)))))
         (cl-incf start count)
-        (cl-decf added count)
         (setq removed 0
-              done (<= added 0))
-        (while (and (not done)
-                    (length> (live-occur--session-waiting session) 2)
-                    (eq (process-status process) 'run))
-          (accept-process-output process 1 nil 1))))))
-
-(defun live-occur--skip-block (most)
-  "Move over a block of lines, but at most MOST, and answer how many they are."
-  (let ((from (point)))
-    (goto-char (min (point-max) (+ from live-occur--block)))
-    (unless (bolp)
-      (forward-line 1))
-    (let ((count (+ (live-occur--newlines from (point)) (if (bolp) 0 1))))
-      (if (< 0 count most)
-          count
-        (goto-char from)
-        (forward-line most)
-        most))))
+              added (if (= added count) -1 (- added count))))
+      (while (and (> added 0) (length> (live-occur--session-waiting session) 2)
+                  (eq (process-status process) 'run))
+        (accept-process-output process 1 nil 1)))))
 
 ;;;; A list
 
@@ -818,6 +789,7 @@ too long.  So a long text is sent in blocks, and few are in the pipe."
   (if live-occur--editing
       (live-occur--follow-lines)
     (live-occur--update)
+    (live-occur--make-in-view)
     (live-occur--make-ahead)))
 
 (defun live-occur--update (&optional always)
@@ -825,7 +797,6 @@ too long.  So a long text is sent in blocks, and few are in the pipe."
 If nothing has changed ask for none, but with ALWAYS non-nil."
   (when (and (live-occur--can-go-on)
              (not (or live-occur--previewing live-occur--editing)))
-    (live-occur--look-at-names)
     (when (or (live-occur--flush-all) always)
       (if live-occur--asked
           (setq live-occur--asked 'again)
@@ -974,17 +945,6 @@ have moved."
     (live-occur--go-to-spots spots)
     (live-occur--make-in-view)))
 
-(defun live-occur--look-at-names ()
-  "Show the rows again where a buffer has got another name."
-  (let (new)
-    (dolist (source live-occur--sources)
-      (when-let ((name (buffer-name (live-occur--source-buffer source))))
-        (unless (equal name (live-occur--source-name source))
-          (setf (live-occur--source-name source) name
-                new t))))
-    (when (and new (not live-occur--page))
-      (live-occur--forget-rows))))
-
 (defun live-occur--spots (row count &optional moves)
   "List what of point and of the windows is in the COUNT rows from ROW on.
 An element is a list of a function that moves it, the source of its row, or
@@ -1049,29 +1009,34 @@ Each is a pair of a function that moves it, and its position."
                           first count)))
 
 (defun live-occur--make-row (hit)
-  "Make the row of HIT at point, or correct its number, and lose point."
-  (let ((number (1+ (live-occur--line-of hit))))
+  "Make the row of HIT at point, or correct its head, and lose point."
+  (let ((number (1+ (live-occur--line-of hit)))
+        (name (live-occur--source-name (live-occur--hit-source hit))))
     (cond ((eolp)
-           (live-occur--insert-head hit number)
+           (live-occur--insert-head name number)
            (live-occur--insert-text hit))
-          ((/= number (get-text-property (point) 'live-occur-number))
+          ((not (and (= number (get-text-property (point) 'live-occur-number))
+                     (eq name (get-text-property (point) 'live-occur-name))))
            (delete-region (point) (live-occur--after-head))
-           (live-occur--insert-head hit number)))))
+           (live-occur--insert-head name number)))))
+
+(defun live-occur--source-name (source)
+  "What rows call SOURCE."
+  (or (buffer-name (live-occur--source-buffer source)) "no buffer"))
 
 (defun live-occur--after-head ()
   "Where the text of the row at point begins."
   (next-single-property-change (point) 'live-occur-number))
 
-(defun live-occur--insert-head (hit number)
-  "Insert the head of the row of HIT with the line's NUMBER."
-  (insert (propertize (live-occur--head (live-occur--hit-source hit) number ":")
-                      'live-occur-number number 'mouse-face 'highlight)))
+(defun live-occur--insert-head (name number)
+  "Insert the head of the row of line NUMBER of the buffer NAME."
+  (insert (propertize (live-occur--head name number ":") 'mouse-face 'highlight
+                      'live-occur-number number 'live-occur-name name)))
 
-(defun live-occur--head (source number mark)
-  "The head of a row of line NUMBER of SOURCE, with MARK after each part."
-  (let ((name (string-replace "\n" " " (live-occur--source-name source))))
-    (concat (propertize name 'face 'live-occur-name) mark
-            (propertize (number-to-string number) 'face 'live-occur-line) mark)))
+(defun live-occur--head (name number mark)
+  "The head of a row of line NUMBER of the buffer NAME, with MARK after each part."
+  (concat (propertize (string-replace "\n" " " name) 'face 'live-occur-name) mark
+          (propertize (number-to-string number) 'face 'live-occur-line) mark))
 
 (defun live-occur--insert-text (hit)
   "Insert the text of HIT, with its parts highlighted, or its beginning."
@@ -1164,7 +1129,7 @@ A window may be moved to its point when it is redrawn, so rows there are made."
     (live-occur--in-text source
       (when (= 0 (live-occur--go-to-line source from))
         (cl-loop for line from from below to until (eobp)
-                 concat (live-occur--head source (1+ line) "-")
+                 concat (live-occur--head (buffer-name) (1+ line) "-")
                  concat (propertize
                          (concat (buffer-substring-no-properties
                                   (point) (min (line-end-position)
@@ -1175,16 +1140,12 @@ A window may be moved to its point when it is redrawn, so rows there are made."
 
 (defun live-occur--overlay-row (before after)
   "Show the strings BEFORE and AFTER around the row at point."
-  (let* ((end (line-beginning-position 2))
-         (overlay (or (cl-find-if (lambda (overlay) (overlay-get overlay 'live-occur-around))
-                                  (overlays-in (point) end))
-                      (make-overlay (point) end nil t))))
-    (move-overlay overlay (point) end)
-    (overlay-put overlay 'live-occur-around t)
-    (overlay-put overlay 'evaporate t)
-    (pcase-dolist (`(,property . ,string) `((before-string . ,before) (after-string . ,after)))
-      (unless (equal-including-properties (or string "") (or (overlay-get overlay property) ""))
-        (overlay-put overlay property string)))))
+  (let ((end (line-beginning-position 2)))
+    (remove-overlays (point) end 'live-occur-around t)
+    (let ((overlay (make-overlay (point) end nil t)))
+      (pcase-dolist (`(,property ,value) `((live-occur-around t) (evaporate t)
+                                           (before-string ,before) (after-string ,after)))
+        (overlay-put overlay property value)))))
 
 ;;;; Going to a line
 
@@ -1214,22 +1175,18 @@ A window may be moved to its point when it is redrawn, so rows there are made."
       (user-error "The line is outside of the narrowed part of %s" (buffer-name))))
   (goto-char position))
 
-(defun live-occur-visit ()
-  "Go to the line of the row at point.
+(defun live-occur-visit (&optional event)
+  "Go to the line of the row at point, or of the one that EVENT clicked at.
 The list keeps its window."
-  (interactive)
+  (interactive (list last-nonmenu-event))
+  (when (mouse-event-p event)
+    (set-buffer (window-buffer (posn-window (event-end event))))
+    (goto-char (posn-point (event-end event))))
   (pcase-let ((`(,buffer . ,position) (live-occur--place)))
     (pop-to-buffer buffer
                    (unless (eq (window-buffer) (current-buffer))
                      '((display-buffer-reuse-window display-buffer-same-window))))
     (live-occur--move-to position)))
-
-(defun live-occur-visit-by-mouse (event)
-  "Go to the line of the row that EVENT clicked at."
-  (interactive "e")
-  (with-current-buffer (window-buffer (posn-window (event-end event)))
-    (goto-char (posn-point (event-end event)))
-    (live-occur-visit)))
 
 (defun live-occur-display ()
   "Show the line of the row at point in another window, and stay here."
@@ -1336,12 +1293,12 @@ Undo works in the list, and in the buffers.
 (defun live-occur--protect-row (hit)
   "Make the head and the newline of the row of HIT at point read-only.
 All of it is where its buffer is read-only, or its text is shortened."
-  (let* ((source (live-occur--hit-source hit))
+  (let* ((buffer (live-occur--source-buffer (live-occur--hit-source hit)))
          (head (live-occur--after-head))
          (end (line-end-position))
-         (text (buffer-substring-no-properties head end))
-         (why (cond ((buffer-local-value 'buffer-read-only (live-occur--source-buffer source))
-                     (format "buffer %s" (live-occur--source-name source)))
+         (text (live-occur--row-text))
+         (why (cond ((buffer-local-value 'buffer-read-only buffer)
+                     (format "buffer %s" (buffer-name buffer)))
                     ((not (equal text (live-occur--text (live-occur--hit-bytes hit))))
                      "a row that is shortened"))))
     (add-text-properties (point) head
@@ -1360,25 +1317,25 @@ Newlines in it become spaces."
       (subst-char-in-region start end ?\n ?\s)
       (goto-char start)
       (forward-line 0)
-      (when-let ((hit (live-occur--hit (live-occur--row-at (point)))))
-        (let* ((text (buffer-substring-no-properties (live-occur--after-head)
-                                                     (line-end-position)))
-               (old (get-text-property (point) 'live-occur-text))
-               (problem (if (live-occur--text-of-line hit)
-                            (live-occur--change-line hit old text)
-                          "The buffer of this row is gone")))
-          (if problem
-              (message "%s; the row alone is edited" problem)
-            (live-occur--note-text text)))))))
+      (when-let ((hit (live-occur--hit (live-occur--row-at (point))))
+                 (text (live-occur--row-text)))
+        (pcase (live-occur--change-line hit (get-text-property (point) 'live-occur-text) text)
+          ('t (live-occur--note-text text))
+          (problem (message "%s; the row alone is edited"
+                            (or problem "The buffer of this row is gone"))))))))
 
 (defun live-occur--note-text (text)
   "Keep that the row at point and its line have TEXT."
   (with-silent-modifications
     (put-text-property (point) (live-occur--after-head) 'live-occur-text text)))
 
+(defun live-occur--row-text ()
+  "The text of the row at point."
+  (buffer-substring-no-properties (live-occur--after-head) (line-end-position)))
+
 (defun live-occur--change-line (hit old new)
   "Put the text NEW in the place of OLD in the line of HIT.
-Answer nil, or why it can't be done."
+Answer t, or why it can't be done, or nil where the buffer is gone."
   (live-occur--at-line-of hit
     (cond (buffer-read-only
            (format "Buffer %s is read-only" (buffer-name)))
@@ -1386,18 +1343,9 @@ Answer nil, or why it can't be done."
            (format "The line of this row in %s is gone, or was edited there" (buffer-name)))
           (t (condition-case problem
                  (let ((inhibit-modification-hooks nil))
-                   (live-occur--replace-text old new)
-                   nil)
+                   (replace-region-contents (point) (line-end-position) (lambda () new))
+                   t)
                (error (error-message-string problem)))))))
-
-(defun live-occur--replace-text (old new)
-  "Replace the text OLD after point by NEW, but for what is the same at the ends."
-  (let* ((first (length (fill-common-string-prefix old new)))
-         (last (length (fill-common-string-prefix (reverse (substring old first))
-                                                  (reverse (substring new first))))))
-    (forward-char first)
-    (insert (substring new first (- (length new) last)))
-    (delete-char (- (length old) first last))))
 
 (defun live-occur--follow-lines ()
   "Bring the rows in view up to date with their lines while rows are edited."
@@ -1411,13 +1359,9 @@ Answer nil, or why it can't be done."
 (defun live-occur--follow-line (hit)
   "Put the line of HIT in the row at point, unless this was edited alone."
   (let ((old (get-text-property (point) 'live-occur-text))
-        (new (live-occur--text-of-line hit))
-        (start (live-occur--after-head)))
-    (when (and new (not (equal old new))
-               (equal old (buffer-substring-no-properties start (line-end-position))))
-      (save-excursion
-        (goto-char start)
-        (live-occur--replace-text old new))
+        (new (live-occur--text-of-line hit)))
+    (when (and new (not (equal old new)) (equal old (live-occur--row-text)))
+      (replace-region-contents (live-occur--after-head) (line-end-position) (lambda () new))
       (live-occur--note-text new))))
 
 (defun live-occur--text-of-line (hit)
@@ -1526,23 +1470,6 @@ The patterns in TEXT are those from number FIRST on."
          (overlay-put overlay 'face 'live-occur-fault)
          (overlay-put overlay 'live-occur-fault t))))))
 
-(defun live-occur--try (list minibuffer before after)
-  "Let LIST show what the text in MINIBUFFER matches, between BEFORE and AFTER."
-  (let ((text (with-current-buffer minibuffer (minibuffer-contents-no-properties))))
-    (live-occur--in list
-      (when (live-occur--can-go-on)
-        (setq live-occur--previewing t)
-        (live-occur--flush-all)
-        (live-occur--want
-         (append before (unless (string-empty-p text) (split-string text "\n")) after)
-         (lambda (reply)
-           (live-occur--in minibuffer
-             (when (equal text (minibuffer-contents-no-properties))
-               (live-occur--show-fault
-                (unless (equal reply "ok")
-                  (or (live-occur--fault-in-text reply text (length before))
-                      (list reply 0))))))))))))
-
 (defun live-occur--follow-typing (list before after)
   "Let LIST follow what is typed in this minibuffer, between BEFORE and AFTER."
   (let ((text (minibuffer-contents-no-properties))
@@ -1552,9 +1479,25 @@ The patterns in TEXT are those from number FIRST on."
               (lambda ()
                 (unless (equal text (setq text (minibuffer-contents-no-properties)))
                   (cancel-timer timer)
-                  (setq timer (run-with-timer live-occur-typing-delay nil #'live-occur--try
-                                              list (current-buffer) before after))))
+                  (setq timer (run-with-timer live-occur-typing-delay nil #'live-occur--try list
+                                              (current-buffer) text before after))))
               nil t)))
+
+(defun live-occur--try (list minibuffer text before after)
+  "Let LIST show what TEXT in MINIBUFFER matches, between BEFORE and AFTER."
+  (live-occur--in list
+    (when (live-occur--can-go-on)
+      (setq live-occur--previewing t)
+      (live-occur--flush-all)
+      (live-occur--want
+       (append before (unless (string-empty-p text) (split-string text "\n")) after)
+       (lambda (reply)
+         (live-occur--in minibuffer
+           (when (equal text (minibuffer-contents-no-properties))
+             (live-occur--show-fault
+              (unless (equal reply "ok")
+                (or (live-occur--fault-in-text reply text (length before))
+                    (list reply 0)))))))))))
 
 (defun live-occur--read-text (list prompt initial fault before after)
   "Read a pattern for LIST with PROMPT and the text INITIAL.
@@ -1608,12 +1551,11 @@ They go between the patterns BEFORE and AFTER."
 
 (defun live-occur--read-place (prompt)
   "Read with PROMPT which of the patterns is meant, and answer its number."
-  (pcase (length live-occur--patterns)
-    (0 (user-error "There is no pattern"))
-    (1 0)
-    (_ (or (seq-position live-occur--patterns
-                         (completing-read prompt live-occur--patterns nil t))
-           (user-error "There is no such pattern")))))
+  (pcase live-occur--patterns
+    ('nil (user-error "There is no pattern"))
+    (`(,_) 0)
+    (all (or (seq-position all (completing-read prompt all nil t))
+             (user-error "There is no such pattern")))))
 
 (defun live-occur-drop-pattern ()
   "Drop a pattern.  Without any, no line is listed."
@@ -1664,7 +1606,8 @@ They go between the patterns BEFORE and AFTER."
   (with-silent-modifications
     (erase-buffer)
     (dolist (hit hits)
-      (live-occur--insert-head hit (1+ (live-occur--hit-place hit)))
+      (live-occur--insert-head (live-occur--source-name (live-occur--hit-source hit))
+                               (1+ (live-occur--hit-place hit)))
       (live-occur--insert-text hit)
       (insert "\n"))
     (goto-char (point-min))
@@ -1796,8 +1739,7 @@ Where both numbers are 0 no other lines are shown."
 
 (defun live-occur--add-source (buffer)
   "Put BUFFER after the buffers of this list."
-  (let ((source (make-live-occur--source :buffer buffer :list (current-buffer)
-                                         :name (buffer-name buffer))))
+  (let ((source (make-live-occur--source :buffer buffer :list (current-buffer))))
     (cl-callf append live-occur--sources (list source))
     (live-occur--track source)
     (when (live-occur--can-go-on)
@@ -1883,7 +1825,7 @@ Where both numbers are 0 no other lines are shown."
     (define-key map (kbd "C-o") #'live-occur-display)
     (define-key map (kbd "n") #'live-occur-next)
     (define-key map (kbd "p") #'live-occur-previous)
-    (define-key map [mouse-2] #'live-occur-visit-by-mouse)
+    (define-key map [mouse-2] #'live-occur-visit)
     (define-key map [follow-link] 'mouse-face)
     map)
   "Keys in lists of `live-occur'.")
@@ -1918,7 +1860,7 @@ Where both numbers are 0 no other lines are shown."
 
 (defun live-occur--list-p (buffer)
   "Whether BUFFER is a list."
-  (provided-mode-derived-p (buffer-local-value 'major-mode buffer) 'live-occur-mode))
+  (with-current-buffer buffer (derived-mode-p 'live-occur-mode)))
 
 (defun live-occur--checked (buffer)
   "BUFFER, if it may be searched."
@@ -1948,8 +1890,7 @@ is the buffer with the list.
 PATTERN is one of POSIX grep, in the syntax that `live-occur-syntax' says,
 or several of them, one a line.  The whole text of each buffer is searched,
 whatever it is narrowed to."
-  (interactive
-   (list nil (and current-prefix-arg (live-occur--read-buffers))))
+  (interactive (list nil (and current-prefix-arg (live-occur--read-buffers))))
   (let ((sources (mapcar #'live-occur--checked (or buffers (list (current-buffer)))))
         (list (generate-new-buffer "*Live Occur*"))
         done)
@@ -1962,7 +1903,9 @@ whatever it is narrowed to."
           (live-occur--fill list pattern)
           (setq done t))
       (unless done
-        (live-occur--leave list)))
+        (when-let ((window (get-buffer-window list t)))
+          (quit-restore-window window 'kill))
+        (kill-buffer list)))
     (setq next-error-last-buffer list)
     (display-buffer list)
     list))
@@ -1978,13 +1921,6 @@ whatever it is narrowed to."
     (live-occur--add-by-asking list "List lines that match: "))
   (with-current-buffer list
     (live-occur--update t)))
-
-(defun live-occur--leave (list)
-  "Kill LIST, and show in its window what was there before."
-  (when-let ((window (get-buffer-window list t)))
-    (quit-restore-window window 'kill))
-  (when (buffer-live-p list)
-    (kill-buffer list)))
 
 ;;;; Which buffers
 
@@ -2008,13 +1944,11 @@ whatever it is narrowed to."
   (interactive
    (list (intern (completing-read
                   (format-prompt "Buffers of mode" major-mode)
-                  (delete-dups (mapcar (lambda (buffer)
-                                         (buffer-local-value 'major-mode buffer))
+                  (delete-dups (mapcar (apply-partially #'buffer-local-value 'major-mode)
                                        (buffer-list)))
                   nil t nil nil (symbol-name major-mode)))))
   (live-occur--in-buffers (seq-filter (lambda (buffer)
-                                        (provided-mode-derived-p
-                                         (buffer-local-value 'major-mode buffer) mode))
+                                        (with-current-buffer buffer (derived-mode-p mode)))
                                       (buffer-list))))
 
 ;;;###autoload

@@ -1003,7 +1003,7 @@ It is nil where the pattern is refused."
         (first-error)
         (should (= (line-number-at-pos) 2))
         (with-current-buffer list
-          (live-occur-visit-by-mouse
+          (live-occur-visit
            (list 'mouse-2 (list (display-buffer list)
                                 (progn (live-occur--go-to-row 2) (point))
                                 '(0 . 0) 0))))
