@@ -53,17 +53,19 @@ A change counts from the next start of the program on."
   :type 'number)
 
 (defcustom live-occur-syntax 'basic
-  "The syntax of patterns with which a list begins."
+  "The syntax of patterns with which a list begins, or in a list, that it has."
   :type '(choice (const basic) (const extended) (const fixed)))
 
 (defcustom live-occur-flags nil
-  "The flags with which a list begins, as letters of options of grep."
+  "The flags with which a list begins, as letters of options of grep.
+In a list it has the flags that are on."
   :type '(set (const :tag "i: match both cases of letters" ?i)
               (const :tag "v: list the lines that are not matched" ?v)
               (const :tag "x: match whole lines alone" ?x)))
 
 (defcustom live-occur-context nil
-  "How many lines a list shows around each line that matches, when it begins."
+  "How many lines a list shows around each that matches, when it begins.
+In a list it has the numbers of now."
   :type '(choice (const :tag "None" nil) (cons (natnum :tag "Before") (natnum :tag "After"))))
 
 (defcustom live-occur-follow nil
@@ -93,12 +95,6 @@ The whole line is searched."
 
 (defface live-occur-match '((t :inherit match))
   "Face for the matched parts of a row.")
-
-(defface live-occur-pattern '((t :inherit bold))
-  "Face for patterns in the header line.")
-
-(defface live-occur-ended '((t :inherit error))
-  "Face for the state of a program that has ended.")
 
 (defface live-occur-fault '((t :inherit error :underline t))
   "Face for the place at which a pattern is refused.")
@@ -131,8 +127,7 @@ ENDED is called with the session when the program ends by itself."
                   :buffer output :sentinel #'ignore
                   :filter (lambda (_process text)
                             (cl-callf concat (live-occur--session-said session) text)))))
-    (with-current-buffer output
-      (set-buffer-multibyte nil))
+    (with-current-buffer output (set-buffer-multibyte nil))
     (setf (live-occur--session-errors session) errors)
     (condition-case problem
         (setf (live-occur--session-process session)
@@ -254,17 +249,7 @@ and ends in the line of its status."
 (defun live-occur--has-text-p (buffer source)
   "Whether BUFFER has the text of SOURCE."
   (let ((other (live-occur--source-buffer source)))
-    (eq (or (buffer-base-buffer buffer) buffer)
-        (or (buffer-base-buffer other) other))))
-
-(defun live-occur--track (source)
-  "Gather the edits of SOURCE from now on."
-  (dolist (buffer (buffer-list))
-    (when (live-occur--has-text-p buffer source)
-      (with-current-buffer buffer
-        (cl-pushnew source live-occur--sources-here)
-        (pcase-dolist (`(,hook . ,function) live-occur--hooks)
-          (add-hook hook function nil t))))))
+    (eq (or (buffer-base-buffer buffer) buffer) (or (buffer-base-buffer other) other))))
 
 (defun live-occur--untrack (source)
   "Gather no more edits of SOURCE."
@@ -304,8 +289,7 @@ far away its position is guessed first, and corrected."
     (cl-loop repeat 3 while (> (abs left) 2000)
              do (let ((from (point)))
                   (goto-char (max (point-min)
-                                  (min (point-max)
-                                       (+ from (* left (live-occur--width source))))))
+                                  (min (point-max) (+ from (* left (live-occur--width source))))))
                   (forward-line 0)
                   (cl-decf left (if (< from (point))
                                     (live-occur--newlines from (point))
@@ -357,7 +341,7 @@ whether these are whole lines, and the buffer's size."
   (live-occur--gather
    (lambda (source)
      (if (not (live-occur--known-p source))
-         (live-occur--lose source)
+         (or (live-occur--source-lost source) (live-occur--lose source))
        (live-occur--in-text source
          (let ((line (live-occur--line-at source start)))
            (setf (live-occur--source-anchor source) start
@@ -456,42 +440,35 @@ MOVES say how lines have moved, the last one first."
 
 (defun live-occur--flush (source session file)
   "Send the edits of SOURCE, which is number FILE of SESSION.
-Answer whether there were any."
+Answer whether there were any.  The last one goes first, so that the session
+has the lines of the others where they were."
   (unless (or (live-occur--source-lost source) (live-occur--known-p source))
     (live-occur--lose source))
   (when (or (live-occur--source-lost source) (live-occur--source-edits source))
     (live-occur--in-text source
       (when (live-occur--source-lost source)
-        (setf (live-occur--source-newlines source)
-              (live-occur--newlines (point-min) (point-max))
-              (live-occur--source-edits source)
-              (list (list 0 (live-occur--source-lines source)
-                          (1+ (live-occur--source-newlines source))))))
-      (let ((lines (+ (live-occur--source-newlines source)
-                      (if (live-occur--begins-line-p (point-max)) 0 1))))
-        (live-occur--send-edits source session file lines)
+        (let ((newlines (live-occur--newlines (point-min) (point-max))))
+          (setf (live-occur--source-newlines source) newlines
+                (live-occur--source-edits source)
+                (list (list 0 (live-occur--source-lines source) (1+ newlines))))))
+      (let* ((lines (+ (live-occur--source-newlines source)
+                       (if (live-occur--begins-line-p (point-max)) 0 1)))
+             (edits (live-occur--source-edits source))
+             (shift (cl-loop for (_ was is) in edits sum (- is was))))
+        (pcase-dolist (`(,at ,was ,is) (reverse edits))
+          (cl-decf shift (- is was))
+          (let* ((start (- at shift))
+                 (removed (max 0 (min was (- (live-occur--source-lines source) start))))
+                 (added (max 0 (min is (- lines at)))))
+            (live-occur--go-to-line source at)
+            (live-occur--splice source session file start removed added)
+            (cl-incf (live-occur--source-lines source) (- added removed))))
         (unless (= lines (live-occur--source-lines source))
           (live-occur--tell-fault (live-occur--source-list source) "lines were lost count of")))
       (setf (live-occur--source-edits source) nil
             (live-occur--source-lost source) nil
             (live-occur--source-tick source) (buffer-chars-modified-tick)))
     t))
-
-(defun live-occur--send-edits (source session file lines)
-  "Send the edits of SOURCE, of LINES lines now, which is FILE of SESSION.
-The last one goes first, so that the session has the lines of the others
-where they were."
-  (let* ((edits (live-occur--source-edits source))
-         (shift (cl-loop for (_ was is) in edits sum (- is was))))
-    (pcase-dolist (`(,at ,was ,is) (reverse edits))
-      (cl-decf shift (- is was))
-      (let* ((start (- at shift))
-             (held (live-occur--source-lines source))
-             (removed (max 0 (min was (- held start))))
-             (added (max 0 (min is (- lines at)))))
-        (live-occur--go-to-line source at)
-        (live-occur--splice source session file start removed added)
-        (setf (live-occur--source-lines source) (+ held added (- removed)))))))
 
 (defconst live-occur--block 20000
   "How many characters of a text are sent at once, but for longer lines.")
@@ -523,10 +500,6 @@ too long.  So a long text is sent in blocks, and few are in the pipe."
 (defvar-local live-occur--fault nil "What is to be reported of the program, or nil.")
 (defvar-local live-occur--sources nil "The sources of this list, in their order.")
 (defvar-local live-occur--patterns nil "The patterns, in their order.")
-(defvar-local live-occur--the-syntax 'basic "The syntax of the patterns.")
-(defvar-local live-occur--the-flags nil "The flags that are on.")
-(defvar-local live-occur--the-context nil
-  "How many lines are shown before and after each that matches, as a pair, or nil.")
 (defvar-local live-occur--sending nil "Whether edits are being sent.")
 (defvar-local live-occur--asked nil
   "Whether changes of hits are on their way; `again' to ask for more then.")
@@ -586,8 +559,8 @@ too long.  So a long text is sent in blocks, and few are in the pipe."
           live-occur--session
           (live-occur--start (lambda (session) (live-occur--ended list session))))
     (live-occur--order list "flag o on\n")
-    (live-occur--order list (format "syntax %s\n" live-occur--the-syntax))
-    (dolist (letter live-occur--the-flags)
+    (live-occur--order list (format "syntax %s\n" live-occur-syntax))
+    (dolist (letter live-occur-flags)
       (live-occur--order list (format "flag %c on\n" letter)))
     (when live-occur--patterns
       (live-occur--order list (live-occur--patterns-command live-occur--patterns)))
@@ -745,8 +718,10 @@ too long.  So a long text is sent in blocks, and few are in the pipe."
      :bytes (substring rows (1+ second) (string-search "\n" rows second)))))
 
 (defun live-occur--total ()
-  "How many hits this list has."
-  (cl-loop for source in live-occur--sources sum (live-occur--source-hits source)))
+  "How many hits this list has, or 0 while a page of them is in it."
+  (if live-occur--page
+      0
+    (cl-loop for source in live-occur--sources sum (live-occur--source-hits source))))
 
 (defun live-occur--map-hits (function first count)
   "Call FUNCTION with each of COUNT hits of this list, from number FIRST on."
@@ -974,11 +949,9 @@ Each is a pair of a function that moves it, and its position."
                        (when (eq list (window-buffer window))
                          (funcall function window position))))))
         (push (cons (funcall mover #'set-window-point) (window-point window)) all)
-        (push (cons (funcall mover #'live-occur--set-start) (window-start window)) all)))))
-
-(defun live-occur--set-start (window position)
-  "Let WINDOW begin at POSITION, if its point is in view then."
-  (set-window-start window position t))
+        (push (cons (funcall mover (lambda (_ start) (set-window-start window start t)))
+                    (window-start window))
+              all)))))
 
 (defun live-occur--go-to-spots (spots)
   "Go back to SPOTS, or to rows after them."
@@ -1084,7 +1057,7 @@ A window may be moved to its point when it is redrawn, so rows there are made."
 (defun live-occur--make-ahead ()
   "Make some rows of this list, and go on while Emacs is idle."
   (let ((left (- (min (live-occur--total) live-occur-idle-rows) live-occur--made)))
-    (when (and (current-idle-time) (> left 0) (not live-occur--page) (not live-occur--editing))
+    (when (and (> left 0) (current-idle-time) (not live-occur--editing))
       (live-occur--make-rows live-occur--made (min 200 left))
       (cl-incf live-occur--made 200)
       (live-occur--later (current-buffer) 0.02 #'live-occur--make-ahead))))
@@ -1096,10 +1069,13 @@ A window may be moved to its point when it is redrawn, so rows there are made."
 
 (defun live-occur--show-around (first count)
   "Show the lines around COUNT rows from FIRST on."
-  (when (and live-occur--the-context (not live-occur--page))
+  (when (and live-occur-context (not live-occur--page))
     (let ((hits (list (and (> first 0) (live-occur--hit (1- first))))))
       (live-occur--map-hits (lambda (hit) (push hit hits)) first (1+ count))
       (setq hits (nreverse hits))
+      (save-excursion
+        (live-occur--go-to-row first)
+        (remove-overlays (point) (line-beginning-position (1+ count)) 'live-occur-around t))
       (live-occur--map-rows (lambda (_)
                               (apply #'live-occur--show-around-row (seq-take hits 3))
                               (pop hits))
@@ -1107,7 +1083,7 @@ A window may be moved to its point when it is redrawn, so rows there are made."
 
 (defun live-occur--show-around-row (before hit &optional after)
   "Show the lines around HIT, of the row at point, between hits BEFORE and AFTER."
-  (pcase-let* ((`(,above . ,below) live-occur--the-context)
+  (pcase-let* ((`(,above . ,below) live-occur-context)
                (source (live-occur--hit-source hit))
                (line (live-occur--line-of hit))
                (near (lambda (other)
@@ -1115,13 +1091,17 @@ A window may be moved to its point when it is redrawn, so rows there are made."
                             (live-occur--line-of other))))
                (last (funcall near before))
                (free (if last (+ 1 last below) 0))
-               (first (max free (- line above))))
-    (live-occur--overlay-row
-     (concat (when (and before (or (not last) (> first free)))
-               (propertize "--\n" 'face 'live-occur-line))
-             (live-occur--lines-around source first line))
-     (live-occur--lines-around
-      source (1+ line) (min (or (funcall near after) most-positive-fixnum) (+ 1 line below))))))
+               (first (max free (- line above)))
+               (end (min (or (funcall near after) most-positive-fixnum) (+ 1 line below)))
+               (overlay (make-overlay (point) (line-beginning-position 2) nil t)))
+    (pcase-dolist (`(,property ,value)
+                   `((live-occur-around t)
+                     (evaporate t)
+                     (before-string ,(concat (when (and before (or (not last) (> first free)))
+                                               (propertize "--\n" 'face 'live-occur-line))
+                                             (live-occur--lines-around source first line)))
+                     (after-string ,(live-occur--lines-around source (1+ line) end))))
+      (overlay-put overlay property value))))
 
 (defun live-occur--lines-around (source from to)
   "The lines FROM to TO of SOURCE as they are shown around rows."
@@ -1138,25 +1118,12 @@ A window may be moved to its point when it is redrawn, so rows there are made."
                          'face 'live-occur-line)
                  do (forward-line 1))))))
 
-(defun live-occur--overlay-row (before after)
-  "Show the strings BEFORE and AFTER around the row at point."
-  (let ((end (line-beginning-position 2)))
-    (remove-overlays (point) end 'live-occur-around t)
-    (let ((overlay (make-overlay (point) end nil t)))
-      (pcase-dolist (`(,property ,value) `((live-occur-around t) (evaporate t)
-                                           (before-string ,before) (after-string ,after)))
-        (overlay-put overlay property value)))))
-
 ;;;; Going to a line
-
-(defun live-occur--rows ()
-  "How many rows are shown."
-  (if live-occur--page 0 (live-occur--total)))
 
 (defun live-occur--place ()
   "The buffer and the position of the row at point, where its first part begins."
   (let* ((row (live-occur--row-at (point)))
-         (hit (if (< row (live-occur--rows))
+         (hit (if (< row (live-occur--total))
                   (live-occur--hit row)
                 (user-error "There is no row here")))
          (column (or (caar (live-occur--in-characters (live-occur--hit-bytes hit)
@@ -1200,7 +1167,7 @@ The list keeps its window."
   "Move COUNT rows on."
   (interactive "p")
   (let ((row (+ (live-occur--row-at (point)) (or count 1))))
-    (unless (< -1 row (live-occur--rows))
+    (unless (< -1 row (live-occur--total))
       (user-error "There are no more rows"))
     (live-occur--go-to-row row)))
 
@@ -1223,7 +1190,7 @@ This is the `next-error-function' of lists."
   "Show the line of the row at point if it is another row than before."
   (when live-occur-follow
     (let ((row (live-occur--row-at (point))))
-      (when (and (< row (live-occur--rows))
+      (when (and (< row (live-occur--total))
                  (not (equal row live-occur--followed)))
         (setq live-occur--followed row)
         (with-demoted-errors "live-occur: %S"
@@ -1337,8 +1304,7 @@ Newlines in it become spaces."
   "Put the text NEW in the place of OLD in the line of HIT.
 Answer t, or why it can't be done, or nil where the buffer is gone."
   (live-occur--at-line-of hit
-    (cond (buffer-read-only
-           (format "Buffer %s is read-only" (buffer-name)))
+    (cond (buffer-read-only (format "Buffer %s is read-only" (buffer-name)))
           ((not (equal old (buffer-substring-no-properties (point) (line-end-position))))
            (format "The line of this row in %s is gone, or was edited there" (buffer-name)))
           (t (condition-case problem
@@ -1348,21 +1314,18 @@ Answer t, or why it can't be done, or nil where the buffer is gone."
                (error (error-message-string problem)))))))
 
 (defun live-occur--follow-lines ()
-  "Bring the rows in view up to date with their lines while rows are edited."
-  (let ((inhibit-modification-hooks t)
-        (inhibit-read-only t))
-    (dolist (window (get-buffer-window-list nil nil t))
-      (live-occur--map-rows #'live-occur--follow-line
-                            (live-occur--row-at (window-start window))
-                            (window-body-height window)))))
-
-(defun live-occur--follow-line (hit)
-  "Put the line of HIT in the row at point, unless this was edited alone."
-  (let ((old (get-text-property (point) 'live-occur-text))
-        (new (live-occur--text-of-line hit)))
-    (when (and new (not (equal old new)) (equal old (live-occur--row-text)))
-      (replace-region-contents (live-occur--after-head) (line-end-position) (lambda () new))
-      (live-occur--note-text new))))
+  "Bring rows in view up to date with their lines, unless these were edited alone."
+  (dolist (window (get-buffer-window-list nil nil t))
+    (live-occur--map-rows
+     (lambda (hit)
+       (let ((inhibit-modification-hooks t)
+             (inhibit-read-only t)
+             (old (get-text-property (point) 'live-occur-text))
+             (new (live-occur--text-of-line hit)))
+         (when (and new (not (equal old new)) (equal old (live-occur--row-text)))
+           (replace-region-contents (live-occur--after-head) (line-end-position) (lambda () new))
+           (live-occur--note-text new))))
+     (live-occur--row-at (window-start window)) (window-body-height window))))
 
 (defun live-occur--text-of-line (hit)
   "The text of the line of HIT as it is now, or nil if its buffer is gone."
@@ -1394,10 +1357,10 @@ It is a list of the pattern's number, the kind, and the place in characters."
 (defun live-occur--symbol-at-point (syntax)
   "The symbol at point as a pattern in SYNTAX that matches it, or nil."
   (when-let ((symbol (thing-at-point 'symbol t)))
-    (pcase syntax
-      ('fixed symbol)
-      ('basic (replace-regexp-in-string "[][\\.*^$]" "\\\\\\&" symbol))
-      (_ (replace-regexp-in-string "[][\\.*^$+?(){}|]" "\\\\\\&" symbol)))))
+    (if (eq syntax 'fixed)
+        symbol
+      (replace-regexp-in-string (if (eq syntax 'basic) "[][\\.*^$]" "[][\\.*^$+?(){}|]")
+                                "\\\\\\&" symbol))))
 
 (defun live-occur--want (patterns &optional report)
   "Make PATTERNS those of this list, once the program has answered.
@@ -1464,8 +1427,7 @@ The patterns in TEXT are those from number FIRST on."
        (overlay-put end 'after-string
                     (concat (when (= at (point-max))
                               (propertize " " 'face 'live-occur-fault 'cursor t))
-                            (propertize (format " [%s]" kind) 'face 'live-occur-ended
-                                        'cursor t)))
+                            (propertize (format " [%s]" kind) 'face 'error 'cursor t)))
        (dolist (overlay (list end (make-overlay at (min (1+ at) (point-max)))))
          (overlay-put overlay 'face 'live-occur-fault)
          (overlay-put overlay 'live-occur-fault t))))))
@@ -1503,8 +1465,7 @@ The patterns in TEXT are those from number FIRST on."
   "Read a pattern for LIST with PROMPT and the text INITIAL.
 FAULT is nil, or the kind and the place at which INITIAL was refused.  The
 pattern goes between the patterns BEFORE and AFTER."
-  (let ((offered (live-occur--symbol-at-point
-                  (buffer-local-value 'live-occur--the-syntax list))))
+  (let ((offered (live-occur--symbol-at-point (buffer-local-value 'live-occur-syntax list))))
     (minibuffer-with-setup-hook
         (lambda ()
           (live-occur--show-fault fault)
@@ -1538,8 +1499,8 @@ They go between the patterns BEFORE and AFTER."
   (when live-occur--previewing
     (setq live-occur--previewing nil)
     (let ((on (live-occur--can-go-on)))
-      (unless (and on (equal patterns live-occur--patterns))
-        (live-occur--end-page))
+      (unless (or (not live-occur--page) (and on (equal patterns live-occur--patterns)))
+        (live-occur--forget-rows (cdr (prog1 live-occur--page (setq live-occur--page nil)))))
       (if on
           (live-occur--want patterns)
         (setq live-occur--patterns patterns)))))
@@ -1579,8 +1540,7 @@ They go between the patterns BEFORE and AFTER."
   "Ask for the hits that are in view, and show them when they come."
   (let ((list (current-buffer))
         (sources live-occur--sources)
-        (count (apply #'max 50 (mapcar #'window-body-height
-                                       (get-buffer-window-list nil nil t)))))
+        (count (apply #'max 50 (mapcar #'window-body-height (get-buffer-window-list nil nil t)))))
     (live-occur--send
      live-occur--session (format "page 0 %d\n" count)
      (lambda (_status)
@@ -1615,11 +1575,6 @@ They go between the patterns BEFORE and AFTER."
       (set-window-point window (point-min))))
   (force-mode-line-update))
 
-(defun live-occur--end-page ()
-  "Put the rows back where the list has a page."
-  (when live-occur--page
-    (live-occur--forget-rows (cdr (prog1 live-occur--page (setq live-occur--page nil))))))
-
 ;;;; Syntax and flags
 
 (defun live-occur--set (words variable value)
@@ -1642,7 +1597,7 @@ If it is accepted VARIABLE of this list has VALUE."
 
 (defun live-occur--choose-syntax (syntax)
   "Read all patterns in SYNTAX."
-  (live-occur--set (format "syntax %s" syntax) 'live-occur--the-syntax syntax))
+  (live-occur--set (format "syntax %s" syntax) 'live-occur-syntax syntax))
 
 (defun live-occur-basic ()
   "Read the patterns as basic regular expressions."
@@ -1661,11 +1616,11 @@ If it is accepted VARIABLE of this list has VALUE."
 
 (defun live-occur--toggle (letter)
   "Turn the flag LETTER on or off."
-  (let ((on (not (memq letter live-occur--the-flags))))
+  (let ((on (not (memq letter live-occur-flags))))
     (live-occur--set (format "flag %c %s" letter (if on "on" "off"))
-                     'live-occur--the-flags
+                     'live-occur-flags
                      (seq-filter (lambda (other)
-                                   (if (eq other letter) on (memq other live-occur--the-flags)))
+                                   (if (eq other letter) on (memq other live-occur-flags)))
                                  live-occur--flag-letters))))
 
 (defun live-occur-toggle-case ()
@@ -1687,11 +1642,11 @@ If it is accepted VARIABLE of this list has VALUE."
   "Show BEFORE lines before each that matches, and AFTER lines after it.
 Where both numbers are 0 no other lines are shown."
   (interactive
-   (list (read-number "Lines before: " (or (car live-occur--the-context) 0))
-         (read-number "Lines after: " (or (cdr live-occur--the-context) 0))))
+   (list (read-number "Lines before: " (or (car live-occur-context) 0))
+         (read-number "Lines after: " (or (cdr live-occur-context) 0))))
   (unless (and (natnump before) (natnump after))
     (user-error "A number of lines is 0 or more"))
-  (setq live-occur--the-context (unless (= 0 before after) (cons before after)))
+  (setq live-occur-context (unless (= 0 before after) (cons before after)))
   (remove-overlays (point-min) (point-max) 'live-occur-around t)
   (live-occur--make-in-view)
   (force-mode-line-update))
@@ -1706,17 +1661,17 @@ Where both numbers are 0 no other lines are shown."
      "%" "%%"
      (propertize
       (concat
-       " " (symbol-name live-occur--the-syntax)
-       (and live-occur--the-flags (concat " -" live-occur--the-flags))
-       (pcase live-occur--the-context
+       " " (symbol-name live-occur-syntax)
+       (and live-occur-flags (concat " -" live-occur-flags))
+       (pcase live-occur-context
          (`(,before . ,after) (format " -B %d -A %d" before after)))
        "  "
-       (mapconcat (lambda (pattern) (propertize pattern 'face 'live-occur-pattern))
+       (mapconcat (lambda (pattern) (propertize pattern 'face 'bold))
                   live-occur--patterns "  ")
        (unless live-occur--patterns "no pattern")
        "  "
        (if live-occur--fault
-           (propertize (live-occur--fault-and-help) 'face 'live-occur-ended)
+           (propertize (live-occur--fault-and-help) 'face 'error)
          (format "%d row%s, %d buffer%s"
                  rows (if (= rows 1) "" "s") buffers (if (= buffers 1) "" "s")))
        (when live-occur--editing
@@ -1738,10 +1693,15 @@ Where both numbers are 0 no other lines are shown."
   (live-occur--update t))
 
 (defun live-occur--add-source (buffer)
-  "Put BUFFER after the buffers of this list."
+  "Put BUFFER after the buffers of this list, and gather its edits from now on."
   (let ((source (make-live-occur--source :buffer buffer :list (current-buffer))))
     (cl-callf append live-occur--sources (list source))
-    (live-occur--track source)
+    (dolist (other (buffer-list))
+      (when (live-occur--has-text-p other source)
+        (with-current-buffer other
+          (push source live-occur--sources-here)
+          (pcase-dolist (`(,hook . ,function) live-occur--hooks)
+            (add-hook hook function nil t)))))
     (when (live-occur--can-go-on)
       (live-occur--open source))))
 
@@ -1765,8 +1725,7 @@ Where both numbers are 0 no other lines are shown."
 
 (defun live-occur--discard ()
   "End the program of this list, which is killed."
-  (when live-occur--idle-timer
-    (cancel-timer live-occur--idle-timer))
+  (cancel-timer live-occur--idle-timer)
   (mapc #'live-occur--untrack live-occur--sources)
   (live-occur--end live-occur--session))
 
@@ -1801,17 +1760,17 @@ Where both numbers are 0 no other lines are shown."
     ("c" live-occur-change-pattern "Change Pattern..." :active live-occur--patterns)
     ("d" live-occur-drop-pattern "Drop Pattern..." :active live-occur--patterns)
     ("i" live-occur-toggle-case "Both Cases of Letters"
-     :style toggle :selected (memq ?i live-occur--the-flags))
+     :style toggle :selected (memq ?i live-occur-flags))
     ("v" live-occur-toggle-inverse "Lines That Don't Match"
-     :style toggle :selected (memq ?v live-occur--the-flags))
+     :style toggle :selected (memq ?v live-occur-flags))
     ("x" live-occur-toggle-whole-lines "Whole Lines"
-     :style toggle :selected (memq ?x live-occur--the-flags))
+     :style toggle :selected (memq ?x live-occur-flags))
     ("G" live-occur-basic "Basic Expressions"
-     :style radio :selected (eq live-occur--the-syntax 'basic))
+     :style radio :selected (eq live-occur-syntax 'basic))
     ("E" live-occur-extended "Extended Expressions"
-     :style radio :selected (eq live-occur--the-syntax 'extended))
+     :style radio :selected (eq live-occur-syntax 'extended))
     ("F" live-occur-fixed "Fixed Strings"
-     :style radio :selected (eq live-occur--the-syntax 'fixed))
+     :style radio :selected (eq live-occur-syntax 'fixed))
     ("C" live-occur-set-context "Lines Around...")
     ("+" live-occur-add-buffer "Add Buffer...")
     ("-" live-occur-remove-buffer "Leave Out Buffer...")
@@ -1840,16 +1799,16 @@ Where both numbers are 0 no other lines are shown."
   "A list of the lines that match, kept right while buffers are edited.
 
 \\{live-occur-mode-map}"
-  (setq-local revert-buffer-function #'live-occur-refresh
+  (setq-local live-occur-syntax live-occur-syntax
+              live-occur-context live-occur-context
+              live-occur-flags (seq-filter (lambda (letter) (memq letter live-occur-flags))
+                                           live-occur--flag-letters)
+              revert-buffer-function #'live-occur-refresh
               next-error-function #'live-occur--next-error
               header-line-format '((:eval (live-occur--header)))
               truncate-lines t
               buffer-undo-list t)
-  (setq live-occur--the-syntax live-occur-syntax
-        live-occur--the-flags (seq-filter (lambda (letter) (memq letter live-occur-flags))
-                                          live-occur--flag-letters)
-        live-occur--the-context live-occur-context
-        live-occur--idle-timer (let ((list (current-buffer)))
+  (setq live-occur--idle-timer (let ((list (current-buffer)))
                                  (run-with-idle-timer
                                   live-occur-delay t
                                   (lambda () (live-occur--in list (live-occur--look))))))
@@ -1874,8 +1833,7 @@ Where both numbers are 0 no other lines are shown."
                                      (format-prompt "First buffer to search" (buffer-name)))
                                    (if buffers "" (current-buffer)) t
                                    (lambda (name)
-                                     (not (memq (get-buffer (if (consp name) (car name) name))
-                                                buffers))))
+                                     (not (memq (get-buffer (or (car-safe name) name)) buffers))))
            until (string-empty-p name)
            collect (get-buffer name) into buffers
            finally return buffers))

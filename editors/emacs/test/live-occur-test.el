@@ -184,7 +184,7 @@ All buffers and processes that it makes are taken away after it."
                          ("i" . "a:1:a\na:2:A\na:3:ba ab\n")))
           (call-interactively (key-binding (kbd key)))
           (should (equal (live-occur-test--rows list) rows)))
-        (should (equal live-occur--the-flags '(?i)))
+        (should (equal live-occur-flags '(?i)))
         (should (string-prefix-p " basic -i  a  3 rows, 2 buffers" (live-occur--header)))))))
 
 (ert-deftest live-occur-has-syntaxes ()
@@ -197,7 +197,7 @@ All buffers and processes that it makes are taken away after it."
         (call-interactively (key-binding "F"))
         (should (equal (live-occur-test--rows list) "a:1:a+b\n"))
         (call-interactively (key-binding "G"))
-        (should (equal live-occur--the-syntax 'basic))))))
+        (should (equal live-occur-syntax 'basic))))))
 
 (ert-deftest live-occur-begins-with-settings ()
   (live-occur-test--with '("AB\nb\n")
@@ -585,7 +585,7 @@ All buffers and processes that it makes are taken away after it."
                      (lambda (&rest words) (setq told (apply #'format words)))))
             (live-occur-extended))
           (should (equal told "UnclosedGroup at 1: a(")))
-        (should (eq live-occur--the-syntax 'basic))
+        (should (eq live-occur-syntax 'basic))
         (should (equal (live-occur-test--rows list) "a:1:a(\n"))))))
 
 (ert-deftest live-occur-tells-of-a-program-that-is-not-there ()
@@ -1141,7 +1141,7 @@ It is nil where the pattern is refused."
           (execute-kbd-macro (kbd "C-s a . b M-s l"))))
       (should (equal (live-occur-test--rows "*Live Occur*") "a:1:a.b\na:2:A.B\n"))
       (with-current-buffer "*Live Occur*"
-        (should (eq live-occur--the-syntax 'fixed))))))
+        (should (eq live-occur-syntax 'fixed))))))
 
 ;;;; Editing rows
 
@@ -1356,13 +1356,13 @@ With PARTS non-nil it is the matched parts."
       (with-temp-buffer
         (apply #'call-process live-occur-test--grep nil t nil
                (concat "-n" (with-current-buffer list
-                              (concat (apply #'string live-occur--the-flags)
-                                      (pcase live-occur--the-syntax
+                              (concat (apply #'string live-occur-flags)
+                                      (pcase live-occur-syntax
                                         ('basic "") ('extended "E") ('fixed "F")))))
                "-f" "patterns"
                (append (if parts
                            '("-o")
-                         (pcase (buffer-local-value 'live-occur--the-context list)
+                         (pcase (buffer-local-value 'live-occur-context list)
                            (`(,before . ,after)
                             (list (format "-B%d" before) (format "-A%d" after)))))
                        '("--") (nreverse names)))
