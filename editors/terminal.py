@@ -9,6 +9,7 @@ import subprocess
 import time
 from collections.abc import Iterator
 from dataclasses import dataclass, replace
+from itertools import zip_longest
 from pathlib import Path
 
 COLUMNS, ROWS = 84, 26
@@ -94,14 +95,12 @@ def runs(line: str, look: Look) -> Iterator[tuple[str, Look]]:
     yield "", look
 
 
-def drawn(screen: str) -> str:
-    """A captured screen as SVG."""
-    width, height = COLUMNS * CELL_WIDTH + 20, ROWS * CELL_HEIGHT + 20
-    out = [f'<svg xmlns="http://www.w3.org/2000/svg" width="{width:.0f}" height="{height}" '
-           f'font-family="{FONT}" font-size="14">',
-           f'<rect width="100%" height="100%" rx="6" fill="{Look.back}"/>']
+def drawn_rows(screen: str) -> list[str]:
+    """The rows of a captured screen as SVG."""
+    rows = []
     look = Look()
     for row, line in enumerate(screen.split("\n")[:ROWS]):
+        out: list[str] = []
         column, top = 0, 10 + row * CELL_HEIGHT
         for text, look in runs(line, look):
             fore, back = (look.back, look.fore) if look.inverse else (look.fore, look.back)
@@ -115,7 +114,73 @@ def drawn(screen: str) -> str:
                 out.append(f'<text x="{left:.1f}" y="{top + 14}" textLength="{long:.1f}" '
                            f'fill="{fore}" xml:space="preserve"{style}>{html.escape(text)}</text>')
             column += len(text)
-    return "\n".join([*out, "</svg>", ""])
+        rows.append("\n".join(out))
+    return rows
+
+
+def framed(parts: list[str]) -> str:
+    """These parts of a screen as a whole SVG."""
+    width, height = COLUMNS * CELL_WIDTH + 20, ROWS * CELL_HEIGHT + 20
+    return "\n".join([
+        f'<svg xmlns="http://www.w3.org/2000/svg" width="{width:.0f}" height="{height}" '
+        f'font-family="{FONT}" font-size="14">',
+        f'<rect width="100%" height="100%" rx="6" fill="{Look.back}"/>',
+        *(part for part in parts if part), "</svg>", ""])
+
+
+def drawn(screen: str) -> str:
+    """A captured screen as SVG."""
+    return framed(drawn_rows(screen))
+
+
+@dataclass(frozen=True)
+class Frame:
+    """A screen of a recording, its cursor, and the seconds for which it is shown."""
+
+    screen: str
+    cursor: tuple[int, int]
+    seconds: float
+
+    def rows(self) -> list[str]:
+        """The rows as SVG, with the cursor."""
+        rows = drawn_rows(self.screen)
+        column, row = self.cursor
+        rows += [""] * (row + 1 - len(rows))
+        rows[row] += (f'\n<rect x="{10 + column * CELL_WIDTH:.1f}" y="{10 + row * CELL_HEIGHT}" '
+                      f'width="{CELL_WIDTH}" height="{CELL_HEIGHT}" fill="#d8d8d8" opacity="0.6"/>')
+        return rows
+
+
+def shown_from_to(times: list[float], first: int, last: int) -> str:
+    """The style of what is shown from the frame FIRST until the frame LAST begins."""
+    steps = {0.0: "hidden", times[first]: "visible"}
+    if last < len(times) - 1:
+        steps[times[last]] = "hidden"
+    keys = " ".join(f"{100 * at / times[-1]:.2f}% {{visibility: {how}}}"
+                    for at, how in steps.items())
+    name = f"f{first}-{last}"
+    return (f"@keyframes {name} {{{keys}}}\n.{name} {{visibility: {[*steps.values()][-1]}; "
+            f"animation: {name} {times[-1]:.1f}s step-end infinite}}")
+
+
+def recorded(frames: list[Frame]) -> str:
+    """Frames as one SVG that moves. A row is drawn once for all frames in which it stays the same.
+
+    Where nothing moves, the last frame is shown.
+    """
+    times = [sum(frame.seconds for frame in frames[:count]) for count in range(len(frames) + 1)]
+    parts, spans = [], set()
+    for column in zip_longest(*(frame.rows() for frame in frames), fillvalue=""):
+        first = 0
+        for last in range(1, len(frames) + 1):
+            if last < len(frames) and column[last] == column[first]:
+                continue
+            if column[first]:
+                spans.add((first, last))
+                parts.append(f'<g class="f{first}-{last}">\n{column[first].strip()}\n</g>')
+            first = last
+    style = "\n".join(shown_from_to(times, *span) for span in sorted(spans))
+    return framed([f"<style>\n{style}\n</style>", *parts])
 
 
 class Terminal:
@@ -142,6 +207,13 @@ class Terminal:
     def screen(self, *flags: str) -> str:
         words = [*self.tmux, "capture-pane", "-p", *flags]
         return subprocess.run(words, check=True, capture_output=True, text=True).stdout
+
+    def frame(self, seconds: float) -> Frame:
+        """What is shown now, as a frame of a recording."""
+        words = [*self.tmux, "display-message", "-p", "#{cursor_x} #{cursor_y}"]
+        shown = subprocess.run(words, check=True, capture_output=True, text=True).stdout
+        column, row = (int(word) for word in shown.split())
+        return Frame(self.screen("-e"), (column, row), seconds)
 
     def close(self) -> None:
         subprocess.run([*self.tmux, "kill-server"], check=False)
