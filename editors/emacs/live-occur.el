@@ -65,7 +65,7 @@ In a list it has the flags that are on."
 
 (defcustom live-occur-context nil
   "How many lines a list shows around each that matches, when it begins.
-In a list it has the numbers of now."
+In a list it has how many are shown now."
   :type '(choice (const :tag "None" nil) (cons (natnum :tag "Before") (natnum :tag "After"))))
 
 (defcustom live-occur-follow nil
@@ -479,18 +479,19 @@ SOURCE is number FILE of SESSION.  Where a pipe is full Emacs sleeps, and far
 too long.  So a long text is sent in blocks, and few are in the pipe."
   (let ((process (live-occur--session-process session))
         (size (1+ (/ live-occur--block (1+ (live-occur--width source))))))
-    (while (>= added 0)
-      (let ((from (point))
-            (count (min size added)))
-        (forward-line count)
-        (live-occur--order
-         (live-occur--source-list source)
-         (live-occur--command (format "splice %d %d %d" file start removed) count
-                              (live-occur--bytes (buffer-substring-no-properties from (point)))))
-        (cl-incf start count)
-        (setq removed 0
-              added (if (= added count) -1 (- added count))))
-      (while (and (> added 0) (length> (live-occur--session-waiting session) 2)
+    (while (let ((from (point))
+                 (count (min size added)))
+             (forward-line count)
+             (live-occur--order
+              (live-occur--source-list source)
+              (live-occur--command
+               (format "splice %d %d %d" file start removed) count
+               (live-occur--bytes (buffer-substring-no-properties from (point)))))
+             (cl-incf start count)
+             (cl-decf added count)
+             (setq removed 0)
+             (> added 0))
+      (while (and (length> (live-occur--session-waiting session) 2)
                   (eq (process-status process) 'run))
         (accept-process-output process 1 nil 1)))))
 
@@ -771,11 +772,11 @@ too long.  So a long text is sent in blocks, and few are in the pipe."
   "Send what has changed, and ask for what changed of the hits.
 If nothing has changed ask for none, but with ALWAYS non-nil."
   (when (and (live-occur--can-go-on)
-             (not (or live-occur--previewing live-occur--editing)))
-    (when (or (live-occur--flush-all) always)
-      (if live-occur--asked
-          (setq live-occur--asked 'again)
-        (live-occur--ask-for-changes)))))
+             (not (or live-occur--previewing live-occur--editing))
+             (or (live-occur--flush-all) always))
+    (if live-occur--asked
+        (setq live-occur--asked 'again)
+      (live-occur--ask-for-changes))))
 
 (defun live-occur--flush-all ()
   "Send what has changed in all sources, and answer whether anything has.
@@ -1821,12 +1822,6 @@ Where both numbers are 0 no other lines are shown."
   "Whether BUFFER is a list."
   (with-current-buffer buffer (derived-mode-p 'live-occur-mode)))
 
-(defun live-occur--checked (buffer)
-  "BUFFER, if it may be searched."
-  (when (live-occur--list-p buffer)
-    (user-error "%s is a list itself" (buffer-name buffer)))
-  buffer)
-
 (defun live-occur--read-buffers ()
   "Read the names of buffers, until one is empty."
   (cl-loop for name = (read-buffer (if buffers "Next buffer to search (RET to end): "
@@ -1851,34 +1846,38 @@ whatever it is narrowed to."
   (interactive (list nil (and current-prefix-arg (live-occur--read-buffers))))
   (let ((sources (mapcar #'live-occur--checked (or buffers (list (current-buffer)))))
         (list (generate-new-buffer "*Live Occur*"))
+        (reply "ok")
         done)
     (unwind-protect
         (progn
           (with-current-buffer list
             (live-occur-mode)
             (live-occur--begin)
-            (mapc #'live-occur--add-source sources))
-          (live-occur--fill list pattern)
+            (mapc #'live-occur--add-source sources)
+            (when pattern
+              (setq reply (live-occur--add pattern))))
+          (unless (equal reply "ok")
+            (user-error "The program answered: %s" reply))
+          (unless pattern
+            (when live-occur-typing-delay
+              (display-buffer list))
+            (live-occur--add-by-asking list "List lines that match: "))
           (setq done t))
       (unless done
         (when-let ((window (get-buffer-window list t)))
           (quit-restore-window window 'kill))
         (kill-buffer list)))
+    (with-current-buffer list
+      (live-occur--update t))
     (setq next-error-last-buffer list)
     (display-buffer list)
     list))
 
-(defun live-occur--fill (list pattern)
-  "Let LIST have PATTERN, or one that is typed where it is nil."
-  (if pattern
-      (let ((reply (with-current-buffer list (live-occur--add pattern))))
-        (unless (equal reply "ok")
-          (user-error "The program answered: %s" reply)))
-    (when live-occur-typing-delay
-      (display-buffer list))
-    (live-occur--add-by-asking list "List lines that match: "))
-  (with-current-buffer list
-    (live-occur--update t)))
+(defun live-occur--checked (buffer)
+  "BUFFER, if it may be searched."
+  (when (live-occur--list-p buffer)
+    (user-error "%s is a list itself" (buffer-name buffer)))
+  buffer)
 
 ;;;; Which buffers
 
