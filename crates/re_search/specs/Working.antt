@@ -15,3 +15,4 @@ pub mod Walks
 pub mod CachedMatchers
 pub mod Matchers
 pub mod Sought
+pub mod Asking

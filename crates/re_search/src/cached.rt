@@ -19,8 +19,8 @@ pub mod stride;
 pub mod table;
 pub mod walking;
 
-use crate::cost::LookCost;
 use crate::line_match::LineMatch;
+use crate::looks::Uncounted;
 use crate::simulated::Simulated;
 use crate::span::Span;
 use crate::sweeps::{Sweeps, count_by_sweeps, next_by_sweeps};
@@ -258,30 +258,18 @@ impl LineMatch for Cached {
     }
 
     fn count_matched(&mut self, block: &[u8], meter: &mut Meter) -> u64 {
-        let Some(count) = self.known_count(block) else {
+        let Some(count) = self.simulated.known_count(block) else {
             return count_by_sweeps(self, block, meter);
         };
         meter.add_built(block.len() as u64);
         count
     }
 
-    fn first_candidate(&self, block: &[u8]) -> usize
+    fn first_candidate(&self, block: &[u8], asked: Uncounted) -> usize
         requires { IsBlock block.now }
         ensures { PassesUnmatched (expression_of self.now.tree) self.now.whole block.now result }
     {
-        self.simulated.first_candidate(block)
-    }
-
-    fn known_count(&self, block: &[u8]) -> Option<u64>
-        requires { IsBlock block.now }
-        ensures { IfSome result (λ count. CountsMatched (expression_of self.now.tree)
-            self.now.whole (lines_of block.now) count) }
-    {
-        self.simulated.known_count(block)
-    }
-
-    fn look_cost(&self) -> LookCost {
-        self.simulated.look_cost()
+        self.simulated.first_candidate(block, asked)
     }
 }
 

@@ -1,18 +1,21 @@
 //! Strings that the matches of several matchers need.
 ghost use Rattle.std.specs.Prelude.{◌≡◌, ◌+◌, ◌*◌, ◌++◌, ◌↔◌, [], ◌∷◌, Bool, false, IsTrue, IfOk};
-ghost use Rattle.std.specs.Prelude.{IfSome, All, Any, MatchOption, length, map};
+ghost use Rattle.std.specs.Prelude.{IfSome, All, Any, MatchOption, length, map, None, Some};
+ghost use Rattle.std.specs.Option.{ForSome};
 ghost use Rattle.re_syntax.specs.Expression.{Expression};
 ghost use Rattle.re_syntax.specs.Holds.{Matches};
 ghost use Rattle.re_syntax.specs.Lines.{lines_of, newline, HasNoNewline};
 ghost use Rattle.re_search.specs.Searching.{AddsAtMost, AllAnswer, SameMatchers, TellsMatchOfAll};
 ghost use Rattle.re_search.specs.Working.Blocks.{IsBlock, PassesUnmatched};
 ghost use Rattle.re_search.specs.Working.Filters.{AreNeeded, NeedsOneOf};
-ghost use Rattle.re_search.specs.Working.Literals.{any_literal};
+ghost use Rattle.re_search.specs.Working.Literals.{Literals, any_literal};
 ghost use Rattle.re_search.specs.Working.Needles.{IsNeeded};
 ghost use Rattle.re_search.specs.Working.Matchers.{matched_expression};
 
+use crate::cost::LookCost;
 use crate::fixed_set::FixedSet;
 use crate::line_match::LineMatch;
+use crate::looks::Looks;
 use crate::matcher::Matcher;
 use memchr::memchr;
 use re_auto::Meter;
@@ -20,44 +23,101 @@ use std::alloc::{AllocError, Global};
 use std::cell::Cell;
 use std::marker::Model;
 
-/// Strings that are looked for before several matchers are asked: each line that some matcher
-/// matches has one of them. Contracts see it as the strings.
+/// Strings that are looked for before several matchers are asked: a line that has none of them is
+/// matched by none of the matchers. There may be none that are known. Contracts see it as the
+/// strings.
 // Lines one after another often match the same pattern, so the matcher that matched last and those
 // after it are asked first.
 #[derive(Drop)]
 pub struct Filter {
-    strings: FixedSet,
+    strings: Option<FixedSet>,
     likely: Cell<usize>,
+    looks: Looks,
 }
 
 impl Model for Filter {
+    ghost use Rattle.std.specs.Prelude.{Option};
     ghost use Rattle.re_search.specs.Working.Literals.{Literals};
 
-    ghost Value = { Literals };
+    ghost Value = { Option Literals };
 
     ghost view = { λ f. f.strings };
 }
 
 impl Filter {
-    /// Whether some string occurs in the line. No step is counted.
-    pub fn stands_in(&self, line: &[u8]) -> bool
-        ensures { IsTrue result ↔ Matches (any_literal self.now) line.now false }
+    /// No strings are known.
+    pub fn none() -> Filter
+        ensures { result ≡ None }
     {
-        self.strings.stands_in(line)
+        Filter {
+            strings: None,
+            likely: Cell::new(0),
+            looks: Looks::new(LookCost::Middle),
+        }
     }
 
-    /// Where the first line with some string begins in a block of whole lines; the end of the block
-    /// if no line has one. No step is counted.
-    pub fn first_line(&self, block: &[u8]) -> usize
+    // These strings.
+    fn of(strings: FixedSet) -> Filter
+        ensures { result ≡ Some strings }
+    {
+        Filter {
+            strings: Some(strings),
+            likely: Cell::new(0),
+            looks: Looks::new(LookCost::High),
+        }
+    }
+
+    // Whether no strings are known.
+    pub(crate) fn is_empty(&self) -> bool
+        ensures { IsTrue result ↔ self.now ≡ None }
+    {
+        self.strings.is_none()
+    }
+
+    // Whether no string occurs in the line. That takes a step for each of its bytes and one more;
+    // else it takes none, since the matchers are asked then.
+    pub(crate) fn rules_out(&self, line: &[u8], meter: &mut Meter) -> bool
+        ensures told { IsTrue result → (strings : Literals) × (self.now ≡ Some strings)
+            × (¬ Matches (any_literal strings) line.now false) }
+        ensures steps { AddsAtMost (length line.now + 1) meter.old meter.new }
+        ensures none { result ≡ false → meter.new ≡ meter.old }
+    {
+        let Some(strings) = &self.strings else {
+            return false;
+        };
+        if strings.stands_in(line) {
+            return false;
+        }
+        meter.add_built(line.len() as u64 + 1);
+        true
+    }
+
+    // Where the first line with some string begins in a block of whole lines; the end of the block
+    // if no line has one. `None` if no strings are known. No step is counted.
+    pub(crate) fn first_line(&self, block: &[u8]) -> Option<usize>
         requires { IsBlock block.now }
-        ensures { PassesUnmatched (any_literal self.now) false block.now result }
+        ensures { IfSome result (λ place. (strings : Literals) × (self.now ≡ Some strings)
+            × PassesUnmatched (any_literal strings) false block.now place) }
     {
-        self.strings.first_line(block)
+        match &self.strings {
+            Some(strings) => Some(strings.first_line(block)),
+            None => None,
+        }
     }
 
-    /// Whether some matcher matches the line, like [`crate::is_matched`]. The one that matched last
-    /// and those after it are asked first.
-    pub fn is_matched<M: LineMatch>(
+    // Whether it is worth while to look ahead in a block now.
+    pub(crate) fn is_look_due(&self) -> bool {
+        self.looks.is_due()
+    }
+
+    // A look passed `bytes` bytes.
+    pub(crate) fn note_look(&self, bytes: usize) {
+        self.looks.note(bytes);
+    }
+
+    // Whether some matcher matches the line, like `several::is_matched`. The one that matched last
+    // and those after it are asked first.
+    pub(crate) fn is_matched<M: LineMatch>(
         &self,
         matchers: &mut [M],
         line: &[u8],
@@ -103,19 +163,18 @@ impl Filter {
     }
 }
 
-/// Strings of which each line that some matcher matches has one. `None` if a matcher is not known
-/// to need a string. The one error is that memory was refused.
-pub fn needed_strings(alloc: Global, matchers: &[Matcher]) -> Result<Option<Filter>, AllocError>
+/// Strings of which each line that some matcher matches has one. There are none if a matcher is not
+/// known to need a string. The one error is that memory was refused.
+pub fn needed_strings(alloc: Global, matchers: &[Matcher]) -> Result<Filter, AllocError>
     ensures { IfOk result
-        (λ found.
-        IfSome found (λ filter. AreNeeded filter (map matched_expression matchers.now))) }
+        (λ filter.
+        ForSome filter (λ strings. AreNeeded strings (map matched_expression matchers.now))) }
 {
     let Some(texts) = needed_lines(alloc, matchers)? else {
-        return Ok(None);
+        return Ok(Filter::none());
     };
     let strings = FixedSet::new(alloc, &texts, false, false)?;
-    let likely = Cell::new(0);
-    Ok(Some(Filter { strings, likely }))
+    Ok(Filter::of(strings))
 }
 
 // One needed string for each matcher, each followed by a newline. `None` if a matcher is not known

@@ -9,10 +9,9 @@ ghost use Rattle.re_search.specs.Searching.{FindsPart, AddsAtMost};
 ghost use Rattle.re_search.specs.Working.Blocks.{IsBlock, PassesUnmatched, CountsMatched};
 ghost use Rattle.re_search.specs.Working.Blocks.{FindsMatched, FindsNext, next_cost};
 
-use crate::block::{
-    bytes_to, count_by, count_lines_with, first_line_with, has_no_newline, next_line_with,
-};
+use crate::block::{bytes_to, count_by, first_line_with, has_no_newline, next_line_with};
 use crate::line_match::LineMatch;
+use crate::looks::Uncounted;
 use crate::span::Span;
 use crate::sweeps::{Sweeps, count_by_sweeps, next_by_sweeps};
 use memchr::memmem::Finder;
@@ -227,22 +226,11 @@ impl LineMatch for Fixed {
         self.count_lines(block)
     }
 
-    fn first_candidate(&self, block: &[u8]) -> usize
+    fn first_candidate(&self, block: &[u8], _: Uncounted) -> usize
         requires { IsBlock block.now }
         ensures { PassesUnmatched (literal_expression self.now) self.now.whole block.now result }
     {
         self.candidate(block)
-    }
-
-    fn known_count(&self, block: &[u8]) -> Option<u64>
-        requires { IsBlock block.now }
-        ensures { IfSome result (λ count. CountsMatched (literal_expression self.now)
-            self.now.whole (lines_of block.now) count) }
-    {
-        if self.whole {
-            return None;
-        }
-        count_lines_with(&self.finder, block)
     }
 }
 

@@ -22,7 +22,7 @@ mod trie;
 use crate::block::{bytes_to, line_end, line_start};
 use crate::cost::LookCost;
 use crate::line_match::LineMatch;
-use crate::looks::Looks;
+use crate::looks::{Looks, Uncounted};
 use crate::span::Span;
 use crate::sweeps::{Sweeps, next_by_sweeps};
 use making::table_of;
@@ -116,9 +116,9 @@ impl FixedSet {
         self.table.is_line(line)
     }
 
-    /// Whether some string occurs in the line, whether or not the whole line has to be one. No step
-    /// is counted.
-    pub fn stands_in(&self, line: &[u8]) -> bool
+    // Whether some string occurs in the line, whether or not the whole line has to be one. No step
+    // is counted.
+    pub(crate) fn stands_in(&self, line: &[u8]) -> bool
         ensures { IsTrue result ↔ Matches (any_literal self.now) line.now false }
     {
         if self.has_empty {
@@ -127,9 +127,9 @@ impl FixedSet {
         self.table.stands_in(line)
     }
 
-    /// Where the first line with some string begins in a block of whole lines, whether or not the
-    /// whole line has to be one; the end of the block if no line has one. No step is counted.
-    pub fn first_line(&self, block: &[u8]) -> usize
+    // Where the first line with some string begins in a block of whole lines, whether or not the
+    // whole line has to be one; the end of the block if no line has one. No step is counted.
+    pub(crate) fn first_line(&self, block: &[u8]) -> usize
         requires { IsBlock block.now }
         ensures passes { PassesUnmatched (any_literal self.now) false block.now result }
         ensures found { (end : ℕ) → IsLineFrom block.now result end →
@@ -285,15 +285,11 @@ impl LineMatch for FixedSet {
         found
     }
 
-    fn first_candidate(&self, block: &[u8]) -> usize
+    fn first_candidate(&self, block: &[u8], _: Uncounted) -> usize
         requires { IsBlock block.now }
         ensures { PassesUnmatched (any_literal self.now) self.now.whole block.now result }
     {
         self.candidate(block)
-    }
-
-    fn look_cost(&self) -> LookCost {
-        LookCost::High
     }
 }
 

@@ -20,7 +20,6 @@ mod span;
 mod sweeps;
 
 pub use cached::Cached;
-pub use cost::LookCost;
 pub use filter::{Filter, needed_strings};
 pub use fixed::Fixed;
 pub use fixed_set::FixedSet;
@@ -30,6 +29,6 @@ pub use plain::is_plain;
 pub use re_auto::Meter;
 pub use re_syntax::Syntax;
 pub use searchers::Searchers;
-pub use several::{count_matched, first_candidate, is_matched, look_cost, parts};
+pub use several::parts;
 pub use simulated::Simulated;
 pub use span::Span;

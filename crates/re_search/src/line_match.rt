@@ -8,7 +8,7 @@ ghost use Rattle.re_search.specs.Working.Blocks.{IsBlock, PassesUnmatched, Count
 ghost use Rattle.re_search.specs.Working.Blocks.{FindsMatched, next_cost};
 
 use crate::block::line_end;
-use crate::cost::LookCost;
+use crate::looks::Uncounted;
 use crate::span::Span;
 use re_auto::Meter;
 
@@ -84,25 +84,12 @@ pub trait LineMatch {
     }
 
     /// Where in a block of whole lines the first line begins that may be matched: no line before it
-    /// is matched. No step is taken. If only a search can say that, it is the first line.
-    fn first_candidate(&self, block: &[u8]) -> usize
+    /// is matched. It takes no step, so only this crate can ask for it, which counts the bytes that
+    /// it passes. If only a search can say that, it is the first line.
+    fn first_candidate(&self, block: &[u8], _: Uncounted) -> usize
         requires { IsBlock block.now }
         ensures { PassesUnmatched (expression self.now) (whole self.now) block.now result }
     {
         0
-    }
-
-    /// How many lines of a block of whole lines are matched, if that is known without a step.
-    fn known_count(&self, block: &[u8]) -> Option<u64>
-        requires { IsBlock block.now }
-        ensures { IfSome result (λ count. CountsMatched (expression self.now) (whole self.now)
-            (lines_of block.now) count) }
-    {
-        None
-    }
-
-    /// What asking for `first_candidate` costs, so that it is left out where it passes too little.
-    fn look_cost(&self) -> LookCost {
-        LookCost::Low
     }
 }

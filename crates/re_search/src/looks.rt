@@ -3,6 +3,11 @@
 use crate::cost::LookCost;
 use std::cell::Cell;
 
+/// What a look that takes no step is asked with. The crate doesn't export it, so that nothing
+/// outside can search bytes without a meter.
+#[derive(Clone, Copy)]
+pub struct Uncounted;
+
 /// What was seen of looks so far. After a look that passed too little to pay, lines are searched
 /// without one: at first one line, then twice the number each time, up to a limit that the cost
 /// sets.

@@ -16,10 +16,10 @@ ghost use Rattle.re_search.specs.Searching.{FindsPart, AddsAtMost};
 ghost use Rattle.re_search.specs.Working.Blocks.{IsBlock, PassesUnmatched, CountsMatched};
 
 use crate::cached::Cached;
-use crate::cost::LookCost;
 use crate::fixed::Fixed;
 use crate::fixed_set::FixedSet;
 use crate::line_match::LineMatch;
+use crate::looks::Uncounted;
 use crate::simulated::Simulated;
 use crate::span::Span;
 use re_auto::{BuildFault, Meter};
@@ -166,38 +166,16 @@ impl LineMatch for Matcher {
         }
     }
 
-    fn first_candidate(&self, block: &[u8]) -> usize
+    fn first_candidate(&self, block: &[u8], asked: Uncounted) -> usize
         requires { IsBlock block.now }
         ensures { PassesUnmatched (matched_expression self.now) (wants_whole self.now) block.now
             result }
     {
         match self {
-            Matcher::Fixed(fixed) => fixed.first_candidate(block),
-            Matcher::FixedSet(set) => set.first_candidate(block),
-            Matcher::Simulated(simulated) => simulated.first_candidate(block),
-            Matcher::Cached(cached) => cached.first_candidate(block),
-        }
-    }
-
-    fn known_count(&self, block: &[u8]) -> Option<u64>
-        requires { IsBlock block.now }
-        ensures { IfSome result (λ count. CountsMatched (matched_expression self.now)
-            (wants_whole self.now) (lines_of block.now) count) }
-    {
-        match self {
-            Matcher::Fixed(fixed) => fixed.known_count(block),
-            Matcher::FixedSet(_) => None,
-            Matcher::Simulated(simulated) => simulated.known_count(block),
-            Matcher::Cached(cached) => cached.known_count(block),
-        }
-    }
-
-    fn look_cost(&self) -> LookCost {
-        match self {
-            Matcher::Fixed(_) => LookCost::Low,
-            Matcher::FixedSet(set) => set.look_cost(),
-            Matcher::Simulated(simulated) => simulated.look_cost(),
-            Matcher::Cached(cached) => cached.look_cost(),
+            Matcher::Fixed(fixed) => fixed.first_candidate(block, asked),
+            Matcher::FixedSet(set) => set.first_candidate(block, asked),
+            Matcher::Simulated(simulated) => simulated.first_candidate(block, asked),
+            Matcher::Cached(cached) => cached.first_candidate(block, asked),
         }
     }
 }

@@ -1,20 +1,16 @@
 //! Several matchers over one line (XCU grep: a line is selected where any of the patterns matches
 //! it).
-ghost use Rattle.std.specs.Prelude.{ℕ, Bool, List, ◌≡◌, ◌+◌, ◌-◌, ◌*◌, ◌≤◌, ◌++◌, IfSome, length};
+ghost use Rattle.std.specs.Prelude.{ℕ, Bool, List, ◌≡◌, ◌+◌, ◌-◌, ◌*◌, ◌≤◌, ◌++◌, length};
 ghost use Rattle.std.specs.Prelude.{map, ⊤};
 ghost use Rattle.re_syntax.specs.Bytes.{Text};
 ghost use Rattle.re_syntax.specs.Expression.{Expression};
-ghost use Rattle.re_syntax.specs.Lines.{lines_of};
 ghost use Rattle.re_search.specs.Searching.{FindsPart, FindsPartOfAll, TellsMatchOfAll, AllAnswer};
 ghost use Rattle.re_search.specs.Searching.{AddsAtMost, SameMatchers};
 ghost use Rattle.re_search.specs.Working.Blocks.{IsBlock, PassesAll, PassesUnmatchedByAll};
-ghost use Rattle.re_search.specs.Working.Blocks.{CountsMatchedByAll};
-ghost use Rattle.re_search.specs.Working.Filters.{AreNeeded};
 
 use crate::block::line_start;
-use crate::cost::LookCost;
-use crate::filter::Filter;
 use crate::line_match::LineMatch;
+use crate::looks::Uncounted;
 use crate::span::Span;
 use re_auto::Meter;
 
@@ -88,26 +84,6 @@ pub fn is_matched<M: LineMatch>(matchers: &mut [M], line: &[u8], meter: &mut Met
     false
 }
 
-/// Where in a block of whole lines the first line begins that some matcher may match: no line
-/// before it is matched by any. All matchers have to agree on whether the whole line has to be
-/// matched. A filter, if there is one, answers for all of them: each line that some matcher matches
-/// has one of its strings. Without a filter a single matcher is asked about the whole block, and
-/// several about its first lines alone. No step is taken.
-pub fn first_candidate<M: LineMatch>(matchers: &[M], filter: Option<&Filter>, block: &[u8]) -> usize
-    requires block { IsBlock block.now }
-    requires needed { IfSome filter (λ f. AreNeeded f.now (map M.expression matchers.now)) }
-    ensures { PassesUnmatchedByAll (map M.expression matchers.now) (map M.whole matchers.now)
-        block.now result }
-{
-    if let Some(filter) = filter {
-        return filter.first_line(block);
-    }
-    if matchers.len() != 1 {
-        return least_candidate(matchers, block);
-    }
-    matchers[0].first_candidate(block)
-}
-
 /// The first of the lines that some matcher may match, or the end of the block's first lines if
 /// there is none among them. Each matcher is asked only about the lines before the answers of the
 /// matchers before it.
@@ -121,7 +97,7 @@ pub fn least_candidate<M: LineMatch>(matchers: &[M], block: &[u8]) -> usize
         if end == 0 {
             return 0;
         }
-        end = matcher.first_candidate(&block[..end]);
+        end = matcher.first_candidate(&block[..end], Uncounted);
     }
     end
 }
@@ -135,32 +111,4 @@ fn first_lines(block: &[u8]) -> usize
         return block.len();
     }
     line_start(&block[..LOOK_AHEAD])
-}
-
-/// How many lines of a block of whole lines some matcher matches, if a single matcher knows that
-/// without a step. It is also `None` if there is a filter, which is for several matchers.
-pub fn count_matched<M: LineMatch>(
-    matchers: &[M],
-    filter: Option<&Filter>,
-    block: &[u8],
-) -> Option<u64>
-    requires { IsBlock block.now }
-    ensures { IfSome result (λ count. CountsMatchedByAll (map M.expression matchers.now)
-        (map M.whole matchers.now) (lines_of block.now) count) }
-{
-    if filter.is_some() || matchers.len() != 1 {
-        return None;
-    }
-    matchers[0].known_count(block)
-}
-
-/// What asking for [`first_candidate`] costs, so that it is left out where it passes too little.
-pub fn look_cost<M: LineMatch>(matchers: &[M], filter: Option<&Filter>) -> LookCost {
-    if filter.is_some() {
-        return LookCost::High;
-    }
-    if matchers.len() != 1 {
-        return LookCost::Middle;
-    }
-    matchers[0].look_cost()
 }

@@ -21,7 +21,7 @@ mod sets;
 use crate::block::{count_lines_with, first_line_beginning_with, first_line_with_run};
 use crate::cost::LookCost;
 use crate::line_match::LineMatch;
-use crate::looks::Looks;
+use crate::looks::{Looks, Uncounted};
 use crate::needle::{Needle, RunFinder};
 use crate::span::Span;
 use crate::sweeps::{Sweeps, count_by_sweeps, next_by_sweeps};
@@ -215,6 +215,24 @@ impl Simulated {
         }
     }
 
+    // How many lines of a block of whole lines are matched, if a count of the needle says that.
+    pub(crate) fn known_count(&self, block: &[u8]) -> Option<u64>
+        requires { IsBlock block.now }
+        ensures { IfSome result (λ count. CountsMatched (expression_of self.now.tree)
+            self.now.whole (lines_of block.now) count) }
+    {
+        let Some(needle) = &self.needle else {
+            return None;
+        };
+        if self.whole || !needle.is_all {
+            return None;
+        }
+        match &needle.finder {
+            RunFinder::Text(finder) => count_lines_with(finder, block),
+            RunFinder::Sets(_) => None,
+        }
+    }
+
     // Whether the line is matched.
     #[inline(always)]
     fn search(&mut self, line: &[u8], meter: &mut Meter) -> bool
@@ -331,32 +349,11 @@ impl LineMatch for Simulated {
         count
     }
 
-    fn first_candidate(&self, block: &[u8]) -> usize
+    fn first_candidate(&self, block: &[u8], _: Uncounted) -> usize
         requires { IsBlock block.now }
         ensures { PassesUnmatched (expression_of self.now.tree) self.now.whole block.now result }
     {
         self.candidate(block)
-    }
-
-    fn known_count(&self, block: &[u8]) -> Option<u64>
-        requires { IsBlock block.now }
-        ensures { IfSome result (λ count. CountsMatched (expression_of self.now.tree)
-            self.now.whole (lines_of block.now) count) }
-    {
-        let Some(needle) = &self.needle else {
-            return None;
-        };
-        if self.whole || !needle.is_all {
-            return None;
-        }
-        match &needle.finder {
-            RunFinder::Text(finder) => count_lines_with(finder, block),
-            RunFinder::Sets(_) => None,
-        }
-    }
-
-    fn look_cost(&self) -> LookCost {
-        look_cost(&self.needle)
     }
 }
 

@@ -178,4 +178,4 @@ passes_whole_too e true block count (lines, rest, free, none, is, counted) =
 -- where each line that is matched has one of the strings of a filter, lines without any are passed
 pub passes_by_filter : (strings : Literals) (es : List Expression) (wholes : List Bool) (block : Text) (count : ℕ) → AreNeeded strings es → PassesUnmatched (any_literal strings) false block count → PassesUnmatchedByAll es wholes block count
 passes_by_filter strings es wholes block count needed (lines, rest, free, none, is, counted) = λ whole all.
-    (lines, rest, free, λ i d below some. none i d below (needed (get_or lines i d) whole some), is, counted)
+    (lines, rest, free, λ i d below some. needed (get_or lines i d) whole (none i d below) some, is, counted)

@@ -49,7 +49,7 @@ stands_matched line s e texts needed is_text i j within h =
 
 -- texts of which each expression needs some are needed
 pub texts_are_needed : (texts : List Text) (es : List Expression) → All (NeedsOneOf texts) es → AreNeeded (record { texts = texts; fold = false; whole = false }) es
-texts_are_needed texts es each line whole some = matched whole some
+texts_are_needed texts es each line whole none some = none (matched whole some)
   where
     string_of : (e : Expression) → NeedsOneOf texts e → (i j : ℕ) → j ≤ length line → Holds line e i j → Matches (any_literal (record { texts = texts; fold = false; whole = false })) line false
     string_of e n i j within h = stands_matched line n.1 e texts n.4 (n.0, n.1, n.2, n.3, refl) i j within h

@@ -7,11 +7,11 @@ use Rattle.re_search.specs.Working.Literals.{Literals, any_literal}
 use Rattle.re_search.specs.Working.Needles.{IsNeeded}
 use Rattle.re_search.specs.Searching.{SomeMatches}
 
--- each line that some of the expressions matches has one of the strings
+-- a line that has none of the strings is matched by none of the expressions
 abbrev pub AreNeeded : Literals → List Expression → Type 0
 AreNeeded strings es =
-    (line : Text) (whole : Bool) → SomeMatches es line whole →
-    Matches (any_literal strings) line false
+    (line : Text) (whole : Bool) → ¬ Matches (any_literal strings) line false →
+    ¬ SomeMatches es line whole
 
 -- the expression needs some of the texts
 abbrev pub NeedsOneOf : List Text → Expression → Type 0

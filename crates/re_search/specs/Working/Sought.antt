@@ -1,5 +1,5 @@
 -- What several matchers search for together, and what they find in a block of whole lines.
-use Rattle.std.specs.Prelude.{ℕ, Bool, List, Option, map}
+use Rattle.std.specs.Prelude.{ℕ, Bool, List, Option}
 use Rattle.re_syntax.specs.Bytes.{Text}
 use Rattle.re_syntax.specs.Expression.{Expression}
 use Rattle.re_search.specs.declared.span.Span.{Span}
@@ -10,16 +10,6 @@ use Rattle.re_search.specs.Working.Blocks.{PassesAll, FindsNext, HoldsOfMany}
 pub record Sought : Type 0 where
   pub expressions : List Expression
   pub whole : Bool
-
--- matchers that are asked together, and whether the whole line has to be matched
-pub record Several (M : Type 0) : Type 0 where
-  pub matchers : List M
-  pub whole : Bool
-
--- what they search for
-abbrev pub sought_by : {M : Type 0} → (M → Expression) → Several M → Sought
-sought_by expression several =
-    record { expressions = map expression several.matchers; whole = several.whole }
 
 -- some expression matches the line
 abbrev pub IsSought : Sought → Text → Type 0

@@ -1,13 +1,6 @@
-use Rattle.re_search.proofs.lemmas.SearchedBlocks.{still_sought}
 use Rattle.re_search.proofs.searchers.Searchers.part.Goals as goal
 
 pub invariant_of-self : goal.invariant_of-self
 invariant_of-self g c =
     let same = c.part_of_all.ensures.same_matchers in
-    (rw same.same_wholes c.self.invariant.0, rw same.same_expressions c.self.invariant.1)
-
-pub returns-clause-told : goal.returns-clause-told
-returns-clause-told g c = rw (← c.self.view_is) c.part_of_all.ensures.told
-
-pub returns-clause-same : goal.returns-clause-same
-returns-clause-same g c = rw (← c.self.view_is) (still_sought c.part_of_all.ensures.same_matchers.same_expressions c.self.inside.whole)
+    record { alike = rw same.same_wholes c.args.self.now.alike; needed = λ x e. rw same.same_expressions (c.args.self.now.needed x e) }

@@ -4,7 +4,7 @@ use Rattle.re_syntax.specs.Lines.{lines_of}
 use Rattle.re_search.specs.Working.Simulated.{TreeMatcher}
 use Rattle.re_search.specs.Working.Needles.{run_of}
 use Rattle.re_search.proofs.lemmas.CountedBlocks.{told_just}
-use Rattle.re_search.proofs.simulated.SimulatedLineMatch.known_count.Goals as goal
+use Rattle.re_search.proofs.simulated.Simulated.known_count.Goals as goal
 
 pub returns-in-Text : goal.returns-in-Text
 returns-in-Text c =

@@ -1,0 +1,303 @@
+//! What matchers are asked of a line and of a block, each in counted steps.
+ghost use Rattle.std.specs.Prelude.{◌≡◌, ◌+◌, ◌-◌, ◌*◌, ◌<◌, ◌≤◌, ◌↔◌, IsTrue, IfSome, length, map};
+ghost use Rattle.std.specs.Option.{ForSome};
+ghost use Rattle.re_syntax.specs.Lines.{lines_of};
+ghost use Rattle.re_search.specs.Searching.{AddsAtMost, AllAnswer, FindsPart, SameMatchers};
+ghost use Rattle.re_search.specs.Working.Asking.{SameSearchers, asks_whole, expressions_by};
+ghost use Rattle.re_search.specs.Working.Asking.{sought_by};
+ghost use Rattle.re_search.specs.Working.Blocks.{IsBlock, PassesUnmatchedByAll, next_cost};
+ghost use Rattle.re_search.specs.Working.Sought.{IsSought, FindsSought, CountsSought};
+ghost use Rattle.re_search.specs.Working.Filters.{AreNeeded};
+
+use crate::block::line_end;
+use crate::filter::Filter;
+use crate::line_match::LineMatch;
+use crate::searchers::Searchers;
+use crate::several::{is_matched, least_candidate, parts};
+use crate::span::Span;
+use re_auto::Meter;
+
+impl<'a, 'f, M: LineMatch> Searchers<'a, 'f, M> {
+    /// These matchers, of which all give this answer to whether the whole line has to be matched. A
+    /// line without the strings of the filter, if it has any, is matched by none of them.
+    pub fn new(matchers: &'a mut [M], filter: &'f Filter, whole: bool) -> Searchers<'a, 'f, M>
+        requires alike { AllAnswer whole (map M.whole matchers.old) }
+        requires needed { ForSome filter.now (λ strings. AreNeeded strings (map M.expression matchers.old)) }
+        ensures same_matchers { result.matchers.now ≡ matchers.old }
+        ensures same_whole { asks_whole result ≡ whole }
+        ensures same_loan { result.matchers.ghost_name ≡ matchers.entry.ghost_name }
+    {
+        Searchers {
+            matchers,
+            filter,
+            whole,
+        }
+    }
+
+    /// Whether some matcher matches the line, in at most one step for each matcher and byte, and
+    /// one more for each matcher.
+    pub fn is_matched(&mut self, line: &[u8], meter: &mut Meter) -> bool
+        ensures told { IsTrue result ↔ IsSought (sought_by M.expression self.old) line.now }
+        ensures same { SameSearchers M.expression M.whole self.old self.new }
+        ensures steps { AddsAtMost
+            (length (expressions_by M.expression self.old) * (length line.now + 1)) meter.old
+            meter.new }
+    {
+        any_matches(self.matchers, self.filter, self.whole, line, meter)
+    }
+
+    /// The first line of a block of whole lines that some matcher matches, by its place without its
+    /// newline. It takes at most one step for each matcher and byte up to that newline, and one
+    /// more for each matcher. If no line is matched, it takes at most one step for each matcher and
+    /// byte of the block.
+    pub fn next_matched(&mut self, block: &[u8], meter: &mut Meter) -> Option<Span>
+        requires { IsBlock block.now }
+        ensures told { FindsSought (sought_by M.expression self.old) (lines_of block.now) result }
+        ensures within { IfSome result
+            (λ at. (at.start ≤ at.end) × (at.end < length block.now)) }
+        ensures same { SameSearchers M.expression M.whole self.old self.new }
+        ensures steps { AddsAtMost
+            (length (expressions_by M.expression self.old) * next_cost block.now result) meter.old
+            meter.new }
+    {
+        next_of(self.matchers, self.filter, self.whole, block, meter)
+    }
+
+    /// How many lines of a block of whole lines some matcher matches, in at most one step for each
+    /// matcher and byte.
+    pub fn count_matched(&mut self, block: &[u8], meter: &mut Meter) -> u64
+        requires { IsBlock block.now }
+        ensures told { CountsSought (sought_by M.expression self.old) (lines_of block.now) result }
+        ensures same { SameSearchers M.expression M.whole self.old self.new }
+        ensures steps { AddsAtMost
+            (length (expressions_by M.expression self.old) * length block.now) meter.old
+            meter.new }
+    {
+        if self.filter.is_empty() && self.matchers.len() == 1 {
+            return count_of_one(self.matchers, self.whole, block, meter);
+        }
+        count_of_all(self.matchers, self.filter, self.whole, block, meter)
+    }
+
+    /// The next part of the line, like [`parts`], in at most one step for each matcher and byte
+    /// from `from` on, and one more for each matcher.
+    pub fn part(&mut self, line: &[u8], from: usize, meter: &mut Meter) -> Option<Span>
+        requires { from ≤ length line.now }
+        ensures told { FindsPart (expressions_by M.expression self.old) line.now
+            (asks_whole self.old) from result }
+        ensures same { SameSearchers M.expression M.whole self.old self.new }
+        ensures steps { AddsAtMost
+            (length (expressions_by M.expression self.old) * (length line.now - from + 1))
+            meter.old meter.new }
+    {
+        part_of_all(self.matchers, self.whole, line, from, meter)
+    }
+}
+
+// Whether some matcher matches the line. None is asked if the line has no string of the filter.
+fn any_matches<M: LineMatch>(
+    matchers: &mut [M],
+    filter: &Filter,
+    whole: bool,
+    line: &[u8],
+    meter: &mut Meter,
+) -> bool
+    requires alike { AllAnswer whole (map M.whole matchers.old) }
+    requires needed { ForSome filter.now (λ strings. AreNeeded strings (map M.expression matchers.old)) }
+    ensures told { IsTrue result ↔ IsSought
+        (record { expressions = map M.expression matchers.old; whole = whole }) line.now }
+    ensures same_matchers { SameMatchers M.expression M.whole matchers.old matchers.new }
+    ensures steps { AddsAtMost (length matchers.old * (length line.now + 1)) meter.old
+        meter.new }
+{
+    if matchers.is_empty() {
+        return false;
+    }
+    if filter.is_empty() {
+        return is_matched(matchers, line, meter);
+    }
+    if filter.rules_out(line, meter) {
+        return false;
+    }
+    filter.is_matched(matchers, line, meter)
+}
+
+// The next part of the line.
+fn part_of_all<M: LineMatch>(
+    matchers: &mut [M],
+    whole: bool,
+    line: &[u8],
+    from: usize,
+    meter: &mut Meter,
+) -> Option<Span>
+    requires within { from ≤ length line.now }
+    requires alike { AllAnswer whole (map M.whole matchers.old) }
+    ensures told { FindsPart (map M.expression matchers.old) line.now whole from result }
+    ensures same_matchers { SameMatchers M.expression M.whole matchers.old matchers.new }
+    ensures steps { AddsAtMost (length matchers.old * (length line.now - from + 1)) meter.old
+        meter.new }
+{
+    parts(matchers, line, from, meter)
+}
+
+// How many bytes of a block are passed: whole lines, none of which some matcher matches. It takes
+// at most one step for each of these bytes.
+fn sweep<M: LineMatch>(matchers: &[M], filter: &Filter, block: &[u8], meter: &mut Meter) -> usize
+    requires block { IsBlock block.now }
+    requires needed { ForSome filter.now (λ strings. AreNeeded strings (map M.expression matchers.now)) }
+    ensures passes { PassesUnmatchedByAll (map M.expression matchers.now)
+        (map M.whole matchers.now) block.now result }
+    ensures steps { AddsAtMost result meter.old meter.new }
+{
+    if !filter.is_look_due() {
+        return 0;
+    }
+    let passed = candidate(matchers, filter, block);
+    filter.note_look(passed);
+    meter.add_built(passed as u64);
+    passed
+}
+
+// Where in a block the first line begins that some matcher may match: no line before it is matched
+// by any.
+fn candidate<M: LineMatch>(matchers: &[M], filter: &Filter, block: &[u8]) -> usize
+    requires block { IsBlock block.now }
+    requires needed { ForSome filter.now
+        (λ strings. AreNeeded strings (map M.expression matchers.now)) }
+    ensures { PassesUnmatchedByAll (map M.expression matchers.now)
+        (map M.whole matchers.now) block.now result }
+{
+    match filter.first_line(block) {
+        Some(place) => place,
+        None => least_candidate(matchers, block),
+    }
+}
+
+// The first line of a block that some matcher matches.
+fn next_of<M: LineMatch>(
+    matchers: &mut [M],
+    filter: &Filter,
+    whole: bool,
+    block: &[u8],
+    meter: &mut Meter,
+) -> Option<Span>
+    requires block { IsBlock block.now }
+    requires alike { AllAnswer whole (map M.whole matchers.old) }
+    requires needed { ForSome filter.now (λ strings. AreNeeded strings (map M.expression matchers.old)) }
+    ensures told { FindsSought
+        (record { expressions = map M.expression matchers.old; whole = whole })
+        (lines_of block.now) result }
+    ensures within { IfSome result (λ at. (at.start ≤ at.end) × (at.end < length block.now)) }
+    ensures same_matchers { SameMatchers M.expression M.whole matchers.old matchers.new }
+    ensures steps { AddsAtMost (length matchers.old * next_cost block.now result) meter.old
+        meter.new }
+{
+    if matchers.is_empty() {
+        return None;
+    }
+    if filter.is_empty() && matchers.len() == 1 {
+        return next_of_one(matchers, whole, block, meter);
+    }
+    next_of_all(matchers, filter, whole, block, meter)
+}
+
+// The same for some matchers.
+fn next_of_all<M: LineMatch>(
+    matchers: &mut [M],
+    filter: &Filter,
+    whole: bool,
+    block: &[u8],
+    meter: &mut Meter,
+) -> Option<Span>
+    requires block { IsBlock block.now }
+    requires some { 1 ≤ length matchers.old }
+    requires alike { AllAnswer whole (map M.whole matchers.old) }
+    requires needed { ForSome filter.now (λ strings. AreNeeded strings (map M.expression matchers.old)) }
+    ensures told { FindsSought
+        (record { expressions = map M.expression matchers.old; whole = whole })
+        (lines_of block.now) result }
+    ensures within { IfSome result (λ at. (at.start ≤ at.end) × (at.end < length block.now)) }
+    ensures same_matchers { SameMatchers M.expression M.whole matchers.old matchers.new }
+    ensures steps { AddsAtMost (length matchers.old * next_cost block.now result) meter.old
+        meter.new }
+{
+    let mut start = 0;
+    'lines: loop {
+        let from = start + sweep(matchers, filter, &block[start..], meter);
+        let Some(end) = line_end(block, from) else {
+            return None;
+        };
+        if any_matches(matchers, filter, whole, &block[from..end], meter) {
+            return Some(Span { start: from, end });
+        }
+        start = end + 1;
+    }
+}
+
+// The same for one matcher, which knows what to look for.
+fn next_of_one<M: LineMatch>(
+    matchers: &mut [M],
+    whole: bool,
+    block: &[u8],
+    meter: &mut Meter,
+) -> Option<Span>
+    requires block { IsBlock block.now }
+    requires one { length matchers.old ≡ 1 }
+    requires alike { AllAnswer whole (map M.whole matchers.old) }
+    ensures told { FindsSought
+        (record { expressions = map M.expression matchers.old; whole = whole })
+        (lines_of block.now) result }
+    ensures within { IfSome result (λ at. (at.start ≤ at.end) × (at.end < length block.now)) }
+    ensures same_matchers { SameMatchers M.expression M.whole matchers.old matchers.new }
+    ensures steps { AddsAtMost (length matchers.old * next_cost block.now result) meter.old
+        meter.new }
+{
+    matchers[0].next_matched(block, meter)
+}
+
+// How many lines some matcher matches.
+fn count_of_all<M: LineMatch>(
+    matchers: &mut [M],
+    filter: &Filter,
+    whole: bool,
+    block: &[u8],
+    meter: &mut Meter,
+) -> u64
+    requires block { IsBlock block.now }
+    requires alike { AllAnswer whole (map M.whole matchers.old) }
+    requires needed { ForSome filter.now (λ strings. AreNeeded strings (map M.expression matchers.old)) }
+    ensures told { CountsSought
+        (record { expressions = map M.expression matchers.old; whole = whole })
+        (lines_of block.now) result }
+    ensures same_matchers { SameMatchers M.expression M.whole matchers.old matchers.new }
+    ensures steps { AddsAtMost (length matchers.old * length block.now) meter.old meter.new }
+{
+    let mut count: u64 = 0;
+    let mut rest = block;
+    'lines: loop {
+        let Some(at) = next_of(matchers, filter, whole, rest, meter) else {
+            return count;
+        };
+        count += 1;
+        rest = &rest[at.end + 1..];
+    }
+}
+
+// The same for one matcher, which may count without finding each line.
+fn count_of_one<M: LineMatch>(
+    matchers: &mut [M],
+    whole: bool,
+    block: &[u8],
+    meter: &mut Meter,
+) -> u64
+    requires block { IsBlock block.now }
+    requires one { length matchers.old ≡ 1 }
+    requires alike { AllAnswer whole (map M.whole matchers.old) }
+    ensures told { CountsSought
+        (record { expressions = map M.expression matchers.old; whole = whole })
+        (lines_of block.now) result }
+    ensures same_matchers { SameMatchers M.expression M.whole matchers.old matchers.new }
+    ensures steps { AddsAtMost (length matchers.old * length block.now) meter.old meter.new }
+{
+    matchers[0].count_matched(block, meter)
+}
