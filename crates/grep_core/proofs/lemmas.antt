@@ -48,6 +48,6 @@ pub mod PartsLemmas
 pub mod WrittenLemmas
 pub mod MatcherLemmas
 pub mod SameChoice
-pub mod FilterLemmas
 pub mod BlockLines
 pub mod BehindLemmas
+pub mod StretchLemmas

@@ -14,3 +14,6 @@ pub mod LastLines
 pub mod Searched
 pub mod SameChoice
 pub mod MatcherLists
+pub mod Stretches
+pub mod StretchRows
+pub mod ShownLines

@@ -4,7 +4,6 @@ use Rattle.std.proofs.Common.{◌≡◌, ℕ, ◌+◌, ◌-◌, ◌^◌, ◌<◌
 use Rattle.std.proofs.lemmas.List.{length-append, length_push}
 use Rattle.std.proofs.lemmas.List.Elements.{All-nil}
 use Rattle.re_syntax.specs.Bytes.{Text}
-use Rattle.re_syntax.specs.Lines.{lines_of}
 use Rattle.re_syntax.specs.Expression.{Expression}
 use Rattle.re_search.specs.Meters.{Steps}
 use Rattle.grep_core.specs.declared.options.Options.{Options}
@@ -18,44 +17,25 @@ use Rattle.grep_core.specs.Files.{whole, broken, Selected}
 use Rattle.grep_core.specs.Output.{around, form, GroupsOf, SelectedLines}
 use Rattle.grep_core.specs.Reading.{open_source, most_lines, OneLeft}
 use Rattle.grep_core.specs.Run.{Writer, TakesAll, TakesFront}
-use Rattle.grep_core.specs.Cost.{SearchesLine, SearchesLines}
+use Rattle.grep_core.specs.Cost.{SearchesLines}
 use Rattle.grep_core.specs.Working.Handed.{file_so_far}
 use Rattle.grep_core.specs.Working.LastLines.{LastLines, with_lines}
-use Rattle.grep_core.specs.Working.Numbered.{Numbered, AreAhead, HasHanded, PassesNext, StandsAs}
-use Rattle.grep_core.specs.Working.Passed.{AreUnselected, PassesWaiting}
+use Rattle.grep_core.specs.Working.Numbered.{Numbered, HasHanded, StandsAs}
+use Rattle.grep_core.specs.Working.Passed.{AreUnselected, Waits}
 use Rattle.grep_core.specs.Working.Progress.{progress_from, next_shown, behind_line, with_waiting, last_of, rows_at}
 use Rattle.grep_core.specs.Working.Searched.{leaves_early, SearchesSource, BreaksSource, StopsSource}
 use Rattle.grep_core.proofs.lemmas.AroundLemmas.{Tracks, tracks_none, tracks_line, tracks_passed, tracked_groups, tracks_further}
-use Rattle.grep_core.proofs.lemmas.CostLaws.{searched_no_line, searched_one_line, searched_first_lines}
+use Rattle.grep_core.proofs.lemmas.CostLaws.{searched_no_line, searched_more_lines}
 use Rattle.grep_core.proofs.lemmas.ChooseLaws.{EachGives-one}
 use Rattle.grep_core.proofs.lemmas.FileOutput.{file_is, chosen_line, chosen_count}
 use Rattle.grep_core.proofs.lemmas.BlockLines.{last_of-many}
 use Rattle.grep_core.proofs.lemmas.HandedLemmas.{begins_with}
-use Rattle.grep_core.proofs.lemmas.LinesLemmas.{early_form, WrittenOf, WritesLines, searches_whole, searches_broken, stops_behind, breaks_in, chosen_on}
+use Rattle.grep_core.proofs.lemmas.LinesLemmas.{early_form, WrittenOf, WritesLines, searches_whole, searches_broken, stops_among, stops_behind, breaks_in, chosen_on}
 use Rattle.grep_core.proofs.lemmas.MoreLines.{file_with}
 use Rattle.grep_core.proofs.lemmas.NumberedLemmas.{has_handed_none}
-use Rattle.grep_core.proofs.lemmas.PassedLines.{passed_block}
 use Rattle.grep_core.proofs.lemmas.WaitingRows.{WaitsNot, waits_not_next, held_next, length-last_of}
 use Rattle.grep_core.proofs.lemmas.Verdicts.{picked}
 use Rattle.grep_core.proofs.lemmas.WriterLaws.{TakesAll-nothing, TakesAll-more, TakesFront-more}
-
--- ---- lines that are passed
-
-module _ {R : Type 0} (remaining : R → Option Text) (failures : R → ℕ) (es : List Expression) (options : Options) (reader : R) (handed : List Text) where
-  -- none was passed
-  pub passes_none : (now : Numbered R) (p : Progress) (behind : LastLines) → HasHanded remaining failures reader now handed → PassesWaiting remaining failures es options reader handed now p p behind behind
-  passes_none now p behind h = record {
-    passes = record { passed = []; unselected = All-nil (λ line. ¬ Selected es options line); handed_too = subst (HasHanded remaining failures reader now) (sym (append-nil handed)) h };
-    waits = inl (refl, refl, refl);
-  }
-
-  -- a block was passed
-  pub passes_waiting : (before now : Numbered R) (p q : Progress) (behind held : LastLines) (block : Text) (count : ℕ) → AreAhead before block count → AreUnselected es options (lines_of block) → PassesNext remaining failures before now (lines_of (take (length block) before.lines.ahead))
-      → HasHanded remaining failures reader before handed → p.left ≡ 0 → q ≡ with_waiting count p → held ≡ with_lines behind (lines_of block) → PassesWaiting remaining failures es options reader handed now p q behind held
-  passes_waiting before now p q behind held block count ahead none next h left_none e kept = record {
-    passes = record { passed = lines_of block; unselected = none; handed_too = passed_block remaining failures reader handed before now block count ahead next h };
-    waits = inr (left_none, e ∙ ap (λ n. with_waiting n p) ahead.counted, kept);
-  }
 
 -- ---- the turns of the search
 
@@ -125,45 +105,41 @@ module _ {R : Type 0} (remaining : R → Option Text) (failures : R → ℕ) (es
   }
 
   -- some lines were passed, which wait if any does
-  pub followed_passed : (before now : Numbered R) (old new : Writer) (began ended : Steps) (selected : ℕ) (p q : Progress) (behind held : LastLines) → behind.limit ≡ context.before → (s : Followed before old new began ended selected p behind.lines)
-      → PassesWaiting remaining failures es options reader s.lines now p q behind held → Followed now old new began ended selected q held.lines
-  followed_passed before now old new began ended selected p q behind held limit s h = record {
-    lines = s.lines ++ h.passes.passed;
+  pub followed_waiting : (before now : Numbered R) (old new : Writer) (began mid ended : Steps) (selected : ℕ) (p q : Progress) (behind held : LastLines) → behind.limit ≡ context.before → (s : Followed before old new began mid selected p behind.lines)
+      → (passed : List Text) → HasHanded remaining failures reader now (s.lines ++ passed) → AreUnselected es options passed → Waits passed p q behind held → SearchesLines es options (length es) passed mid ended → (t : Followed now old new began ended selected q held.lines) × (t.lines ≡ s.lines ++ passed)
+  followed_waiting before now old new began mid ended selected p q behind held limit s passed handed unselected waits spent = (record {
+    lines = s.lines ++ passed;
     rows = s.rows;
-    handed = h.passes.handed_too;
-    tracks = elim h.waits [
-      | inl none ↦ subst (λ r. Follows r (s.lines ++ h.passes.passed) s.rows) (sym none.1) (subst (λ ls. Follows p ls s.rows) (sym (ap (λ ls. s.lines ++ ls) none.0 ∙ append-nil s.lines)) s.tracks)
-      | inr some ↦ subst (λ r. Follows r (s.lines ++ h.passes.passed) s.rows) (sym some.1) (tracks_passed es options many name context shown p s.lines s.rows h.passes.passed h.passes.unselected some.0 s.tracks)
+    handed = handed;
+    tracks = elim waits [
+      | inl none ↦ subst (λ r. Follows r (s.lines ++ passed) s.rows) (sym none.1) (subst (λ ls. Follows p ls s.rows) (sym (ap (λ ls. s.lines ++ ls) none.0 ∙ append-nil s.lines)) s.tracks)
+      | inr some ↦ subst (λ r. Follows r (s.lines ++ passed) s.rows) (sym some.1) (tracks_passed es options many name context shown p s.lines s.rows passed unselected some.0 s.tracks)
     ];
-    apart = elim h.waits [
+    apart = elim waits [
       | inl none ↦ subst WaitsNot (sym none.1) s.apart
       | inr some ↦ subst WaitsNot (sym some.1) (λ more. absurd (omega (arith, more, some.0)))
     ];
-    held = elim h.waits [
-      | inl none ↦ ap (λ (x : LastLines). x.lines) none.2 ∙ s.held ∙ ap (λ ls. last_of p.waiting ls) (sym (ap (λ ls. s.lines ++ ls) none.0 ∙ append-nil s.lines)) ∙ ap (λ (r : Progress). last_of r.waiting (s.lines ++ h.passes.passed)) (sym none.1)
+    held = elim waits [
+      | inl none ↦ ap (λ (x : LastLines). x.lines) none.2 ∙ s.held ∙ ap (λ ls. last_of p.waiting ls) (sym (ap (λ ls. s.lines ++ ls) none.0 ∙ append-nil s.lines)) ∙ ap (λ (r : Progress). last_of r.waiting (s.lines ++ passed)) (sym none.1)
       | inr some ↦
           (let room : behind.limit ≡ p.context.before = limit ∙ sym (ap (λ (c : Context). c.before) s.tracks.same_context) in
-          ap (λ (x : LastLines). x.lines) some.2 ∙ ap (λ n. last_of n (behind.lines ++ h.passes.passed)) room ∙ ap (λ ls. last_of p.context.before (ls ++ h.passes.passed)) s.held
-          ∙ last_of-many p.context.before p.waiting s.lines h.passes.passed s.tracks.within s.tracks.few ∙ ap (λ (r : Progress). last_of r.waiting (s.lines ++ h.passes.passed)) (sym some.1))
+          ap (λ (x : LastLines). x.lines) some.2 ∙ ap (λ n. last_of n (behind.lines ++ passed)) room ∙ ap (λ ls. last_of p.context.before (ls ++ passed)) s.held
+          ∙ last_of-many p.context.before p.waiting s.lines passed s.tracks.within s.tracks.few ∙ ap (λ (r : Progress). last_of r.waiting (s.lines ++ passed)) (sym some.1))
     ];
     wrote = s.wrote;
     chosen = s.chosen;
-    are_chosen = chosen_on es options many shown name s.lines h.passes.passed s.chosen h.passes.unselected s.are_chosen;
+    are_chosen = chosen_on es options many shown name s.lines passed s.chosen unselected s.are_chosen;
     counted = s.counted;
-    few = omega (arith, s.few, s.handed.counted, h.passes.handed_too.counted, length-append s.lines h.passes.passed);
-    steps = searched_first_lines es options (length es) s.lines h.passes.passed began ended s.steps;
-  }
+    few = omega (arith, s.few, s.handed.counted, handed.counted, length-append s.lines passed);
+    steps = searched_more_lines es options (length es) s.lines passed began mid ended s.steps spent;
+  }, refl)
 
   -- the limit of held lines stays that of the context
-  pub passed_limit : (now : Numbered R) (p q : Progress) (behind held : LastLines) (lines : List Text) → PassesWaiting remaining failures es options reader lines now p q behind held → behind.limit ≡ context.before → held.limit ≡ context.before
-  passed_limit now p q behind held lines h limit = elim h.waits [
+  pub waiting_limit : (passed : List Text) (p q : Progress) (behind held : LastLines) → Waits passed p q behind held → behind.limit ≡ context.before → held.limit ≡ context.before
+  waiting_limit passed p q behind held waits limit = elim waits [
     | inl none ↦ ap (λ (x : LastLines). x.limit) none.2 ∙ limit
     | inr some ↦ ap (λ (x : LastLines). x.limit) some.2 ∙ limit
   ]
-
-  -- no line is numbered twice
-  pub passed_on : (before now : Numbered R) (p q : Progress) (behind held : LastLines) (lines : List Text) → HasHanded remaining failures reader before lines → PassesWaiting remaining failures es options reader lines now p q behind held → before.number ≤ now.number
-  passed_on before now p q behind held lines h w = omega (arith, h.counted, w.passes.handed_too.counted, length-append lines w.passes.passed)
 
   -- buffered output was sent
   pub followed_sent : (now : Numbered R) (old mid new : Writer) (began ended : Steps) (selected : ℕ) (p : Progress) (behind : List Text) → Followed now old mid began ended selected p behind → TakesAll mid new [] → Followed now old new began ended selected p behind
@@ -215,10 +191,17 @@ module _ {R : Type 0} (remaining : R → Option Text) (failures : R → ℕ) (es
         stops_behind es options many shown name (remaining reader) (remaining now.lines.reader) old mid began amid s.lines selected count writes s.steps
         (begins_with remaining failures name reader now.lines s.lines handed.hands handed.few) (handed.counted ∙ is_count) (failures reader) (failures now.lines.reader) handed.hands.none_failed
 
-    -- one more line was handed out
-    module _ (next : HasHanded remaining failures reader now (s.lines ++ now.lines.line ∷ [])) where
+    -- lines that were searched could not be kept
+    pub followed_unkept : (all : List Text) (ended : Steps) → HasHanded remaining failures reader now (s.lines ++ all) → SearchesLines es options (length es) all amid ended → (count : ℕ) → before.number ≡ count
+        → StopsSource es options many shown (open_source name (remaining reader)) (OneLeft (remaining now.lines.reader)) count (failures reader) (failures now.lines.reader) old mid began ended
+    followed_unkept all ended h spent count is_count =
+        stops_among es options many shown name (remaining reader) (remaining now.lines.reader) old mid began ended s.lines all selected count writes (searched_more_lines es options (length es) s.lines all began amid ended s.steps spent)
+        (begins_with remaining failures name reader now.lines (s.lines ++ all) h.hands h.few) (s.handed.counted ∙ is_count) (failures reader) (failures now.lines.reader) h.hands.none_failed
+
+    -- one more line was handed out or passed
+    module _ (line : Text) (next : HasHanded remaining failures reader now (s.lines ++ line ∷ [])) where
       one_further : now.number ≡ before.number + 1
-      one_further = sym next.counted ∙ length_push s.lines now.lines.line ∙ ap (λ n. n + 1) s.handed.counted
+      one_further = sym next.counted ∙ length_push s.lines line ∙ ap (λ n. n + 1) s.handed.counted
 
       -- fewer lines are selected than can be counted
       pub counts_on : selected < most_lines
@@ -236,7 +219,7 @@ module _ {R : Type 0} (remaining : R → Option Text) (failures : R → ℕ) (es
         pub held_few : length behind ≤ count
         held_few = omega (arith, is_count, ap length s.held ∙ length-last_of p.waiting s.lines s.tracks.within, s.tracks.within)
 
-        module _ (line : Text) (is : line ≡ now.lines.line) (found : Bool) (told : Decides found (Selected es options line)) (ended : Steps) (spent : SearchesLine es options (length es) line amid ended) where
+        module _ (found : Bool) (told : Decides found (Selected es options line)) (ended : Steps) (spent : SearchesLines es options (length es) (s.lines ++ line ∷ []) began ended) where
           abbrev added : List Text
           added = rows_at options many name found (next_shown p found) (last_of p.waiting s.lines) (length s.lines + 1) line
 
@@ -246,16 +229,13 @@ module _ {R : Type 0} (remaining : R → Option Text) (failures : R → ℕ) (es
           at_line : rows_at options many name found (next_shown p found) behind count line ≡ added
           at_line = ap (λ ls. rows_at options many name found (next_shown p found) ls count line) s.held ∙ ap (λ n. rows_at options many name found (next_shown p found) (last_of p.waiting s.lines) n line) is_count
 
-          handed_here : HasHanded remaining failures reader now (s.lines ++ line ∷ [])
-          handed_here = subst (λ l. HasHanded remaining failures reader now (s.lines ++ l ∷ [])) (sym is) next
-
           -- what is shown at it was written, and it is held if it is not shown
           pub followed_line : (new : Writer) (more : ℕ) (later : List Text) → TakesAll mid new (rows_at options many name found (next_shown p found) behind count line) → more ≡ (if found then selected + 1 else selected)
               → later ≡ (if (next_shown p found).itself then [] else last_of context.before (behind ++ line ∷ [])) → Followed now old new began ended more (behind_line p found) later
           followed_line new more later took e kept = record {
             lines = s.lines ++ line ∷ [];
             rows = s.rows ++ added;
-            handed = handed_here;
+            handed = next;
             tracks = tracked;
             apart = waits_not_next p found s.apart;
             held = held_next p s.lines line behind later s.held s.tracks.few s.tracks.within s.apart found (kept ∙ ap (λ n. if (next_shown p found).itself then [] else last_of n (behind ++ line ∷ [])) (sym same_before));
@@ -264,7 +244,7 @@ module _ {R : Type 0} (remaining : R → Option Text) (failures : R → ℕ) (es
             are_chosen = chosen_line es options many name s.lines line s.chosen found s.are_chosen told;
             counted = chosen_count s.chosen (length s.lines + 1, line) selected found s.counted ∙ sym e;
             few = at_most found e;
-            steps = searched_one_line es options (length es) s.lines line began amid ended s.steps spent;
+            steps = spent;
           }
             where
               at_most : (b : Bool) → more ≡ (if b then selected + 1 else selected) → more ≤ now.number
@@ -277,7 +257,7 @@ module _ {R : Type 0} (remaining : R → Option Text) (failures : R → ℕ) (es
           followed_breaks new front counted =
               breaks_in es options many shown name (remaining reader) (remaining now.lines.reader) old mid new began ended selected (failures reader) (failures now.lines.reader) next.hands.none_failed
               (s.lines ++ line ∷ []) (s.rows ++ added) (written_tracked (behind_line p found) (s.lines ++ line ∷ []) (s.rows ++ added) tracked) (TakesFront-more old mid new s.rows added s.wrote (subst (TakesFront mid new) at_line front)) (counted ∙ ap one_more s.wrote.none_failed)
-              (searched_one_line es options (length es) s.lines line began amid ended s.steps spent) (begins_with remaining failures name reader now.lines (s.lines ++ line ∷ []) handed_here.hands handed_here.few)
+              spent (begins_with remaining failures name reader now.lines (s.lines ++ line ∷ []) next.hands next.few)
 
           -- the line could not be kept
           pub followed_refused : (new : Writer) → TakesAll mid new (rows_at options many name found (next_shown p found) behind count line)
@@ -293,5 +273,5 @@ module _ {R : Type 0} (remaining : R → Option Text) (failures : R → ℕ) (es
                 are_chosen = chosen_line es options many name s.lines line s.chosen found s.are_chosen told;
                 counted = refl;
               })
-              (searched_one_line es options (length es) s.lines line began amid ended s.steps spent) (begins_with remaining failures name reader now.lines (s.lines ++ line ∷ []) handed_here.hands handed_here.few)
-              (handed_here.counted ∙ sym is_number) (failures reader) (failures now.lines.reader) next.hands.none_failed
+              spent (begins_with remaining failures name reader now.lines (s.lines ++ line ∷ []) next.hands next.few)
+              (next.counted ∙ sym is_number) (failures reader) (failures now.lines.reader) next.hands.none_failed

@@ -12,6 +12,7 @@ use Rattle.re_search.specs.Searching.{AddsAtMost}
 use Rattle.grep_core.specs.declared.options.Options.{Options}
 use Rattle.grep_core.specs.Files.{File}
 use Rattle.grep_core.specs.Output.{Form, nothing, names, counts, parts, lines, around, form}
+use Rattle.grep_core.proofs.lemmas.PassedLemmas.{terminated-append}
 use Rattle.grep_core.specs.Cost.{search_cost, PartsAsked, AsksParts, SearchesLine, LinesCost, FilesCost, SearchesLines, SearchesFiles}
 
 -- steps after steps
@@ -52,12 +53,6 @@ same_length f xs ys e = sym (length-map xs f) ∙ ap length e ∙ length-map ys 
 pub adds_none : (most : ℕ) (steps : Steps) → AddsAtMost most steps steps
 adds_none most steps = record { built = omega arith; reused = omega arith; sum = omega arith }
 
--- there is one matcher for each of the expressions that they match
-pub as_expressions : {M : Type 0} (expression : M → Expression) (matchers : List M) (es : List Expression) (options : Options) (line : Text) (old new : Steps) → map expression matchers ≡ es
-    → SearchesLine (map expression matchers) options (length matchers) line old new → SearchesLine es options (length es) line old new
-as_expressions expression matchers es options line old new e s =
-    subst (λ ds. SearchesLine ds options (length ds) line old new) e (subst (λ n. SearchesLine (map expression matchers) options n line old new) (sym (length-map matchers expression)) s)
-
 module _ (es : List Expression) (options : Options) (line : Text) where
   -- how often the parts of a line are asked for is decided
   parts_exist : (shape : Form) → (times : ℕ) × PartsAsked es options shape line times
@@ -84,13 +79,12 @@ module _ (es : List Expression) (options : Options) (line : Text) where
       let least : search_cost matchers line ≤ (asked.0 + 1) * search_cost matchers line = omega arith in
       record { times = asked.0; are_times = asked.1; few = adds_within (search_cost matchers line) ((asked.0 + 1) * search_cost matchers line) old new least a }
 
--- a line was searched, and then its parts were asked for, by the matchers as they were then
-pub line_asked : {M : Type 0} (expression : M → Expression) (old now : List M) (options : Options) (line : Text) (first mid last : Steps) → map expression now ≡ map expression old
-    → AddsAtMost (search_cost (length old) line) first mid → AsksParts (map expression now) options (length now) line mid last → SearchesLine (map expression old) options (length old) line first last
-line_asked expression old now options line first mid last e once asked =
-    let counted = subst (λ n. AsksParts (map expression now) options n line mid last) (same_length expression now old e) asked in
-    let a = subst (λ ds. AsksParts ds options (length old) line mid last) e counted in
-    let cost = search_cost (length old) line in
+-- a line was searched, and then its parts were asked for, by matchers of the same expressions
+pub line_asked : (es ds : List Expression) (options : Options) (line : Text) (first mid last : Steps) → ds ≡ es
+    → AddsAtMost (search_cost (length es) line) first mid → AsksParts ds options (length ds) line mid last → SearchesLine es options (length es) line first last
+line_asked es ds options line first mid last e once asked =
+    let a = subst (λ fs. AsksParts fs options (length fs) line mid last) e asked in
+    let cost = search_cost (length es) line in
     let both : cost + a.times * cost ≤ (a.times + 1) * cost = omega arith in
     record { times = a.times; are_times = a.are_times; few = adds_within (cost + a.times * cost) ((a.times + 1) * cost) first last both (adds_both cost (a.times * cost) first mid last once a.few) }
 
@@ -133,20 +127,33 @@ module _ (es : List Expression) (options : Options) (matchers : ℕ) where
   pub searched_more_lines : (text more : List Text) (old mid new : Steps) → SearchesLines es options matchers text old mid → SearchesLines es options matchers more mid new → SearchesLines es options matchers (text ++ more) old new
   searched_more_lines text more old mid new a b = record { cost = a.cost + b.cost; is_cost = both_lines_cost text more a.cost b.cost a.is_cost b.is_cost; few = adds_both a.cost b.cost old mid new a.few b.few }
 
-  -- each byte of the lines, newlines among them, was a step of each matcher at most
+  -- a step of each matcher for each byte of the lines, newlines among them, is within their cost
+  bytes_within : (ls : List Text) (cost : ℕ) → LinesCost es options matchers ls cost → matchers * length (terminated ls) ≤ cost
+  bytes_within [] cost c = omega (arith, c)
+  bytes_within (line ∷ ls) cost (times, rest, asked, more, is) =
+      let long : length (terminated (line ∷ ls)) ≡ length line + 1 + length (terminated ls) = omega (arith, length-append line (newline ∷ terminated ls)) in
+      let parted : matchers * length (terminated (line ∷ ls)) ≡ search_cost matchers line + matchers * length (terminated ls) = ap (λ n. matchers * n) long ∙ spread (length line + 1) (length (terminated ls)) in
+      let least : search_cost matchers line ≤ (times + 1) * search_cost matchers line = omega arith in
+      omega (arith, parted, least, is, bytes_within ls rest more)
+    where
+      spread : (a b : ℕ) → matchers * (a + b) ≡ matchers * a + matchers * b
+      spread a b = omega arith
+
+  -- so they were searched in so many steps
   pub searched_bytes : (text : List Text) (old new : Steps) → AddsAtMost (matchers * length (terminated text)) old new → SearchesLines es options matchers text old new
   searched_bytes text old new a = let all = lines_cost text in record { cost = all.0; is_cost = all.1; few = adds_within (matchers * length (terminated text)) all.0 old new (bytes_within text all.0 all.1) a }
-    where
-      bytes_within : (ls : List Text) (cost : ℕ) → LinesCost es options matchers ls cost → matchers * length (terminated ls) ≤ cost
-      bytes_within [] cost c = omega (arith, c)
-      bytes_within (line ∷ ls) cost (times, rest, asked, more, is) =
-          let long : length (terminated (line ∷ ls)) ≡ length line + 1 + length (terminated ls) = omega (arith, length-append line (newline ∷ terminated ls)) in
-          let parted : matchers * length (terminated (line ∷ ls)) ≡ search_cost matchers line + matchers * length (terminated ls) = ap (λ n. matchers * n) long ∙ spread (length line + 1) (length (terminated ls)) in
-          let least : search_cost matchers line ≤ (times + 1) * search_cost matchers line = omega arith in
-          omega (arith, parted, least, is, bytes_within ls rest more)
-        where
-          spread : (a b : ℕ) → matchers * (a + b) ≡ matchers * a + matchers * b
-          spread a b = omega arith
+
+  -- the same, and the parts of the last line were asked for besides
+  pub searched_bytes_and_parts : (text : List Text) (line : Text) (old mid new : Steps) → AddsAtMost (matchers * length (terminated (text ++ line ∷ []))) old mid → AsksParts es options matchers line mid new → SearchesLines es options matchers (text ++ line ∷ []) old new
+  searched_bytes_and_parts text line old mid new a asked =
+      let first = lines_cost text in
+      let own = (asked.times + 1) * search_cost matchers line in
+      let one : LinesCost es options matchers (line ∷ []) own = (asked.times, 0, asked.are_times, refl, omega arith) in
+      let width : length (terminated (text ++ line ∷ [])) ≡ length (terminated text) + (length line + 1) = ap length (terminated-append text (line ∷ [])) ∙ length-append (terminated text) (line ++ newline ∷ []) ∙ ap (λ n. length (terminated text) + n) (length-append line (newline ∷ [])) in
+      let parted : matchers * length (terminated (text ++ line ∷ [])) ≡ matchers * length (terminated text) + search_cost matchers line = ap (λ n. matchers * n) width ∙ (omega arith) in
+      let least = bytes_within text first.0 first.1 in
+      let both : matchers * length (terminated (text ++ line ∷ [])) + asked.times * search_cost matchers line ≤ first.0 + own = omega (arith, parted, least) in
+      record { cost = first.0 + own; is_cost = both_lines_cost text (line ∷ []) first.0 own first.1 one; few = adds_within _ (first.0 + own) old new both (adds_both _ (asked.times * search_cost matchers line) old mid new a asked.few) }
 
   -- there are more lines than those that were searched
   pub searched_first_lines : (text more : List Text) (old new : Steps) → SearchesLines es options matchers text old new → SearchesLines es options matchers (text ++ more) old new

@@ -1,8 +1,8 @@
 -- A search of the lines of an open source, one more line at a time, and what it says of the
 -- source's file.
-use Rattle.std.proofs.Common.{◌≡◌, ℕ, ◌+◌, ◌-◌, ◌^◌, nat_lt, ◌<◌, ◌≤◌, ◌⊎◌, Bool, true, false, ◌&&◌, IsTrue, Decides, List, [], ◌∷◌, ◌++◌, All, Option, length, take, refl, sym, ap, subst, ◌∙◌, append-nil, append_assoc, inl, inr, arith, Any, if◌then◌else◌}
+use Rattle.std.proofs.Common.{◌≡◌, ℕ, ◌+◌, ◌-◌, ◌^◌, nat_lt, ◌<◌, ◌≤◌, ◌⊎◌, Bool, true, false, ◌&&◌, IsTrue, Decides, List, [], ◌∷◌, ◌++◌, All, Option, length, min, take, refl, sym, ap, subst, ◌∙◌, append-nil, append_assoc, inl, inr, arith, Any, if◌then◌else◌}
 use Rattle.std.proofs.Math.Seq.{take-append_seam}
-use Rattle.std.proofs.lemmas.Bool.{false≢true, cases_Bool, cond-true, cond-false}
+use Rattle.std.proofs.lemmas.Bool.{false≢true, cases_Bool, cases_lt, lt-ltb, le-ltb, cond-true, cond-false}
 use Rattle.std.proofs.lemmas.List.{length_push, length-append}
 use Rattle.std.proofs.lemmas.List.Elements.{All-head, All-tail}
 use Rattle.re_syntax.specs.Bytes.{Text}
@@ -22,8 +22,9 @@ use Rattle.grep_core.specs.Run.{Writer, TakesAll, TakesFront, first_lines}
 use Rattle.grep_core.specs.Working.Groups.{GroupedAs, behind_rows}
 use Rattle.grep_core.specs.Working.Handed.{StandsFor, BeginsWith, file_so_far}
 use Rattle.grep_core.specs.Cost.{SearchesLine, SearchesLines}
-use Rattle.grep_core.specs.Working.Passed.{PassesUnselected, AddsCounted}
+use Rattle.grep_core.specs.Working.Passed.{AddsCounted}
 use Rattle.grep_core.specs.Working.OneLine.{IsPlain, LineRowsOf, TakesLine, BreaksLine}
+use Rattle.grep_core.specs.Working.StretchRows.{TakesLines, BreaksLines}
 use Rattle.grep_core.specs.Working.Searched.{leaves_early, summary_as, BreaksSource, StopsSource, SearchesSource}
 use Rattle.re_search.proofs.lemmas.SomeOfJoined.{Any-left}
 use Rattle.grep_core.proofs.lemmas.Verdicts.{decided_yes, decided_no, picked}
@@ -32,6 +33,7 @@ use Rattle.grep_core.proofs.lemmas.CostLaws.{searched_no_line, searched_one_line
 use Rattle.grep_core.proofs.lemmas.WriterLaws.{TakesAll-nothing, TakesAll-more, TakesFront-more, TakesFront-longer}
 use Rattle.grep_core.proofs.lemmas.OneLineLemmas.{line_passed, line_counted}
 use Rattle.grep_core.proofs.lemmas.CountedLines.{many_within}
+use Rattle.grep_core.proofs.lemmas.StretchLemmas.{found_within}
 use Rattle.grep_core.proofs.lemmas.OneFile.{whole-failures}
 use Rattle.grep_core.proofs.lemmas.FileLaws.{FaultMet-left}
 use Rattle.grep_core.proofs.lemmas.MoreLines.{SelectedLines-passed}
@@ -117,13 +119,20 @@ module _ (es : List Expression) (options : Options) (many shown : Bool) (name : 
       let rows = rows_line es options many name (form options) plain lines line w.rows t.rows (plain_written (form options) plain lines w.rows w.of) t.are_rows in
       writes_more lines line t.rows old mid new selected _ found w (written_plain (form options) plain (lines ++ line ∷ []) (w.rows ++ t.rows) rows) t.wrote t.told refl
 
-  -- lines of which none is selected were passed
-  writes_passed : IsPlain (form options) → (passed lines : List Text) (old new : Writer) (selected : ℕ) → WritesLines lines old new selected → All (λ line. ¬ Selected es options line) passed → WritesLines (lines ++ passed) old new selected
-  writes_passed plain [] lines old new selected w none = subst (λ ls. WritesLines ls old new selected) (sym (append-nil lines)) w
-  writes_passed plain (line ∷ passed) lines old new selected w none =
-      let skipped = line_passed es options many name (length lines + 1) line new false refl (decided_no (All-head (λ l. ¬ Selected es options l) line passed none)) in
-      subst (λ ls. WritesLines ls old new selected) (append_assoc lines (line ∷ []) passed)
-      (writes_passed plain passed (lines ++ line ∷ []) old new selected (writes_line plain lines line old new new selected false w skipped) (All-tail (λ l. ¬ Selected es options l) line passed none))
+  -- lines were searched at once
+  writes_lines : IsPlain (form options) → (more lines : List Text) (old mid new : Writer) (selected found : ℕ) → WritesLines lines old mid selected → TakesLines es options many name (length lines + 1) more mid new found → WritesLines (lines ++ more) old new (selected + found)
+  writes_lines plain [] lines old mid new selected found w (same, zero) =
+      let sum : selected ≡ selected + found = omega (arith, zero) in
+      subst (λ ls. WritesLines ls old new (selected + found)) (sym (append-nil lines)) (subst (λ v. WritesLines lines old v (selected + found)) (sym same) (subst (WritesLines lines old mid) sum w))
+  writes_lines plain (line ∷ more) lines old mid new selected found w (first, b, others, one, rest, is) =
+      let at : length lines + 1 + 1 ≡ length (lines ++ line ∷ []) + 1 = omega (arith, length_push lines line) in
+      let here = writes_line plain lines line old mid first selected b w one in
+      let all = writes_lines plain more (lines ++ line ∷ []) old first new (if b then selected + 1 else selected) others here (subst (λ n. TakesLines es options many name n more first new others) at rest) in
+      subst (λ ls. WritesLines ls old new (selected + found)) (append_assoc lines (line ∷ []) more) (subst (WritesLines ((lines ++ line ∷ []) ++ more) old new) (sum b is) all)
+    where
+      sum : (b : Bool) → found ≡ (if b then others + 1 else others) → (if b then selected + 1 else selected) + others ≡ selected + found
+      sum true e = omega (arith, e)
+      sum false e = omega (arith, e)
 
   -- lines were passed where the selected ones are only counted
   writes_counted : IsPlain (form options) → form options ≡ counts → (passed lines : List Text) (old new : Writer) (selected count : ℕ) → WritesLines lines old new selected → HoldsOfMany (Selected es options) passed count → WritesLines (lines ++ passed) old new (selected + count)
@@ -214,12 +223,13 @@ module _ (es : List Expression) (options : Options) (many shown : Bool) (name : 
             steps = subst (λ ls. SearchesLines es options (length es) ls began ended) (sym b.has_lines) (searched_first_lines es options (length es) lines b.more began ended spent);
           }
 
-    -- out of memory after the lines
-    pub stops_behind : (lines : List Text) (selected count : ℕ) → WritesLines lines old new selected → SearchesLines es options (length es) lines began ended → BeginsWith name known lines → length lines ≡ count
+    -- out of memory after the lines; more lines were searched
+    pub stops_among : (lines later : List Text) (selected count : ℕ) → WritesLines lines old new selected → SearchesLines es options (length es) (lines ++ later) began ended → BeginsWith name known (lines ++ later) → length lines ≡ count
         → (failed_before failed : ℕ) → failed ≡ failed_before → StopsSource es options many shown (open_source name known) (OneLeft rest) count failed_before failed old new began ended
-    stops_behind lines selected count w spent b counted failed_before failed none_failed =
+    stops_among lines later selected count w spent b counted failed_before failed none_failed =
         let file = file_of name b.reading in
-        let first : take count file.lines ≡ lines = ap (take count) b.has_lines ∙ ap (λ k. take k (lines ++ b.more)) (sym counted) ∙ take-append_seam lines b.more in
+        let has : file.lines ≡ lines ++ (later ++ b.more) = b.has_lines ∙ append_assoc lines later b.more in
+        let first : take count file.lines ≡ lines = ap (take count) has ∙ ap (λ k. take k (lines ++ (later ++ b.more))) (sym counted) ∙ take-append_seam lines (later ++ b.more) in
         let same : file_so_far name lines ≡ first_lines count file = λ i. record { name = sym b.named i; lines = sym first i; ending = whole } in
         record {
           reading = b.reading;
@@ -227,19 +237,25 @@ module _ (es : List Expression) (options : Options) (many shown : Bool) (name : 
           none_failed = none_failed;
           rest = rest;
           gave_back = refl;
-          in_file = omega (arith, counted, length-append lines b.more, ap length b.has_lines);
+          in_file = omega (arith, counted, length-append lines (later ++ b.more), ap length has);
           rows = w.of.groups;
           are_rows = rows_begun es options many (form options) count file w.of.groups (subst (λ f. LineRowsOf es options many (form options) f w.of.groups) same w.of.are_groups);
           wrote = subst (TakesAll old new) w.of.are_rows w.wrote;
-          steps = subst (λ ls. SearchesLines es options (length es) ls began ended) (sym b.has_lines) (searched_first_lines es options (length es) lines b.more began ended spent);
+          steps = subst (λ ls. SearchesLines es options (length es) ls began ended) (sym b.has_lines) (searched_first_lines es options (length es) (lines ++ later) b.more began ended spent);
         }
 
+    -- no more lines were searched
+    pub stops_behind : (lines : List Text) (selected count : ℕ) → WritesLines lines old new selected → SearchesLines es options (length es) lines began ended → BeginsWith name known lines → length lines ≡ count
+        → (failed_before failed : ℕ) → failed ≡ failed_before → StopsSource es options many shown (open_source name known) (OneLeft rest) count failed_before failed old new began ended
+    stops_behind lines selected count w spent b =
+        stops_among lines [] selected count w (subst (λ ls. SearchesLines es options (length es) ls began ended) (sym (append-nil lines)) spent) (subst (BeginsWith name known) (sym (append-nil lines)) b)
+
   module _ (known rest : Option Text) (old mid new : Writer) (began ended : Steps) (selected failed_before failed : ℕ) (none_failed : failed ≡ failed_before) where
-    -- a write failed within the rows of these lines
-    pub breaks_in : (lines rows : List Text) → WrittenOf (form options) lines rows → TakesFront old new rows → new.failures ≡ one_more old.failures
-        → SearchesLines es options (length es) lines began ended → BeginsWith name known lines → BreaksSource es options many shown (open_source name known) (OneLeft rest) failed_before failed old new began ended
-    breaks_in lines rows of front counted spent b =
-        let all = of.further (file_of name b.reading) b.more b.named b.has_lines in
+    -- a write failed within the rows of these lines; more lines were searched
+    pub breaks_among : (lines later rows : List Text) → WrittenOf (form options) lines rows → TakesFront old new rows → new.failures ≡ one_more old.failures
+        → SearchesLines es options (length es) (lines ++ later) began ended → BeginsWith name known (lines ++ later) → BreaksSource es options many shown (open_source name known) (OneLeft rest) failed_before failed old new began ended
+    breaks_among lines later rows of front counted spent b =
+        let all = of.further (file_of name b.reading) (later ++ b.more) b.named (b.has_lines ∙ append_assoc lines later b.more) in
         record {
           reading = b.reading;
           is_reading = b.is_reading;
@@ -255,8 +271,29 @@ module _ (es : List Expression) (options : Options) (many shown : Bool) (name : 
           are_rows = all.2;
           wrote = subst (TakesFront old new) (sym all.3) (TakesFront-longer old new rows all.1 front);
           counted = counted;
-          steps = subst (λ ls. SearchesLines es options (length es) ls began ended) (sym b.has_lines) (searched_first_lines es options (length es) lines b.more began ended spent);
+          steps = subst (λ ls. SearchesLines es options (length es) ls began ended) (sym b.has_lines) (searched_first_lines es options (length es) (lines ++ later) b.more began ended spent);
         }
+
+    -- no more lines were searched
+    pub breaks_in : (lines rows : List Text) → WrittenOf (form options) lines rows → TakesFront old new rows → new.failures ≡ one_more old.failures
+        → SearchesLines es options (length es) lines began ended → BeginsWith name known lines → BreaksSource es options many shown (open_source name known) (OneLeft rest) failed_before failed old new began ended
+    breaks_in lines rows of front counted spent b =
+        breaks_among lines [] rows of front counted (subst (λ ls. SearchesLines es options (length es) ls began ended) (sym (append-nil lines)) spent) (subst (BeginsWith name known) (sym (append-nil lines)) b)
+
+    -- a write failed within the rows of lines that were searched at once
+    breaks_lines : IsPlain (form options) → (lines all : List Text) → WritesLines lines old mid selected → SearchesLines es options (length es) (lines ++ all) began ended → BeginsWith name known (lines ++ all)
+        → BreaksLines es options many name (length lines + 1) all mid new → BreaksSource es options many shown (open_source name known) (OneLeft rest) failed_before failed old new began ended
+    breaks_lines plain lines all w spent b broke =
+        let written = writes_lines plain broke.done lines old mid broke.mid selected broke.found w broke.took in
+        let first : List Text = lines ++ broke.done in
+        let at : length lines + 1 + length broke.done ≡ length first + 1 = omega (arith, length-append lines broke.done) in
+        let one = subst (λ n. BreaksLine es options many name n broke.line broke.mid new) at broke.broke in
+        let rows = rows_line es options many name (form options) plain first broke.line written.rows one.rows (plain_written (form options) plain first written.rows written.of) one.are_rows in
+        let same : lines ++ all ≡ (first ++ broke.line ∷ []) ++ broke.more =
+        ap (λ ls. lines ++ ls) broke.parted ∙ sym (append_assoc lines broke.done (broke.line ∷ broke.more)) ∙ sym (append_assoc first (broke.line ∷ []) broke.more) in
+        breaks_among (first ++ broke.line ∷ []) broke.more (written.rows ++ one.rows) (written_plain (form options) plain (first ++ broke.line ∷ []) (written.rows ++ one.rows) rows)
+        (TakesFront-more old broke.mid new written.rows one.rows written.wrote one.wrote) (one.counted ∙ ap one_more written.wrote.none_failed)
+        (subst (λ ls. SearchesLines es options (length es) ls began ended) same spent) (subst (BeginsWith name known) same b)
 
     -- a write failed within the rows that the next line adds
     pub breaks_adding : (lines : List Text) (line : Text) (added : List Text) (w : WritesLines lines old mid selected) → WrittenOf (form options) (lines ++ line ∷ []) (w.rows ++ added)
@@ -286,6 +323,20 @@ goes_on true true asked is both early = absurd (false≢true (sym both))
 goes_on true false asked is both early = absurd (false≢true (is ∙ early))
 goes_on false b asked is both early = refl
 
+-- so are lines that were searched at once
+pub goes_on_with : (found : ℕ) (early asked : Bool) → early ≡ asked → (nat_lt 0 found && early) ≡ false → IsTrue asked → found ≡ 0
+goes_on_with found early asked is both early_is = elim (cases_lt 0 found) [
+  | inl some ↦ absurd (false≢true (sym (goes_on (nat_lt 0 found) early asked is both early_is) ∙ lt-ltb 0 found some))
+  | inr none ↦ omega (arith, none)
+]
+
+-- where it is left, one is found
+pub leaves_with : (found : ℕ) (early : Bool) → (nat_lt 0 found && early) ≡ true → (0 < found) × IsTrue early
+leaves_with found early both = elim (cases_lt 0 found) [
+  | inl some ↦ (some, (let no : (true && early) ≡ true = ap (λ b. b && early) (sym (lt-ltb 0 found some)) ∙ both in no))
+  | inr none ↦ absurd (false≢true (ap (λ b. b && early) (sym (le-ltb 0 found none)) ∙ both))
+]
+
 module _ {R : Type 0} (remaining : R → Option Text) (failures : R → ℕ) (es : List Expression) (options : Options) (many shown : Bool) (name : Text) (reader : R) where
   -- the lines that were handed out were searched, and their rows written; under `-q` and `-l` none
   -- of them is selected
@@ -311,18 +362,6 @@ module _ {R : Type 0} (remaining : R → Option Text) (failures : R → ℕ) (es
   pub begins : (now : Numbered R) (lines : List Text) → HasHanded remaining failures reader now lines → BeginsWith name (remaining reader) lines
   begins now lines h = begins_with remaining failures name reader now.lines lines h.hands h.few
 
-  -- some lines were passed
-  pub searched_passed : IsPlain (form options) → (before now : Numbered R) (old new : Writer) (began ended : Steps) (selected : ℕ) (s : SearchedSoFar before old new began ended selected) → PassesUnselected remaining failures es options reader s.lines now
-      → SearchedSoFar now old new began ended selected
-  searched_passed plain before now old new began ended selected s p = record {
-    lines = s.lines ++ p.passed;
-    handed = p.handed_too;
-    wrote = writes_passed es options many shown name plain p.passed s.lines old new selected s.wrote p.unselected;
-    few = omega (arith, s.few, s.handed.counted, p.handed_too.counted, length-append s.lines p.passed);
-    none_early = s.none_early;
-    steps = searched_first_lines es options (length es) s.lines p.passed began ended s.steps;
-  }
-
   -- some lines were passed where the selected ones are only counted
   pub searched_counted : form options ≡ counts → (before now : Numbered R) (old new : Writer) (began mid ended : Steps) (selected more : ℕ) (s : SearchedSoFar before old new began mid selected) → AddsCounted remaining failures es options reader s.lines now mid ended selected more
       → SearchedSoFar now old new began ended more
@@ -342,10 +381,6 @@ module _ {R : Type 0} (remaining : R → Option Text) (failures : R → ℕ) (es
   pub counted_further : (before now : Numbered R) (lines : List Text) (began ended : Steps) (selected more : ℕ) → HasHanded remaining failures reader before lines → AddsCounted remaining failures es options reader lines now began ended selected more → before.number ≤ now.number
   counted_further before now lines began ended selected more h (count, p, added) = omega (arith, h.counted, p.handed_too.counted, length-append lines p.passed)
 
-  -- the same of lines that are passed unselected
-  pub passed_further : (before now : Numbered R) (lines : List Text) → HasHanded remaining failures reader before lines → PassesUnselected remaining failures es options reader lines now → before.number ≤ now.number
-  passed_further before now lines h p = omega (arith, h.counted, p.handed_too.counted, length-append lines p.passed)
-
   module _ (now : Numbered R) (old mid new : Writer) (began ended : Steps) (selected : ℕ) (s : SearchedSoFar now old mid began ended selected) where
     -- buffered output was sent
     pub searched_sent : TakesAll mid new [] → SearchedSoFar now old new began ended selected
@@ -357,6 +392,54 @@ module _ {R : Type 0} (remaining : R → Option Text) (failures : R → ℕ) (es
     breaks_sending front counted =
         breaks_behind es options many shown name (remaining reader) (remaining now.lines.reader) old mid new began ended selected (failures reader) (failures now.lines.reader) s.handed.hands.none_failed
         s.lines s.wrote s.steps (begins now s.lines s.handed) front counted
+
+  -- lines that are held were searched at once
+  module _ (before now : Numbered R) (old mid : Writer) (began amid : Steps) (selected : ℕ) (s : SearchedSoFar before old mid began amid selected) (all : List Text) (next : HasHanded remaining failures reader now (s.lines ++ all)) where
+    first_number : before.number + 1 ≡ length s.lines + 1
+    first_number = ap (λ n. n + 1) (sym s.handed.counted)
+
+    -- they are numbered on
+    pub numbers_on : now.number ≡ before.number + length all
+    numbers_on = sym next.counted ∙ length-append s.lines all ∙ ap (λ n. n + length all) s.handed.counted
+
+    pub numbers_further : before.number ≤ now.number
+    numbers_further = omega (arith, numbers_on)
+
+    module _ (new : Writer) (ended : Steps) (plain : IsPlain (form options)) (spent : SearchesLines es options (length es) all amid ended) where
+      all_spent : SearchesLines es options (length es) (s.lines ++ all) began ended
+      all_spent = searched_more_lines es options (length es) s.lines all began amid ended s.steps spent
+
+      module _ (found more : ℕ) (took : TakesLines es options many name (before.number + 1) all mid new found) (is : more ≡ min (selected + found) (2 ^ 64 - 1)) where
+        sum : selected + found ≡ more
+        sum = omega (arith, is, s.few, numbers_on, next.counted, next.few, found_within es options many name (before.number + 1) all mid new found took)
+
+        all_written : WritesLines es options many shown name (s.lines ++ all) old new more
+        all_written = subst (WritesLines es options many shown name (s.lines ++ all) old new) sum (writes_lines es options many shown name plain all s.lines old mid new selected found s.wrote (subst (λ n. TakesLines es options many name n all mid new found) first_number took))
+
+        -- their rows were written
+        pub searched_among : (IsTrue (leaves_early options) → found ≡ 0) → SearchedSoFar now old new began ended more
+        searched_among none = record {
+          lines = s.lines ++ all;
+          handed = next;
+          wrote = all_written;
+          few = omega (arith, sum, s.few, numbers_on, found_within es options many name (before.number + 1) all mid new found took);
+          none_early = λ early. sym sum ∙ (omega (arith, s.none_early early, none early));
+          steps = all_spent;
+        }
+
+        -- one is selected, and the source is left there
+        pub leaves_among : 0 < found → IsTrue (leaves_early options)
+            → SearchesSource es options many shown (open_source name (remaining reader)) (OneLeft (remaining now.lines.reader)) (failures reader) (failures now.lines.reader) old new began ended Left more
+        leaves_among some early =
+            searches_left es options many shown name (remaining reader) (remaining now.lines.reader) old new began ended (failures reader) (failures now.lines.reader) (s.lines ++ all) more all_written all_spent
+            (begins now (s.lines ++ all) next) next.hands.none_failed early (omega (arith, some, sum))
+
+      -- a write failed in their rows
+      pub breaks_in_lines : BreaksLines es options many name (before.number + 1) all mid new
+          → BreaksSource es options many shown (open_source name (remaining reader)) (OneLeft (remaining now.lines.reader)) (failures reader) (failures now.lines.reader) old new began ended
+      breaks_in_lines broke =
+          breaks_lines es options many shown name (remaining reader) (remaining now.lines.reader) old mid new began ended selected (failures reader) (failures now.lines.reader) next.hands.none_failed plain
+          s.lines all s.wrote all_spent (begins now (s.lines ++ all) next) (subst (λ n. BreaksLines es options many name n all mid new) first_number broke)
 
   -- one more line was handed out
   module _ (before now : Numbered R) (old mid : Writer) (began amid : Steps) (selected : ℕ) (s : SearchedSoFar before old mid began amid selected) (next : HasHanded remaining failures reader now (s.lines ++ now.lines.line ∷ [])) where

@@ -17,15 +17,15 @@ use Rattle.grep_core.specs.Working.Progress.{with_waiting}
 abbrev pub AreUnselected : List Expression → Options → List Text → Type 0
 AreUnselected es options lines = All (λ line. ¬ Selected es options line) lines
 
+-- lines wait where none is shown after the last selected one, and the last of them are held
+abbrev pub Waits : List Text → Progress → Progress → LastLines → LastLines → Type 0
+Waits passed old new behind held =
+    ((passed ≡ []) × (new ≡ old) × (held ≡ behind)) ⊎
+    ((old.left ≡ 0) × (new ≡ with_waiting (length passed) old)
+    × (held ≡ with_lines behind passed))
+
 module _ {R : Type 0} (remaining : R → Option Text) (failures : R → ℕ) (es : List Expression)
     (options : Options) where
-  -- after the lines that were handed out some were passed, as if they had been handed out, none of
-  -- which is selected
-  pub record PassesUnselected (reader : R) (handed : List Text) (now : Numbered R) : Type 0 where
-    pub passed : List Text
-    pub unselected : AreUnselected es options passed
-    pub handed_too : HasHanded remaining failures reader now (handed ++ passed)
-
   -- after the lines that were handed out some were passed, as if they had been handed out; `count`
   -- of them are selected, and the steps are no more than their search costs
   pub record PassesCounted (reader : R) (handed : List Text) (now : Numbered R)
@@ -40,11 +40,3 @@ module _ {R : Type 0} (remaining : R → Option Text) (failures : R → ℕ) (es
   AddsCounted reader handed now began ended old new =
       (count : ℕ) × PassesCounted reader handed now began ended count
       × (new ≡ min (old + count) (2 ^ 64 - 1))
-
-  -- they were passed where none is shown after the last selected one, and the last of them are held
-  pub record PassesWaiting (reader : R) (handed : List Text) (now : Numbered R)
-      (old new : Progress) (behind held : LastLines) : Type 0 where
-    pub passes : PassesUnselected reader handed now
-    pub waits : ((passes.passed ≡ []) × (new ≡ old) × (held ≡ behind)) ⊎
-        ((old.left ≡ 0) × (new ≡ with_waiting (length passes.passed) old)
-        × (held ≡ with_lines behind passes.passed))

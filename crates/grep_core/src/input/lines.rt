@@ -113,6 +113,7 @@ impl<R: CountedRead> Lines<R> {
     pub fn ready(&self) -> &[u8]
         ensures block { IsBlock result.now }
         ensures ahead { (rest : Text) × (self.now.ahead ≡ result.now ++ rest) }
+        ensures none_at_end { self.now.stage ≡ Stage.Ended → self.now.ahead ≡ [] }
     {
         self.window.ready()
     }

@@ -1,5 +1,5 @@
 // The lines of a reader, of which no more are handed out than can be numbered.
-ghost use Rattle.std.specs.Prelude.{◌≡◌, ◌+◌, ◌≤◌, [], ◌++◌, IfOk, IfErr, IfSome, length, take};
+ghost use Rattle.std.specs.Prelude.{◌≡◌, ◌+◌, ◌≤◌, [], ◌++◌, IfOk, IfErr, IfSome, IsTrue, length, take};
 ghost use Rattle.re_syntax.specs.Bytes.{Text};
 ghost use Rattle.re_syntax.specs.Lines.{lines_of};
 ghost use Rattle.re_search.specs.Working.Blocks.{IsBlock};
@@ -71,6 +71,7 @@ impl<R: CountedRead> NumberedLines<R> {
     pub fn ready(&self) -> &[u8]
         ensures block { IsBlock result.now }
         ensures ahead { (rest : Text) × (self.now.lines.ahead ≡ result.now ++ rest) }
+        ensures none_at_end { self.now.lines.stage ≡ Stage.Ended → self.now.lines.ahead ≡ [] }
     {
         self.lines.ready()
     }
@@ -86,6 +87,14 @@ impl<R: CountedRead> NumberedLines<R> {
             return None;
         }
         Some(count)
+    }
+
+    /// Whether that many lines more can still be numbered.
+    pub fn may_number(&self, count: usize) -> bool
+        ensures room { IsTrue result → self.now.number + count ≤ most_lines }
+        ensures numbered { self.now.number ≤ most_lines }
+    {
+        count as u64 <= u64::MAX - self.number
     }
 
     /// Passes the next `count` lines, which have `bytes` bytes, without handing them out.

@@ -1,34 +1,34 @@
 //! The search of one source of which lines around the selected ones are shown.
-ghost use Rattle.std.specs.Prelude.{◌≡◌, ◌-◌, ◌≤◌, ℕ, List, [], ◌∷◌, ◌++◌, length, map, Err, IfOk, IfErr};
-ghost use Rattle.std.specs.Prelude.{IfSome, if◌then◌else◌};
-ghost use Rattle.re_syntax.specs.Bytes.{Text};
-ghost use Rattle.re_search.specs.Working.Filters.{AreNeeded};
-ghost use Rattle.re_search.specs.Searching.{AllAnswer, SameMatchers};
+ghost use Rattle.std.specs.Prelude.{◌≡◌, ◌⊎◌, ◌-◌, ◌≤◌, ℕ, [], ◌∷◌, ◌++◌, length, Err, IfOk};
+ghost use Rattle.std.specs.Prelude.{if◌then◌else◌};
+ghost use Rattle.re_syntax.specs.Lines.{lines_of};
+ghost use Rattle.re_search.specs.Working.Asking.{SameSearchers, asks_whole, expressions_by};
+ghost use Rattle.re_search.specs.Working.Blocks.{IsBlock};
 ghost use Rattle.grep_core.specs.Around.{group_separator};
 ghost use Rattle.grep_core.specs.Row.{output_line};
 ghost use Rattle.grep_core.specs.Output.{form, around, written};
 ghost use Rattle.grep_core.specs.Reading.{open_source, OneLeft};
-ghost use Rattle.grep_core.specs.Run.{writer};
+ghost use Rattle.grep_core.specs.Run.{writer, TakesAll};
 ghost use Rattle.grep_core.specs.Written.{Writes};
-ghost use Rattle.grep_core.specs.Working.Numbered.{HasHanded};
-ghost use Rattle.grep_core.specs.Working.Passed.{PassesWaiting};
+ghost use Rattle.grep_core.specs.Working.Passed.{Waits};
 ghost use Rattle.grep_core.specs.Working.Progress.{rows_around, row_by, rows_at, last_of};
+ghost use Rattle.grep_core.specs.Working.Progress.{next_shown};
+ghost use Rattle.grep_core.specs.Working.ShownLines.{ShowsLine, BreaksShown};
 ghost use Rattle.grep_core.specs.Working.Searched.{SearchesSource, BreaksSource, StopsSource};
 
 use crate::devices::counted::{CountedRead, CountedWrite, WriteFault};
 use crate::input::lines::{ReadFault, Stage};
 use crate::input::numbered::NumberedLines;
-use crate::options::{Context, Options};
+use crate::options::Context;
 use crate::output::around::{Progress, Shown};
 use crate::output::rows::write_separator;
 use crate::output::wanted::Wanted;
 use crate::search::behind::Behind;
 use crate::search::file::{FileEnd, FileFound, SearchFault, count_found};
-use crate::search::looks::Looks;
-use crate::search::matching::is_selected_behind;
-use crate::search::passing::unselected_ahead;
+use crate::search::held::next_held;
+use crate::search::matching::is_selected;
 use crate::search::sending::send_before_read;
-use re_search::{Filter, LineMatch, Meter, look_cost};
+use re_search::{LineMatch, Meter, Searchers};
 use std::alloc::AllocError;
 
 // Writes the separator, where a group begins after another.
@@ -118,40 +118,56 @@ fn keep(behind: &mut Behind, shown: bool, line: &[u8]) -> Result<(), AllocError>
     behind.push(line)
 }
 
-// Passes the next lines, as `pass_unselected` does, where none of them is shown; the last of them
-// are held.
-fn pass_waiting<R: CountedRead, M: LineMatch>(
-    lines: &mut NumberedLines<R>,
-    matchers: &[M],
-    filter: Option<&Filter>,
-    options: &Options,
-    looks: &mut Looks,
+// Lets whole lines wait that are not shown after a selected one; the last of them are held.
+fn wait(
+    block: &[u8],
+    count: u64,
     progress: &mut Progress,
     behind: &mut Behind,
-) -> Result<(), SearchFault>
-    requires whole { AllAnswer options.now.line_regexp (map M.whole matchers.now) }
-    requires needed { IfSome filter (λ f. AreNeeded f.now (map M.expression matchers.now)) }
+) -> Result<(), AllocError>
+    requires block { IsBlock block.now }
+    requires counted { count ≡ length (lines_of block.now) }
     requires few { progress.old.waiting ≤ progress.old.context.before }
-    ensures ok { IfOk result (λ _. (reader : R) (handed : List Text)
-        → HasHanded R.remaining R.failures reader lines.old handed
-        → PassesWaiting R.remaining R.failures (map M.expression matchers.now) options.now
-        reader handed lines.new progress.old progress.new behind.old behind.new) }
-    ensures err { IfErr result (λ fault. (fault ≡ SearchFault.Memory lines.old.number)
-        × (lines.new ≡ lines.old)) }
-    ensures same_loan { R.loan lines.new.lines.reader ≡ R.loan lines.old.lines.reader }
+    requires due { (count ≡ 0) ⊎ (progress.old.left ≡ 0) }
+    ensures { IfOk result (λ _. Waits (lines_of block.now) progress.old progress.new behind.old
+        behind.new) }
 {
-    if progress.left > 0 {
+    if count == 0 {
         return Ok(());
     }
-    let Some((block, count)) = unselected_ahead(lines, matchers, filter, options, looks) else {
-        return Ok(());
-    };
-    let bytes = block.len();
-    if behind.push_block(block).is_err() {
-        return Err(SearchFault::Memory(lines.number()));
-    }
-    lines.pass(bytes, count);
+    behind.push_block(block)?;
     progress.wait(count);
+    Ok(())
+}
+
+// Writes what is shown at a line, and keeps the line if it is not shown.
+fn show_line<W: CountedWrite>(
+    wanted: &Wanted,
+    progress: &mut Progress,
+    behind: &mut Behind,
+    found: bool,
+    number: u64,
+    line: &[u8],
+    out: &mut W,
+) -> Result<(), SearchFault>
+    requires few { progress.old.waiting ≤ progress.old.context.before }
+    requires held { length behind.old.lines ≤ number }
+    ensures ok { IfOk result (λ _. ShowsLine wanted.now.options wanted.now.many
+        wanted.now.name.now found number line.now progress.old progress.new behind.old behind.new
+        (writer W.contents W.failures out.old) (writer W.contents W.failures out.new)) }
+    ensures write { result ≡ Err SearchFault.Write → BreaksShown wanted.now.options
+        wanted.now.many wanted.now.name.now found number line.now progress.old behind.old
+        (writer W.contents W.failures out.old) (writer W.contents W.failures out.new) }
+    ensures memory { (count : ℕ) → result ≡ Err (SearchFault.Memory count) → (number ≡ count)
+        × TakesAll (writer W.contents W.failures out.old) (writer W.contents W.failures out.new)
+        (rows_at wanted.now.options wanted.now.many wanted.now.name.now found
+        (next_shown progress.old found) behind.old.lines number line.now) }
+{
+    let at = progress.step(found);
+    write_shown(wanted, behind, at, found, number, line, out)?;
+    if keep(behind, at.itself, line).is_err() {
+        return Err(SearchFault::Memory(number));
+    }
     Ok(())
 }
 
@@ -161,12 +177,11 @@ fn pass_waiting<R: CountedRead, M: LineMatch>(
 /// `shown` says whether a line of an earlier source is selected. `behind` is for the lines that may
 /// be shown before the next selected one, and holds none yet.
 pub fn search_around<R: CountedRead, M: LineMatch, W: CountedWrite>(
-    filter: Option<&Filter>,
     context: Context,
     shown: bool,
     behind: &mut Behind,
     lines: &mut NumberedLines<R>,
-    matchers: &mut [M],
+    searchers: &mut Searchers<'_, '_, M>,
     wanted: &Wanted,
     out: &mut W,
     meter: &mut Meter,
@@ -175,56 +190,55 @@ pub fn search_around<R: CountedRead, M: LineMatch, W: CountedWrite>(
     requires still_open { lines.old.lines.stage ≡ Stage.Open }
     requires none_numbered { lines.old.number ≡ 0 }
     requires is_asked { form wanted.now.options ≡ around context }
-    requires whole { AllAnswer wanted.now.options.line_regexp (map M.whole matchers.old) }
-    requires needed { IfSome filter (λ f. AreNeeded f.now (map M.expression matchers.old)) }
+    requires whole { asks_whole searchers.old ≡ wanted.now.options.line_regexp }
     requires none_behind { behind.old ≡ record { limit = context.before; lines = [] } }
     ensures ok { IfOk result
-        (λ found. SearchesSource (map M.expression matchers.old) wanted.now.options wanted.now.many
+        (λ found. SearchesSource (expressions_by M.expression searchers.old) wanted.now.options wanted.now.many
         shown (open_source wanted.now.name.now (R.remaining lines.old.lines.reader))
         (OneLeft (R.remaining lines.new.lines.reader))
         (R.failures lines.old.lines.reader) (R.failures lines.new.lines.reader)
         (writer W.contents W.failures out.old) (writer W.contents W.failures out.new)
         meter.old meter.new found.end found.selected) }
     ensures write { result ≡ Err SearchFault.Write →
-        BreaksSource (map M.expression matchers.old) wanted.now.options wanted.now.many
+        BreaksSource (expressions_by M.expression searchers.old) wanted.now.options wanted.now.many
         shown (open_source wanted.now.name.now (R.remaining lines.old.lines.reader))
         (OneLeft (R.remaining lines.new.lines.reader))
         (R.failures lines.old.lines.reader) (R.failures lines.new.lines.reader)
         (writer W.contents W.failures out.old) (writer W.contents W.failures out.new) meter.old
         meter.new }
     ensures memory { (count : ℕ) → result ≡ Err (SearchFault.Memory count) →
-        StopsSource (map M.expression matchers.old) wanted.now.options wanted.now.many
+        StopsSource (expressions_by M.expression searchers.old) wanted.now.options wanted.now.many
         shown (open_source wanted.now.name.now (R.remaining lines.old.lines.reader))
         (OneLeft (R.remaining lines.new.lines.reader)) count (R.failures lines.old.lines.reader)
         (R.failures lines.new.lines.reader)
         (writer W.contents W.failures out.old) (writer W.contents W.failures out.new) meter.old
         meter.new }
-    ensures same_matchers { SameMatchers M.expression M.whole matchers.old matchers.new }
+    ensures same { SameSearchers M.expression M.whole searchers.old searchers.new }
 {
     let mut progress = Progress::new(context, shown);
-    let mut looks = Looks::new(look_cost(matchers, filter));
     let mut selected: u64 = 0;
-    loop {
-        pass_waiting(
-            lines,
-            matchers,
-            filter,
-            &wanted.options,
-            &mut looks,
-            &mut progress,
-            behind,
-        )?;
+    'lines: loop {
+        let asked = (progress.left == 0) & !wanted.options.invert_match;
+        let stretch = next_held(lines, searchers, asked, meter);
+        let (bytes, count) = (stretch.bytes, stretch.count);
+        if wait(stretch.before, stretch.before_count, &mut progress, behind).is_err() {
+            return Err(SearchFault::Memory(lines.number()));
+        }
+        if let Some(line) = stretch.line {
+            let number = lines.number() + count;
+            show_line(wanted, &mut progress, behind, true, number, line, out)?;
+            selected = count_found(selected, true);
+            lines.pass(bytes, count);
+            continue 'lines;
+        }
+        lines.pass(bytes, count);
         send_before_read(lines, out)?;
         match lines.next_line() {
             Ok(true) => {
-                let count = lines.number();
+                let number = lines.number();
                 let line = lines.line();
-                let found = is_selected_behind(matchers, filter, wanted.options, line, meter);
-                let at = progress.step(found);
-                write_shown(wanted, behind, at, found, count, line, out)?;
-                if keep(behind, at.itself, line).is_err() {
-                    return Err(SearchFault::Memory(count));
-                }
+                let found = is_selected(searchers, wanted.options, line, meter);
+                show_line(wanted, &mut progress, behind, found, number, line, out)?;
                 selected = count_found(selected, found);
             }
             Ok(false) => {

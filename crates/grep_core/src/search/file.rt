@@ -1,8 +1,7 @@
 //! The search of one source.
-ghost use Rattle.std.specs.Prelude.{◌≡◌, ℕ, ◌+◌, ◌-◌, ◌^◌, ◌<◌, [], nat_lt, map, length, Err, IfOk};
-ghost use Rattle.std.specs.Prelude.{IfSome, false, if◌then◌else◌};
-ghost use Rattle.re_search.specs.Working.Filters.{AreNeeded};
-ghost use Rattle.re_search.specs.Searching.{AllAnswer, SameMatchers};
+ghost use Rattle.std.specs.Prelude.{◌≡◌, ℕ, ◌+◌, ◌-◌, ◌^◌, ◌<◌, [], nat_lt, length, Err, IfOk};
+ghost use Rattle.std.specs.Prelude.{false, if◌then◌else◌};
+ghost use Rattle.re_search.specs.Working.Asking.{SameSearchers, asks_whole, expressions_by};
 ghost use Rattle.grep_core.specs.Output.{form};
 ghost use Rattle.grep_core.specs.Reading.{open_source, OneLeft};
 ghost use Rattle.grep_core.specs.Run.{writer};
@@ -19,12 +18,11 @@ use crate::output::wanted::Wanted;
 use crate::search::around::search_around;
 use crate::search::behind::Behind;
 use crate::search::counting::count_lines;
+use crate::search::held::{next_held, write_stretch};
 use crate::search::line::search_line;
-use crate::search::looks::Looks;
-use crate::search::passing::pass_unselected;
 use crate::search::sending::send_before_read;
 use crate::search::setting::Setting;
-use re_search::{Filter, LineMatch, Meter, look_cost};
+use re_search::{LineMatch, Meter, Searchers};
 
 /// How the search of a file ended.
 #[derive(Clone, Copy, PartialEq, Eq, Debug, Drop)]
@@ -114,8 +112,7 @@ pub fn count_found(selected: u64, found: bool) -> u64
 /// under `-q` and `-l` stops at the first. Buffered output is sent before a read, which may wait.
 fn search_lines<R: CountedRead, M: LineMatch, W: CountedWrite>(
     lines: &mut NumberedLines<R>,
-    matchers: &mut [M],
-    filter: Option<&Filter>,
+    searchers: &mut Searchers<'_, '_, M>,
     wanted: &Wanted,
     out: &mut W,
     meter: &mut Meter,
@@ -124,42 +121,51 @@ fn search_lines<R: CountedRead, M: LineMatch, W: CountedWrite>(
     requires still_open { lines.old.lines.stage ≡ Stage.Open }
     requires none_numbered { lines.old.number ≡ 0 }
     requires plain { IsPlain (form wanted.now.options) }
-    requires whole { AllAnswer wanted.now.options.line_regexp (map M.whole matchers.old) }
-    requires needed { IfSome filter (λ f. AreNeeded f.now (map M.expression matchers.old)) }
+    requires whole { asks_whole searchers.old ≡ wanted.now.options.line_regexp }
     ensures ok { IfOk result
-        (λ found. SearchesSource (map M.expression matchers.old) wanted.now.options wanted.now.many
+        (λ found. SearchesSource (expressions_by M.expression searchers.old) wanted.now.options wanted.now.many
         false (open_source wanted.now.name.now (R.remaining lines.old.lines.reader))
         (OneLeft (R.remaining lines.new.lines.reader))
         (R.failures lines.old.lines.reader) (R.failures lines.new.lines.reader)
         (writer W.contents W.failures out.old) (writer W.contents W.failures out.new)
         meter.old meter.new found.end found.selected) }
     ensures write { result ≡ Err SearchFault.Write →
-        BreaksSource (map M.expression matchers.old) wanted.now.options wanted.now.many false
+        BreaksSource (expressions_by M.expression searchers.old) wanted.now.options wanted.now.many false
         (open_source wanted.now.name.now (R.remaining lines.old.lines.reader))
         (OneLeft (R.remaining lines.new.lines.reader))
         (R.failures lines.old.lines.reader) (R.failures lines.new.lines.reader)
         (writer W.contents W.failures out.old) (writer W.contents W.failures out.new) meter.old
         meter.new }
     ensures memory { (count : ℕ) → result ≡ Err (SearchFault.Memory count) →
-        StopsSource (map M.expression matchers.old)
+        StopsSource (expressions_by M.expression searchers.old)
         wanted.now.options wanted.now.many false
         (open_source wanted.now.name.now (R.remaining lines.old.lines.reader))
         (OneLeft (R.remaining lines.new.lines.reader)) count (R.failures lines.old.lines.reader)
         (R.failures lines.new.lines.reader)
         (writer W.contents W.failures out.old) (writer W.contents W.failures out.new) meter.old
         meter.new }
-    ensures same_matchers { SameMatchers M.expression M.whole matchers.old matchers.new }
+    ensures same { SameSearchers M.expression M.whole searchers.old searchers.new }
 {
     let early = wanted.options.leaves_early();
-    let mut looks = Looks::new(look_cost(matchers, filter));
     let mut selected: u64 = 0;
-    loop {
-        pass_unselected(lines, matchers, filter, &wanted.options, &mut looks);
+    'lines: loop {
+        let stretch = next_held(lines, searchers, !wanted.options.invert_match, meter);
+        let found = write_stretch(&stretch, searchers, wanted, lines.number(), out, meter)?;
+        let (bytes, count, goes_on) = (stretch.bytes, stretch.count, stretch.line.is_some());
+        lines.pass(bytes, count);
+        selected = selected.saturating_add(found);
+        if (found > 0) & early {
+            let end = FileEnd::Left;
+            return Ok(FileFound { end, selected });
+        }
+        if goes_on {
+            continue 'lines;
+        }
         send_before_read(lines, out)?;
         match lines.next_line() {
             Ok(true) => {
                 let count = lines.number();
-                let found = search_line(matchers, filter, wanted, count, lines.line(), out, meter)?;
+                let found = search_line(searchers, wanted, count, lines.line(), out, meter)?;
                 selected = count_found(selected, found);
                 if found & early {
                     let end = FileEnd::Left;
@@ -183,7 +189,7 @@ fn search_lines<R: CountedRead, M: LineMatch, W: CountedWrite>(
 fn search_opened<R: CountedRead, M: LineMatch, W: CountedWrite>(
     setting: &Setting,
     lines: &mut NumberedLines<R>,
-    matchers: &mut [M],
+    searchers: &mut Searchers<'_, '_, M>,
     wanted: &Wanted,
     out: &mut W,
     meter: &mut Meter,
@@ -191,47 +197,43 @@ fn search_opened<R: CountedRead, M: LineMatch, W: CountedWrite>(
     requires none_ahead { lines.old.lines.ahead ≡ [] }
     requires still_open { lines.old.lines.stage ≡ Stage.Open }
     requires none_numbered { lines.old.number ≡ 0 }
-    requires whole { AllAnswer wanted.now.options.line_regexp (map M.whole matchers.old) }
-    requires needed { IfSome setting.now.asked.filter
-        (λ f. AreNeeded f.now (map M.expression matchers.old)) }
+    requires whole { asks_whole searchers.old ≡ wanted.now.options.line_regexp }
     ensures ok { IfOk result
-        (λ found. SearchesSource (map M.expression matchers.old) wanted.now.options wanted.now.many
+        (λ found. SearchesSource (expressions_by M.expression searchers.old) wanted.now.options wanted.now.many
         setting.now.shown (open_source wanted.now.name.now (R.remaining lines.old.lines.reader))
         (OneLeft (R.remaining lines.new.lines.reader))
         (R.failures lines.old.lines.reader) (R.failures lines.new.lines.reader)
         (writer W.contents W.failures out.old) (writer W.contents W.failures out.new)
         meter.old meter.new found.end found.selected) }
     ensures write { result ≡ Err SearchFault.Write →
-        BreaksSource (map M.expression matchers.old) wanted.now.options wanted.now.many
+        BreaksSource (expressions_by M.expression searchers.old) wanted.now.options wanted.now.many
         setting.now.shown (open_source wanted.now.name.now (R.remaining lines.old.lines.reader))
         (OneLeft (R.remaining lines.new.lines.reader))
         (R.failures lines.old.lines.reader) (R.failures lines.new.lines.reader)
         (writer W.contents W.failures out.old) (writer W.contents W.failures out.new) meter.old
         meter.new }
     ensures memory { (count : ℕ) → result ≡ Err (SearchFault.Memory count) →
-        StopsSource (map M.expression matchers.old) wanted.now.options wanted.now.many
+        StopsSource (expressions_by M.expression searchers.old) wanted.now.options wanted.now.many
         setting.now.shown (open_source wanted.now.name.now (R.remaining lines.old.lines.reader))
         (OneLeft (R.remaining lines.new.lines.reader)) count (R.failures lines.old.lines.reader)
         (R.failures lines.new.lines.reader)
         (writer W.contents W.failures out.old) (writer W.contents W.failures out.new) meter.old
         meter.new }
-    ensures same_matchers { SameMatchers M.expression M.whole matchers.old matchers.new }
+    ensures same { SameSearchers M.expression M.whole searchers.old searchers.new }
 {
-    let asked = &setting.asked;
     if wanted.options.only_counts() {
-        return count_lines(lines, matchers, asked.filter, wanted, out, meter);
+        return count_lines(lines, searchers, wanted, out, meter);
     }
     let Some(context) = wanted.options.shown_around() else {
-        return search_lines(lines, matchers, asked.filter, wanted, out, meter);
+        return search_lines(lines, searchers, wanted, out, meter);
     };
-    let mut behind = Behind::new(asked.alloc, context.before);
+    let mut behind = Behind::new(setting.asked.alloc, context.before);
     search_around(
-        asked.filter,
         context,
         setting.shown,
         &mut behind,
         lines,
-        matchers,
+        searchers,
         wanted,
         out,
         meter,
@@ -243,26 +245,24 @@ pub fn search_file<S: Sources, M: LineMatch, W: CountedWrite>(
     setting: &Setting,
     sources: &mut S,
     k: usize,
-    matchers: &mut [M],
+    searchers: &mut Searchers<'_, '_, M>,
     out: &mut W,
     meter: &mut Meter,
 ) -> Result<FileFound, SearchFault>
     requires place { k < length (S.listed sources.old) }
     requires in_order { S.stands_at sources.old k }
-    requires whole { AllAnswer setting.now.asked.options.line_regexp (map M.whole matchers.old) }
-    requires needed { IfSome setting.now.asked.filter
-        (λ f. AreNeeded f.now (map M.expression matchers.old)) }
+    requires whole { asks_whole searchers.old ≡ setting.now.asked.options.line_regexp }
     ensures listed { S.listed sources.new ≡ S.listed sources.old }
     ensures next { S.stands_at sources.new (k + 1) }
     ensures same_loan { S.loan sources.new ≡ S.loan sources.old }
-    ensures ok { IfOk result (λ found. SearchesSource (map M.expression matchers.old)
+    ensures ok { IfOk result (λ found. SearchesSource (expressions_by M.expression searchers.old)
         setting.now.asked.options setting.now.many setting.now.shown
         (source_at (S.listed sources.old) k)
         (GivesBack S.given_back sources.old sources.new)
         (S.failures sources.old) (S.failures sources.new)
         (writer W.contents W.failures out.old) (writer W.contents W.failures out.new)
         meter.old meter.new found.end found.selected) }
-    ensures write { result ≡ Err SearchFault.Write → BreaksSource (map M.expression matchers.old)
+    ensures write { result ≡ Err SearchFault.Write → BreaksSource (expressions_by M.expression searchers.old)
         setting.now.asked.options setting.now.many setting.now.shown
         (source_at (S.listed sources.old) k)
         (GivesBack S.given_back sources.old sources.new)
@@ -270,14 +270,14 @@ pub fn search_file<S: Sources, M: LineMatch, W: CountedWrite>(
         (writer W.contents W.failures out.old) (writer W.contents W.failures out.new)
         meter.old meter.new }
     ensures memory { (count : ℕ) → result ≡ Err (SearchFault.Memory count)
-        → StopsSource (map M.expression matchers.old)
+        → StopsSource (expressions_by M.expression searchers.old)
         setting.now.asked.options setting.now.many setting.now.shown
         (source_at (S.listed sources.old) k)
         (GivesBack S.given_back sources.old sources.new) count
         (S.failures sources.old) (S.failures sources.new)
         (writer W.contents W.failures out.old) (writer W.contents W.failures out.new)
         meter.old meter.new }
-    ensures same_matchers { SameMatchers M.expression M.whole matchers.old matchers.new }
+    ensures same { SameSearchers M.expression M.whole searchers.old searchers.new }
 {
     let Some(reader) = sources.open(k) else {
         let end = FileEnd::Missing;
@@ -295,7 +295,7 @@ pub fn search_file<S: Sources, M: LineMatch, W: CountedWrite>(
         many: setting.many,
         name: sources.name(k),
     };
-    let found = search_opened(setting, &mut lines, matchers, &wanted, out, meter);
+    let found = search_opened(setting, &mut lines, searchers, &wanted, out, meter);
     sources.close(lines.into_reader());
     found
 }

@@ -1,8 +1,6 @@
 //! One line: whether it is selected, and what is written for it.
-ghost use Rattle.std.specs.Prelude.{◌≡◌, length, map, IfOk, IfSome, OnErr};
-ghost use Rattle.re_search.specs.Working.Filters.{AreNeeded};
-ghost use Rattle.re_search.specs.Searching.{AllAnswer, SameMatchers};
-ghost use Rattle.grep_core.specs.Files.{Selected};
+ghost use Rattle.std.specs.Prelude.{◌≡◌, length, IfOk, OnErr};
+ghost use Rattle.re_search.specs.Working.Asking.{SameSearchers, asks_whole, expressions_by};
 ghost use Rattle.grep_core.specs.Output.{form, parts};
 ghost use Rattle.grep_core.specs.Run.{writer};
 ghost use Rattle.grep_core.specs.Cost.{AsksParts, SearchesLine};
@@ -12,34 +10,34 @@ ghost use Rattle.grep_core.specs.Working.OneLine.{BreaksLine};
 use crate::devices::counted::{CountedWrite, WriteFault};
 use crate::options::Form;
 use crate::output::wanted::Wanted;
-use crate::search::matching::{is_selected_behind, next_part};
-use re_search::{Filter, LineMatch, Meter};
+use crate::search::matching::is_selected;
+use re_search::{LineMatch, Meter, Searchers};
 
 /// Writes the parts of a line, each after the line's head.
 fn write_parts<M: LineMatch, W: CountedWrite>(
-    matchers: &mut [M],
+    searchers: &mut Searchers<'_, '_, M>,
     wanted: &Wanted,
     number: u64,
     line: &[u8],
     out: &mut W,
     meter: &mut Meter,
 ) -> Result<(), WriteFault>
-    requires whole { AllAnswer wanted.now.options.line_regexp (map M.whole matchers.old) }
+    requires whole { asks_whole searchers.old ≡ wanted.now.options.line_regexp }
     requires asked { form wanted.now.options ≡ parts }
     ensures ok { IfOk result
-        (λ _. WritesSelected (map M.expression matchers.old) wanted.now.options wanted.now.many
+        (λ _. WritesSelected (expressions_by M.expression searchers.old) wanted.now.options wanted.now.many
         wanted.now.name.now number line.now (writer W.contents W.failures out.old)
         (writer W.contents W.failures out.new)) }
     ensures err { OnErr result
-        (BreaksSelected (map M.expression matchers.old) wanted.now.options wanted.now.many
+        (BreaksSelected (expressions_by M.expression searchers.old) wanted.now.options wanted.now.many
         wanted.now.name.now number line.now (writer W.contents W.failures out.old)
         (writer W.contents W.failures out.new)) }
-    ensures same_matchers { SameMatchers M.expression M.whole matchers.old matchers.new }
-    ensures steps { AsksParts (map M.expression matchers.old) wanted.now.options
-        (length matchers.old) line.now meter.old meter.new }
+    ensures same { SameSearchers M.expression M.whole searchers.old searchers.new }
+    ensures steps { AsksParts (expressions_by M.expression searchers.old) wanted.now.options
+        (length (expressions_by M.expression searchers.old)) line.now meter.old meter.new }
 {
     let mut from = 0;
-    while let Some(part) = next_part(matchers, wanted.options, line, from, meter) {
+    while let Some(part) = searchers.part(line, from, meter) {
         wanted.write_part(number, line, part, out, b"")?;
         from = part.end;
     }
@@ -47,30 +45,30 @@ fn write_parts<M: LineMatch, W: CountedWrite>(
 }
 
 /// Writes the rows of a selected line, by what the options ask for.
-fn write_selected<M: LineMatch, W: CountedWrite>(
-    matchers: &mut [M],
+pub fn write_selected<M: LineMatch, W: CountedWrite>(
+    searchers: &mut Searchers<'_, '_, M>,
     wanted: &Wanted,
     number: u64,
     line: &[u8],
     out: &mut W,
     meter: &mut Meter,
 ) -> Result<(), WriteFault>
-    requires { AllAnswer wanted.now.options.line_regexp (map M.whole matchers.old) }
+    requires { asks_whole searchers.old ≡ wanted.now.options.line_regexp }
     ensures ok { IfOk result
-        (λ _. WritesSelected (map M.expression matchers.old) wanted.now.options wanted.now.many
+        (λ _. WritesSelected (expressions_by M.expression searchers.old) wanted.now.options wanted.now.many
         wanted.now.name.now number line.now (writer W.contents W.failures out.old)
         (writer W.contents W.failures out.new)) }
     ensures err { OnErr result
-        (BreaksSelected (map M.expression matchers.old) wanted.now.options wanted.now.many
+        (BreaksSelected (expressions_by M.expression searchers.old) wanted.now.options wanted.now.many
         wanted.now.name.now number line.now (writer W.contents W.failures out.old)
         (writer W.contents W.failures out.new)) }
-    ensures same_matchers { SameMatchers M.expression M.whole matchers.old matchers.new }
-    ensures steps { AsksParts (map M.expression matchers.old) wanted.now.options
-        (length matchers.old) line.now meter.old meter.new }
+    ensures same { SameSearchers M.expression M.whole searchers.old searchers.new }
+    ensures steps { AsksParts (expressions_by M.expression searchers.old) wanted.now.options
+        (length (expressions_by M.expression searchers.old)) line.now meter.old meter.new }
 {
     match wanted.options.form() {
         Form::Lines => wanted.write_text(number, line, out, b""),
-        Form::Parts => write_parts(matchers, wanted, number, line, out, meter),
+        Form::Parts => write_parts(searchers, wanted, number, line, out, meter),
         Form::Nothing => Ok(()),
         Form::Names => Ok(()),
         Form::Counts => Ok(()),
@@ -80,31 +78,29 @@ fn write_selected<M: LineMatch, W: CountedWrite>(
 
 /// Writes the rows of a line, if there are any, and returns whether it is selected.
 pub fn search_line<M: LineMatch, W: CountedWrite>(
-    matchers: &mut [M],
-    filter: Option<&Filter>,
+    searchers: &mut Searchers<'_, '_, M>,
     wanted: &Wanted,
     number: u64,
     line: &[u8],
     out: &mut W,
     meter: &mut Meter,
 ) -> Result<bool, WriteFault>
-    requires whole { AllAnswer wanted.now.options.line_regexp (map M.whole matchers.old) }
-    requires needed { IfSome filter (λ f. AreNeeded f.now (map M.expression matchers.old)) }
+    requires whole { asks_whole searchers.old ≡ wanted.now.options.line_regexp }
     ensures ok { IfOk result
-        (λ found. TakesLine (map M.expression matchers.old) wanted.now.options wanted.now.many
+        (λ found. TakesLine (expressions_by M.expression searchers.old) wanted.now.options wanted.now.many
         wanted.now.name.now number line.now (writer W.contents W.failures out.old)
         (writer W.contents W.failures out.new) found) }
     ensures err { OnErr result
-        (BreaksLine (map M.expression matchers.old) wanted.now.options wanted.now.many
+        (BreaksLine (expressions_by M.expression searchers.old) wanted.now.options wanted.now.many
         wanted.now.name.now number line.now (writer W.contents W.failures out.old)
         (writer W.contents W.failures out.new)) }
-    ensures same_matchers { SameMatchers M.expression M.whole matchers.old matchers.new }
-    ensures steps { SearchesLine (map M.expression matchers.old) wanted.now.options
-        (length matchers.old) line.now meter.old meter.new }
+    ensures same { SameSearchers M.expression M.whole searchers.old searchers.new }
+    ensures steps { SearchesLine (expressions_by M.expression searchers.old) wanted.now.options
+        (length (expressions_by M.expression searchers.old)) line.now meter.old meter.new }
 {
-    if !is_selected_behind(matchers, filter, wanted.options, line, meter) {
+    if !is_selected(searchers, wanted.options, line, meter) {
         return Ok(false);
     }
-    write_selected(matchers, wanted, number, line, out, meter)?;
+    write_selected(searchers, wanted, number, line, out, meter)?;
     Ok(true)
 }

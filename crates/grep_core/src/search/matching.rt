@@ -1,56 +1,31 @@
 //! Whether a line is selected, and its parts, by several matchers.
-ghost use Rattle.std.specs.Prelude.{◌↔◌, ◌<◌, ◌≤◌, Bool, IsTrue, IfSome, length, map};
-ghost use Rattle.re_search.specs.Working.Filters.{AreNeeded};
+ghost use Rattle.std.specs.Prelude.{◌≡◌, ◌↔◌, ◌<◌, ◌≤◌, IsTrue, IfSome, length, map};
 ghost use Rattle.re_search.specs.Searching.{AllAnswer, AddsAtMost, FindsPart, SameMatchers};
-ghost use Rattle.re_search.specs.Searching.{TellsMatchOfAll};
+ghost use Rattle.re_search.specs.Working.Asking.{SameSearchers, asks_whole, expressions_by};
 ghost use Rattle.grep_core.specs.Cost.{search_cost};
 ghost use Rattle.grep_core.specs.Files.{Selected};
 
 use crate::options::Options;
-use re_search::{Filter, LineMatch, Meter, Span, is_matched, parts};
-
-/// Whether some matcher matches the line. Where a filter rules the line out no matcher is asked,
-/// and no step is counted.
-#[inline(always)]
-pub fn is_matched_behind<M: LineMatch>(
-    matchers: &mut [M],
-    filter: Option<&Filter>,
-    line: &[u8],
-    meter: &mut Meter,
-) -> bool
-    requires alike { (whole : Bool) × AllAnswer whole (map M.whole matchers.old) }
-    requires needed { IfSome filter (λ f. AreNeeded f.now (map M.expression matchers.old)) }
-    ensures told { TellsMatchOfAll (map M.expression matchers.old) (map M.whole matchers.old)
-        line.now result }
-    ensures same_matchers { SameMatchers M.expression M.whole matchers.old matchers.new }
-    ensures steps { AddsAtMost (search_cost (length matchers.old) line.now) meter.old meter.new }
-{
-    let Some(filter) = filter else {
-        return is_matched(matchers, line, meter);
-    };
-    if !filter.stands_in(line) {
-        return false;
-    }
-    filter.is_matched(matchers, line, meter)
-}
+use re_search::{LineMatch, Meter, Searchers, Span, parts};
 
 /// Whether grep selects the line: some matcher matches it, and under `-v` none does (XCU grep,
 /// DESCRIPTION and option `-v`).
 #[inline(always)]
-pub fn is_selected_behind<M: LineMatch>(
-    matchers: &mut [M],
-    filter: Option<&Filter>,
+pub fn is_selected<M: LineMatch>(
+    searchers: &mut Searchers<'_, '_, M>,
     options: Options,
     line: &[u8],
     meter: &mut Meter,
 ) -> bool
-    requires whole { AllAnswer options.line_regexp (map M.whole matchers.old) }
-    requires needed { IfSome filter (λ f. AreNeeded f.now (map M.expression matchers.old)) }
-    ensures told { IsTrue result ↔ Selected (map M.expression matchers.old) options line.now }
-    ensures same_matchers { SameMatchers M.expression M.whole matchers.old matchers.new }
-    ensures steps { AddsAtMost (search_cost (length matchers.old) line.now) meter.old meter.new }
+    requires whole { asks_whole searchers.old ≡ options.line_regexp }
+    ensures told { IsTrue result ↔ Selected (expressions_by M.expression searchers.old) options
+        line.now }
+    ensures same { SameSearchers M.expression M.whole searchers.old searchers.new }
+    ensures steps { AddsAtMost
+        (search_cost (length (expressions_by M.expression searchers.old)) line.now) meter.old
+        meter.new }
 {
-    let matched = is_matched_behind(matchers, filter, line, meter);
+    let matched = searchers.is_matched(line, meter);
     options.selects(matched)
 }
 

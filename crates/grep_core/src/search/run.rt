@@ -1,5 +1,7 @@
 //! The one pass over all sources.
-ghost use Rattle.std.specs.Prelude.{◌≡◌, ◌+◌, ◌<◌, [], map, length, IfSome};
+ghost use Rattle.std.specs.Prelude.{◌≡◌, ◌+◌, ◌<◌, [], map, length};
+ghost use Rattle.std.specs.Option.{ForSome};
+ghost use Rattle.re_search.specs.Working.Asking.{SameSearchers, asks_whole, expressions_by};
 ghost use Rattle.re_search.specs.Working.Filters.{AreNeeded};
 ghost use Rattle.re_search.specs.Searching.{AllAnswer, SameMatchers};
 ghost use Rattle.grep_core.specs.Output.{form, written};
@@ -16,7 +18,7 @@ use crate::output::wanted::Wanted;
 use crate::search::file::{FileFound, SearchFault, search_file};
 use crate::search::setting::{Asked, Setting};
 use crate::status::{RunFault, Status};
-use re_search::{LineMatch, Meter};
+use re_search::{Filter, LineMatch, Meter, Searchers};
 use std::alloc::Global;
 
 /// Writes what follows the rows of a source's lines. If a message about the source is due, buffered
@@ -42,20 +44,18 @@ fn search_source<S: Sources, M: LineMatch, W: CountedWrite, N: CountedWrite>(
     setting: &Setting,
     sources: &mut S,
     k: usize,
-    matchers: &mut [M],
+    searchers: &mut Searchers<'_, '_, M>,
     out: &mut W,
     messages: &mut N,
     meter: &mut Meter,
 ) -> Result<FileFound, RunFault>
     requires place { k < length (S.listed sources.old) }
     requires in_order { S.stands_at sources.old k }
-    requires whole { AllAnswer setting.now.asked.options.line_regexp (map M.whole matchers.old) }
-    requires needed { IfSome setting.now.asked.filter
-        (λ f. AreNeeded f.now (map M.expression matchers.old)) }
+    requires whole { asks_whole searchers.old ≡ setting.now.asked.options.line_regexp }
     ensures listed { S.listed sources.new ≡ S.listed sources.old }
     ensures next { S.stands_at sources.new (k + 1) }
     ensures same_loan { S.loan sources.new ≡ S.loan sources.old }
-    ensures given { SourceGives (map M.expression matchers.old) setting.now.asked.options
+    ensures given { SourceGives (expressions_by M.expression searchers.old) setting.now.asked.options
         setting.now.many setting.now.shown (source_at (S.listed sources.old) k)
         (GivesBack S.given_back sources.old sources.new) k
         (devices (writer W.contents W.failures out.old) (writer N.contents N.failures messages.old)
@@ -63,9 +63,9 @@ fn search_source<S: Sources, M: LineMatch, W: CountedWrite, N: CountedWrite>(
         (devices (writer W.contents W.failures out.new) (writer N.contents N.failures messages.new)
         (S.failures sources.new) meter.new)
         result }
-    ensures same_matchers { SameMatchers M.expression M.whole matchers.old matchers.new }
+    ensures same { SameSearchers M.expression M.whole searchers.old searchers.new }
 {
-    let found = match search_file(setting, sources, k, matchers, out, meter) {
+    let found = match search_file(setting, sources, k, searchers, out, meter) {
         Ok(found) => found,
         Err(SearchFault::Write) => return Err(RunFault::Write),
         Err(SearchFault::Memory(lines)) => return Err(RunFault::Memory { source: k, lines }),
@@ -131,22 +131,21 @@ pub fn search_all<S: Sources, M: LineMatch, W: CountedWrite, N: CountedWrite>(
         result }
     ensures same_matchers { SameMatchers M.expression M.whole matchers.old matchers.new }
 {
+    let filter = Filter::none();
     let asked = Asked {
         alloc,
         options: *options,
-        filter: None,
+        filter: &filter,
     };
     search_filtered(&asked, sources, matchers, out, messages, meter)
 }
 
-/// One pass over all sources, as [`search_all`] makes it, with a filter: strings, at least one of
-/// which occurs on each line that some matcher matches. If there is a filter, it is asked about
-/// each line first. If none of its strings occurs on a line, no matcher is asked, which spares most
+/// One pass over all sources, as [`search_all`] makes it, with a filter: if it has strings, a line
+/// without any of them is matched by no matcher. It is asked before the matchers, which spares most
 /// of the work where there are many matchers and few lines that they match.
 ///
 /// The output, the messages, the status and the bound on the steps are the same as without a
-/// filter. A look through the filter counts no step, as the search for a string that a matcher
-/// needs counts none within that matcher.
+/// filter.
 pub fn search_filtered<S: Sources, M: LineMatch, W: CountedWrite, N: CountedWrite>(
     asked: &Asked,
     sources: &mut S,
@@ -157,8 +156,8 @@ pub fn search_filtered<S: Sources, M: LineMatch, W: CountedWrite, N: CountedWrit
 ) -> Result<Status, RunFault>
     requires in_order { S.stands_at sources.old 0 }
     requires whole { AllAnswer asked.now.options.line_regexp (map M.whole matchers.old) }
-    requires needed { IfSome asked.now.filter
-        (λ f. AreNeeded f.now (map M.expression matchers.old)) }
+    requires needed { ForSome asked.now.filter.now
+        (λ strings. AreNeeded strings (map M.expression matchers.old)) }
     ensures same_loan { S.loan sources.new ≡ S.loan sources.old }
     ensures run { RunGives (map M.expression matchers.old) asked.now.options (S.listed sources.old)
         (GivesBack S.given_back sources.old sources.new)
@@ -168,6 +167,31 @@ pub fn search_filtered<S: Sources, M: LineMatch, W: CountedWrite, N: CountedWrit
         (S.failures sources.new) meter.new)
         result }
     ensures same_matchers { SameMatchers M.expression M.whole matchers.old matchers.new }
+{
+    let mut searchers = Searchers::new(matchers, asked.filter, asked.options.line_regexp);
+    search_sources(asked, sources, &mut searchers, out, messages, meter)
+}
+
+// The same with the matchers and the filter as one.
+fn search_sources<S: Sources, M: LineMatch, W: CountedWrite, N: CountedWrite>(
+    asked: &Asked,
+    sources: &mut S,
+    searchers: &mut Searchers<'_, '_, M>,
+    out: &mut W,
+    messages: &mut N,
+    meter: &mut Meter,
+) -> Result<Status, RunFault>
+    requires in_order { S.stands_at sources.old 0 }
+    requires whole { asks_whole searchers.old ≡ asked.now.options.line_regexp }
+    ensures same_loan { S.loan sources.new ≡ S.loan sources.old }
+    ensures run { RunGives (expressions_by M.expression searchers.old) asked.now.options
+        (S.listed sources.old) (GivesBack S.given_back sources.old sources.new)
+        (devices (writer W.contents W.failures out.old) (writer N.contents N.failures messages.old)
+        (S.failures sources.old) meter.old)
+        (devices (writer W.contents W.failures out.new) (writer N.contents N.failures messages.new)
+        (S.failures sources.new) meter.new)
+        result }
+    ensures same { SameSearchers M.expression M.whole searchers.old searchers.new }
 {
     let count = sources.count();
     let many = count >= 2;
@@ -179,7 +203,7 @@ pub fn search_filtered<S: Sources, M: LineMatch, W: CountedWrite, N: CountedWrit
             many,
             shown: some,
         };
-        let found = match search_source(&setting, sources, k, matchers, out, messages, meter) {
+        let found = match search_source(&setting, sources, k, searchers, out, messages, meter) {
             Ok(found) => found,
             Err(fault) => return Err(fault),
         };

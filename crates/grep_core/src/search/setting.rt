@@ -11,8 +11,8 @@ pub struct Asked<'a> {
     pub alloc: Global,
     /// The options of the run. `-i` is for the matchers to heed.
     pub options: Options,
-    /// Strings, at least one of which occurs on each line that some matcher matches, if known.
-    pub filter: Option<&'a Filter>,
+    /// Strings, if some are known: a line without them is matched by no matcher.
+    pub filter: &'a Filter,
 }
 
 /// What the search of each source is asked to do.

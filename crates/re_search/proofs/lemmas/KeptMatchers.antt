@@ -2,7 +2,9 @@
 use Rattle.std.proofs.Common.{◌≡◌, ℕ, Bool, List, get_or, refl, ◌∙◌}
 use Rattle.std.proofs.Math.ListN.{set}
 use Rattle.re_syntax.specs.Expression.{Expression}
+use Rattle.re_search.specs.declared.searchers.Searchers.{Searchers}
 use Rattle.re_search.specs.Searching.{SameMatchers}
+use Rattle.re_search.specs.Working.Asking.{SameSearchers, sought_by}
 use Rattle.re_search.proofs.lemmas.OneMatcherMore.{same_after}
 
 module _ {M : Type 0} {expression : M → Expression} {whole : M → Bool} where
@@ -17,3 +19,16 @@ module _ {M : Type 0} {expression : M → Expression} {whole : M → Bool} where
   -- they are so still where the matcher at place i is replaced by one with the same expression
   pub one_asked : {old now : List M} → SameMatchers expression whole old now → (i : ℕ) (d n : M) → expression n ≡ expression (get_or now i d) → whole n ≡ whole (get_or now i d) → SameMatchers expression whole old (set now i n)
   one_asked same i d n e w = record { same_expressions = same_after expression _ _ same.same_expressions i d n e; same_wholes = same_after whole _ _ same.same_wholes i d n w }
+
+module _ {M : Type 0} {g : _} {expression : M → Expression} {whole : M → Bool} where
+  -- matchers that are asked together are the same where none was asked
+  pub unasked : {s : Searchers M g} → SameSearchers expression whole s s
+  unasked = record { same_matchers = none_asked; same_whole = refl; same_loan = refl }
+
+  -- and over two calls
+  pub asked_over : {old middle new : Searchers M g} → SameSearchers expression whole middle new → SameSearchers expression whole old middle → SameSearchers expression whole old new
+  asked_over later first = record { same_matchers = same_over later.same_matchers first.same_matchers; same_whole = later.same_whole ∙ first.same_whole; same_loan = later.same_loan ∙ first.same_loan }
+
+  -- they search for the same
+  pub same_sought : {old new : Searchers M g} → SameSearchers expression whole old new → sought_by expression new ≡ sought_by expression old
+  same_sought same = λ i. record { expressions = same.same_matchers.same_expressions i; whole = same.same_whole i }

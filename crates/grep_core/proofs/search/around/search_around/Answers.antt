@@ -1,246 +1,498 @@
-use Rattle.std.proofs.Common.{◌≡◌, ℕ, [], Bool, Result, Err, length, map, refl, sym, ap, ◌∙◌, subst, arith}
-use Rattle.std.specs.Result.{IsErrAnd}
-use Rattle.re_search.proofs.lemmas.KeptMatchers.{none_asked, same_over}
+use Rattle.std.proofs.Common.{ℕ, ◌≡◌, ◌*◌, ◌+◌, ◌≤◌, ◌∙◌, [], ◌∷◌, ◌++◌, Bool, true, Result, Err, Decides, length, length-append, append_assoc, map, refl, sym, ap, subst, arith, if◌then◌else◌}
+use Rattle.re_syntax.specs.Lines.{terminated}
+use Rattle.re_search.proofs.lemmas.KeptMatchers.{unasked, asked_over, same_sought}
 use Rattle.grep_core.specs.declared.input.lines.ReadFault.{ReadFault}
+use Rattle.std.specs.Result.{IsErrAnd}
 use Rattle.grep_core.specs.declared.search.file.SearchFault.{SearchFault}
-use Rattle.grep_core.specs.declared.search.file.SearchFault.TheVariants.{Memory}
+use Rattle.grep_core.specs.declared.search.file.SearchFault.TheVariants.{Write, Memory}
+use Rattle.grep_core.specs.Cost.{SearchesLines}
 use Rattle.grep_core.specs.Working.LastLines.{LastLines}
-use Rattle.grep_core.specs.Working.Numbered.{NextIs}
-use Rattle.grep_core.proofs.lemmas.CostLaws.{searched_once, as_expressions}
-use Rattle.grep_core.proofs.lemmas.WrittenLemmas.{TakesAll-written, TakesFront-written}
+use Rattle.grep_core.specs.Working.Passed.{Waits}
 use Rattle.grep_core.proofs.lemmas.WaitingRows.{if_kept}
-use Rattle.grep_core.proofs.lemmas.AroundSearch.{followed_none, followed_passed, passed_limit, passed_on, followed_sent, followed_few, followed_unsent, followed_whole, followed_broken, followed_out, counts_on, numbers_left, held_few, followed_line, followed_breaks, followed_refused}
+use Rattle.grep_core.specs.Working.Numbered.{HasHanded, NextIs}
+use Rattle.grep_core.specs.Working.Progress.{next_shown, last_of}
+use Rattle.grep_core.specs.Working.Stretches.{IsNextOf}
+use Rattle.grep_core.proofs.lemmas.CostLaws.{adds_none, searched_bytes, searched_more_lines, searched_one_line, searched_once}
+use Rattle.grep_core.proofs.lemmas.PassedLines.{are_ahead, next_first, passed_state, handed_with, handed_passed}
+use Rattle.grep_core.proofs.lemmas.StretchLemmas.{asked_forward, asked_due, divided_kept, stretch_spent, none_selected, line_selected_if, before_within, before_block, before_lines, before_counted, before_free}
+use Rattle.grep_core.proofs.lemmas.Verdicts.{decided_yes}
+use Rattle.grep_core.proofs.lemmas.WrittenLemmas.{TakesAll-written, TakesFront-written}
+use Rattle.grep_core.proofs.lemmas.AroundSearch.{followed_none, followed_waiting, waiting_limit, followed_unkept, followed_sent, followed_unsent, followed_whole, followed_broken, followed_out, counts_on, numbers_left, held_few, followed_line, followed_breaks, followed_refused}
 use Rattle.grep_core.proofs.search.around.search_around.Goals as goal
 
--- the number that a refused growth reports
-same_count : {T : Type 0} (number count : ℕ) → (let told : Result T SearchFault = Err (Memory number) in told ≡ Err (Memory count)) → number ≡ count
-same_count number count is = cc
+-- a fault that is handed on is the one that is reported
+handed_fault : {T : Type 0} (result : Result T SearchFault) (fault reported : SearchFault) → IsErrAnd result (λ e. e ≡ fault) → result ≡ Err reported → fault ≡ reported
+handed_fault result fault reported kept is = sym (subst (λ r. IsErrAnd r (λ e. e ≡ fault)) is kept)
 
--- that of a fault that is handed on
-handed_count : {T : Type 0} (result : Result T SearchFault) (fault : SearchFault) (number count : ℕ) → IsErrAnd result (λ e. e ≡ fault) → fault ≡ Memory number → result ≡ Err (Memory count) → number ≡ count
-handed_count result fault number count told kept is =
-    let e : Memory count ≡ fault = subst (λ r. IsErrAnd r (λ e. e ≡ fault)) is told in
-    cc
-
-pub loop-lines-init : goal.loop-lines-init
-loop-lines-init g c =
+pub lines-init : goal.lines-init
+lines-init g c =
     let w = c.args.wanted.now in
-    let es = map g.M.LineMatch.expression c.args.matchers.now in
+    let es = map g.M.LineMatch.expression c.args.searchers.now.matchers.now in
     let reader = c.args.lines.now.lines.reader in
     record {
       so_far = rw c.new-progress.ensures (followed_none g.R.CountedRead.remaining g.R.CountedRead.failures es w.options w.many c.args.shown w.name.now reader c.args.context c.requires.is_asked c.args.lines.now _ _ c.args.behind.now.lines refl c.requires.none_ahead c.requires.still_open c.requires.none_numbered (ap (λ (h : LastLines). h.lines) c.requires.none_behind));
       limit = ap (λ (h : LastLines). h.limit) c.requires.none_behind;
-      same_matchers = none_asked;
+      same = unasked;
     }
 
-pub returns-in_err-send_before_read-clause-write : goal.returns-in_err-send_before_read-clause-write
-returns-in_err-send_before_read-clause-write g c = λ is_write.
-    let w = c.args.wanted.now in
-    let es = map g.M.LineMatch.expression c.args.matchers.now in
-    let reader = c.args.lines.now.lines.reader in
-    let i = c.loop-lines.invariant in
-    let before = i.so_far in
-    let skipped = rw i.same_matchers.same_expressions at (c.in_ok-pass_waiting.ensures.ok reader before.lines before.handed) in
-    let p = followed_passed g.R.CountedRead.remaining g.R.CountedRead.failures es w.options w.many c.args.shown w.name.now reader c.args.context c.requires.is_asked c.loop-lines.lines c.pass_waiting.new.lines _ _ _ _ c.loop-lines.selected c.loop-lines.progress c.pass_waiting.new.progress c.loop-lines.behind c.pass_waiting.new.behind i.limit before skipped in
-    let unsent = c.in_err-send_before_read.ensures in
-    followed_unsent g.R.CountedRead.remaining g.R.CountedRead.failures es w.options w.many c.args.shown w.name.now reader c.args.context c.requires.is_asked c.pass_waiting.new.lines c.pass_waiting.new.lines _ _ _ _ c.loop-lines.selected c.pass_waiting.new.progress c.pass_waiting.new.behind.lines p _
-    (TakesFront-written g.W.CountedWrite.contents g.W.CountedWrite.failures c.loop-lines.out c.send_before_read.new.out [] unsent) unsent.counted
+pub wait-requires : goal.wait-requires
+wait-requires g c =
+    let i = c.lines.invariant in
+    let held = c.next_held-stretch.ensures in
+    let (before, all, d, n) = held.divided in
+    record {
+      block = before_block d;
+      counted = d.many ∙ ap length (sym (before_lines d));
+      few = i.so_far.tracks.few;
+      due = asked_due c.lines.progress.left c.args.wanted.now.options.invert_match c.next_held-stretch.result.count held.none c.next_held-stretch.result.before_count (before_counted d);
+    }
 
-pub pass_waiting-requires-clause-needed : goal.pass_waiting-requires-clause-needed
-pass_waiting-requires-clause-needed g c = rw c.loop-lines.invariant.same_matchers.same_expressions c.requires.needed
-
-pub is_selected_behind-found-requires-clause-needed : goal.is_selected_behind-found-requires-clause-needed
-is_selected_behind-found-requires-clause-needed g c = rw c.loop-lines.invariant.same_matchers.same_expressions c.requires.needed
-
-pub step-at-requires : goal.step-at-requires
-step-at-requires g c =
-    let w = c.args.wanted.now in
-    let es = map g.M.LineMatch.expression c.args.matchers.now in
-    let reader = c.args.lines.now.lines.reader in
-    let i = c.loop-lines.invariant in
-    let before = i.so_far in
-    let skipped = rw i.same_matchers.same_expressions at (c.in_ok-pass_waiting.ensures.ok reader before.lines before.handed) in
-    let p = followed_passed g.R.CountedRead.remaining g.R.CountedRead.failures es w.options w.many c.args.shown w.name.now reader c.args.context c.requires.is_asked c.loop-lines.lines c.pass_waiting.new.lines _ _ _ _ c.loop-lines.selected c.loop-lines.progress c.pass_waiting.new.progress c.loop-lines.behind c.pass_waiting.new.behind i.limit before skipped in
-    record { few = followed_few g.R.CountedRead.remaining g.R.CountedRead.failures es w.options w.many c.args.shown w.name.now reader c.args.context c.requires.is_asked c.pass_waiting.new.lines c.pass_waiting.new.lines _ _ _ _ c.loop-lines.selected c.pass_waiting.new.progress c.pass_waiting.new.behind.lines p }
-
-pub write_shown-requires : goal.write_shown-requires
-write_shown-requires g c =
-    let w = c.args.wanted.now in
-    let es = map g.M.LineMatch.expression c.args.matchers.now in
-    let reader = c.args.lines.now.lines.reader in
-    let i = c.loop-lines.invariant in
-    let before = i.so_far in
-    let skipped = rw i.same_matchers.same_expressions at (c.in_ok-pass_waiting.ensures.ok reader before.lines before.handed) in
-    let p = followed_passed g.R.CountedRead.remaining g.R.CountedRead.failures es w.options w.many c.args.shown w.name.now reader c.args.context c.requires.is_asked c.loop-lines.lines c.pass_waiting.new.lines _ _ _ _ c.loop-lines.selected c.loop-lines.progress c.pass_waiting.new.progress c.loop-lines.behind c.pass_waiting.new.behind i.limit before skipped in
-    let s = followed_sent g.R.CountedRead.remaining g.R.CountedRead.failures es w.options w.many c.args.shown w.name.now reader c.args.context c.requires.is_asked c.pass_waiting.new.lines _ _ _ _ _ c.loop-lines.selected c.pass_waiting.new.progress c.pass_waiting.new.behind.lines p (TakesAll-written g.W.CountedWrite.contents g.W.CountedWrite.failures c.loop-lines.out c.send_before_read.new.out [] c.in_ok-send_before_read.ensures) in
-    let handed = rw c.in-Ok-true.field-0-test at c.in-Ok-true.ensures.next in
-    let next = handed reader s.lines s.handed in
-    held_few g.R.CountedRead.remaining g.R.CountedRead.failures es w.options w.many c.args.shown w.name.now reader c.args.context c.requires.is_asked c.pass_waiting.new.lines c.next_line.new.self _ _ _ _ c.loop-lines.selected c.pass_waiting.new.progress c.pass_waiting.new.behind.lines s next c.number-count.result c.number-count.ensures
-
-pub returns-in_err-write_shown-in-Ok-true-clause-write : goal.returns-in_err-write_shown-in-Ok-true-clause-write
-returns-in_err-write_shown-in-Ok-true-clause-write g c = λ is_write.
-    let w = c.args.wanted.now in
-    let es = map g.M.LineMatch.expression c.args.matchers.now in
-    let reader = c.args.lines.now.lines.reader in
-    let i = c.loop-lines.invariant in
-    let before = i.so_far in
-    let skipped = rw i.same_matchers.same_expressions at (c.in_ok-pass_waiting.ensures.ok reader before.lines before.handed) in
-    let p = followed_passed g.R.CountedRead.remaining g.R.CountedRead.failures es w.options w.many c.args.shown w.name.now reader c.args.context c.requires.is_asked c.loop-lines.lines c.pass_waiting.new.lines _ _ _ _ c.loop-lines.selected c.loop-lines.progress c.pass_waiting.new.progress c.loop-lines.behind c.pass_waiting.new.behind i.limit before skipped in
-    let s = followed_sent g.R.CountedRead.remaining g.R.CountedRead.failures es w.options w.many c.args.shown w.name.now reader c.args.context c.requires.is_asked c.pass_waiting.new.lines _ _ _ _ _ c.loop-lines.selected c.pass_waiting.new.progress c.pass_waiting.new.behind.lines p (TakesAll-written g.W.CountedWrite.contents g.W.CountedWrite.failures c.loop-lines.out c.send_before_read.new.out [] c.in_ok-send_before_read.ensures) in
-    let handed = rw c.in-Ok-true.field-0-test at c.in-Ok-true.ensures.next in
-    let next = handed reader s.lines s.handed in
-    let told = rw i.same_matchers.same_expressions at c.is_selected_behind-found.ensures.told in
-    let once = searched_once (map g.M.LineMatch.expression c.loop-lines.matchers) w.options c.line-line.result.now (length c.loop-lines.matchers) _ _ c.is_selected_behind-found.ensures.steps in
-    let spent = as_expressions g.M.LineMatch.expression c.loop-lines.matchers es w.options c.line-line.result.now _ _ i.same_matchers.same_expressions once in
-    let broke = rw c.step-at.ensures.shown at c.in_err-write_shown-in-Ok-true.ensures in
-    followed_breaks g.R.CountedRead.remaining g.R.CountedRead.failures es w.options w.many c.args.shown w.name.now reader c.args.context c.requires.is_asked c.pass_waiting.new.lines c.next_line.new.self _ _ _ _ c.loop-lines.selected c.pass_waiting.new.progress c.pass_waiting.new.behind.lines s next c.number-count.result c.number-count.ensures c.line-line.result.now c.line-line.ensures c.is_selected_behind-found.result told _ spent _ (TakesFront-written g.W.CountedWrite.contents g.W.CountedWrite.failures c.send_before_read.new.out c.write_shown.new.out _ broke) broke.counted
+pub pass-requires : goal.pass-requires
+pass-requires g c =
+    let (before, all, d, n) = c.next_held-stretch.ensures.divided in
+    are_ahead c.lines.lines all n d.free c.next_held-stretch.result.bytes c.next_held-stretch.result.count d.width d.counted
 
 pub returns-then-is_err-clause-memory : goal.returns-then-is_err-clause-memory
 returns-then-is_err-clause-memory g c = λ count is.
+    let same : c.number.result ≡ count = cc in
     let w = c.args.wanted.now in
-    let es = map g.M.LineMatch.expression c.args.matchers.now in
+    let es = map g.M.LineMatch.expression c.args.searchers.now.matchers.now in
     let reader = c.args.lines.now.lines.reader in
-    let i = c.loop-lines.invariant in
-    let before = i.so_far in
-    let skipped = rw i.same_matchers.same_expressions at (c.in_ok-pass_waiting.ensures.ok reader before.lines before.handed) in
-    let p = followed_passed g.R.CountedRead.remaining g.R.CountedRead.failures es w.options w.many c.args.shown w.name.now reader c.args.context c.requires.is_asked c.loop-lines.lines c.pass_waiting.new.lines _ _ _ _ c.loop-lines.selected c.loop-lines.progress c.pass_waiting.new.progress c.loop-lines.behind c.pass_waiting.new.behind i.limit before skipped in
-    let s = followed_sent g.R.CountedRead.remaining g.R.CountedRead.failures es w.options w.many c.args.shown w.name.now reader c.args.context c.requires.is_asked c.pass_waiting.new.lines _ _ _ _ _ c.loop-lines.selected c.pass_waiting.new.progress c.pass_waiting.new.behind.lines p (TakesAll-written g.W.CountedWrite.contents g.W.CountedWrite.failures c.loop-lines.out c.send_before_read.new.out [] c.in_ok-send_before_read.ensures) in
-    let handed = rw c.in-Ok-true.field-0-test at c.in-Ok-true.ensures.next in
-    let next = handed reader s.lines s.handed in
-    let told = rw i.same_matchers.same_expressions at c.is_selected_behind-found.ensures.told in
-    let once = searched_once (map g.M.LineMatch.expression c.loop-lines.matchers) w.options c.line-line.result.now (length c.loop-lines.matchers) _ _ c.is_selected_behind-found.ensures.steps in
-    let spent = as_expressions g.M.LineMatch.expression c.loop-lines.matchers es w.options c.line-line.result.now _ _ i.same_matchers.same_expressions once in
-    let same : c.number-count.result ≡ count = cc in
-    let went = rw c.step-at.ensures.shown at c.in_ok-write_shown-in-Ok-true.ensures in
-    rw (← same) (followed_refused g.R.CountedRead.remaining g.R.CountedRead.failures es w.options w.many c.args.shown w.name.now reader c.args.context c.requires.is_asked c.pass_waiting.new.lines c.next_line.new.self _ _ _ _ c.loop-lines.selected c.pass_waiting.new.progress c.pass_waiting.new.behind.lines s next c.number-count.result c.number-count.ensures c.line-line.result.now c.line-line.ensures c.is_selected_behind-found.result told _ spent _ (TakesAll-written g.W.CountedWrite.contents g.W.CountedWrite.failures c.send_before_read.new.out c.write_shown.new.out _ went))
+    let i = c.lines.invariant in
+    let held = c.next_held-stretch.ensures in
+    let (before, all, d, n) = held.divided in
+    let spent = searched_bytes es w.options (length es) all c.lines.meter c.next_held-stretch.new.meter (stretch_spent es _ _ _ i.same.same_matchers.same_expressions d held.steps) in
+    let now = passed_state c.lines.lines all n d.free in
+    followed_unkept g.R.CountedRead.remaining g.R.CountedRead.failures es w.options w.many c.args.shown w.name.now reader c.args.context c.requires.is_asked c.lines.lines now _ _ _ c.lines.meter c.lines.selected c.lines.progress c.lines.behind.lines i.so_far all c.next_held-stretch.new.meter (handed_with c.lines.lines all n d.free g.R.CountedRead.remaining g.R.CountedRead.failures reader i.so_far.lines i.so_far.handed) spent count (sym c.number.ensures ∙ same)
+
+pub show_line-requires : goal.show_line-requires
+show_line-requires g c =
+    let w = c.args.wanted.now in
+    let es = map g.M.LineMatch.expression c.args.searchers.now.matchers.now in
+    let reader = c.args.lines.now.lines.reader in
+    let i = c.lines.invariant in
+    let held = c.next_held-stretch.ensures in
+    let (before, all, d, n) = held.divided in
+    let spent = searched_bytes es w.options (length es) all c.lines.meter c.next_held-stretch.new.meter (stretch_spent es _ _ _ i.same.same_matchers.same_expressions d held.steps) in
+    let count = c.next_held-stretch.result.count in
+    let forward = asked_forward c.lines.progress.left w.options.invert_match count held.none in
+    let kept = divided_kept (sym (same_sought i.same)) d in
+    let unselected = none_selected es w.options c.args.searchers.now.whole c.requires.whole count forward before (before_within d) kept.none in
+    let waits = subst (λ ls. Waits ls c.lines.progress c.wait.new.progress c.lines.behind c.wait.new.behind) (before_lines d) (if_kept c.wait.result c.is_err.result c.is_err.ensures.value c.if-is_err.false c.wait.ensures) in
+    let line = c.in-Some.line.now in
+    let (holds, is) = rw c.in-Some.is at kept.next in
+    let some : 1 ≤ count = omega (arith, d.counted, ap length is, length-append before (line ∷ [])) in
+    let told = decided_yes (line_selected_if es w.options c.args.searchers.now.whole c.requires.whole count forward line some holds) in
+    let first = next_first c.lines.lines before (line ∷ []) (subst (IsNextOf c.lines.lines) is n) in
+    let mid = passed_state c.lines.lines before first (before_free d) in
+    let (s, are) = followed_waiting g.R.CountedRead.remaining g.R.CountedRead.failures es w.options w.many c.args.shown w.name.now reader c.args.context c.requires.is_asked c.lines.lines mid _ _ _ c.lines.meter c.lines.meter c.lines.selected c.lines.progress c.wait.new.progress c.lines.behind c.wait.new.behind i.limit i.so_far before (handed_with c.lines.lines before first (before_free d) g.R.CountedRead.remaining g.R.CountedRead.failures reader i.so_far.lines i.so_far.handed) unselected waits (searched_bytes es w.options (length es) before c.lines.meter c.lines.meter (adds_none (length es * length (terminated before)) c.lines.meter)) in
+    let same : i.so_far.lines ++ all ≡ s.lines ++ line ∷ [] = ap (λ ls. i.so_far.lines ++ ls) is ∙ sym (append_assoc i.so_far.lines before (line ∷ [])) ∙ ap (λ ls. ls ++ line ∷ []) (sym are) in
+    let all_spent = subst (λ ls. SearchesLines es w.options (length es) ls c.args.meter.now c.next_held-stretch.new.meter) same (searched_more_lines es w.options (length es) i.so_far.lines all c.args.meter.now c.lines.meter c.next_held-stretch.new.meter i.so_far.steps spent) in
+    let now = passed_state c.lines.lines all n d.free in
+    let next = subst (λ ls. HasHanded g.R.CountedRead.remaining g.R.CountedRead.failures reader now ls) same (handed_with c.lines.lines all n d.free g.R.CountedRead.remaining g.R.CountedRead.failures reader i.so_far.lines i.so_far.handed) in
+    let is_number : c.number-in-Some.result + count ≡ now.number = omega (arith, c.number-in-Some.ensures, d.counted) in
+    record { few = s.tracks.few; held = held_few g.R.CountedRead.remaining g.R.CountedRead.failures es w.options w.many c.args.shown w.name.now reader c.args.context c.requires.is_asked mid now _ _ _ c.lines.meter c.lines.selected c.wait.new.progress c.wait.new.behind.lines s line next (c.number-in-Some.result + count) is_number }
+
+pub returns-in_err-show_line-clause-write : goal.returns-in_err-show_line-clause-write
+returns-in_err-show_line-clause-write g c = λ is_write.
+    let w = c.args.wanted.now in
+    let es = map g.M.LineMatch.expression c.args.searchers.now.matchers.now in
+    let reader = c.args.lines.now.lines.reader in
+    let i = c.lines.invariant in
+    let held = c.next_held-stretch.ensures in
+    let (before, all, d, n) = held.divided in
+    let spent = searched_bytes es w.options (length es) all c.lines.meter c.next_held-stretch.new.meter (stretch_spent es _ _ _ i.same.same_matchers.same_expressions d held.steps) in
+    let count = c.next_held-stretch.result.count in
+    let forward = asked_forward c.lines.progress.left w.options.invert_match count held.none in
+    let kept = divided_kept (sym (same_sought i.same)) d in
+    let unselected = none_selected es w.options c.args.searchers.now.whole c.requires.whole count forward before (before_within d) kept.none in
+    let waits = subst (λ ls. Waits ls c.lines.progress c.wait.new.progress c.lines.behind c.wait.new.behind) (before_lines d) (if_kept c.wait.result c.is_err.result c.is_err.ensures.value c.if-is_err.false c.wait.ensures) in
+    let line = c.in-Some.line.now in
+    let (holds, is) = rw c.in-Some.is at kept.next in
+    let some : 1 ≤ count = omega (arith, d.counted, ap length is, length-append before (line ∷ [])) in
+    let told = decided_yes (line_selected_if es w.options c.args.searchers.now.whole c.requires.whole count forward line some holds) in
+    let first = next_first c.lines.lines before (line ∷ []) (subst (IsNextOf c.lines.lines) is n) in
+    let mid = passed_state c.lines.lines before first (before_free d) in
+    let (s, are) = followed_waiting g.R.CountedRead.remaining g.R.CountedRead.failures es w.options w.many c.args.shown w.name.now reader c.args.context c.requires.is_asked c.lines.lines mid _ _ _ c.lines.meter c.lines.meter c.lines.selected c.lines.progress c.wait.new.progress c.lines.behind c.wait.new.behind i.limit i.so_far before (handed_with c.lines.lines before first (before_free d) g.R.CountedRead.remaining g.R.CountedRead.failures reader i.so_far.lines i.so_far.handed) unselected waits (searched_bytes es w.options (length es) before c.lines.meter c.lines.meter (adds_none (length es * length (terminated before)) c.lines.meter)) in
+    let same : i.so_far.lines ++ all ≡ s.lines ++ line ∷ [] = ap (λ ls. i.so_far.lines ++ ls) is ∙ sym (append_assoc i.so_far.lines before (line ∷ [])) ∙ ap (λ ls. ls ++ line ∷ []) (sym are) in
+    let all_spent = subst (λ ls. SearchesLines es w.options (length es) ls c.args.meter.now c.next_held-stretch.new.meter) same (searched_more_lines es w.options (length es) i.so_far.lines all c.args.meter.now c.lines.meter c.next_held-stretch.new.meter i.so_far.steps spent) in
+    let now = passed_state c.lines.lines all n d.free in
+    let next = subst (λ ls. HasHanded g.R.CountedRead.remaining g.R.CountedRead.failures reader now ls) same (handed_with c.lines.lines all n d.free g.R.CountedRead.remaining g.R.CountedRead.failures reader i.so_far.lines i.so_far.handed) in
+    let is_number : c.number-in-Some.result + count ≡ now.number = omega (arith, c.number-in-Some.ensures, d.counted) in
+        let broke = c.show_line.ensures.write (c.in_err-show_line.was ∙ ap Err (handed_fault c.from_residual.result c.in_err-show_line.field-0.0 Write c.from_residual.ensures.1 is_write)) in
+    followed_breaks g.R.CountedRead.remaining g.R.CountedRead.failures es w.options w.many c.args.shown w.name.now reader c.args.context c.requires.is_asked mid now _ _ _ c.lines.meter c.lines.selected c.wait.new.progress c.wait.new.behind.lines s line next (c.number-in-Some.result + count) is_number true told c.next_held-stretch.new.meter all_spent _ broke.wrote broke.counted
+
+pub returns-in_err-show_line-clause-memory : goal.returns-in_err-show_line-clause-memory
+returns-in_err-show_line-clause-memory g c = λ lines_done is_memory.
+    let w = c.args.wanted.now in
+    let es = map g.M.LineMatch.expression c.args.searchers.now.matchers.now in
+    let reader = c.args.lines.now.lines.reader in
+    let i = c.lines.invariant in
+    let held = c.next_held-stretch.ensures in
+    let (before, all, d, n) = held.divided in
+    let spent = searched_bytes es w.options (length es) all c.lines.meter c.next_held-stretch.new.meter (stretch_spent es _ _ _ i.same.same_matchers.same_expressions d held.steps) in
+    let count = c.next_held-stretch.result.count in
+    let forward = asked_forward c.lines.progress.left w.options.invert_match count held.none in
+    let kept = divided_kept (sym (same_sought i.same)) d in
+    let unselected = none_selected es w.options c.args.searchers.now.whole c.requires.whole count forward before (before_within d) kept.none in
+    let waits = subst (λ ls. Waits ls c.lines.progress c.wait.new.progress c.lines.behind c.wait.new.behind) (before_lines d) (if_kept c.wait.result c.is_err.result c.is_err.ensures.value c.if-is_err.false c.wait.ensures) in
+    let line = c.in-Some.line.now in
+    let (holds, is) = rw c.in-Some.is at kept.next in
+    let some : 1 ≤ count = omega (arith, d.counted, ap length is, length-append before (line ∷ [])) in
+    let told = decided_yes (line_selected_if es w.options c.args.searchers.now.whole c.requires.whole count forward line some holds) in
+    let first = next_first c.lines.lines before (line ∷ []) (subst (IsNextOf c.lines.lines) is n) in
+    let mid = passed_state c.lines.lines before first (before_free d) in
+    let (s, are) = followed_waiting g.R.CountedRead.remaining g.R.CountedRead.failures es w.options w.many c.args.shown w.name.now reader c.args.context c.requires.is_asked c.lines.lines mid _ _ _ c.lines.meter c.lines.meter c.lines.selected c.lines.progress c.wait.new.progress c.lines.behind c.wait.new.behind i.limit i.so_far before (handed_with c.lines.lines before first (before_free d) g.R.CountedRead.remaining g.R.CountedRead.failures reader i.so_far.lines i.so_far.handed) unselected waits (searched_bytes es w.options (length es) before c.lines.meter c.lines.meter (adds_none (length es * length (terminated before)) c.lines.meter)) in
+    let same : i.so_far.lines ++ all ≡ s.lines ++ line ∷ [] = ap (λ ls. i.so_far.lines ++ ls) is ∙ sym (append_assoc i.so_far.lines before (line ∷ [])) ∙ ap (λ ls. ls ++ line ∷ []) (sym are) in
+    let all_spent = subst (λ ls. SearchesLines es w.options (length es) ls c.args.meter.now c.next_held-stretch.new.meter) same (searched_more_lines es w.options (length es) i.so_far.lines all c.args.meter.now c.lines.meter c.next_held-stretch.new.meter i.so_far.steps spent) in
+    let now = passed_state c.lines.lines all n d.free in
+    let next = subst (λ ls. HasHanded g.R.CountedRead.remaining g.R.CountedRead.failures reader now ls) same (handed_with c.lines.lines all n d.free g.R.CountedRead.remaining g.R.CountedRead.failures reader i.so_far.lines i.so_far.handed) in
+    let is_number : c.number-in-Some.result + count ≡ now.number = omega (arith, c.number-in-Some.ensures, d.counted) in
+    let (done, went) = c.show_line.ensures.memory lines_done (c.in_err-show_line.was ∙ ap Err (handed_fault c.from_residual.result c.in_err-show_line.field-0.0 (Memory lines_done) c.from_residual.ensures.1 is_memory)) in
+    rw (← done) (followed_refused g.R.CountedRead.remaining g.R.CountedRead.failures es w.options w.many c.args.shown w.name.now reader c.args.context c.requires.is_asked mid now _ _ _ c.lines.meter c.lines.selected c.wait.new.progress c.wait.new.behind.lines s line next (c.number-in-Some.result + count) is_number true told c.next_held-stretch.new.meter all_spent _ went)
+
+pub lines-preserved-in-Some : goal.lines-preserved-in-Some
+lines-preserved-in-Some g c =
+    let w = c.args.wanted.now in
+    let es = map g.M.LineMatch.expression c.args.searchers.now.matchers.now in
+    let reader = c.args.lines.now.lines.reader in
+    let i = c.lines.invariant in
+    let held = c.next_held-stretch.ensures in
+    let (before, all, d, n) = held.divided in
+    let spent = searched_bytes es w.options (length es) all c.lines.meter c.next_held-stretch.new.meter (stretch_spent es _ _ _ i.same.same_matchers.same_expressions d held.steps) in
+    let count = c.next_held-stretch.result.count in
+    let forward = asked_forward c.lines.progress.left w.options.invert_match count held.none in
+    let kept = divided_kept (sym (same_sought i.same)) d in
+    let unselected = none_selected es w.options c.args.searchers.now.whole c.requires.whole count forward before (before_within d) kept.none in
+    let waits = subst (λ ls. Waits ls c.lines.progress c.wait.new.progress c.lines.behind c.wait.new.behind) (before_lines d) (if_kept c.wait.result c.is_err.result c.is_err.ensures.value c.if-is_err.false c.wait.ensures) in
+    let line = c.in-Some.line.now in
+    let (holds, is) = rw c.in-Some.is at kept.next in
+    let some : 1 ≤ count = omega (arith, d.counted, ap length is, length-append before (line ∷ [])) in
+    let told = decided_yes (line_selected_if es w.options c.args.searchers.now.whole c.requires.whole count forward line some holds) in
+    let first = next_first c.lines.lines before (line ∷ []) (subst (IsNextOf c.lines.lines) is n) in
+    let mid = passed_state c.lines.lines before first (before_free d) in
+    let (s, are) = followed_waiting g.R.CountedRead.remaining g.R.CountedRead.failures es w.options w.many c.args.shown w.name.now reader c.args.context c.requires.is_asked c.lines.lines mid _ _ _ c.lines.meter c.lines.meter c.lines.selected c.lines.progress c.wait.new.progress c.lines.behind c.wait.new.behind i.limit i.so_far before (handed_with c.lines.lines before first (before_free d) g.R.CountedRead.remaining g.R.CountedRead.failures reader i.so_far.lines i.so_far.handed) unselected waits (searched_bytes es w.options (length es) before c.lines.meter c.lines.meter (adds_none (length es * length (terminated before)) c.lines.meter)) in
+    let same : i.so_far.lines ++ all ≡ s.lines ++ line ∷ [] = ap (λ ls. i.so_far.lines ++ ls) is ∙ sym (append_assoc i.so_far.lines before (line ∷ [])) ∙ ap (λ ls. ls ++ line ∷ []) (sym are) in
+    let all_spent = subst (λ ls. SearchesLines es w.options (length es) ls c.args.meter.now c.next_held-stretch.new.meter) same (searched_more_lines es w.options (length es) i.so_far.lines all c.args.meter.now c.lines.meter c.next_held-stretch.new.meter i.so_far.steps spent) in
+    let now = c.pass.new.self in
+    let next = subst (λ ls. HasHanded g.R.CountedRead.remaining g.R.CountedRead.failures reader now ls) same (handed_passed c.lines.lines all n d.free g.R.CountedRead.remaining g.R.CountedRead.failures reader i.so_far.lines i.so_far.handed now c.next_held-stretch.result.bytes d.width c.pass.ensures.passed) in
+    let is_number : c.number-in-Some.result + count ≡ now.number = omega (arith, c.number-in-Some.ensures, d.counted, next.counted, s.handed.counted, length-append s.lines (line ∷ []), ap length is, length-append before (line ∷ [])) in
+    let shown = c.in_ok-show_line.ensures.ok in
+    record {
+      so_far = rw shown.goes_on (followed_line g.R.CountedRead.remaining g.R.CountedRead.failures es w.options w.many c.args.shown w.name.now reader c.args.context c.requires.is_asked mid now _ _ _ c.lines.meter c.lines.selected c.wait.new.progress c.wait.new.behind.lines s line next (c.number-in-Some.result + count) is_number true told c.next_held-stretch.new.meter all_spent _ c.count_found-selected.result c.show_line.new.behind.lines shown.wrote c.count_found-selected.ensures (shown.holds ∙ ap (λ n. if (next_shown c.wait.new.progress true).itself then [] else last_of n (c.wait.new.behind.lines ++ line ∷ [])) (waiting_limit g.R.CountedRead.remaining g.R.CountedRead.failures es w.options w.many c.args.shown w.name.now reader c.args.context c.requires.is_asked before c.lines.progress c.wait.new.progress c.lines.behind c.wait.new.behind waits i.limit)));
+      limit = shown.same_limit ∙ waiting_limit g.R.CountedRead.remaining g.R.CountedRead.failures es w.options w.many c.args.shown w.name.now reader c.args.context c.requires.is_asked before c.lines.progress c.wait.new.progress c.lines.behind c.wait.new.behind waits i.limit;
+      same = asked_over held.same i.same;
+    }
+
+pub lines-smaller-in-Some : goal.lines-smaller-in-Some
+lines-smaller-in-Some g c =
+    let w = c.args.wanted.now in
+    let es = map g.M.LineMatch.expression c.args.searchers.now.matchers.now in
+    let reader = c.args.lines.now.lines.reader in
+    let i = c.lines.invariant in
+    let held = c.next_held-stretch.ensures in
+    let (before, all, d, n) = held.divided in
+    let spent = searched_bytes es w.options (length es) all c.lines.meter c.next_held-stretch.new.meter (stretch_spent es _ _ _ i.same.same_matchers.same_expressions d held.steps) in
+    let count = c.next_held-stretch.result.count in
+    let forward = asked_forward c.lines.progress.left w.options.invert_match count held.none in
+    let kept = divided_kept (sym (same_sought i.same)) d in
+    let unselected = none_selected es w.options c.args.searchers.now.whole c.requires.whole count forward before (before_within d) kept.none in
+    let waits = subst (λ ls. Waits ls c.lines.progress c.wait.new.progress c.lines.behind c.wait.new.behind) (before_lines d) (if_kept c.wait.result c.is_err.result c.is_err.ensures.value c.if-is_err.false c.wait.ensures) in
+    let line = c.in-Some.line.now in
+    let (holds, is) = rw c.in-Some.is at kept.next in
+    let some : 1 ≤ count = omega (arith, d.counted, ap length is, length-append before (line ∷ [])) in
+    let told = decided_yes (line_selected_if es w.options c.args.searchers.now.whole c.requires.whole count forward line some holds) in
+    let first = next_first c.lines.lines before (line ∷ []) (subst (IsNextOf c.lines.lines) is n) in
+    let mid = passed_state c.lines.lines before first (before_free d) in
+    let (s, are) = followed_waiting g.R.CountedRead.remaining g.R.CountedRead.failures es w.options w.many c.args.shown w.name.now reader c.args.context c.requires.is_asked c.lines.lines mid _ _ _ c.lines.meter c.lines.meter c.lines.selected c.lines.progress c.wait.new.progress c.lines.behind c.wait.new.behind i.limit i.so_far before (handed_with c.lines.lines before first (before_free d) g.R.CountedRead.remaining g.R.CountedRead.failures reader i.so_far.lines i.so_far.handed) unselected waits (searched_bytes es w.options (length es) before c.lines.meter c.lines.meter (adds_none (length es * length (terminated before)) c.lines.meter)) in
+    let same : i.so_far.lines ++ all ≡ s.lines ++ line ∷ [] = ap (λ ls. i.so_far.lines ++ ls) is ∙ sym (append_assoc i.so_far.lines before (line ∷ [])) ∙ ap (λ ls. ls ++ line ∷ []) (sym are) in
+    let all_spent = subst (λ ls. SearchesLines es w.options (length es) ls c.args.meter.now c.next_held-stretch.new.meter) same (searched_more_lines es w.options (length es) i.so_far.lines all c.args.meter.now c.lines.meter c.next_held-stretch.new.meter i.so_far.steps spent) in
+    let now = c.pass.new.self in
+    let next = subst (λ ls. HasHanded g.R.CountedRead.remaining g.R.CountedRead.failures reader now ls) same (handed_passed c.lines.lines all n d.free g.R.CountedRead.remaining g.R.CountedRead.failures reader i.so_far.lines i.so_far.handed now c.next_held-stretch.result.bytes d.width c.pass.ensures.passed) in
+    let is_number : c.number-in-Some.result + count ≡ now.number = omega (arith, c.number-in-Some.ensures, d.counted, next.counted, s.handed.counted, length-append s.lines (line ∷ []), ap length is, length-append before (line ∷ [])) in
+    omega (arith, is_number, some, next.few, next.counted, c.number-in-Some.ensures)
 
 pub count_found-selected-requires : goal.count_found-selected-requires
 count_found-selected-requires g c =
     let w = c.args.wanted.now in
-    let es = map g.M.LineMatch.expression c.args.matchers.now in
+    let es = map g.M.LineMatch.expression c.args.searchers.now.matchers.now in
     let reader = c.args.lines.now.lines.reader in
-    let i = c.loop-lines.invariant in
-    let before = i.so_far in
-    let skipped = rw i.same_matchers.same_expressions at (c.in_ok-pass_waiting.ensures.ok reader before.lines before.handed) in
-    let p = followed_passed g.R.CountedRead.remaining g.R.CountedRead.failures es w.options w.many c.args.shown w.name.now reader c.args.context c.requires.is_asked c.loop-lines.lines c.pass_waiting.new.lines _ _ _ _ c.loop-lines.selected c.loop-lines.progress c.pass_waiting.new.progress c.loop-lines.behind c.pass_waiting.new.behind i.limit before skipped in
-    let s = followed_sent g.R.CountedRead.remaining g.R.CountedRead.failures es w.options w.many c.args.shown w.name.now reader c.args.context c.requires.is_asked c.pass_waiting.new.lines _ _ _ _ _ c.loop-lines.selected c.pass_waiting.new.progress c.pass_waiting.new.behind.lines p (TakesAll-written g.W.CountedWrite.contents g.W.CountedWrite.failures c.loop-lines.out c.send_before_read.new.out [] c.in_ok-send_before_read.ensures) in
-    let handed = rw c.in-Ok-true.field-0-test at c.in-Ok-true.ensures.next in
-    let next = handed reader s.lines s.handed in
-    counts_on g.R.CountedRead.remaining g.R.CountedRead.failures es w.options w.many c.args.shown w.name.now reader c.args.context c.requires.is_asked c.pass_waiting.new.lines c.next_line.new.self _ _ _ _ c.loop-lines.selected c.pass_waiting.new.progress c.pass_waiting.new.behind.lines s next
+    let i = c.lines.invariant in
+    let held = c.next_held-stretch.ensures in
+    let (before, all, d, n) = held.divided in
+    let spent = searched_bytes es w.options (length es) all c.lines.meter c.next_held-stretch.new.meter (stretch_spent es _ _ _ i.same.same_matchers.same_expressions d held.steps) in
+    let count = c.next_held-stretch.result.count in
+    let forward = asked_forward c.lines.progress.left w.options.invert_match count held.none in
+    let kept = divided_kept (sym (same_sought i.same)) d in
+    let unselected = none_selected es w.options c.args.searchers.now.whole c.requires.whole count forward before (before_within d) kept.none in
+    let waits = subst (λ ls. Waits ls c.lines.progress c.wait.new.progress c.lines.behind c.wait.new.behind) (before_lines d) (if_kept c.wait.result c.is_err.result c.is_err.ensures.value c.if-is_err.false c.wait.ensures) in
+    let line = c.in-Some.line.now in
+    let (holds, is) = rw c.in-Some.is at kept.next in
+    let some : 1 ≤ count = omega (arith, d.counted, ap length is, length-append before (line ∷ [])) in
+    let told = decided_yes (line_selected_if es w.options c.args.searchers.now.whole c.requires.whole count forward line some holds) in
+    let first = next_first c.lines.lines before (line ∷ []) (subst (IsNextOf c.lines.lines) is n) in
+    let mid = passed_state c.lines.lines before first (before_free d) in
+    let (s, are) = followed_waiting g.R.CountedRead.remaining g.R.CountedRead.failures es w.options w.many c.args.shown w.name.now reader c.args.context c.requires.is_asked c.lines.lines mid _ _ _ c.lines.meter c.lines.meter c.lines.selected c.lines.progress c.wait.new.progress c.lines.behind c.wait.new.behind i.limit i.so_far before (handed_with c.lines.lines before first (before_free d) g.R.CountedRead.remaining g.R.CountedRead.failures reader i.so_far.lines i.so_far.handed) unselected waits (searched_bytes es w.options (length es) before c.lines.meter c.lines.meter (adds_none (length es * length (terminated before)) c.lines.meter)) in
+    let same : i.so_far.lines ++ all ≡ s.lines ++ line ∷ [] = ap (λ ls. i.so_far.lines ++ ls) is ∙ sym (append_assoc i.so_far.lines before (line ∷ [])) ∙ ap (λ ls. ls ++ line ∷ []) (sym are) in
+    let all_spent = subst (λ ls. SearchesLines es w.options (length es) ls c.args.meter.now c.next_held-stretch.new.meter) same (searched_more_lines es w.options (length es) i.so_far.lines all c.args.meter.now c.lines.meter c.next_held-stretch.new.meter i.so_far.steps spent) in
+    let now = passed_state c.lines.lines all n d.free in
+    let next = subst (λ ls. HasHanded g.R.CountedRead.remaining g.R.CountedRead.failures reader now ls) same (handed_with c.lines.lines all n d.free g.R.CountedRead.remaining g.R.CountedRead.failures reader i.so_far.lines i.so_far.handed) in
+    let is_number : c.number-in-Some.result + count ≡ now.number = omega (arith, c.number-in-Some.ensures, d.counted) in
+    counts_on g.R.CountedRead.remaining g.R.CountedRead.failures es w.options w.many c.args.shown w.name.now reader c.args.context c.requires.is_asked mid now _ _ _ c.lines.meter c.lines.selected c.wait.new.progress c.wait.new.behind.lines s line next
 
-pub loop-lines-smaller : goal.loop-lines-smaller
-loop-lines-smaller g c =
-    let w = c.args.wanted.now in
-    let es = map g.M.LineMatch.expression c.args.matchers.now in
-    let reader = c.args.lines.now.lines.reader in
-    let i = c.loop-lines.invariant in
-    let before = i.so_far in
-    let skipped = rw i.same_matchers.same_expressions at (c.in_ok-pass_waiting.ensures.ok reader before.lines before.handed) in
-    let p = followed_passed g.R.CountedRead.remaining g.R.CountedRead.failures es w.options w.many c.args.shown w.name.now reader c.args.context c.requires.is_asked c.loop-lines.lines c.pass_waiting.new.lines _ _ _ _ c.loop-lines.selected c.loop-lines.progress c.pass_waiting.new.progress c.loop-lines.behind c.pass_waiting.new.behind i.limit before skipped in
-    let s = followed_sent g.R.CountedRead.remaining g.R.CountedRead.failures es w.options w.many c.args.shown w.name.now reader c.args.context c.requires.is_asked c.pass_waiting.new.lines _ _ _ _ _ c.loop-lines.selected c.pass_waiting.new.progress c.pass_waiting.new.behind.lines p (TakesAll-written g.W.CountedWrite.contents g.W.CountedWrite.failures c.loop-lines.out c.send_before_read.new.out [] c.in_ok-send_before_read.ensures) in
-    let handed = rw c.in-Ok-true.field-0-test at c.in-Ok-true.ensures.next in
-    let next = handed reader s.lines s.handed in
-    omega (arith, passed_on g.R.CountedRead.remaining g.R.CountedRead.failures es w.options w.many c.args.shown w.name.now reader c.args.context c.requires.is_asked c.loop-lines.lines c.pass_waiting.new.lines c.loop-lines.progress c.pass_waiting.new.progress c.loop-lines.behind c.pass_waiting.new.behind before.lines before.handed skipped, numbers_left g.R.CountedRead.remaining g.R.CountedRead.failures es w.options w.many c.args.shown w.name.now reader c.args.context c.requires.is_asked c.pass_waiting.new.lines c.next_line.new.self _ _ _ _ c.loop-lines.selected c.pass_waiting.new.progress c.pass_waiting.new.behind.lines s next)
+pub pass-requires-in-lines : goal.pass-requires-in-lines
+pass-requires-in-lines g c =
+    let (before, all, d, n) = c.next_held-stretch.ensures.divided in
+    are_ahead c.lines.lines all n d.free c.next_held-stretch.result.bytes c.next_held-stretch.result.count d.width d.counted
 
-pub loop-lines-preserved : goal.loop-lines-preserved
-loop-lines-preserved g c =
+pub returns-in_err-send_before_read-clause-write : goal.returns-in_err-send_before_read-clause-write
+returns-in_err-send_before_read-clause-write g c = λ is_write.
     let w = c.args.wanted.now in
-    let es = map g.M.LineMatch.expression c.args.matchers.now in
+    let es = map g.M.LineMatch.expression c.args.searchers.now.matchers.now in
     let reader = c.args.lines.now.lines.reader in
-    let i = c.loop-lines.invariant in
-    let before = i.so_far in
-    let skipped = rw i.same_matchers.same_expressions at (c.in_ok-pass_waiting.ensures.ok reader before.lines before.handed) in
-    let p = followed_passed g.R.CountedRead.remaining g.R.CountedRead.failures es w.options w.many c.args.shown w.name.now reader c.args.context c.requires.is_asked c.loop-lines.lines c.pass_waiting.new.lines _ _ _ _ c.loop-lines.selected c.loop-lines.progress c.pass_waiting.new.progress c.loop-lines.behind c.pass_waiting.new.behind i.limit before skipped in
-    let s = followed_sent g.R.CountedRead.remaining g.R.CountedRead.failures es w.options w.many c.args.shown w.name.now reader c.args.context c.requires.is_asked c.pass_waiting.new.lines _ _ _ _ _ c.loop-lines.selected c.pass_waiting.new.progress c.pass_waiting.new.behind.lines p (TakesAll-written g.W.CountedWrite.contents g.W.CountedWrite.failures c.loop-lines.out c.send_before_read.new.out [] c.in_ok-send_before_read.ensures) in
+    let i = c.lines.invariant in
+    let held = c.next_held-stretch.ensures in
+    let (before, all, d, n) = held.divided in
+    let spent = searched_bytes es w.options (length es) all c.lines.meter c.next_held-stretch.new.meter (stretch_spent es _ _ _ i.same.same_matchers.same_expressions d held.steps) in
+    let count = c.next_held-stretch.result.count in
+    let forward = asked_forward c.lines.progress.left w.options.invert_match count held.none in
+    let kept = divided_kept (sym (same_sought i.same)) d in
+    let unselected = none_selected es w.options c.args.searchers.now.whole c.requires.whole count forward before (before_within d) kept.none in
+    let waits = subst (λ ls. Waits ls c.lines.progress c.wait.new.progress c.lines.behind c.wait.new.behind) (before_lines d) (if_kept c.wait.result c.is_err.result c.is_err.ensures.value c.if-is_err.false c.wait.ensures) in
+    let is : all ≡ before = rw c.in_default.is at d.next in
+    let now = c.pass-in-lines.new.self in
+    let passed = subst (λ ls. HasHanded g.R.CountedRead.remaining g.R.CountedRead.failures reader now (i.so_far.lines ++ ls)) is (handed_passed c.lines.lines all n d.free g.R.CountedRead.remaining g.R.CountedRead.failures reader i.so_far.lines i.so_far.handed now c.next_held-stretch.result.bytes d.width c.pass-in-lines.ensures.passed) in
+    let (p, are) = followed_waiting g.R.CountedRead.remaining g.R.CountedRead.failures es w.options w.many c.args.shown w.name.now reader c.args.context c.requires.is_asked c.lines.lines now _ _ _ c.lines.meter c.next_held-stretch.new.meter c.lines.selected c.lines.progress c.wait.new.progress c.lines.behind c.wait.new.behind i.limit i.so_far before passed unselected waits (subst (λ ls. SearchesLines es w.options (length es) ls c.lines.meter c.next_held-stretch.new.meter) is spent) in
+    let unsent = c.in_err-send_before_read.ensures in
+    followed_unsent g.R.CountedRead.remaining g.R.CountedRead.failures es w.options w.many c.args.shown w.name.now reader c.args.context c.requires.is_asked now now _ _ _ _ c.lines.selected c.wait.new.progress c.wait.new.behind.lines p _ (TakesFront-written g.W.CountedWrite.contents g.W.CountedWrite.failures c.lines.out c.send_before_read.new.out [] unsent) unsent.counted
+
+pub show_line-requires-in-Ok-true-clause-held : goal.show_line-requires-in-Ok-true-clause-held
+show_line-requires-in-Ok-true-clause-held g c =
+    let w = c.args.wanted.now in
+    let es = map g.M.LineMatch.expression c.args.searchers.now.matchers.now in
+    let reader = c.args.lines.now.lines.reader in
+    let i = c.lines.invariant in
+    let held = c.next_held-stretch.ensures in
+    let (before, all, d, n) = held.divided in
+    let spent = searched_bytes es w.options (length es) all c.lines.meter c.next_held-stretch.new.meter (stretch_spent es _ _ _ i.same.same_matchers.same_expressions d held.steps) in
+    let count = c.next_held-stretch.result.count in
+    let forward = asked_forward c.lines.progress.left w.options.invert_match count held.none in
+    let kept = divided_kept (sym (same_sought i.same)) d in
+    let unselected = none_selected es w.options c.args.searchers.now.whole c.requires.whole count forward before (before_within d) kept.none in
+    let waits = subst (λ ls. Waits ls c.lines.progress c.wait.new.progress c.lines.behind c.wait.new.behind) (before_lines d) (if_kept c.wait.result c.is_err.result c.is_err.ensures.value c.if-is_err.false c.wait.ensures) in
+    let is : all ≡ before = rw c.in_default.is at d.next in
+    let now = c.pass-in-lines.new.self in
+    let passed = subst (λ ls. HasHanded g.R.CountedRead.remaining g.R.CountedRead.failures reader now (i.so_far.lines ++ ls)) is (handed_passed c.lines.lines all n d.free g.R.CountedRead.remaining g.R.CountedRead.failures reader i.so_far.lines i.so_far.handed now c.next_held-stretch.result.bytes d.width c.pass-in-lines.ensures.passed) in
+    let (p, are) = followed_waiting g.R.CountedRead.remaining g.R.CountedRead.failures es w.options w.many c.args.shown w.name.now reader c.args.context c.requires.is_asked c.lines.lines now _ _ _ c.lines.meter c.next_held-stretch.new.meter c.lines.selected c.lines.progress c.wait.new.progress c.lines.behind c.wait.new.behind i.limit i.so_far before passed unselected waits (subst (λ ls. SearchesLines es w.options (length es) ls c.lines.meter c.next_held-stretch.new.meter) is spent) in
+    let s = followed_sent g.R.CountedRead.remaining g.R.CountedRead.failures es w.options w.many c.args.shown w.name.now reader c.args.context c.requires.is_asked now _ _ _ _ _ c.lines.selected c.wait.new.progress c.wait.new.behind.lines p (TakesAll-written g.W.CountedWrite.contents g.W.CountedWrite.failures c.lines.out c.send_before_read.new.out [] c.in_ok-send_before_read.ensures) in
     let handed = rw c.in-Ok-true.field-0-test at c.in-Ok-true.ensures.next in
-    let next = handed reader s.lines s.handed in
-    let told = rw i.same_matchers.same_expressions at c.is_selected_behind-found.ensures.told in
-    let once = searched_once (map g.M.LineMatch.expression c.loop-lines.matchers) w.options c.line-line.result.now (length c.loop-lines.matchers) _ _ c.is_selected_behind-found.ensures.steps in
-    let spent = as_expressions g.M.LineMatch.expression c.loop-lines.matchers es w.options c.line-line.result.now _ _ i.same_matchers.same_expressions once in
-    let went = rw c.step-at.ensures.shown at c.in_ok-write_shown-in-Ok-true.ensures in
-    let limit = passed_limit g.R.CountedRead.remaining g.R.CountedRead.failures es w.options w.many c.args.shown w.name.now reader c.args.context c.requires.is_asked c.pass_waiting.new.lines c.loop-lines.progress c.pass_waiting.new.progress c.loop-lines.behind c.pass_waiting.new.behind before.lines skipped i.limit in
-    let kept = rw c.step-at.ensures.shown at (rw limit at (if_kept c.keep.result c.is_err.result c.is_err.ensures.value c.if-is_err.false c.keep.ensures.lines)) in
+    let line = c.line-line.result.now in
+    let next = subst (λ l. HasHanded g.R.CountedRead.remaining g.R.CountedRead.failures reader c.next_line.new.self (s.lines ++ l ∷ [])) (sym c.line-line.ensures) (handed reader s.lines s.handed) in
+    held_few g.R.CountedRead.remaining g.R.CountedRead.failures es w.options w.many c.args.shown w.name.now reader c.args.context c.requires.is_asked now c.next_line.new.self _ _ _ _ c.lines.selected c.wait.new.progress c.wait.new.behind.lines s line next c.number-number.result c.number-number.ensures
+
+pub returns-in_err-show_line-in-Ok-true-clause-write : goal.returns-in_err-show_line-in-Ok-true-clause-write
+returns-in_err-show_line-in-Ok-true-clause-write g c = λ is_write.
+    let w = c.args.wanted.now in
+    let es = map g.M.LineMatch.expression c.args.searchers.now.matchers.now in
+    let reader = c.args.lines.now.lines.reader in
+    let i = c.lines.invariant in
+    let held = c.next_held-stretch.ensures in
+    let (before, all, d, n) = held.divided in
+    let spent = searched_bytes es w.options (length es) all c.lines.meter c.next_held-stretch.new.meter (stretch_spent es _ _ _ i.same.same_matchers.same_expressions d held.steps) in
+    let count = c.next_held-stretch.result.count in
+    let forward = asked_forward c.lines.progress.left w.options.invert_match count held.none in
+    let kept = divided_kept (sym (same_sought i.same)) d in
+    let unselected = none_selected es w.options c.args.searchers.now.whole c.requires.whole count forward before (before_within d) kept.none in
+    let waits = subst (λ ls. Waits ls c.lines.progress c.wait.new.progress c.lines.behind c.wait.new.behind) (before_lines d) (if_kept c.wait.result c.is_err.result c.is_err.ensures.value c.if-is_err.false c.wait.ensures) in
+    let is : all ≡ before = rw c.in_default.is at d.next in
+    let now = c.pass-in-lines.new.self in
+    let passed = subst (λ ls. HasHanded g.R.CountedRead.remaining g.R.CountedRead.failures reader now (i.so_far.lines ++ ls)) is (handed_passed c.lines.lines all n d.free g.R.CountedRead.remaining g.R.CountedRead.failures reader i.so_far.lines i.so_far.handed now c.next_held-stretch.result.bytes d.width c.pass-in-lines.ensures.passed) in
+    let (p, are) = followed_waiting g.R.CountedRead.remaining g.R.CountedRead.failures es w.options w.many c.args.shown w.name.now reader c.args.context c.requires.is_asked c.lines.lines now _ _ _ c.lines.meter c.next_held-stretch.new.meter c.lines.selected c.lines.progress c.wait.new.progress c.lines.behind c.wait.new.behind i.limit i.so_far before passed unselected waits (subst (λ ls. SearchesLines es w.options (length es) ls c.lines.meter c.next_held-stretch.new.meter) is spent) in
+    let s = followed_sent g.R.CountedRead.remaining g.R.CountedRead.failures es w.options w.many c.args.shown w.name.now reader c.args.context c.requires.is_asked now _ _ _ _ _ c.lines.selected c.wait.new.progress c.wait.new.behind.lines p (TakesAll-written g.W.CountedWrite.contents g.W.CountedWrite.failures c.lines.out c.send_before_read.new.out [] c.in_ok-send_before_read.ensures) in
+    let handed = rw c.in-Ok-true.field-0-test at c.in-Ok-true.ensures.next in
+    let line = c.line-line.result.now in
+    let next = subst (λ l. HasHanded g.R.CountedRead.remaining g.R.CountedRead.failures reader c.next_line.new.self (s.lines ++ l ∷ [])) (sym c.line-line.ensures) (handed reader s.lines s.handed) in
+    let same = (asked_over held.same i.same).same_matchers.same_expressions in
+    let told = rw same at c.is_selected-found.ensures.told in
+    let once = searched_once es w.options line (length es) _ _ (rw same at c.is_selected-found.ensures.steps) in
+    let all_spent = searched_one_line es w.options (length es) s.lines line _ _ _ s.steps once in
+    let broke = c.show_line-in-Ok-true.ensures.write (c.in_err-show_line-in-Ok-true.was ∙ ap Err (handed_fault c.from_residual-in_err-show_line-in-Ok-true.result c.in_err-show_line-in-Ok-true.field-0.0 Write c.from_residual-in_err-show_line-in-Ok-true.ensures.1 is_write)) in
+    followed_breaks g.R.CountedRead.remaining g.R.CountedRead.failures es w.options w.many c.args.shown w.name.now reader c.args.context c.requires.is_asked now c.next_line.new.self _ _ _ _ c.lines.selected c.wait.new.progress c.wait.new.behind.lines s line next c.number-number.result c.number-number.ensures c.is_selected-found.result told c.is_selected-found.new.meter all_spent _ broke.wrote broke.counted
+
+pub returns-in_err-show_line-in-Ok-true-clause-memory : goal.returns-in_err-show_line-in-Ok-true-clause-memory
+returns-in_err-show_line-in-Ok-true-clause-memory g c = λ lines_done is_memory.
+    let w = c.args.wanted.now in
+    let es = map g.M.LineMatch.expression c.args.searchers.now.matchers.now in
+    let reader = c.args.lines.now.lines.reader in
+    let i = c.lines.invariant in
+    let held = c.next_held-stretch.ensures in
+    let (before, all, d, n) = held.divided in
+    let spent = searched_bytes es w.options (length es) all c.lines.meter c.next_held-stretch.new.meter (stretch_spent es _ _ _ i.same.same_matchers.same_expressions d held.steps) in
+    let count = c.next_held-stretch.result.count in
+    let forward = asked_forward c.lines.progress.left w.options.invert_match count held.none in
+    let kept = divided_kept (sym (same_sought i.same)) d in
+    let unselected = none_selected es w.options c.args.searchers.now.whole c.requires.whole count forward before (before_within d) kept.none in
+    let waits = subst (λ ls. Waits ls c.lines.progress c.wait.new.progress c.lines.behind c.wait.new.behind) (before_lines d) (if_kept c.wait.result c.is_err.result c.is_err.ensures.value c.if-is_err.false c.wait.ensures) in
+    let is : all ≡ before = rw c.in_default.is at d.next in
+    let now = c.pass-in-lines.new.self in
+    let passed = subst (λ ls. HasHanded g.R.CountedRead.remaining g.R.CountedRead.failures reader now (i.so_far.lines ++ ls)) is (handed_passed c.lines.lines all n d.free g.R.CountedRead.remaining g.R.CountedRead.failures reader i.so_far.lines i.so_far.handed now c.next_held-stretch.result.bytes d.width c.pass-in-lines.ensures.passed) in
+    let (p, are) = followed_waiting g.R.CountedRead.remaining g.R.CountedRead.failures es w.options w.many c.args.shown w.name.now reader c.args.context c.requires.is_asked c.lines.lines now _ _ _ c.lines.meter c.next_held-stretch.new.meter c.lines.selected c.lines.progress c.wait.new.progress c.lines.behind c.wait.new.behind i.limit i.so_far before passed unselected waits (subst (λ ls. SearchesLines es w.options (length es) ls c.lines.meter c.next_held-stretch.new.meter) is spent) in
+    let s = followed_sent g.R.CountedRead.remaining g.R.CountedRead.failures es w.options w.many c.args.shown w.name.now reader c.args.context c.requires.is_asked now _ _ _ _ _ c.lines.selected c.wait.new.progress c.wait.new.behind.lines p (TakesAll-written g.W.CountedWrite.contents g.W.CountedWrite.failures c.lines.out c.send_before_read.new.out [] c.in_ok-send_before_read.ensures) in
+    let handed = rw c.in-Ok-true.field-0-test at c.in-Ok-true.ensures.next in
+    let line = c.line-line.result.now in
+    let next = subst (λ l. HasHanded g.R.CountedRead.remaining g.R.CountedRead.failures reader c.next_line.new.self (s.lines ++ l ∷ [])) (sym c.line-line.ensures) (handed reader s.lines s.handed) in
+    let same = (asked_over held.same i.same).same_matchers.same_expressions in
+    let told = rw same at c.is_selected-found.ensures.told in
+    let once = searched_once es w.options line (length es) _ _ (rw same at c.is_selected-found.ensures.steps) in
+    let all_spent = searched_one_line es w.options (length es) s.lines line _ _ _ s.steps once in
+    let (done, went) = c.show_line-in-Ok-true.ensures.memory lines_done (c.in_err-show_line-in-Ok-true.was ∙ ap Err (handed_fault c.from_residual-in_err-show_line-in-Ok-true.result c.in_err-show_line-in-Ok-true.field-0.0 (Memory lines_done) c.from_residual-in_err-show_line-in-Ok-true.ensures.1 is_memory)) in
+    rw (← done) (followed_refused g.R.CountedRead.remaining g.R.CountedRead.failures es w.options w.many c.args.shown w.name.now reader c.args.context c.requires.is_asked now c.next_line.new.self _ _ _ _ c.lines.selected c.wait.new.progress c.wait.new.behind.lines s line next c.number-number.result c.number-number.ensures c.is_selected-found.result told c.is_selected-found.new.meter all_spent _ went)
+
+pub count_found-selected-requires-in-Ok-true : goal.count_found-selected-requires-in-Ok-true
+count_found-selected-requires-in-Ok-true g c =
+    let w = c.args.wanted.now in
+    let es = map g.M.LineMatch.expression c.args.searchers.now.matchers.now in
+    let reader = c.args.lines.now.lines.reader in
+    let i = c.lines.invariant in
+    let held = c.next_held-stretch.ensures in
+    let (before, all, d, n) = held.divided in
+    let spent = searched_bytes es w.options (length es) all c.lines.meter c.next_held-stretch.new.meter (stretch_spent es _ _ _ i.same.same_matchers.same_expressions d held.steps) in
+    let count = c.next_held-stretch.result.count in
+    let forward = asked_forward c.lines.progress.left w.options.invert_match count held.none in
+    let kept = divided_kept (sym (same_sought i.same)) d in
+    let unselected = none_selected es w.options c.args.searchers.now.whole c.requires.whole count forward before (before_within d) kept.none in
+    let waits = subst (λ ls. Waits ls c.lines.progress c.wait.new.progress c.lines.behind c.wait.new.behind) (before_lines d) (if_kept c.wait.result c.is_err.result c.is_err.ensures.value c.if-is_err.false c.wait.ensures) in
+    let is : all ≡ before = rw c.in_default.is at d.next in
+    let now = c.pass-in-lines.new.self in
+    let passed = subst (λ ls. HasHanded g.R.CountedRead.remaining g.R.CountedRead.failures reader now (i.so_far.lines ++ ls)) is (handed_passed c.lines.lines all n d.free g.R.CountedRead.remaining g.R.CountedRead.failures reader i.so_far.lines i.so_far.handed now c.next_held-stretch.result.bytes d.width c.pass-in-lines.ensures.passed) in
+    let (p, are) = followed_waiting g.R.CountedRead.remaining g.R.CountedRead.failures es w.options w.many c.args.shown w.name.now reader c.args.context c.requires.is_asked c.lines.lines now _ _ _ c.lines.meter c.next_held-stretch.new.meter c.lines.selected c.lines.progress c.wait.new.progress c.lines.behind c.wait.new.behind i.limit i.so_far before passed unselected waits (subst (λ ls. SearchesLines es w.options (length es) ls c.lines.meter c.next_held-stretch.new.meter) is spent) in
+    let s = followed_sent g.R.CountedRead.remaining g.R.CountedRead.failures es w.options w.many c.args.shown w.name.now reader c.args.context c.requires.is_asked now _ _ _ _ _ c.lines.selected c.wait.new.progress c.wait.new.behind.lines p (TakesAll-written g.W.CountedWrite.contents g.W.CountedWrite.failures c.lines.out c.send_before_read.new.out [] c.in_ok-send_before_read.ensures) in
+    let handed = rw c.in-Ok-true.field-0-test at c.in-Ok-true.ensures.next in
+    let line = c.line-line.result.now in
+    let next = subst (λ l. HasHanded g.R.CountedRead.remaining g.R.CountedRead.failures reader c.next_line.new.self (s.lines ++ l ∷ [])) (sym c.line-line.ensures) (handed reader s.lines s.handed) in
+    counts_on g.R.CountedRead.remaining g.R.CountedRead.failures es w.options w.many c.args.shown w.name.now reader c.args.context c.requires.is_asked now c.next_line.new.self _ _ _ _ c.lines.selected c.wait.new.progress c.wait.new.behind.lines s line next
+
+pub lines-smaller : goal.lines-smaller
+lines-smaller g c =
+    let w = c.args.wanted.now in
+    let es = map g.M.LineMatch.expression c.args.searchers.now.matchers.now in
+    let reader = c.args.lines.now.lines.reader in
+    let i = c.lines.invariant in
+    let held = c.next_held-stretch.ensures in
+    let (before, all, d, n) = held.divided in
+    let spent = searched_bytes es w.options (length es) all c.lines.meter c.next_held-stretch.new.meter (stretch_spent es _ _ _ i.same.same_matchers.same_expressions d held.steps) in
+    let count = c.next_held-stretch.result.count in
+    let forward = asked_forward c.lines.progress.left w.options.invert_match count held.none in
+    let kept = divided_kept (sym (same_sought i.same)) d in
+    let unselected = none_selected es w.options c.args.searchers.now.whole c.requires.whole count forward before (before_within d) kept.none in
+    let waits = subst (λ ls. Waits ls c.lines.progress c.wait.new.progress c.lines.behind c.wait.new.behind) (before_lines d) (if_kept c.wait.result c.is_err.result c.is_err.ensures.value c.if-is_err.false c.wait.ensures) in
+    let is : all ≡ before = rw c.in_default.is at d.next in
+    let now = c.pass-in-lines.new.self in
+    let passed = subst (λ ls. HasHanded g.R.CountedRead.remaining g.R.CountedRead.failures reader now (i.so_far.lines ++ ls)) is (handed_passed c.lines.lines all n d.free g.R.CountedRead.remaining g.R.CountedRead.failures reader i.so_far.lines i.so_far.handed now c.next_held-stretch.result.bytes d.width c.pass-in-lines.ensures.passed) in
+    let (p, are) = followed_waiting g.R.CountedRead.remaining g.R.CountedRead.failures es w.options w.many c.args.shown w.name.now reader c.args.context c.requires.is_asked c.lines.lines now _ _ _ c.lines.meter c.next_held-stretch.new.meter c.lines.selected c.lines.progress c.wait.new.progress c.lines.behind c.wait.new.behind i.limit i.so_far before passed unselected waits (subst (λ ls. SearchesLines es w.options (length es) ls c.lines.meter c.next_held-stretch.new.meter) is spent) in
+    let s = followed_sent g.R.CountedRead.remaining g.R.CountedRead.failures es w.options w.many c.args.shown w.name.now reader c.args.context c.requires.is_asked now _ _ _ _ _ c.lines.selected c.wait.new.progress c.wait.new.behind.lines p (TakesAll-written g.W.CountedWrite.contents g.W.CountedWrite.failures c.lines.out c.send_before_read.new.out [] c.in_ok-send_before_read.ensures) in
+    let handed = rw c.in-Ok-true.field-0-test at c.in-Ok-true.ensures.next in
+    let line = c.line-line.result.now in
+    let next = subst (λ l. HasHanded g.R.CountedRead.remaining g.R.CountedRead.failures reader c.next_line.new.self (s.lines ++ l ∷ [])) (sym c.line-line.ensures) (handed reader s.lines s.handed) in
+    omega (arith, numbers_left g.R.CountedRead.remaining g.R.CountedRead.failures es w.options w.many c.args.shown w.name.now reader c.args.context c.requires.is_asked now c.next_line.new.self _ _ _ _ c.lines.selected c.wait.new.progress c.wait.new.behind.lines s line next, passed.counted, i.so_far.handed.counted, length-append i.so_far.lines before)
+
+pub lines-preserved : goal.lines-preserved
+lines-preserved g c =
+    let w = c.args.wanted.now in
+    let es = map g.M.LineMatch.expression c.args.searchers.now.matchers.now in
+    let reader = c.args.lines.now.lines.reader in
+    let i = c.lines.invariant in
+    let held = c.next_held-stretch.ensures in
+    let (before, all, d, n) = held.divided in
+    let spent = searched_bytes es w.options (length es) all c.lines.meter c.next_held-stretch.new.meter (stretch_spent es _ _ _ i.same.same_matchers.same_expressions d held.steps) in
+    let count = c.next_held-stretch.result.count in
+    let forward = asked_forward c.lines.progress.left w.options.invert_match count held.none in
+    let kept = divided_kept (sym (same_sought i.same)) d in
+    let unselected = none_selected es w.options c.args.searchers.now.whole c.requires.whole count forward before (before_within d) kept.none in
+    let waits = subst (λ ls. Waits ls c.lines.progress c.wait.new.progress c.lines.behind c.wait.new.behind) (before_lines d) (if_kept c.wait.result c.is_err.result c.is_err.ensures.value c.if-is_err.false c.wait.ensures) in
+    let is : all ≡ before = rw c.in_default.is at d.next in
+    let now = c.pass-in-lines.new.self in
+    let passed = subst (λ ls. HasHanded g.R.CountedRead.remaining g.R.CountedRead.failures reader now (i.so_far.lines ++ ls)) is (handed_passed c.lines.lines all n d.free g.R.CountedRead.remaining g.R.CountedRead.failures reader i.so_far.lines i.so_far.handed now c.next_held-stretch.result.bytes d.width c.pass-in-lines.ensures.passed) in
+    let (p, are) = followed_waiting g.R.CountedRead.remaining g.R.CountedRead.failures es w.options w.many c.args.shown w.name.now reader c.args.context c.requires.is_asked c.lines.lines now _ _ _ c.lines.meter c.next_held-stretch.new.meter c.lines.selected c.lines.progress c.wait.new.progress c.lines.behind c.wait.new.behind i.limit i.so_far before passed unselected waits (subst (λ ls. SearchesLines es w.options (length es) ls c.lines.meter c.next_held-stretch.new.meter) is spent) in
+    let s = followed_sent g.R.CountedRead.remaining g.R.CountedRead.failures es w.options w.many c.args.shown w.name.now reader c.args.context c.requires.is_asked now _ _ _ _ _ c.lines.selected c.wait.new.progress c.wait.new.behind.lines p (TakesAll-written g.W.CountedWrite.contents g.W.CountedWrite.failures c.lines.out c.send_before_read.new.out [] c.in_ok-send_before_read.ensures) in
+    let handed = rw c.in-Ok-true.field-0-test at c.in-Ok-true.ensures.next in
+    let line = c.line-line.result.now in
+    let next = subst (λ l. HasHanded g.R.CountedRead.remaining g.R.CountedRead.failures reader c.next_line.new.self (s.lines ++ l ∷ [])) (sym c.line-line.ensures) (handed reader s.lines s.handed) in
+    let same = (asked_over held.same i.same).same_matchers.same_expressions in
+    let told = rw same at c.is_selected-found.ensures.told in
+    let once = searched_once es w.options line (length es) _ _ (rw same at c.is_selected-found.ensures.steps) in
+    let all_spent = searched_one_line es w.options (length es) s.lines line _ _ _ s.steps once in
+    let shown = c.in_ok-show_line-in-Ok-true.ensures.ok in
+    let limit = waiting_limit g.R.CountedRead.remaining g.R.CountedRead.failures es w.options w.many c.args.shown w.name.now reader c.args.context c.requires.is_asked before c.lines.progress c.wait.new.progress c.lines.behind c.wait.new.behind waits i.limit in
     record {
-      so_far =
-          rw c.step-at.ensures.now
-          (followed_line g.R.CountedRead.remaining g.R.CountedRead.failures es w.options w.many c.args.shown w.name.now reader c.args.context c.requires.is_asked c.pass_waiting.new.lines c.next_line.new.self _ _ _ _ c.loop-lines.selected c.pass_waiting.new.progress c.pass_waiting.new.behind.lines s next c.number-count.result c.number-count.ensures c.line-line.result.now c.line-line.ensures c.is_selected_behind-found.result told _ spent _ c.count_found-selected.result c.keep.new.behind.lines (TakesAll-written g.W.CountedWrite.contents g.W.CountedWrite.failures c.send_before_read.new.out c.write_shown.new.out _ went) c.count_found-selected.ensures kept);
-      limit = c.keep.ensures.same_limit ∙ limit;
-      same_matchers = same_over c.is_selected_behind-found.ensures.same_matchers i.same_matchers;
+      so_far = rw shown.goes_on (followed_line g.R.CountedRead.remaining g.R.CountedRead.failures es w.options w.many c.args.shown w.name.now reader c.args.context c.requires.is_asked now c.next_line.new.self _ _ _ _ c.lines.selected c.wait.new.progress c.wait.new.behind.lines s line next c.number-number.result c.number-number.ensures c.is_selected-found.result told c.is_selected-found.new.meter all_spent _ c.count_found-selected-in-Ok-true.result c.show_line-in-Ok-true.new.behind.lines shown.wrote c.count_found-selected-in-Ok-true.ensures (shown.holds ∙ ap (λ n. if (next_shown c.wait.new.progress c.is_selected-found.result).itself then [] else last_of n (c.wait.new.behind.lines ++ line ∷ [])) limit));
+      limit = shown.same_limit ∙ limit;
+      same = asked_over c.is_selected-found.ensures.same (asked_over held.same i.same);
     }
 
 pub returns-in-Ok-false-clause-ok : goal.returns-in-Ok-false-clause-ok
 returns-in-Ok-false-clause-ok g c =
     let w = c.args.wanted.now in
-    let es = map g.M.LineMatch.expression c.args.matchers.now in
+    let es = map g.M.LineMatch.expression c.args.searchers.now.matchers.now in
     let reader = c.args.lines.now.lines.reader in
-    let i = c.loop-lines.invariant in
-    let before = i.so_far in
-    let skipped = rw i.same_matchers.same_expressions at (c.in_ok-pass_waiting.ensures.ok reader before.lines before.handed) in
-    let p = followed_passed g.R.CountedRead.remaining g.R.CountedRead.failures es w.options w.many c.args.shown w.name.now reader c.args.context c.requires.is_asked c.loop-lines.lines c.pass_waiting.new.lines _ _ _ _ c.loop-lines.selected c.loop-lines.progress c.pass_waiting.new.progress c.loop-lines.behind c.pass_waiting.new.behind i.limit before skipped in
-    let s = followed_sent g.R.CountedRead.remaining g.R.CountedRead.failures es w.options w.many c.args.shown w.name.now reader c.args.context c.requires.is_asked c.pass_waiting.new.lines _ _ _ _ _ c.loop-lines.selected c.pass_waiting.new.progress c.pass_waiting.new.behind.lines p (TakesAll-written g.W.CountedWrite.contents g.W.CountedWrite.failures c.loop-lines.out c.send_before_read.new.out [] c.in_ok-send_before_read.ensures) in
-    let next = rw c.in-Ok-false.field-0-test at c.in-Ok-false.ensures.next in
-    followed_whole g.R.CountedRead.remaining g.R.CountedRead.failures es w.options w.many c.args.shown w.name.now reader c.args.context c.requires.is_asked c.pass_waiting.new.lines c.next_line.new.self _ _ _ _ c.loop-lines.selected c.pass_waiting.new.progress c.pass_waiting.new.behind.lines s (next reader s.lines s.handed)
+    let i = c.lines.invariant in
+    let held = c.next_held-stretch.ensures in
+    let (before, all, d, n) = held.divided in
+    let spent = searched_bytes es w.options (length es) all c.lines.meter c.next_held-stretch.new.meter (stretch_spent es _ _ _ i.same.same_matchers.same_expressions d held.steps) in
+    let count = c.next_held-stretch.result.count in
+    let forward = asked_forward c.lines.progress.left w.options.invert_match count held.none in
+    let kept = divided_kept (sym (same_sought i.same)) d in
+    let unselected = none_selected es w.options c.args.searchers.now.whole c.requires.whole count forward before (before_within d) kept.none in
+    let waits = subst (λ ls. Waits ls c.lines.progress c.wait.new.progress c.lines.behind c.wait.new.behind) (before_lines d) (if_kept c.wait.result c.is_err.result c.is_err.ensures.value c.if-is_err.false c.wait.ensures) in
+    let is : all ≡ before = rw c.in_default.is at d.next in
+    let now = c.pass-in-lines.new.self in
+    let passed = subst (λ ls. HasHanded g.R.CountedRead.remaining g.R.CountedRead.failures reader now (i.so_far.lines ++ ls)) is (handed_passed c.lines.lines all n d.free g.R.CountedRead.remaining g.R.CountedRead.failures reader i.so_far.lines i.so_far.handed now c.next_held-stretch.result.bytes d.width c.pass-in-lines.ensures.passed) in
+    let (p, are) = followed_waiting g.R.CountedRead.remaining g.R.CountedRead.failures es w.options w.many c.args.shown w.name.now reader c.args.context c.requires.is_asked c.lines.lines now _ _ _ c.lines.meter c.next_held-stretch.new.meter c.lines.selected c.lines.progress c.wait.new.progress c.lines.behind c.wait.new.behind i.limit i.so_far before passed unselected waits (subst (λ ls. SearchesLines es w.options (length es) ls c.lines.meter c.next_held-stretch.new.meter) is spent) in
+    let s = followed_sent g.R.CountedRead.remaining g.R.CountedRead.failures es w.options w.many c.args.shown w.name.now reader c.args.context c.requires.is_asked now _ _ _ _ _ c.lines.selected c.wait.new.progress c.wait.new.behind.lines p (TakesAll-written g.W.CountedWrite.contents g.W.CountedWrite.failures c.lines.out c.send_before_read.new.out [] c.in_ok-send_before_read.ensures) in
+    let end = rw c.in-Ok-false.field-0-test at c.in-Ok-false.ensures.next in
+    followed_whole g.R.CountedRead.remaining g.R.CountedRead.failures es w.options w.many c.args.shown w.name.now reader c.args.context c.requires.is_asked now c.next_line.new.self _ _ _ _ c.lines.selected c.wait.new.progress c.wait.new.behind.lines s (end reader s.lines s.handed)
 
 pub returns-in-Err-Device-clause-ok : goal.returns-in-Err-Device-clause-ok
 returns-in-Err-Device-clause-ok g c =
     let w = c.args.wanted.now in
-    let es = map g.M.LineMatch.expression c.args.matchers.now in
+    let es = map g.M.LineMatch.expression c.args.searchers.now.matchers.now in
     let reader = c.args.lines.now.lines.reader in
-    let i = c.loop-lines.invariant in
-    let before = i.so_far in
-    let skipped = rw i.same_matchers.same_expressions at (c.in_ok-pass_waiting.ensures.ok reader before.lines before.handed) in
-    let p = followed_passed g.R.CountedRead.remaining g.R.CountedRead.failures es w.options w.many c.args.shown w.name.now reader c.args.context c.requires.is_asked c.loop-lines.lines c.pass_waiting.new.lines _ _ _ _ c.loop-lines.selected c.loop-lines.progress c.pass_waiting.new.progress c.loop-lines.behind c.pass_waiting.new.behind i.limit before skipped in
-    let s = followed_sent g.R.CountedRead.remaining g.R.CountedRead.failures es w.options w.many c.args.shown w.name.now reader c.args.context c.requires.is_asked c.pass_waiting.new.lines _ _ _ _ _ c.loop-lines.selected c.pass_waiting.new.progress c.pass_waiting.new.behind.lines p (TakesAll-written g.W.CountedWrite.contents g.W.CountedWrite.failures c.loop-lines.out c.send_before_read.new.out [] c.in_ok-send_before_read.ensures) in
-    let next = subst (λ (r : Result Bool ReadFault). NextIs g.R.CountedRead.remaining g.R.CountedRead.failures reader s.lines c.next_line.new.self r) (ap Err c.in-Err-Device.field-0-is) (c.in-Err-Device.ensures.next reader s.lines s.handed) in
-    followed_broken g.R.CountedRead.remaining g.R.CountedRead.failures es w.options w.many c.args.shown w.name.now reader c.args.context c.requires.is_asked c.pass_waiting.new.lines c.next_line.new.self _ _ _ _ c.loop-lines.selected c.pass_waiting.new.progress c.pass_waiting.new.behind.lines s next
+    let i = c.lines.invariant in
+    let held = c.next_held-stretch.ensures in
+    let (before, all, d, n) = held.divided in
+    let spent = searched_bytes es w.options (length es) all c.lines.meter c.next_held-stretch.new.meter (stretch_spent es _ _ _ i.same.same_matchers.same_expressions d held.steps) in
+    let count = c.next_held-stretch.result.count in
+    let forward = asked_forward c.lines.progress.left w.options.invert_match count held.none in
+    let kept = divided_kept (sym (same_sought i.same)) d in
+    let unselected = none_selected es w.options c.args.searchers.now.whole c.requires.whole count forward before (before_within d) kept.none in
+    let waits = subst (λ ls. Waits ls c.lines.progress c.wait.new.progress c.lines.behind c.wait.new.behind) (before_lines d) (if_kept c.wait.result c.is_err.result c.is_err.ensures.value c.if-is_err.false c.wait.ensures) in
+    let is : all ≡ before = rw c.in_default.is at d.next in
+    let now = c.pass-in-lines.new.self in
+    let passed = subst (λ ls. HasHanded g.R.CountedRead.remaining g.R.CountedRead.failures reader now (i.so_far.lines ++ ls)) is (handed_passed c.lines.lines all n d.free g.R.CountedRead.remaining g.R.CountedRead.failures reader i.so_far.lines i.so_far.handed now c.next_held-stretch.result.bytes d.width c.pass-in-lines.ensures.passed) in
+    let (p, are) = followed_waiting g.R.CountedRead.remaining g.R.CountedRead.failures es w.options w.many c.args.shown w.name.now reader c.args.context c.requires.is_asked c.lines.lines now _ _ _ c.lines.meter c.next_held-stretch.new.meter c.lines.selected c.lines.progress c.wait.new.progress c.lines.behind c.wait.new.behind i.limit i.so_far before passed unselected waits (subst (λ ls. SearchesLines es w.options (length es) ls c.lines.meter c.next_held-stretch.new.meter) is spent) in
+    let s = followed_sent g.R.CountedRead.remaining g.R.CountedRead.failures es w.options w.many c.args.shown w.name.now reader c.args.context c.requires.is_asked now _ _ _ _ _ c.lines.selected c.wait.new.progress c.wait.new.behind.lines p (TakesAll-written g.W.CountedWrite.contents g.W.CountedWrite.failures c.lines.out c.send_before_read.new.out [] c.in_ok-send_before_read.ensures) in
+    let end = subst (λ (r : Result Bool ReadFault). NextIs g.R.CountedRead.remaining g.R.CountedRead.failures reader s.lines c.next_line.new.self r) (ap Err c.in-Err-Device.field-0-is) (c.in-Err-Device.ensures.next reader s.lines s.handed) in
+    followed_broken g.R.CountedRead.remaining g.R.CountedRead.failures es w.options w.many c.args.shown w.name.now reader c.args.context c.requires.is_asked now c.next_line.new.self _ _ _ _ c.lines.selected c.wait.new.progress c.wait.new.behind.lines s end
 
 pub returns-in-Err-Memory-clause-memory : goal.returns-in-Err-Memory-clause-memory
-returns-in-Err-Memory-clause-memory g c = λ count is.
-    let same = sym c.number.ensures ∙ same_count c.number.result count is in
+returns-in-Err-Memory-clause-memory g c = λ lines_done is_memory.
+    let done : c.next_line.new.self.number ≡ lines_done = cc in
     let w = c.args.wanted.now in
-    let es = map g.M.LineMatch.expression c.args.matchers.now in
+    let es = map g.M.LineMatch.expression c.args.searchers.now.matchers.now in
     let reader = c.args.lines.now.lines.reader in
-    let i = c.loop-lines.invariant in
-    let before = i.so_far in
-    let skipped = rw i.same_matchers.same_expressions at (c.in_ok-pass_waiting.ensures.ok reader before.lines before.handed) in
-    let p = followed_passed g.R.CountedRead.remaining g.R.CountedRead.failures es w.options w.many c.args.shown w.name.now reader c.args.context c.requires.is_asked c.loop-lines.lines c.pass_waiting.new.lines _ _ _ _ c.loop-lines.selected c.loop-lines.progress c.pass_waiting.new.progress c.loop-lines.behind c.pass_waiting.new.behind i.limit before skipped in
-    let s = followed_sent g.R.CountedRead.remaining g.R.CountedRead.failures es w.options w.many c.args.shown w.name.now reader c.args.context c.requires.is_asked c.pass_waiting.new.lines _ _ _ _ _ c.loop-lines.selected c.pass_waiting.new.progress c.pass_waiting.new.behind.lines p (TakesAll-written g.W.CountedWrite.contents g.W.CountedWrite.failures c.loop-lines.out c.send_before_read.new.out [] c.in_ok-send_before_read.ensures) in
-    let next = subst (λ (r : Result Bool ReadFault). NextIs g.R.CountedRead.remaining g.R.CountedRead.failures reader s.lines c.next_line.new.self r) (ap Err c.in-Err-Memory.field-0-is) (c.in-Err-Memory.ensures.next reader s.lines s.handed) in
-    followed_out g.R.CountedRead.remaining g.R.CountedRead.failures es w.options w.many c.args.shown w.name.now reader c.args.context c.requires.is_asked c.pass_waiting.new.lines c.next_line.new.self _ _ _ _ c.loop-lines.selected c.pass_waiting.new.progress c.pass_waiting.new.behind.lines s next count same
-
-pub returns-in_err-pass_waiting-clause-memory : goal.returns-in_err-pass_waiting-clause-memory
-returns-in_err-pass_waiting-clause-memory g c = λ count is.
-    let w = c.args.wanted.now in
-    let es = map g.M.LineMatch.expression c.args.matchers.now in
-    let reader = c.args.lines.now.lines.reader in
-    let before = c.loop-lines.invariant.so_far in
-    let kept = c.in_err-pass_waiting.ensures.err in
-    let same = handed_count c.from_residual.result c.in_err-pass_waiting.field-0.0 c.loop-lines.lines.number count c.from_residual.ensures.1 kept.0 is in
-    rw kept.1 (followed_out g.R.CountedRead.remaining g.R.CountedRead.failures es w.options w.many c.args.shown w.name.now reader c.args.context c.requires.is_asked c.loop-lines.lines c.loop-lines.lines _ _ _ _ c.loop-lines.selected c.loop-lines.progress c.loop-lines.behind.lines before before.handed count same)
-
-pub pass_waiting-requires-clause-whole : goal.pass_waiting-requires-clause-whole
-pass_waiting-requires-clause-whole g c = rw c.loop-lines.invariant.same_matchers.same_wholes c.requires.whole
-
-pub is_selected_behind-found-requires-clause-whole : goal.is_selected_behind-found-requires-clause-whole
-is_selected_behind-found-requires-clause-whole g c = rw c.loop-lines.invariant.same_matchers.same_wholes c.requires.whole
-
-pub returns-in_err-pass_waiting-clause-same_matchers : goal.returns-in_err-pass_waiting-clause-same_matchers
-returns-in_err-pass_waiting-clause-same_matchers g c = c.loop-lines.invariant.same_matchers
-
-pub returns-in_err-send_before_read-clause-same_matchers : goal.returns-in_err-send_before_read-clause-same_matchers
-returns-in_err-send_before_read-clause-same_matchers g c = c.loop-lines.invariant.same_matchers
-
-pub returns-in-Ok-false-clause-same_matchers : goal.returns-in-Ok-false-clause-same_matchers
-returns-in-Ok-false-clause-same_matchers g c = c.loop-lines.invariant.same_matchers
-
-pub returns-in-Err-Device-clause-same_matchers : goal.returns-in-Err-Device-clause-same_matchers
-returns-in-Err-Device-clause-same_matchers g c = c.loop-lines.invariant.same_matchers
-
-pub returns-in-Err-Memory-clause-same_matchers : goal.returns-in-Err-Memory-clause-same_matchers
-returns-in-Err-Memory-clause-same_matchers g c = c.loop-lines.invariant.same_matchers
-
-pub returns-in_err-write_shown-in-Ok-true-clause-same_matchers : goal.returns-in_err-write_shown-in-Ok-true-clause-same_matchers
-returns-in_err-write_shown-in-Ok-true-clause-same_matchers g c = same_over c.is_selected_behind-found.ensures.same_matchers c.loop-lines.invariant.same_matchers
-
-pub returns-then-is_err-clause-same_matchers : goal.returns-then-is_err-clause-same_matchers
-returns-then-is_err-clause-same_matchers g c = same_over c.is_selected_behind-found.ensures.same_matchers c.loop-lines.invariant.same_matchers
+    let i = c.lines.invariant in
+    let held = c.next_held-stretch.ensures in
+    let (before, all, d, n) = held.divided in
+    let spent = searched_bytes es w.options (length es) all c.lines.meter c.next_held-stretch.new.meter (stretch_spent es _ _ _ i.same.same_matchers.same_expressions d held.steps) in
+    let count = c.next_held-stretch.result.count in
+    let forward = asked_forward c.lines.progress.left w.options.invert_match count held.none in
+    let kept = divided_kept (sym (same_sought i.same)) d in
+    let unselected = none_selected es w.options c.args.searchers.now.whole c.requires.whole count forward before (before_within d) kept.none in
+    let waits = subst (λ ls. Waits ls c.lines.progress c.wait.new.progress c.lines.behind c.wait.new.behind) (before_lines d) (if_kept c.wait.result c.is_err.result c.is_err.ensures.value c.if-is_err.false c.wait.ensures) in
+    let is : all ≡ before = rw c.in_default.is at d.next in
+    let now = c.pass-in-lines.new.self in
+    let passed = subst (λ ls. HasHanded g.R.CountedRead.remaining g.R.CountedRead.failures reader now (i.so_far.lines ++ ls)) is (handed_passed c.lines.lines all n d.free g.R.CountedRead.remaining g.R.CountedRead.failures reader i.so_far.lines i.so_far.handed now c.next_held-stretch.result.bytes d.width c.pass-in-lines.ensures.passed) in
+    let (p, are) = followed_waiting g.R.CountedRead.remaining g.R.CountedRead.failures es w.options w.many c.args.shown w.name.now reader c.args.context c.requires.is_asked c.lines.lines now _ _ _ c.lines.meter c.next_held-stretch.new.meter c.lines.selected c.lines.progress c.wait.new.progress c.lines.behind c.wait.new.behind i.limit i.so_far before passed unselected waits (subst (λ ls. SearchesLines es w.options (length es) ls c.lines.meter c.next_held-stretch.new.meter) is spent) in
+    let s = followed_sent g.R.CountedRead.remaining g.R.CountedRead.failures es w.options w.many c.args.shown w.name.now reader c.args.context c.requires.is_asked now _ _ _ _ _ c.lines.selected c.wait.new.progress c.wait.new.behind.lines p (TakesAll-written g.W.CountedWrite.contents g.W.CountedWrite.failures c.lines.out c.send_before_read.new.out [] c.in_ok-send_before_read.ensures) in
+    let end = subst (λ (r : Result Bool ReadFault). NextIs g.R.CountedRead.remaining g.R.CountedRead.failures reader s.lines c.next_line.new.self r) (ap Err c.in-Err-Memory.field-0-is) (c.in-Err-Memory.ensures.next reader s.lines s.handed) in
+    followed_out g.R.CountedRead.remaining g.R.CountedRead.failures es w.options w.many c.args.shown w.name.now reader c.args.context c.requires.is_asked now c.next_line.new.self _ _ _ _ c.lines.selected c.wait.new.progress c.wait.new.behind.lines s end lines_done done

@@ -8,14 +8,14 @@ use Rattle.grep_core.proofs.search.file.search_file.Goals as goal
 
 pub returns-in_default-clause-ok : goal.returns-in_default-clause-ok
 returns-in_default-clause-ok g c =
-    let es = map g.M.LineMatch.expression c.args.matchers.now in
+    let es = map g.M.LineMatch.expression c.args.searchers.now.matchers.now in
     let source = source_at (g.S.Sources.listed c.args.sources.now) c.args.k in
     source_missing es c.args.setting.now.asked.options c.args.setting.now.many c.args.setting.now.shown source _ (writer g.W.CountedWrite.contents g.W.CountedWrite.failures c.args.out.now) c.args.meter.now (g.S.Sources.failures c.args.sources.now) (g.S.Sources.failures c.open.new.self)
     c.in_default.ensures.given.0 c.in_default.ensures.given.1 c.open.ensures.none_back
 
 pub returns-in-Err-clause-memory : goal.returns-in-Err-clause-memory
 returns-in-Err-clause-memory g c = λ count is.
-    let es = map g.M.LineMatch.expression c.args.matchers.now in
+    let es = map g.M.LineMatch.expression c.args.searchers.now.matchers.now in
     let source = source_at (g.S.Sources.listed c.args.sources.now) c.args.k in
     let same : 0 ≡ count = cc in
     let opened = c.in-Some.ensures.given in
@@ -24,7 +24,7 @@ returns-in-Err-clause-memory g c = λ count is.
 
 pub returns-clause-ok : goal.returns-clause-ok
 returns-clause-ok g c =
-    let es = map g.M.LineMatch.expression c.args.matchers.now in
+    let es = map g.M.LineMatch.expression c.args.searchers.now.matchers.now in
     let source = source_at (g.S.Sources.listed c.args.sources.now) c.args.k in
     let opened = c.in-Some.ensures.given in
     let named = c.name.ensures ∙ ap (λ l. (source_at l c.args.k).name) c.open.ensures.listed in
@@ -36,7 +36,7 @@ returns-clause-ok g c =
 
 pub returns-clause-write : goal.returns-clause-write
 returns-clause-write g c = λ is.
-    let es = map g.M.LineMatch.expression c.args.matchers.now in
+    let es = map g.M.LineMatch.expression c.args.searchers.now.matchers.now in
     let source = source_at (g.S.Sources.listed c.args.sources.now) c.args.k in
     let opened = c.in-Some.ensures.given in
     let named = c.name.ensures ∙ ap (λ l. (source_at l c.args.k).name) c.open.ensures.listed in
@@ -48,7 +48,7 @@ returns-clause-write g c = λ is.
 
 pub returns-clause-memory : goal.returns-clause-memory
 returns-clause-memory g c = λ count is.
-    let es = map g.M.LineMatch.expression c.args.matchers.now in
+    let es = map g.M.LineMatch.expression c.args.searchers.now.matchers.now in
     let source = source_at (g.S.Sources.listed c.args.sources.now) c.args.k in
     let opened = c.in-Some.ensures.given in
     let named = c.name.ensures ∙ ap (λ l. (source_at l c.args.k).name) c.open.ensures.listed in
@@ -70,5 +70,5 @@ returns-clause-same_loan g c = c.close-2.ensures.same_loan ∙ c.open.ensures.sa
 pub returns-clause-next : goal.returns-clause-next
 returns-clause-next g c = c.close-2.ensures.same_place (c.args.k + 1) c.open.ensures.next
 
-pub returns-clause-same_matchers : goal.returns-clause-same_matchers
-returns-clause-same_matchers g c = c.search_opened-found.ensures.same_matchers
+pub returns-clause-same : goal.returns-clause-same
+returns-clause-same g c = c.search_opened-found.ensures.same

@@ -1,43 +1,46 @@
-use Rattle.std.proofs.Common.{length, map}
-use Rattle.re_search.proofs.lemmas.KeptMatchers.{same_over}
+use Rattle.std.proofs.Common.{◌∙◌, length, map}
+use Rattle.re_search.proofs.lemmas.KeptMatchers.{asked_over}
 use Rattle.grep_core.proofs.lemmas.CostLaws.{line_asked, searched_once}
 use Rattle.grep_core.proofs.lemmas.OneLineLemmas.{err_with, line_broken, line_passed, line_selected}
 use Rattle.grep_core.proofs.search.line.search_line.Goals as goal
 
-pub returns-then-not-is_selected_behind-clause-ok : goal.returns-then-not-is_selected_behind-clause-ok
-returns-then-not-is_selected_behind-clause-ok g c =
+pub returns-then-not-is_selected-clause-ok : goal.returns-then-not-is_selected-clause-ok
+returns-then-not-is_selected-clause-ok g c =
     let w = c.args.wanted.now in
-    line_passed (map g.M.LineMatch.expression c.args.matchers.now) w.options w.many w.name.now c.args.number c.args.line.now _ c.is_selected_behind.result c.if-not-is_selected_behind.true c.is_selected_behind.ensures.told
+    line_passed (map g.M.LineMatch.expression c.args.searchers.now.matchers.now) w.options w.many w.name.now c.args.number c.args.line.now _ c.is_selected.result c.if-not-is_selected.true c.is_selected.ensures.told
 
-pub returns-then-not-is_selected_behind-clause-steps : goal.returns-then-not-is_selected_behind-clause-steps
-returns-then-not-is_selected_behind-clause-steps g c =
-    searched_once (map g.M.LineMatch.expression c.args.matchers.now) c.args.wanted.now.options c.args.line.now (length c.args.matchers.now) _ _ c.is_selected_behind.ensures.steps
+pub returns-then-not-is_selected-clause-steps : goal.returns-then-not-is_selected-clause-steps
+returns-then-not-is_selected-clause-steps g c =
+    searched_once (map g.M.LineMatch.expression c.args.searchers.now.matchers.now) c.args.wanted.now.options c.args.line.now (length (map g.M.LineMatch.expression c.args.searchers.now.matchers.now)) _ _ c.is_selected.ensures.steps
 
 pub returns-clause-ok : goal.returns-clause-ok
 returns-clause-ok g c =
     let w = c.args.wanted.now in
-    line_selected (map g.M.LineMatch.expression c.args.matchers.now) _ w.options w.many w.name.now c.args.number c.args.line.now _ _ c.is_selected_behind.result c.if-not-is_selected_behind.false c.is_selected_behind.ensures.told
-    c.is_selected_behind.ensures.same_matchers.same_expressions c.in_ok-write_selected.ensures.ok
+    line_selected (map g.M.LineMatch.expression c.args.searchers.now.matchers.now) _ w.options w.many w.name.now c.args.number c.args.line.now _ _ c.is_selected.result c.if-not-is_selected.false c.is_selected.ensures.told
+    c.is_selected.ensures.same.same_matchers.same_expressions c.in_ok-write_selected.ensures.ok
 
 pub returns-in_err-write_selected-clause-err : goal.returns-in_err-write_selected-clause-err
 returns-in_err-write_selected-clause-err g c =
     let w = c.args.wanted.now in
     err_with c.from_residual.result
-    (line_broken (map g.M.LineMatch.expression c.args.matchers.now) _ w.options w.many w.name.now c.args.number c.args.line.now _ _ c.is_selected_behind.result c.if-not-is_selected_behind.false c.is_selected_behind.ensures.told
-    c.is_selected_behind.ensures.same_matchers.same_expressions c.in_err-write_selected.ensures.err)
+    (line_broken (map g.M.LineMatch.expression c.args.searchers.now.matchers.now) _ w.options w.many w.name.now c.args.number c.args.line.now _ _ c.is_selected.result c.if-not-is_selected.false c.is_selected.ensures.told
+    c.is_selected.ensures.same.same_matchers.same_expressions c.in_err-write_selected.ensures.err)
 
-pub returns-clause-same_matchers : goal.returns-clause-same_matchers
-returns-clause-same_matchers g c = same_over c.write_selected.ensures.same_matchers c.is_selected_behind.ensures.same_matchers
+pub returns-clause-same : goal.returns-clause-same
+returns-clause-same g c = asked_over c.write_selected.ensures.same c.is_selected.ensures.same
 
-pub returns-in_err-write_selected-clause-same_matchers : goal.returns-in_err-write_selected-clause-same_matchers
-returns-in_err-write_selected-clause-same_matchers g c = same_over c.write_selected.ensures.same_matchers c.is_selected_behind.ensures.same_matchers
+pub returns-in_err-write_selected-clause-same : goal.returns-in_err-write_selected-clause-same
+returns-in_err-write_selected-clause-same g c = asked_over c.write_selected.ensures.same c.is_selected.ensures.same
 
 pub returns-clause-steps : goal.returns-clause-steps
 returns-clause-steps g c =
-    line_asked g.M.LineMatch.expression c.args.matchers.now c.is_selected_behind.new.matchers c.args.wanted.now.options c.args.line.now c.args.meter.now c.is_selected_behind.new.meter c.write_selected.new.meter
-    c.is_selected_behind.ensures.same_matchers.same_expressions c.is_selected_behind.ensures.steps c.write_selected.ensures.steps
+    line_asked (map g.M.LineMatch.expression c.args.searchers.now.matchers.now) _ c.args.wanted.now.options c.args.line.now c.args.meter.now c.is_selected.new.meter c.write_selected.new.meter
+    c.is_selected.ensures.same.same_matchers.same_expressions c.is_selected.ensures.steps c.write_selected.ensures.steps
 
 pub returns-in_err-write_selected-clause-steps : goal.returns-in_err-write_selected-clause-steps
 returns-in_err-write_selected-clause-steps g c =
-    line_asked g.M.LineMatch.expression c.args.matchers.now c.is_selected_behind.new.matchers c.args.wanted.now.options c.args.line.now c.args.meter.now c.is_selected_behind.new.meter c.write_selected.new.meter
-    c.is_selected_behind.ensures.same_matchers.same_expressions c.is_selected_behind.ensures.steps c.write_selected.ensures.steps
+    line_asked (map g.M.LineMatch.expression c.args.searchers.now.matchers.now) _ c.args.wanted.now.options c.args.line.now c.args.meter.now c.is_selected.new.meter c.write_selected.new.meter
+    c.is_selected.ensures.same.same_matchers.same_expressions c.is_selected.ensures.steps c.write_selected.ensures.steps
+
+pub write_selected-requires : goal.write_selected-requires
+write_selected-requires g c = c.is_selected.ensures.same.same_whole ∙ c.requires.whole

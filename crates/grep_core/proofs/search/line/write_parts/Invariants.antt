@@ -1,5 +1,6 @@
 use Rattle.std.proofs.Common.{◌-◌, ◌*◌, map, length}
-use Rattle.re_search.specs.Searching.{AddsAtMost, SameMatchers}
+use Rattle.re_search.specs.Searching.{AddsAtMost}
+use Rattle.re_search.specs.Working.Asking.{SameSearchers}
 use Rattle.grep_core.specs.Run.{writer}
 use Rattle.grep_core.specs.Cost.{search_cost}
 use Rattle.grep_core.proofs.lemmas.PartsLemmas.{PartsSoFar}
@@ -8,9 +9,9 @@ use Rattle.grep_core.proofs.search.line.write_parts.Given as goal
 -- the parts up to here were written
 abbrev pub invariant-loop-part : goal.invariant-loop-part
 invariant-loop-part g l = record {
-  parts : (s : PartsSoFar (map g.M.LineMatch.expression l.fn.matchers) l.wanted.options l.wanted.many l.wanted.name.now l.number l.line l.from
-      (writer g.W.CountedWrite.contents g.W.CountedWrite.failures l.fn.out) (writer g.W.CountedWrite.contents g.W.CountedWrite.failures l.out)) × AddsAtMost (length s.done * search_cost (length l.fn.matchers) l.line) l.fn.meter l.meter;
-  same_matchers : SameMatchers g.M.LineMatch.expression g.M.LineMatch.whole l.fn.matchers l.matchers;
+  parts : (s : PartsSoFar (map g.M.LineMatch.expression l.fn.searchers.matchers.now) l.wanted.options l.wanted.many l.wanted.name.now l.number l.line l.from
+      (writer g.W.CountedWrite.contents g.W.CountedWrite.failures l.fn.out) (writer g.W.CountedWrite.contents g.W.CountedWrite.failures l.out)) × AddsAtMost (length s.done * search_cost (length (map g.M.LineMatch.expression l.fn.searchers.matchers.now)) l.line) l.fn.meter l.meter;
+  same : SameSearchers g.M.LineMatch.expression g.M.LineMatch.whole l.fn.searchers l.searchers;
 }
 
 abbrev pub decreases-loop-part : goal.decreases-loop-part

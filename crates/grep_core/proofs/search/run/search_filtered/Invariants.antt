@@ -1,5 +1,5 @@
 use Rattle.std.proofs.Common.{◌≡◌, ◌≤◌, length, map, take}
-use Rattle.re_search.specs.Searching.{SameMatchers}
+use Rattle.re_search.specs.Working.Asking.{SameSearchers}
 use Rattle.grep_core.specs.Run.{writer}
 use Rattle.grep_core.specs.Sources.{GivesBack}
 use Rattle.grep_core.proofs.lemmas.RunLaws.{RunSoFar}
@@ -8,7 +8,7 @@ use Rattle.grep_core.proofs.search.run.search_filtered.Given as goal
 -- the first k sources were run
 abbrev pub invariant-loop-k : goal.invariant-loop-k
 invariant-loop-k g l = record {
-  so_far : RunSoFar (map g.M.LineMatch.expression l.fn.matchers) l.asked.options l.many (take l.k (g.S.Sources.listed l.fn.sources)) (GivesBack g.S.Sources.given_back l.fn.sources l.sources)
+  so_far : RunSoFar (map g.M.LineMatch.expression l.fn.searchers.matchers.now) l.asked.options l.many (take l.k (g.S.Sources.listed l.fn.sources)) (GivesBack g.S.Sources.given_back l.fn.sources l.sources)
       (record {
         out = writer g.W.CountedWrite.contents g.W.CountedWrite.failures l.fn.out;
         messages = writer g.N.CountedWrite.contents g.N.CountedWrite.failures l.fn.messages;
@@ -25,5 +25,5 @@ invariant-loop-k g l = record {
   within : l.k ≤ length (g.S.Sources.listed l.fn.sources);
   in_order : g.S.Sources.stands_at l.sources l.k;
   same_loan : g.S.Sources.loan l.sources ≡ g.S.Sources.loan l.fn.sources;
-  same_matchers : SameMatchers g.M.LineMatch.expression g.M.LineMatch.whole l.fn.matchers l.matchers;
+  same : SameSearchers g.M.LineMatch.expression g.M.LineMatch.whole l.fn.searchers l.searchers;
 }

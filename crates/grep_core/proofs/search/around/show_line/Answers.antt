@@ -1,0 +1,1 @@
+use Rattle.grep_core.proofs.search.around.show_line.Goals as goal

@@ -1,0 +1,1 @@
+use Rattle.grep_core.proofs.search.around.wait.Goals as goal

@@ -1,0 +1,105 @@
+//! The search of the lines that are held in one piece, and the rows that are written for them.
+ghost use Rattle.std.specs.Prelude.{◌≡◌, ◌*◌, ◌+◌, ◌^◌, ◌<◌, List, length, false, true, IfOk, OnErr};
+ghost use Rattle.re_syntax.specs.Bytes.{Text};
+ghost use Rattle.re_syntax.specs.Lines.{terminated};
+ghost use Rattle.re_search.specs.Searching.{AddsAtMost};
+ghost use Rattle.re_search.specs.Meters.{Steps};
+ghost use Rattle.re_search.specs.Working.Asking.{SameSearchers, asks_whole, expressions_by};
+ghost use Rattle.re_search.specs.Working.Asking.{sought_by};
+ghost use Rattle.grep_core.specs.Cost.{SearchesLines};
+ghost use Rattle.grep_core.specs.Run.{writer};
+ghost use Rattle.grep_core.specs.Working.Stretches.{IsDivided, IsNextOf};
+ghost use Rattle.grep_core.specs.Working.StretchRows.{TakesLines, BreaksLines};
+
+use crate::devices::counted::{CountedRead, CountedWrite, WriteFault};
+use crate::input::newlines::count_newlines;
+use crate::input::numbered::NumberedLines;
+use crate::output::wanted::Wanted;
+use crate::search::line::write_selected;
+use crate::search::stretch::Stretch;
+use re_search::{LineMatch, Meter, Searchers};
+
+/// Searches the lines that are held in one piece up to the first that some matcher matches. None is
+/// searched where that is not asked, and where not all of them can be numbered.
+pub fn next_held<'a, R: CountedRead, M: LineMatch>(
+    lines: &'a NumberedLines<R>,
+    searchers: &mut Searchers<'_, '_, M>,
+    asked: bool,
+    meter: &mut Meter,
+) -> Stretch<'a>
+    ensures divided { (before : List Text) × (all : List Text)
+        × IsDivided (sought_by M.expression searchers.old) result before all
+        × IsNextOf lines.now all }
+    ensures none { asked ≡ false → result.count ≡ 0 }
+    ensures same { SameSearchers M.expression M.whole searchers.old searchers.new }
+    ensures steps { AddsAtMost (length (expressions_by M.expression searchers.old) * result.bytes)
+        meter.old meter.new }
+{
+    let block = lines.ready();
+    if !lines.may_number(block.len()) || !asked {
+        return Stretch {
+            before: &[],
+            before_count: 0,
+            line: None,
+            bytes: 0,
+            count: 0,
+        };
+    }
+    let Some(at) = searchers.next_matched(block, meter) else {
+        let count = count_newlines(block);
+        return Stretch {
+            before: block,
+            before_count: count,
+            line: None,
+            bytes: block.len(),
+            count,
+        };
+    };
+    let before = &block[..at.start];
+    let before_count = count_newlines(before);
+    Stretch {
+        before,
+        before_count,
+        line: Some(&block[at.start..at.end]),
+        bytes: at.end + 1,
+        count: before_count + 1,
+    }
+}
+
+/// Writes the rows of the selected lines of a stretch, and returns how many they are. `number` lines
+/// are before it. Its lines are not searched again.
+pub fn write_stretch<M: LineMatch, W: CountedWrite>(
+    stretch: &Stretch,
+    searchers: &mut Searchers<'_, '_, M>,
+    wanted: &Wanted,
+    number: u64,
+    out: &mut W,
+    meter: &mut Meter,
+) -> Result<u64, WriteFault>
+    requires whole { asks_whole searchers.old ≡ wanted.now.options.line_regexp }
+    requires forward { wanted.now.options.invert_match ≡ true → stretch.now.count ≡ 0 }
+    requires few { number + stretch.now.count < 2 ^ 64 }
+    ensures ok { (before : List Text) (all : List Text)
+        → IsDivided (sought_by M.expression searchers.old) stretch.now before all → IfOk result
+        (λ found. TakesLines (expressions_by M.expression searchers.old) wanted.now.options
+        wanted.now.many wanted.now.name.now (number + 1) all
+        (writer W.contents W.failures out.old) (writer W.contents W.failures out.new) found) }
+    ensures err { (before : List Text) (all : List Text)
+        → IsDivided (sought_by M.expression searchers.old) stretch.now before all → OnErr result
+        (BreaksLines (expressions_by M.expression searchers.old) wanted.now.options
+        wanted.now.many wanted.now.name.now (number + 1) all
+        (writer W.contents W.failures out.old) (writer W.contents W.failures out.new)) }
+    ensures same { SameSearchers M.expression M.whole searchers.old searchers.new }
+    ensures steps { (before : List Text) (all : List Text)
+        → IsDivided (sought_by M.expression searchers.old) stretch.now before all
+        → (began : Steps) → AddsAtMost (length (expressions_by M.expression searchers.old)
+        * length (terminated all)) began meter.old
+        → SearchesLines (expressions_by M.expression searchers.old) wanted.now.options
+        (length (expressions_by M.expression searchers.old)) all began meter.new }
+{
+    let Some(line) = stretch.line else {
+        return Ok(0);
+    };
+    write_selected(searchers, wanted, number + stretch.count, line, out, meter)?;
+    Ok(1)
+}
