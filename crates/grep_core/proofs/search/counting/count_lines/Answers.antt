@@ -119,10 +119,10 @@ returns-in-Err-Memory-clause-memory g c = λ count is.
     runs_out g.R.CountedRead.remaining g.R.CountedRead.failures es w.options w.many false w.name.now c.args.lines.now.lines.reader c.pass_counted-selected.new.lines c.next_line.new.self _ _ _ _ c.pass_counted-selected.result s next count same
 
 pub pass_counted-selected-requires : goal.pass_counted-selected-requires
-pass_counted-selected-requires g c = c.loop-lines.invariant.same.same_whole ∙ c.requires.whole
+pass_counted-selected-requires g c = record { whole = c.loop-lines.invariant.same.same_whole ∙ c.requires.whole }
 
 pub search_line-requires : goal.search_line-requires
-search_line-requires g c = c.pass_counted-selected.ensures.same.same_whole ∙ c.loop-lines.invariant.same.same_whole ∙ c.requires.whole
+search_line-requires g c = record { whole = c.pass_counted-selected.ensures.same.same_whole ∙ c.loop-lines.invariant.same.same_whole ∙ c.requires.whole }
 
 pub returns-in_err-send_before_read-clause-same : goal.returns-in_err-send_before_read-clause-same
 returns-in_err-send_before_read-clause-same g c = asked_over c.pass_counted-selected.ensures.same c.loop-lines.invariant.same

@@ -3,7 +3,7 @@ use Rattle.re_search.specs.Working.Asking.{SameSearchers}
 use Rattle.grep_core.specs.Run.{writer}
 use Rattle.grep_core.specs.Sources.{GivesBack}
 use Rattle.grep_core.proofs.lemmas.RunLaws.{RunSoFar}
-use Rattle.grep_core.proofs.search.run.search_filtered.Given as goal
+use Rattle.grep_core.proofs.search.run.search_sources.Given as goal
 
 -- the first k sources were run
 abbrev pub invariant-loop-k : goal.invariant-loop-k

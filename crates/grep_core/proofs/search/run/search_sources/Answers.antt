@@ -2,7 +2,7 @@ use Rattle.std.proofs.Common.{◌<◌, ◌≤◌, nat_le, length, map, refl, ap,
 use Rattle.re_search.proofs.lemmas.KeptMatchers.{unasked, asked_over}
 use Rattle.grep_core.proofs.lemmas.SourceLaws.{gives_none, gives_both}
 use Rattle.grep_core.proofs.lemmas.RunLaws.{run_none, run_further, run_ends_at, run_given_up, run_ends}
-use Rattle.grep_core.proofs.search.run.search_filtered.Goals as goal
+use Rattle.grep_core.proofs.search.run.search_sources.Goals as goal
 
 pub loop-k-init : goal.loop-k-init
 loop-k-init g c = record { so_far = run_none _ _ _ _ (gives_none g.S.Sources.given_back c.args.sources.now) _; listed = refl; within = omega arith; in_order = c.requires.in_order; same_loan = refl; same = unasked }
@@ -25,9 +25,6 @@ loop-k-preserved g c =
       same_loan = c.in-Ok.ensures.same_loan ∙ s.same_loan;
       same = asked_over c.in-Ok.ensures.same s.same;
     }
-
-pub search_source-requires-clause-needed : goal.search_source-requires-clause-needed
-search_source-requires-clause-needed g c = rw c.loop-k.invariant.same.same_matchers.same_expressions c.requires.needed
 
 pub returns-then-asked-has_selected-clause-run : goal.returns-then-asked-has_selected-clause-run
 returns-then-asked-has_selected-clause-run g c =
