@@ -13,6 +13,7 @@ mod looks;
 mod matcher;
 mod needle;
 mod plain;
+mod prefilter;
 mod searchers;
 mod several;
 mod simulated;

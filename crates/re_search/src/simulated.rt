@@ -18,11 +18,9 @@ ghost use Rattle.re_search.specs.Working.Blocks.{IsBlock, PassesUnmatched, Count
 mod least;
 mod sets;
 
-use crate::block::{count_lines_with, first_line_beginning_with, first_line_with_run};
-use crate::cost::LookCost;
 use crate::line_match::LineMatch;
-use crate::looks::{Looks, Uncounted};
-use crate::needle::{Needle, RunFinder};
+use crate::looks::Uncounted;
+use crate::prefilter::Prefilter;
 use crate::span::Span;
 use crate::sweeps::{Sweeps, count_by_sweeps, next_by_sweeps};
 use least::StartPair;
@@ -33,16 +31,14 @@ use std::alloc::Global;
 use std::marker::Model;
 
 /// A matcher for an expression. Contracts see it as the tree and whether the whole line has to be
-/// matched. If every match has some run of bytes in it, a line without the run takes no step,
-/// unless the run is so common that it is looked for over blocks of lines alone.
+/// matched. A line that its [`Prefilter`] settles takes no step.
 #[derive(Drop)]
 pub struct Simulated {
     automaton: Automaton,
     whole: bool,
-    needle: Option<Needle>,
+    prefilter: Prefilter,
     sets: SetPair,
     starts: StartPair,
-    looks: Looks,
 }
 
 impl Model for Simulated {
@@ -61,7 +57,7 @@ impl Model for Simulated {
 
     ghost invariant = { λ s. AreSetsFor (expression_of s.automaton) s.sets ×
         AreStartsFor (expression_of s.automaton) s.starts
-        × IsNeedleFor (expression_of s.automaton) s.needle };
+        × IsNeedleFor (expression_of s.automaton) s.prefilter.needle };
 }
 
 impl Simulated {
@@ -73,34 +69,32 @@ impl Simulated {
         ensures few { IfOk result (λ _. positions (expression_of tree) ≤ most_positions) }
         ensures refused { IfErr result (IsRefused (positions (expression_of tree))) }
     {
-        let needle = Needle::of(alloc, &tree);
+        let prefilter = Prefilter::of(alloc, &tree);
         let automaton = match Automaton::build(alloc, tree) {
             Ok(automaton) => automaton,
             Err(fault) => {
-                drop(needle);
+                drop(prefilter);
                 return Err(fault);
             }
         };
-        let Ok(needle) = needle else {
+        let Ok(prefilter) = prefilter else {
             drop(automaton);
             return Err(BuildFault::Memory);
         };
-        let looks = Looks::new(look_cost(&needle));
         let (sets, starts) = match pairs_for(alloc, &automaton) {
             Ok(pairs) => pairs,
             Err(fault) => {
                 drop(automaton);
-                drop(needle);
+                drop(prefilter);
                 return Err(fault);
             }
         };
         Ok(Simulated {
             automaton,
             whole,
-            needle,
+            prefilter,
             sets,
             starts,
-            looks,
         })
     }
 
@@ -108,13 +102,7 @@ impl Simulated {
     pub(crate) fn needed(&self) -> Option<&[u8]>
         ensures { IfSome result (λ text. IsNeeded text.now (expression_of self.now.tree)) }
     {
-        match &self.needle {
-            Some(needle) => {
-                let text = needle.finder.text()?;
-                Some(text)
-            }
-            None => None,
-        }
+        self.prefilter.text()
     }
 
     /// The automaton.
@@ -142,24 +130,7 @@ impl Simulated {
         ensures { IfSome result
             (λ told. IsSettled (expression_of self.now.tree) self.now.whole line.now told) }
     {
-        if let Some(needle) = &self.needle {
-            if self.whole && needle.is_first {
-                if needle.finder.begins(line) {
-                    return None;
-                }
-                return Some(false);
-            }
-            if needle.is_common {
-                return None;
-            }
-            if needle.finder.find(line).is_none() {
-                return Some(false);
-            }
-            if needle.is_all && !self.whole {
-                return Some(true);
-            }
-        }
-        None
+        self.prefilter.settled(line, self.whole)
     }
 
     /// Whether the line is matched, by steps alone.
@@ -199,38 +170,13 @@ impl Simulated {
             .stands_from(&self.automaton, set, line, from, meter)
     }
 
-    // Where in a block the first line begins that may be matched: no line before it is matched.
-    fn candidate(&self, block: &[u8]) -> usize
-        requires { IsBlock block.now }
-        ensures { PassesUnmatched (expression_of self.now.tree) self.now.whole block.now result }
-    {
-        match &self.needle {
-            Some(needle) => {
-                if self.whole && needle.is_first {
-                    return first_line_beginning_with(&needle.finder, block);
-                }
-                first_line_with_run(&needle.finder, block)
-            }
-            None => 0,
-        }
-    }
-
-    // How many lines of a block of whole lines are matched, if a count of the needle says that.
+    // How many lines of a block of whole lines are matched, if that is known without a search.
     pub(crate) fn known_count(&self, block: &[u8]) -> Option<u64>
         requires { IsBlock block.now }
         ensures { IfSome result (λ count. CountsMatched (expression_of self.now.tree)
             self.now.whole (lines_of block.now) count) }
     {
-        let Some(needle) = &self.needle else {
-            return None;
-        };
-        if self.whole || !needle.is_all {
-            return None;
-        }
-        match &needle.finder {
-            RunFinder::Text(finder) => count_lines_with(finder, block),
-            RunFinder::Sets(_) => None,
-        }
+        self.prefilter.count(block, self.whole)
     }
 
     // Whether the line is matched.
@@ -271,24 +217,10 @@ impl Simulated {
         ensures same { self.new ≡ self.old }
         ensures steps { AddsAtMost (length line.now - from) meter.old meter.new }
     {
-        if let Some(needle) = &self.needle {
-            let start = from + needle.finder.find(&line[from..])?;
-            if needle.is_all {
-                return Some(Span {
-                    start,
-                    end: start + needle.finder.len(),
-                });
-            }
+        if let Some(known) = self.prefilter.part(line, from) {
+            return known;
         }
         self.starts.find(&self.automaton, line, from, meter)
-    }
-}
-
-// What it costs to look for the needle.
-fn look_cost(needle: &Option<Needle>) -> LookCost {
-    match needle {
-        Some(needle) => needle.look_cost(),
-        None => LookCost::Low,
     }
 }
 
@@ -353,7 +285,7 @@ impl LineMatch for Simulated {
         requires { IsBlock block.now }
         ensures { PassesUnmatched (expression_of self.now.tree) self.now.whole block.now result }
     {
-        self.candidate(block)
+        self.prefilter.first_line(block, self.whole)
     }
 }
 
@@ -365,13 +297,7 @@ impl Sweeps for Simulated {
     ghost whole = { λ s. s.whole };
 
     fn sweep(&self, block: &[u8], meter: &mut Meter) -> usize {
-        if !self.looks.is_due() {
-            return 0;
-        }
-        let passed = self.candidate(block);
-        self.looks.note(passed);
-        meter.add_built(passed as u64);
-        passed
+        self.prefilter.sweep(block, self.whole, meter)
     }
 
     fn search(&mut self, line: &[u8], meter: &mut Meter) -> bool {

@@ -1,28 +1,19 @@
 //! Blocks of whole lines: their next matched line, how many lines are matched, and the steps.
 ghost use Rattle.std.specs.Prelude.{Bool, false, IfOk, map};
+ghost use Rattle.std.specs.Option.{ForSome};
 ghost use Rattle.re_search.specs.Searching.{AllAnswer};
-ghost use Rattle.re_search.specs.Working.Blocks.{IsBlock};
-ghost use Rattle.re_search.specs.Working.Matchers.{wants_whole};
+ghost use Rattle.re_search.specs.Working.Filters.{AreNeeded};
+ghost use Rattle.re_search.specs.Working.Matchers.{matched_expression, wants_whole};
 
-use crate::several::{assert_steps, ends_of};
+use crate::several::{assert_steps, block_of, ends_of};
 use re_auto::fresh_meter;
 use re_search::{
-    Fixed, FixedSet, LineMatch, Matcher, Searchers, Simulated, Syntax, needed_strings,
+    Filter, Fixed, FixedSet, LineMatch, Matcher, Searchers, Simulated, Syntax, needed_strings,
 };
 use re_syntax::{read_extended, split_file};
 use std::alloc::{AllocError, Global};
 use std::process::Abort;
 use std::test::Fail;
-
-// The lines, with a newline after the last one.
-fn block_of(alloc: Global, lines: &[u8]) -> Result<Vec<u8>, AllocError>
-    ensures { IfOk result (λ block. IsBlock block.items) }
-{
-    let mut block = Vec::new(alloc);
-    block.extend_from_slice(lines)?;
-    block.push(b'\n')?;
-    Ok(block)
-}
 
 // A text, whether the whole line has to be it, and lines: the place of the first that is matched
 // and the steps to find it, how many are matched and the steps to count them.
@@ -228,8 +219,8 @@ fn together() -> &'static [Together] {
     &TOGETHER
 }
 
-// The matchers of expressions.
-fn all_made(alloc: Global, texts: &[u8]) -> Result<Vec<Matcher>, Fail>
+/// The matchers of extended expressions, one a line.
+pub(crate) fn all_made(alloc: Global, texts: &[u8]) -> Result<Vec<Matcher>, Fail>
     ensures { IfOk result (λ v. AllAnswer false (map wants_whole v.items)) }
 {
     let mut matchers = Vec::new(alloc);
@@ -240,20 +231,21 @@ fn all_made(alloc: Global, texts: &[u8]) -> Result<Vec<Matcher>, Fail>
     Ok(matchers)
 }
 
-// The matchers of expressions, after a filter or without one.
-fn searchers(alloc: Global, texts: &[u8], filtered: bool) -> Result<Searchers<Matcher>, Fail> {
-    let matchers = all_made(alloc, texts)?;
-    let filter = needed_strings(alloc, &matchers)?;
-    if filtered {
-        return Ok(Searchers::new(matchers, filter, false));
-    }
-    Ok(Searchers::new(matchers, None, false))
-}
-
-fn assert_together(rt: &impl Abort, alloc: Global, row: &Together) -> Result<(), Fail> {
-    let (texts, filtered, lines, next, count, part) = *row;
+// Asserts what the matchers of a row's expressions find, count and match together.
+fn assert_asked(
+    rt: &impl Abort,
+    alloc: Global,
+    matchers: &mut [Matcher],
+    filter: &Filter,
+    row: &Together,
+) -> Result<(), Fail>
+    requires alike { AllAnswer false (map wants_whole matchers.old) }
+    requires needed { ForSome filter.now
+        (λ strings. AreNeeded strings (map matched_expression matchers.old)) }
+{
+    let (texts, _, lines, next, count, part) = *row;
     let block = block_of(alloc, lines)?;
-    let mut searchers = searchers(alloc, texts, filtered)?;
+    let mut searchers = Searchers::new(matchers, filter, false);
     let counted = searchers.count_matched(&block, &mut fresh_meter());
     assert_eq!(rt; counted, count, "{texts:?} in {lines:?}");
     let found = searchers.next_matched(&block, &mut fresh_meter());
@@ -266,6 +258,18 @@ fn assert_together(rt: &impl Abort, alloc: Global, row: &Together) -> Result<(),
     let first = searchers.part(line, 0, &mut fresh_meter());
     assert_eq!(rt; ends_of(first), part, "{texts:?} in {lines:?}");
     Ok(())
+}
+
+// Before the matchers their filter is asked, or none.
+fn assert_together(rt: &impl Abort, alloc: Global, row: &Together) -> Result<(), Fail> {
+    let (texts, filtered, _, _, _, _) = *row;
+    let mut matchers = all_made(alloc, texts)?;
+    let none = Filter::none();
+    let needed = needed_strings(alloc, &matchers)?;
+    if filtered {
+        return assert_asked(rt, alloc, &mut matchers, &needed, row);
+    }
+    assert_asked(rt, alloc, &mut matchers, &none, row)
 }
 
 #[test]

@@ -1,8 +1,8 @@
 //! Matchers made from the texts of patterns.
-use crate::several::{assert_steps, ends_of};
-use re_auto::fresh_meter;
+use crate::several::{assert_steps, block_of, ends_of};
+use re_auto::{Meter, fresh_meter};
 use re_search::{LineMatch, Matcher, Syntax};
-use std::alloc::{AllocError, Global};
+use std::alloc::Global;
 use std::process::Abort;
 use std::test::Fail;
 
@@ -197,90 +197,96 @@ fn a_long_line_takes_no_step_where_nothing_can_begin(rt: HostRuntime) -> Result<
     Ok(())
 }
 
-// A pattern, a block, which lacks its last newline, where its first line begins that may be
-// matched, or after the last one, and how many of its lines are matched, where that is known
-// without a step.
-type Block = (Pattern, &'static [u8], usize, Option<u64>);
+// A pattern, lines, the place of the first that is matched, and how many are.
+type Block = (Pattern, &'static [u8], Option<(usize, usize)>, u64);
 
-static BLOCKS: [Block; 12] = [
-    // The string has to be at a line's beginning where each whole line begins with it.
-    (BEGUN, b"ca\nba\nab\na", 6, None),
-    (BEGUN_BY_SETS, b"aqj\nqj", 4, None),
+static BLOCKS: [Block; 14] = [
+    // Where the whole line is matched, the string has to be at its beginning.
+    (BEGUN, b"ca\nba\nab\na", Some((6, 8)), 2),
+    (BEGUN_BY_SETS, b"aqj\nqj", Some((4, 6)), 1),
     // Elsewhere it may be anywhere.
-    ((Syntax::Basic, b"ab*", false, false), b"b\nca\nab", 2, None),
+    (
+        (Syntax::Basic, b"ab*", false, false),
+        b"b\nca\nab",
+        Some((2, 4)),
+        2,
+    ),
     // A run of large sets is looked for over blocks, and a single blank.
-    (WIDE, b"ab cdefghi\nab cdefghij", 11, None),
-    (BLANK, b"ab\na b", 3, None),
+    (WIDE, b"ab cdefghi\nab cdefghij", Some((11, 22)), 1),
+    (BLANK, b"ab\na b", Some((3, 6)), 1),
     // A string with a newline is on two lines, and in none.
     (
         (Syntax::Fixed, b"1\n2", true, true),
         b"a1\n2\n1\n2",
-        5,
         None,
+        0,
     ),
-    ((Syntax::Fixed, b"a\nb", false, false), b"a\nb", 0, None),
+    ((Syntax::Fixed, b"a\nb", false, false), b"a\nb", None, 0),
     // The empty string is in each line.
-    ((Syntax::Fixed, b"", false, false), b"a\nb", 0, None),
+    ((Syntax::Fixed, b"", false, false), b"a\nb", Some((0, 1)), 2),
     // A line counts once, however often and wherever the string is in it.
     (
         (Syntax::Fixed, b"a", false, false),
         b"b\naba\nba",
+        Some((2, 5)),
         2,
-        Some(2),
     ),
     // Of an automaton it is known where a string is all there is.
     (
         (Syntax::Basic, b"a\\.", false, false),
         b"ab\na.\na.a.",
-        3,
-        Some(2),
+        Some((3, 5)),
+        2,
     ),
     (
         (Syntax::Extended, b"a{2}b{1,1}", false, false),
         b"ab\naab\naaabaab",
-        3,
-        Some(2),
+        Some((3, 6)),
+        2,
     ),
-    ((Syntax::Basic, b"a$", false, false), b"b\nab", 2, None),
+    // A line with the string need not be matched.
+    ((Syntax::Basic, b"a$", false, false), b"b\nab", None, 0),
+    (
+        (Syntax::Basic, b"a$", false, false),
+        b"b\nab\nba",
+        Some((5, 7)),
+        1,
+    ),
+    (BRANCHES, b"que\nqueues\nzebra", Some((4, 10)), 2),
 ];
 
 fn blocks() -> &'static [Block] {
     &BLOCKS
 }
 
-// Where in a block, which lacks its last newline, the first line begins that may be matched.
-fn candidate_in(alloc: Global, matcher: &Matcher, lines: &[u8]) -> Result<usize, AllocError> {
-    let mut block = Vec::new(alloc);
-    block.extend_from_slice(lines)?;
-    block.push(b'\n')?;
-    Ok(matcher.first_candidate(&block))
-}
-
-// How many lines of a block are matched, which lacks its last newline.
-fn count_in(alloc: Global, matcher: &Matcher, lines: &[u8]) -> Result<Option<u64>, AllocError> {
-    let mut block = Vec::new(alloc);
-    block.extend_from_slice(lines)?;
-    block.push(b'\n')?;
-    Ok(matcher.known_count(&block))
+// Asserts that no more steps of both kinds were counted than there are bytes.
+fn assert_few(rt: &impl Abort, meter: &Meter, bytes: usize, lines: &[u8]) {
+    let steps = meter.built().saturating_add(meter.reused());
+    assert!(rt; steps <= bytes as u64, "{lines:?}");
 }
 
 fn assert_looked_over(
     rt: &impl Abort,
     alloc: Global,
-    matcher: &Matcher,
+    matcher: &mut Matcher,
     row: &Block,
-) -> Result<(), AllocError> {
-    let ((_, text, _, _), lines, first, matched) = *row;
-    let place = candidate_in(alloc, matcher, lines)?;
-    assert_eq!(rt; place, first, "{text:?} on {lines:?}");
-    let count = count_in(alloc, matcher, lines)?;
-    assert_eq!(rt; count, matched, "{text:?} on {lines:?}");
+) -> Result<(), Fail> {
+    let ((_, text, _, _), lines, next, count) = *row;
+    let block = block_of(alloc, lines)?;
+    let mut meter = fresh_meter();
+    let found = matcher.next_matched(&block, &mut meter);
+    assert_eq!(rt; ends_of(found), next, "{text:?} on {lines:?}");
+    assert_few(rt, &meter, block.len(), lines);
+    let mut meter = fresh_meter();
+    let counted = matcher.count_matched(&block, &mut meter);
+    assert_eq!(rt; counted, count, "{text:?} on {lines:?}");
+    assert_few(rt, &meter, block.len(), lines);
     Ok(())
 }
 
 fn assert_block(rt: &impl Abort, alloc: Global, row: &Block) -> Result<(), Fail> {
-    let matchers = made(alloc, row.0)?;
-    for matcher in &matchers {
+    let mut matchers = made(alloc, row.0)?;
+    for matcher in &mut matchers {
         assert_looked_over(rt, alloc, matcher, row)?;
     }
     Ok(())

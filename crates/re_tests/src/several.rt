@@ -1,9 +1,10 @@
 //! One string, and several, as matchers.
 ghost use Rattle.std.specs.Prelude.{Bool, IfOk, map};
 ghost use Rattle.re_search.specs.Searching.{AllAnswer};
+ghost use Rattle.re_search.specs.Working.Blocks.{IsBlock};
 
 use re_auto::{Meter, fresh_meter};
-use re_search::{Fixed, LineMatch, Span, first_candidate, is_matched, parts};
+use re_search::{Filter, Fixed, LineMatch, Searchers, Span, parts};
 use std::alloc::{AllocError, Global};
 use std::process::Abort;
 use std::test::Fail;
@@ -22,6 +23,16 @@ fn fixed(alloc: Global, texts: &[&[u8]], whole: bool) -> Result<Vec<Fixed>, Allo
 pub(crate) fn ends_of(part: Option<Span>) -> Option<(usize, usize)> {
     let Span { start, end } = part?;
     Some((start, end))
+}
+
+/// The lines, with a newline after the last one.
+pub(crate) fn block_of(alloc: Global, lines: &[u8]) -> Result<Vec<u8>, AllocError>
+    ensures { IfOk result (λ block. IsBlock block.items) }
+{
+    let mut block = Vec::new(alloc);
+    block.extend_from_slice(lines)?;
+    block.push(b'\n')?;
+    Ok(block)
 }
 
 /// Compares the steps of both kinds that were counted over a line.
@@ -52,39 +63,60 @@ fn all_parts<M: LineMatch>(
 }
 
 // For texts, whether the whole line has to be matched, and a line: whether some text matches the
-// line, and its parts.
+// line, the steps to tell that, and its parts.
 type Row = (
     &'static [&'static [u8]],
     bool,
     &'static [u8],
     bool,
+    u64,
     &'static [(usize, usize)],
 );
 
-static ROWS: [Row; 6] = [
-    (&[b"aa"], false, b"aaa", true, &[(0, 2)]),
+static ROWS: [Row; 7] = [
+    (&[b"aa"], false, b"aaa", true, 4, &[(0, 2)]),
+    // The texts are asked in turn until one matches.
     (
         &[b"ab", b"abc", b"c"],
         false,
         b"abcc",
         true,
+        5,
         &[(0, 3), (3, 4)],
     ),
-    (&[b""], false, b"x", true, &[]),
-    (&[b"a", b"aa"], true, b"aa", true, &[(0, 2)]),
-    (&[b"a"], true, b"aa", false, &[]),
-    (&[], false, b"a", false, &[]),
+    (
+        &[b"x", b"abc", b"c"],
+        false,
+        b"abcc",
+        true,
+        10,
+        &[(0, 3), (3, 4)],
+    ),
+    (&[b""], false, b"x", true, 2, &[]),
+    (&[b"a", b"aa"], true, b"aa", true, 6, &[(0, 2)]),
+    (&[b"a"], true, b"aa", false, 3, &[]),
+    (&[], false, b"a", false, 0, &[]),
 ];
 
 fn rows() -> &'static [Row] {
     &ROWS
 }
 
+// Whether some text matches the line.
+fn some_matches(matchers: &mut [Fixed], whole: bool, line: &[u8], meter: &mut Meter) -> bool
+    requires { AllAnswer whole (map ⟦<Fixed as LineMatch>⟧.whole matchers.old) }
+{
+    let none = Filter::none();
+    Searchers::new(matchers, &none, whole).is_matched(line, meter)
+}
+
 fn assert_line(rt: &impl Abort, alloc: Global, row: &Row) -> Result<(), Fail> {
-    let (texts, whole, line, is_selected, expected) = *row;
+    let (texts, whole, line, is_selected, steps, expected) = *row;
     let mut matchers = fixed(alloc, texts, whole)?;
-    let verdict = is_matched(&mut matchers, line, &mut fresh_meter());
+    let mut meter = fresh_meter();
+    let verdict = some_matches(&mut matchers, whole, line, &mut meter);
     assert_eq!(rt; verdict, is_selected, "{line:?}");
+    assert_steps(rt, &meter, steps, 0, line);
     let mut fresh = fixed(alloc, texts, whole)?;
     let found = all_parts(alloc, &mut fresh, line)?;
     assert_eq!(rt; found.as_slice(), expected, "{line:?}");
@@ -149,50 +181,82 @@ fn a_text_is_found_in_so_many_steps(rt: HostRuntime) -> Result<(), Fail> {
     Ok(())
 }
 
-// For texts and a block, which lacks its last newline: where the first line begins that some text
-// may match, or after the last one.
-type Look = (&'static [&'static [u8]], &'static [u8], usize);
+// For texts and lines: the place of the first line that some text matches, how many bytes there are
+// up to its newline and with it, and how many lines some text matches.
+type Look = (
+    &'static [&'static [u8]],
+    &'static [u8],
+    Option<(usize, usize)>,
+    u64,
+    u64,
+);
 
-static LOOKS: [Look; 7] = [
+static LOOKS: [Look; 9] = [
     // One text is looked for in the whole block.
-    (&[b"x"], b"a\nbx\nx", 2),
+    (&[b"x"], b"a\nbx\nx", Some((2, 4)), 5, 2),
     // Of several texts the least place counts, in any order of the texts.
-    (&[b"x", b"y", b"z"], b"ab\ncz\ndy\nex", 3),
-    (&[b"z", b"y", b"x"], b"ab\ncz\ndy\nex", 3),
-    (&[b"x", b"y"], b"a\nb\nc", 6),
+    (&[b"x", b"y", b"z"], b"ab\ncz\ndy\nex", Some((3, 5)), 6, 3),
+    (&[b"z", b"y", b"x"], b"ab\ncz\ndy\nex", Some((3, 5)), 6, 3),
+    (&[b"x", b"y"], b"a\nb\nc", None, 6, 0),
     // A text with a newline is on no line, but may be on two.
-    (&[b"x", b"b\nc"], b"a\nx\nab\ncd", 2),
+    (&[b"x", b"b\nc"], b"a\nx\nab\ncd", Some((2, 3)), 4, 1),
+    (&[b"d\ne", b"b\nc"], b"a\nab\ncd\ne", None, 10, 0),
     // The empty text is on each line, before what another one passes.
-    (&[b"x", b""], b"a\nx", 0),
-    // Of no text at all no line is matched.
-    (&[], b"a\nb", 4),
+    (&[b"x", b""], b"a\nx", Some((0, 1)), 2, 2),
+    // A line with two texts counts once.
+    (&[b"x", b"y"], b"a\nyx\nxx", Some((2, 4)), 5, 2),
+    // Of no text at all no line is matched, and no byte is looked at.
+    (&[], b"a\nb", None, 0, 0),
 ];
 
 fn looks() -> &'static [Look] {
     &LOOKS
 }
 
-fn assert_look(
-    rt: &impl Abort,
-    alloc: Global,
-    texts: &[&[u8]],
-    lines: &[u8],
-    expected: usize,
-) -> Result<(), Fail> {
-    let matchers = fixed(alloc, texts, false)?;
-    let mut block = Vec::new(alloc);
-    block.extend_from_slice(lines)?;
-    block.push(b'\n')?;
-    let place = first_candidate(&matchers, None, &block);
-    assert_eq!(rt; place, expected, "{texts:?}");
+// Steps are counted: each byte at least once, and for each text at most once.
+fn assert_between(rt: &impl Abort, meter: &Meter, bytes: u64, texts: &[&[u8]]) {
+    let most = bytes.saturating_mul(texts.len() as u64);
+    assert!(rt;
+        bytes <= meter.built() && meter.built() <= most,
+        "{texts:?}"
+    );
+    assert!(rt; meter.reused() == 0, "{texts:?}");
+}
+
+fn assert_next(rt: &impl Abort, alloc: Global, row: &Look) -> Result<(), Fail> {
+    let (texts, lines, next, bytes, _) = *row;
+    let mut matchers = fixed(alloc, texts, false)?;
+    let none = Filter::none();
+    let block = block_of(alloc, lines)?;
+    let mut meter = fresh_meter();
+    let found = Searchers::new(&mut matchers, &none, false).next_matched(&block, &mut meter);
+    assert_eq!(rt; ends_of(found), next, "{texts:?}");
+    assert_between(rt, &meter, bytes, texts);
+    Ok(())
+}
+
+fn assert_count(rt: &impl Abort, alloc: Global, row: &Look) -> Result<(), Fail> {
+    let (texts, lines, _, _, count) = *row;
+    let mut matchers = fixed(alloc, texts, false)?;
+    let none = Filter::none();
+    let block = block_of(alloc, lines)?;
+    let mut meter = fresh_meter();
+    let counted = Searchers::new(&mut matchers, &none, false).count_matched(&block, &mut meter);
+    assert_eq!(rt; counted, count, "{texts:?}");
+    let bytes = if texts.is_empty() {
+        0
+    } else {
+        block.len() as u64
+    };
+    assert_between(rt, &meter, bytes, texts);
     Ok(())
 }
 
 #[test]
-fn several_texts_pass_what_each_passes(rt: HostRuntime) -> Result<(), Fail> {
+fn several_texts_find_and_count_lines(rt: HostRuntime) -> Result<(), Fail> {
     for row in looks() {
-        let (texts, lines, expected) = *row;
-        assert_look(&rt, rt.alloc(), texts, lines, expected)?;
+        assert_next(&rt, rt.alloc(), row)?;
+        assert_count(&rt, rt.alloc(), row)?;
     }
     Ok(())
 }

@@ -1,8 +1,7 @@
-use Rattle.std.proofs.Common.{◌+◌, length, map, drop, Some, None, subst, arith, length-drop}
+use Rattle.std.proofs.Common.{◌+◌, length, map, drop, arith, length-drop}
 use Rattle.std.proofs.lemmas.List.{take_rest}
-use Rattle.re_syntax.specs.Lines.{lines_of}
-use Rattle.re_search.specs.Working.Sought.{Sought, IsSought, FindsSought}
-use Rattle.re_search.proofs.lemmas.KeptMatchers.{none_asked, same_over}
+use Rattle.re_search.specs.Working.Sought.{Sought, IsSought}
+use Rattle.re_search.proofs.lemmas.KeptMatchers.{same_over}
 use Rattle.re_search.proofs.lemmas.SearchedBlocks.{CountsTo, counts_next, counts_all, adds_on_by, same_length}
 use Rattle.re_search.proofs.searchers.asking.count_of_all.Goals as goal
 

@@ -1,4 +1,4 @@
-use Rattle.std.proofs.Common.{◌≡◌, ◌*◌, ◌-◌, length, map}
+use Rattle.std.proofs.Common.{◌*◌, ◌-◌, length, map}
 use Rattle.re_search.specs.Searching.{AddsAtMost, SameMatchers}
 use Rattle.re_search.specs.Working.Sought.{IsSought}
 use Rattle.re_search.proofs.lemmas.SearchedBlocks.{CountsTo}

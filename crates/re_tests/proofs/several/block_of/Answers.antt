@@ -1,9 +1,9 @@
 use Rattle.std.proofs.Common.{◌≡◌, [], ◌∷◌, ◌++◌, sym, subst, rules}
 use Rattle.re_search.specs.Working.Blocks.{IsBlock}
 use Rattle.re_search.proofs.lemmas.BlockLemmas.{ended_text}
-use Rattle.re_tests.proofs.matchers.candidate_in.Goals as goal
+use Rattle.re_tests.proofs.several.block_of.Goals as goal
 
-pub first_candidate-requires : goal.first_candidate-requires
-first_candidate-requires c =
-    let is : c.deref.result.now ≡ c.args.lines.now ++ 10 ∷ [] = search rules in
+pub returns : goal.returns
+returns c =
+    let is : c.push.new.self.items ≡ c.args.lines.now ++ 10 ∷ [] = search rules in
     subst IsBlock (sym is) (ended_text c.args.lines.now)
