@@ -1,5 +1,6 @@
 //! The whole command (XCU grep).
-ghost use Rattle.std.specs.Prelude.{◌≡◌, ℕ, ◌<◌, nat_lt, IfSome, map, length};
+ghost use Rattle.std.specs.Prelude.{◌≡◌, ℕ, ◌<◌, nat_lt, map, length};
+ghost use Rattle.std.specs.Option.{ForSome};
 ghost use Rattle.re_syntax.specs.Lines.{lines_of};
 ghost use Rattle.re_search.specs.Working.Filters.{AreNeeded};
 ghost use Rattle.re_search.specs.Working.Matchers.{matched_expression, wants_whole};
@@ -35,7 +36,7 @@ fn search_request<F: Files, W: CountedWrite, N: CountedWrite>(
 ) -> u8
     requires whole { AllAnswer request.now.options.line_regexp
         (map wants_whole searchers.old.matchers.items) }
-    requires needed { IfSome searchers.old.needed
+    requires needed { ForSome searchers.old.needed
         (λ strings. AreNeeded strings (map matched_expression searchers.old.matchers.items)) }
     ensures { SearchEnds (map matched_expression searchers.old.matchers.items) request.now.options
         (sources_named (F.folder files.old) (searched (texts_of request.now.files.items)))
@@ -49,7 +50,7 @@ fn search_request<F: Files, W: CountedWrite, N: CountedWrite>(
     let asked = Asked {
         alloc,
         options: request.options,
-        filter: searchers.needed.as_ref(),
+        filter: &searchers.needed,
     };
     let words = &request.files;
     let matchers = &mut searchers.matchers;

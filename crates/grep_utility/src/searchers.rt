@@ -1,6 +1,7 @@
 //! The matchers of a search: one for all strings together, or one for each pattern.
-ghost use Rattle.std.specs.Prelude.{◌≡◌, ◌⊎◌, [], ◌∷◌, nat_lt, All, IsTrue, IfOk, IfErr, IfSome};
+ghost use Rattle.std.specs.Prelude.{◌≡◌, ◌⊎◌, [], ◌∷◌, nat_lt, All, IsTrue, IfOk, IfErr};
 ghost use Rattle.std.specs.Prelude.{length, map};
+ghost use Rattle.std.specs.Option.{ForSome};
 ghost use Rattle.re_syntax.specs.Lines.{lines_of};
 ghost use Rattle.re_syntax.specs.Spelled.{has_limit};
 ghost use Rattle.re_search.specs.Working.Filters.{AreNeeded};
@@ -23,9 +24,9 @@ const FEW: usize = 7;
 pub struct Searchers {
     /// The matchers that decide.
     pub matchers: Vec<Matcher>,
-    /// Strings, where they are known, of which some is on each line that some matcher matches:
-    /// a line without them need not be shown to the matchers.
-    pub needed: Option<Filter>,
+    /// Strings, if they are known: a line without any of them is matched by no matcher, so that it
+    /// need not be shown to them.
+    pub needed: Filter,
 }
 
 /// The matchers of a search for the patterns, which are the lines of `texts`: one for all of them
@@ -44,7 +45,7 @@ pub fn searchers_of(
         (λ s. ServeFor syntax options.now (lines_of texts.now) s.matchers.items) }
     ensures needed { IfOk result
         (λ s.
-        IfSome s.needed (λ strings. AreNeeded strings (map matched_expression s.matchers.items))) }
+        ForSome s.needed (λ strings. AreNeeded strings (map matched_expression s.matchers.items))) }
     ensures err { IfErr result (λ refused. IsOutOfMemory refused.1
         ⊎ IsFirstRefused syntax options.now.ignore_case (lines_of texts.now) refused.0 refused.1) }
 {
@@ -53,7 +54,7 @@ pub fn searchers_of(
             let kind = FaultKind::Memory;
             return Err((0, PatternFault { kind, at: 0 }));
         };
-        let needed = None;
+        let needed = Filter::none();
         return Ok(Searchers { matchers, needed });
     }
     match matchers_of(alloc, texts, syntax, options) {
@@ -117,14 +118,14 @@ fn joined(alloc: Global, texts: &[u8], options: &Options) -> Result<Vec<Matcher>
 
 /// Strings that the matchers need, where these are many and each needs some. Where memory is
 /// refused for them they are left out.
-fn needed_by(alloc: Global, matchers: &[Matcher]) -> Option<Filter>
-    ensures { IfSome result (λ strings. AreNeeded strings (map matched_expression matchers.now)) }
+fn needed_by(alloc: Global, matchers: &[Matcher]) -> Filter
+    ensures { ForSome result (λ strings. AreNeeded strings (map matched_expression matchers.now)) }
 {
     if matchers.len() <= FEW {
-        return None;
+        return Filter::none();
     }
     match needed_strings(alloc, matchers) {
-        Ok(strings) => strings,
-        Err(_) => None,
+        Ok(needed) => needed,
+        Err(_) => Filter::none(),
     }
 }

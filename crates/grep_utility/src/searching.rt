@@ -1,5 +1,6 @@
 //! The search of the files that words name.
-ghost use Rattle.std.specs.Prelude.{IfSome, map};
+ghost use Rattle.std.specs.Prelude.{map};
+ghost use Rattle.std.specs.Option.{ForSome};
 ghost use Rattle.re_search.specs.Working.Filters.{AreNeeded};
 ghost use Rattle.re_search.specs.Searching.{AllAnswer};
 ghost use Rattle.grep_core.specs.Run.{writer, RunGives, devices};
@@ -27,8 +28,8 @@ pub fn search_files<F: Files, L: LineMatch, W: CountedWrite, N: CountedWrite>(
     meter: &mut Meter,
 ) -> Result<Status, RunFault>
     requires whole { AllAnswer asked.now.options.line_regexp (map L.whole matchers.old) }
-    requires needed { IfSome asked.now.filter
-        (λ f. AreNeeded f.now (map L.expression matchers.old)) }
+    requires needed { ForSome asked.now.filter.now
+        (λ strings. AreNeeded strings (map L.expression matchers.old)) }
     ensures { RunGives (map L.expression matchers.old) asked.now.options
         (sources_named (F.folder files.old) (searched (texts_of words.now)))
         (GivesBack F.given_back files.old files.new)

@@ -1,8 +1,4 @@
-use Rattle.std.proofs.Common.{map}
-use Rattle.re_search.specs.Working.Filters.{AreNeeded}
-use Rattle.re_search.specs.Working.Matchers.{matched_expression}
 use Rattle.grep_core.specs.Run.{writer}
-use Rattle.grep_utility.proofs.lemmas.ServingLemmas.{behind_reference}
 use Rattle.grep_utility.proofs.command.search_request.Goals as goal
 
 pub returns : goal.returns
@@ -19,5 +15,4 @@ returns g c = record {
 }
 
 pub search_files-found-requires-clause-needed : goal.search_files-found-requires-clause-needed
-search_files-found-requires-clause-needed g c = rw c.deref_mut.ensures.value
-    (behind_reference (λ strings. AreNeeded strings (map matched_expression c.args.searchers.now.matchers.items)) c.as_ref.result c.args.searchers.now.needed c.as_ref.ensures.value c.requires.needed)
+search_files-found-requires-clause-needed g c = rw c.deref_mut.ensures.value c.requires.needed
