@@ -1,8 +1,7 @@
 -- A search of the lines of an open source of which lines around the selected ones are shown, one
 -- more line at a time.
-use Rattle.std.proofs.Common.{◌≡◌, ℕ, ◌+◌, ◌-◌, ◌^◌, ◌<◌, ◌≤◌, Bool, true, false, IsTrue, Decides, List, [], ◌∷◌, ◌++◌, Option, length, take, refl, sym, ap, subst, ◌∙◌, append-nil, inl, inr, arith, if◌then◌else◌}
+use Rattle.std.proofs.Common.{◌≡◌, ℕ, ◌+◌, ◌-◌, ◌^◌, ◌<◌, ◌≤◌, Bool, true, false, IsTrue, Decides, List, [], ◌∷◌, ◌++◌, Option, length, refl, sym, ap, subst, ◌∙◌, append-nil, inl, inr, arith, if◌then◌else◌}
 use Rattle.std.proofs.lemmas.List.{length-append, length_push}
-use Rattle.std.proofs.lemmas.List.Elements.{All-nil}
 use Rattle.re_syntax.specs.Bytes.{Text}
 use Rattle.re_syntax.specs.Expression.{Expression}
 use Rattle.re_search.specs.Meters.{Steps}
@@ -19,10 +18,10 @@ use Rattle.grep_core.specs.Reading.{open_source, most_lines, OneLeft}
 use Rattle.grep_core.specs.Run.{Writer, TakesAll, TakesFront}
 use Rattle.grep_core.specs.Cost.{SearchesLines}
 use Rattle.grep_core.specs.Working.Handed.{file_so_far}
-use Rattle.grep_core.specs.Working.LastLines.{LastLines, with_lines}
+use Rattle.grep_core.specs.Working.LastLines.{LastLines}
 use Rattle.grep_core.specs.Working.Numbered.{Numbered, HasHanded, StandsAs}
 use Rattle.grep_core.specs.Working.Passed.{AreUnselected, Waits}
-use Rattle.grep_core.specs.Working.Progress.{progress_from, next_shown, behind_line, with_waiting, last_of, rows_at}
+use Rattle.grep_core.specs.Working.Progress.{progress_from, next_shown, behind_line, last_of, rows_at}
 use Rattle.grep_core.specs.Working.Searched.{leaves_early, SearchesSource, BreaksSource, StopsSource}
 use Rattle.grep_core.proofs.lemmas.AroundLemmas.{Tracks, tracks_none, tracks_line, tracks_passed, tracked_groups, tracks_further}
 use Rattle.grep_core.proofs.lemmas.CostLaws.{searched_no_line, searched_more_lines}
@@ -107,32 +106,35 @@ module _ {R : Type 0} (remaining : R → Option Text) (failures : R → ℕ) (es
   -- some lines were passed, which wait if any does
   pub followed_waiting : (before now : Numbered R) (old new : Writer) (began mid ended : Steps) (selected : ℕ) (p q : Progress) (behind held : LastLines) → behind.limit ≡ context.before → (s : Followed before old new began mid selected p behind.lines)
       → (passed : List Text) → HasHanded remaining failures reader now (s.lines ++ passed) → AreUnselected es options passed → Waits passed p q behind held → SearchesLines es options (length es) passed mid ended → (t : Followed now old new began ended selected q held.lines) × (t.lines ≡ s.lines ++ passed)
-  followed_waiting before now old new began mid ended selected p q behind held limit s passed handed unselected waits spent = (record {
-    lines = s.lines ++ passed;
-    rows = s.rows;
-    handed = handed;
-    tracks = elim waits [
-      | inl none ↦ subst (λ r. Follows r (s.lines ++ passed) s.rows) (sym none.1) (subst (λ ls. Follows p ls s.rows) (sym (ap (λ ls. s.lines ++ ls) none.0 ∙ append-nil s.lines)) s.tracks)
-      | inr some ↦ subst (λ r. Follows r (s.lines ++ passed) s.rows) (sym some.1) (tracks_passed es options many name context shown p s.lines s.rows passed unselected some.0 s.tracks)
-    ];
-    apart = elim waits [
-      | inl none ↦ subst WaitsNot (sym none.1) s.apart
-      | inr some ↦ subst WaitsNot (sym some.1) (λ more. absurd (omega (arith, more, some.0)))
-    ];
-    held = elim waits [
-      | inl none ↦ ap (λ (x : LastLines). x.lines) none.2 ∙ s.held ∙ ap (λ ls. last_of p.waiting ls) (sym (ap (λ ls. s.lines ++ ls) none.0 ∙ append-nil s.lines)) ∙ ap (λ (r : Progress). last_of r.waiting (s.lines ++ passed)) (sym none.1)
-      | inr some ↦
-          (let room : behind.limit ≡ p.context.before = limit ∙ sym (ap (λ (c : Context). c.before) s.tracks.same_context) in
-          ap (λ (x : LastLines). x.lines) some.2 ∙ ap (λ n. last_of n (behind.lines ++ passed)) room ∙ ap (λ ls. last_of p.context.before (ls ++ passed)) s.held
-          ∙ last_of-many p.context.before p.waiting s.lines passed s.tracks.within s.tracks.few ∙ ap (λ (r : Progress). last_of r.waiting (s.lines ++ passed)) (sym some.1))
-    ];
-    wrote = s.wrote;
-    chosen = s.chosen;
-    are_chosen = chosen_on es options many shown name s.lines passed s.chosen unselected s.are_chosen;
-    counted = s.counted;
-    few = omega (arith, s.few, s.handed.counted, handed.counted, length-append s.lines passed);
-    steps = searched_more_lines es options (length es) s.lines passed began mid ended s.steps spent;
-  }, refl)
+  followed_waiting before now old new began mid ended selected p q behind held limit s passed handed unselected waits spent = (
+    record {
+      lines = s.lines ++ passed;
+      rows = s.rows;
+      handed = handed;
+      tracks = elim waits [
+        | inl none ↦ subst (λ r. Follows r (s.lines ++ passed) s.rows) (sym none.1) (subst (λ ls. Follows p ls s.rows) (sym (ap (λ ls. s.lines ++ ls) none.0 ∙ append-nil s.lines)) s.tracks)
+        | inr some ↦ subst (λ r. Follows r (s.lines ++ passed) s.rows) (sym some.1) (tracks_passed es options many name context shown p s.lines s.rows passed unselected some.0 s.tracks)
+      ];
+      apart = elim waits [
+        | inl none ↦ subst WaitsNot (sym none.1) s.apart
+        | inr some ↦ subst WaitsNot (sym some.1) (λ more. absurd (omega (arith, more, some.0)))
+      ];
+      held = elim waits [
+        | inl none ↦ ap (λ (x : LastLines). x.lines) none.2 ∙ s.held ∙ ap (λ ls. last_of p.waiting ls) (sym (ap (λ ls. s.lines ++ ls) none.0 ∙ append-nil s.lines)) ∙ ap (λ (r : Progress). last_of r.waiting (s.lines ++ passed)) (sym none.1)
+        | inr some ↦
+            (let room : behind.limit ≡ p.context.before = limit ∙ sym (ap (λ (c : Context). c.before) s.tracks.same_context) in
+            ap (λ (x : LastLines). x.lines) some.2 ∙ ap (λ n. last_of n (behind.lines ++ passed)) room ∙ ap (λ ls. last_of p.context.before (ls ++ passed)) s.held
+            ∙ last_of-many p.context.before p.waiting s.lines passed s.tracks.within s.tracks.few ∙ ap (λ (r : Progress). last_of r.waiting (s.lines ++ passed)) (sym some.1))
+      ];
+      wrote = s.wrote;
+      chosen = s.chosen;
+      are_chosen = chosen_on es options many shown name s.lines passed s.chosen unselected s.are_chosen;
+      counted = s.counted;
+      few = omega (arith, s.few, s.handed.counted, handed.counted, length-append s.lines passed);
+      steps = searched_more_lines es options (length es) s.lines passed began mid ended s.steps spent;
+    },
+    refl,
+  )
 
   -- the limit of held lines stays that of the context
   pub waiting_limit : (passed : List Text) (p q : Progress) (behind held : LastLines) → Waits passed p q behind held → behind.limit ≡ context.before → held.limit ≡ context.before

@@ -24,7 +24,7 @@ use Rattle.grep_core.specs.Working.Handed.{StandsFor, BeginsWith, file_so_far}
 use Rattle.grep_core.specs.Cost.{SearchesLine, SearchesLines}
 use Rattle.grep_core.specs.Working.Passed.{AddsCounted}
 use Rattle.grep_core.specs.Working.OneLine.{IsPlain, LineRowsOf, TakesLine, BreaksLine}
-use Rattle.grep_core.specs.Working.StretchRows.{TakesLines, BreaksLines}
+use Rattle.grep_core.specs.Working.StretchRows.{RowsOfLines, TakesLines, BreaksLines}
 use Rattle.grep_core.specs.Working.Searched.{leaves_early, summary_as, BreaksSource, StopsSource, SearchesSource}
 use Rattle.re_search.proofs.lemmas.SomeOfJoined.{Any-left}
 use Rattle.grep_core.proofs.lemmas.Verdicts.{decided_yes, decided_no, picked}
@@ -119,20 +119,39 @@ module _ (es : List Expression) (options : Options) (many shown : Bool) (name : 
       let rows = rows_line es options many name (form options) plain lines line w.rows t.rows (plain_written (form options) plain lines w.rows w.of) t.are_rows in
       writes_more lines line t.rows old mid new selected _ found w (written_plain (form options) plain (lines ++ line ∷ []) (w.rows ++ t.rows) rows) t.wrote t.told refl
 
-  -- lines were searched at once
-  writes_lines : IsPlain (form options) → (more lines : List Text) (old mid new : Writer) (selected found : ℕ) → WritesLines lines old mid selected → TakesLines es options many name (length lines + 1) more mid new found → WritesLines (lines ++ more) old new (selected + found)
-  writes_lines plain [] lines old mid new selected found w (same, zero) =
-      let sum : selected ≡ selected + found = omega (arith, zero) in
-      subst (λ ls. WritesLines ls old new (selected + found)) (sym (append-nil lines)) (subst (λ v. WritesLines lines old v (selected + found)) (sym same) (subst (WritesLines lines old mid) sum w))
-  writes_lines plain (line ∷ more) lines old mid new selected found w (first, b, others, one, rest, is) =
+  -- lines were searched at once: their rows, and which of them are selected
+  adds_lines : IsPlain (form options) → (more lines rows own : List Text) (chosen : List (ℕ × Text)) (found : ℕ) → LineRowsOf es options many (form options) (file_so_far name lines) rows → SelectedLines es options many (file_so_far name lines) chosen
+      → RowsOfLines es options many name (length lines + 1) more own found
+      → LineRowsOf es options many (form options) (file_so_far name (lines ++ more)) (rows ++ own) × (all : List (ℕ × Text)) × SelectedLines es options many (file_so_far name (lines ++ more)) all × (length all ≡ length chosen + found)
+  adds_lines plain [] lines rows own chosen found has are (none, zero) =
+      let same : rows ≡ rows ++ own = sym (append-nil rows) ∙ ap (λ r. rows ++ r) (sym none) in
+      let sum : length chosen ≡ length chosen + found = omega (arith, zero) in (
+        subst (λ ls. LineRowsOf es options many (form options) (file_so_far name ls) (rows ++ own)) (sym (append-nil lines)) (subst (LineRowsOf es options many (form options) (file_so_far name lines)) same has),
+        chosen,
+        subst (λ ls. SelectedLines es options many (file_so_far name ls) chosen) (sym (append-nil lines)) are,
+        sum,
+      )
+  adds_lines plain (line ∷ more) lines rows own chosen found has are (first, later, b, others, one, told, rest, joined, counted) =
       let at : length lines + 1 + 1 ≡ length (lines ++ line ∷ []) + 1 = omega (arith, length_push lines line) in
-      let here = writes_line plain lines line old mid first selected b w one in
-      let all = writes_lines plain more (lines ++ line ∷ []) old first new (if b then selected + 1 else selected) others here (subst (λ n. TakesLines es options many name n more first new others) at rest) in
-      subst (λ ls. WritesLines ls old new (selected + found)) (append_assoc lines (line ∷ []) more) (subst (WritesLines ((lines ++ line ∷ []) ++ more) old new) (sum b is) all)
+      let here = rows_line es options many name (form options) plain lines line rows first has one in
+      let picks = chosen_line es options many name lines line chosen b are told in
+      let (has_all, all, are_all, many_all) = adds_lines plain more (lines ++ line ∷ []) (rows ++ first) later (chosen ++ picked b (length lines + 1, line)) others here picks (subst (λ n. RowsOfLines es options many name n more later others) at rest) in
+      let same : (rows ++ first) ++ later ≡ rows ++ own = append_assoc rows first later ∙ ap (λ r. rows ++ r) (sym joined) in
+      let long = chosen_count chosen (length lines + 1, line) (length chosen) b refl in (
+        subst (λ ls. LineRowsOf es options many (form options) (file_so_far name ls) (rows ++ own)) (append_assoc lines (line ∷ []) more) (subst (LineRowsOf es options many (form options) (file_so_far name ((lines ++ line ∷ []) ++ more))) same has_all),
+        all,
+        subst (λ ls. SelectedLines es options many (file_so_far name ls) all) (append_assoc lines (line ∷ []) more) are_all,
+        many_all ∙ sum b counted long,
+      )
     where
-      sum : (b : Bool) → found ≡ (if b then others + 1 else others) → (if b then selected + 1 else selected) + others ≡ selected + found
-      sum true e = omega (arith, e)
-      sum false e = omega (arith, e)
+      sum : (b : Bool) → found ≡ (if b then others + 1 else others) → length (chosen ++ picked b (length lines + 1, line)) ≡ (if b then length chosen + 1 else length chosen) → length (chosen ++ picked b (length lines + 1, line)) + others ≡ length chosen + found
+      sum true e l = omega (arith, e, l)
+      sum false e l = omega (arith, e, l)
+
+  writes_lines : IsPlain (form options) → (more lines : List Text) (old mid new : Writer) (selected found : ℕ) → WritesLines lines old mid selected → TakesLines es options many name (length lines + 1) more mid new found → WritesLines (lines ++ more) old new (selected + found)
+  writes_lines plain more lines old mid new selected found w t =
+      let (has, all, are, counted) = adds_lines plain more lines w.rows t.rows w.chosen found (plain_written (form options) plain lines w.rows w.of) w.are_chosen t.are_rows in
+      record { rows = w.rows ++ t.rows; of = written_plain (form options) plain (lines ++ more) (w.rows ++ t.rows) has; wrote = TakesAll-more old mid new w.rows t.rows w.wrote t.wrote; chosen = all; are_chosen = are; counted = omega (arith, counted, w.counted) }
 
   -- lines were passed where the selected ones are only counted
   writes_counted : IsPlain (form options) → form options ≡ counts → (passed lines : List Text) (old new : Writer) (selected count : ℕ) → WritesLines lines old new selected → HoldsOfMany (Selected es options) passed count → WritesLines (lines ++ passed) old new (selected + count)
@@ -251,11 +270,11 @@ module _ (es : List Expression) (options : Options) (many shown : Bool) (name : 
         stops_among lines [] selected count w (subst (λ ls. SearchesLines es options (length es) ls began ended) (sym (append-nil lines)) spent) (subst (BeginsWith name known) (sym (append-nil lines)) b)
 
   module _ (known rest : Option Text) (old mid new : Writer) (began ended : Steps) (selected failed_before failed : ℕ) (none_failed : failed ≡ failed_before) where
-    -- a write failed within the rows of these lines; more lines were searched
-    pub breaks_among : (lines later rows : List Text) → WrittenOf (form options) lines rows → TakesFront old new rows → new.failures ≡ one_more old.failures
-        → SearchesLines es options (length es) (lines ++ later) began ended → BeginsWith name known (lines ++ later) → BreaksSource es options many shown (open_source name known) (OneLeft rest) failed_before failed old new began ended
-    breaks_among lines later rows of front counted spent b =
-        let all = of.further (file_of name b.reading) (later ++ b.more) b.named (b.has_lines ∙ append_assoc lines later b.more) in
+    -- a write failed within the rows of these lines
+    pub breaks_in : (lines rows : List Text) → WrittenOf (form options) lines rows → TakesFront old new rows → new.failures ≡ one_more old.failures
+        → SearchesLines es options (length es) lines began ended → BeginsWith name known lines → BreaksSource es options many shown (open_source name known) (OneLeft rest) failed_before failed old new began ended
+    breaks_in lines rows of front counted spent b =
+        let all = of.further (file_of name b.reading) b.more b.named b.has_lines in
         record {
           reading = b.reading;
           is_reading = b.is_reading;
@@ -271,29 +290,15 @@ module _ (es : List Expression) (options : Options) (many shown : Bool) (name : 
           are_rows = all.2;
           wrote = subst (TakesFront old new) (sym all.3) (TakesFront-longer old new rows all.1 front);
           counted = counted;
-          steps = subst (λ ls. SearchesLines es options (length es) ls began ended) (sym b.has_lines) (searched_first_lines es options (length es) (lines ++ later) b.more began ended spent);
+          steps = subst (λ ls. SearchesLines es options (length es) ls began ended) (sym b.has_lines) (searched_first_lines es options (length es) lines b.more began ended spent);
         }
-
-    -- no more lines were searched
-    pub breaks_in : (lines rows : List Text) → WrittenOf (form options) lines rows → TakesFront old new rows → new.failures ≡ one_more old.failures
-        → SearchesLines es options (length es) lines began ended → BeginsWith name known lines → BreaksSource es options many shown (open_source name known) (OneLeft rest) failed_before failed old new began ended
-    breaks_in lines rows of front counted spent b =
-        breaks_among lines [] rows of front counted (subst (λ ls. SearchesLines es options (length es) ls began ended) (sym (append-nil lines)) spent) (subst (BeginsWith name known) (sym (append-nil lines)) b)
 
     -- a write failed within the rows of lines that were searched at once
     breaks_lines : IsPlain (form options) → (lines all : List Text) → WritesLines lines old mid selected → SearchesLines es options (length es) (lines ++ all) began ended → BeginsWith name known (lines ++ all)
         → BreaksLines es options many name (length lines + 1) all mid new → BreaksSource es options many shown (open_source name known) (OneLeft rest) failed_before failed old new began ended
     breaks_lines plain lines all w spent b broke =
-        let written = writes_lines plain broke.done lines old mid broke.mid selected broke.found w broke.took in
-        let first : List Text = lines ++ broke.done in
-        let at : length lines + 1 + length broke.done ≡ length first + 1 = omega (arith, length-append lines broke.done) in
-        let one = subst (λ n. BreaksLine es options many name n broke.line broke.mid new) at broke.broke in
-        let rows = rows_line es options many name (form options) plain first broke.line written.rows one.rows (plain_written (form options) plain first written.rows written.of) one.are_rows in
-        let same : lines ++ all ≡ (first ++ broke.line ∷ []) ++ broke.more =
-        ap (λ ls. lines ++ ls) broke.parted ∙ sym (append_assoc lines broke.done (broke.line ∷ broke.more)) ∙ sym (append_assoc first (broke.line ∷ []) broke.more) in
-        breaks_among (first ++ broke.line ∷ []) broke.more (written.rows ++ one.rows) (written_plain (form options) plain (first ++ broke.line ∷ []) (written.rows ++ one.rows) rows)
-        (TakesFront-more old broke.mid new written.rows one.rows written.wrote one.wrote) (one.counted ∙ ap one_more written.wrote.none_failed)
-        (subst (λ ls. SearchesLines es options (length es) ls began ended) same spent) (subst (BeginsWith name known) same b)
+        let added = adds_lines plain all lines w.rows broke.rows w.chosen broke.found (plain_written (form options) plain lines w.rows w.of) w.are_chosen broke.are_rows in
+        breaks_in (lines ++ all) (w.rows ++ broke.rows) (written_plain (form options) plain (lines ++ all) (w.rows ++ broke.rows) added.0) (TakesFront-more old mid new w.rows broke.rows w.wrote broke.wrote) (broke.counted ∙ ap one_more w.wrote.none_failed) spent b
 
     -- a write failed within the rows that the next line adds
     pub breaks_adding : (lines : List Text) (line : Text) (added : List Text) (w : WritesLines lines old mid selected) → WrittenOf (form options) (lines ++ line ∷ []) (w.rows ++ added)
@@ -411,7 +416,7 @@ module _ {R : Type 0} (remaining : R → Option Text) (failures : R → ℕ) (es
 
       module _ (found more : ℕ) (took : TakesLines es options many name (before.number + 1) all mid new found) (is : more ≡ min (selected + found) (2 ^ 64 - 1)) where
         sum : selected + found ≡ more
-        sum = omega (arith, is, s.few, numbers_on, next.counted, next.few, found_within es options many name (before.number + 1) all mid new found took)
+        sum = omega (arith, is, s.few, numbers_on, next.counted, next.few, found_within es options many name (before.number + 1) all took.rows found took.are_rows)
 
         all_written : WritesLines es options many shown name (s.lines ++ all) old new more
         all_written = subst (WritesLines es options many shown name (s.lines ++ all) old new) sum (writes_lines es options many shown name plain all s.lines old mid new selected found s.wrote (subst (λ n. TakesLines es options many name n all mid new found) first_number took))
@@ -422,7 +427,7 @@ module _ {R : Type 0} (remaining : R → Option Text) (failures : R → ℕ) (es
           lines = s.lines ++ all;
           handed = next;
           wrote = all_written;
-          few = omega (arith, sum, s.few, numbers_on, found_within es options many name (before.number + 1) all mid new found took);
+          few = omega (arith, sum, s.few, numbers_on, found_within es options many name (before.number + 1) all took.rows found took.are_rows);
           none_early = λ early. sym sum ∙ (omega (arith, s.none_early early, none early));
           steps = all_spent;
         }

@@ -18,7 +18,7 @@ use Rattle.grep_core.specs.Working.Numbered.{Numbered, AreAhead, HasHanded, Pass
 use Rattle.grep_core.specs.Working.Passed.{AddsCounted}
 use Rattle.grep_core.specs.Working.Stretches.{IsNextOf}
 use Rattle.grep_core.proofs.lemmas.CostLaws.{searched_no_line, searched_bytes}
-use Rattle.grep_core.proofs.lemmas.CountedLines.{many_within, many_others}
+use Rattle.grep_core.proofs.lemmas.CountedLines.{many_others}
 use Rattle.grep_core.proofs.lemmas.PassedLemmas.{HasHanded-pass, terminated-append}
 
 -- its lines are passed

@@ -1,9 +1,10 @@
 -- The lines of a block up to the first that is matched, and the rows of several lines.
-use Rattle.std.proofs.Common.{Bor, MatchOption, Option, None, Some, ◌≡◌, ◌⊎◌, ℕ, nat_eq, ◌+◌, ◌-◌, ◌*◌, ◌<◌, ◌≤◌, ◌&&◌, not, inr, Bool, true, false, List, [], ◌∷◌, ◌++◌, All, length, take, drop, slice_range, refl, sym, ap, ◌∙◌, subst, arith, append_assoc, inl, length-append, if◌then◌else◌}
+use Rattle.std.proofs.Common.{Bor, MatchOption, Option, None, Some, ◌≡◌, ◌⊎◌, ℕ, nat_eq, ◌+◌, ◌-◌, ◌*◌, ◌<◌, ◌≤◌, ◌&&◌, ◌||◌, IsTrue, not, inr, Bool, true, false, Decides, append-nil, List, [], ◌∷◌, ◌++◌, All, length, take, drop, slice_range, refl, sym, ap, ◌∙◌, subst, arith, append_assoc, inl, length-append, if◌then◌else◌}
 use Rattle.std.specs.Option.{is_some}
 use Rattle.std.proofs.lemmas.Bool.{false≢true, cases_lt}
 use Rattle.std.proofs.Math.Seq.{take-append_seam, drop-append_seam}
-use Rattle.std.proofs.lemmas.List.Elements.{All-append, All-cons, All-nil, All-head, All-tail}
+use Rattle.std.proofs.lemmas.List.{nil_from_length}
+use Rattle.std.proofs.lemmas.List.Elements.{All-cons, All-nil, All-head, All-tail}
 use Rattle.re_syntax.specs.Bytes.{Text}
 use Rattle.re_syntax.specs.Expression.{Expression}
 use Rattle.re_syntax.specs.Lines.{newline, terminated, lines_of, HasNoNewline}
@@ -14,16 +15,17 @@ use Rattle.re_search.specs.Working.Sought.{Sought, IsSought}
 use Rattle.re_search.proofs.lemmas.SearchedBlocks.{block_lines, free_lines}
 use Rattle.grep_core.specs.declared.options.Options.{Options}
 use Rattle.grep_core.specs.Files.{Selected}
-use Rattle.grep_core.specs.Run.{Writer}
-use Rattle.grep_core.specs.Working.OneLine.{WritesSelected, BreaksSelected, TakesLine, BreaksLine}
-use Rattle.grep_core.specs.Working.StretchRows.{TakesLines, BreaksLines}
+use Rattle.grep_core.specs.Row.{colon, head}
+use Rattle.grep_core.specs.Output.{lines, form, shown_number, written}
+use Rattle.grep_core.specs.Working.OneLine.{IsBare, rows_selected, RowsOfSelected, RowsOfLine}
+use Rattle.grep_core.specs.Working.StretchRows.{RowsOfLines}
+use Rattle.grep_core.specs.Working.Wanted.{name_shown}
 use Rattle.grep_core.specs.Working.Stretches.{IsDivided}
 use Rattle.grep_core.specs.declared.search.stretch.Stretch.{Stretch}
 use Rattle.re_search.specs.Meters.{Steps}
 use Rattle.re_search.specs.Searching.{AddsAtMost}
-use Rattle.grep_core.proofs.lemmas.OneLineLemmas.{line_passed}
 use Rattle.grep_core.proofs.lemmas.PassedLemmas.{terminated-append}
-use Rattle.grep_core.proofs.lemmas.Verdicts.{decided_no}
+use Rattle.grep_core.proofs.lemmas.Verdicts.{decided_yes, decided_no}
 
 -- ---- where the lines lie
 
@@ -74,86 +76,99 @@ free_before (x ∷ xs) ys h = All-cons HasNoNewline x xs (All-head HasNoNewline 
 
 module _ (es : List Expression) (options : Options) (many : Bool) (name : Text) where
   -- lines that are not selected have no rows
-  pub takes_unselected : (number : ℕ) (ls : List Text) (w : Writer) → All (λ line. ¬ Selected es options line) ls → TakesLines es options many name number ls w w 0
-  takes_unselected number [] w none = (refl, refl)
-  takes_unselected number (l ∷ ls) w none = (
-    w,
-    false,
-    0,
-    line_passed es options many name number l w false refl (decided_no (All-head (λ line. ¬ Selected es options line) l ls none)),
-    takes_unselected (number + 1) ls w (All-tail (λ line. ¬ Selected es options line) l ls none),
-    refl,
-  )
+  pub rows_unselected : (number : ℕ) (ls : List Text) → All (λ line. ¬ Selected es options line) ls → RowsOfLines es options many name number ls [] 0
+  rows_unselected number [] none = (refl, refl)
+  rows_unselected number (l ∷ ls) none =
+      let out = All-head (λ line. ¬ Selected es options line) l ls none in
+      ([], [], false, 0, inr (out, refl), decided_no out, rows_unselected (number + 1) ls (All-tail (λ line. ¬ Selected es options line) l ls none), refl, refl)
 
   -- one line more
-  pub takes_one_more : (number : ℕ) (ls : List Text) (line : Text) (old mid new : Writer) (found : ℕ) (selected : Bool) → TakesLines es options many name number ls old mid found → TakesLine es options many name (number + length ls) line mid new selected
-      → TakesLines es options many name number (ls ++ line ∷ []) old new (if selected then found + 1 else found)
-  takes_one_more number [] line old mid new found selected (same, zero) t =
+  pub rows_one_more : (number : ℕ) (ls : List Text) (line : Text) (rows own : List Text) (found : ℕ) (selected : Bool) → RowsOfLines es options many name number ls rows found → RowsOfLine es options many name (number + length ls) line own → Decides selected (Selected es options line)
+      → RowsOfLines es options many name number (ls ++ line ∷ []) (rows ++ own) (if selected then found + 1 else found)
+  rows_one_more number [] line rows own found selected (none, zero) one told =
       let at : number + 0 ≡ number = omega arith in
-      let none : (if selected then 0 + 1 else 0) ≡ (if selected then found + 1 else found) = ap (λ n. if selected then n + 1 else n) (sym zero) in
-      (new, selected, 0, subst (λ w. TakesLine es options many name number line w new selected) same (subst (λ n. TakesLine es options many name n line mid new selected) at t), (refl, refl), sym none)
-  takes_one_more number (l ∷ ls) line old mid new found selected (first, b, others, one, rest, is) t =
+      let counted : (if selected then found + 1 else found) ≡ (if selected then 0 + 1 else 0) = ap (λ n. if selected then n + 1 else n) zero in
+      (own, [], selected, 0, subst (λ n. RowsOfLine es options many name n line own) at one, told, (refl, refl), ap (λ r. r ++ own) none ∙ sym (append-nil own), counted)
+  rows_one_more number (l ∷ ls) line rows own found selected (first, rest, b, others, is_first, tells, are_rest, joined, counted) one told =
       let at : number + length (l ∷ ls) ≡ number + 1 + length ls = omega arith in
-      let later = takes_one_more (number + 1) ls line first mid new others selected rest (subst (λ n. TakesLine es options many name n line mid new selected) at t) in
-      (first, b, (if selected then others + 1 else others), one, later, counts b selected is)
+      let later = rows_one_more (number + 1) ls line rest own others selected are_rest (subst (λ n. RowsOfLine es options many name n line own) at one) told in
+      (first, rest ++ own, b, (if selected then others + 1 else others), is_first, tells, later, ap (λ r. r ++ own) joined ∙ append_assoc first rest own, both b selected counted)
     where
-      counts : (b s : Bool) → found ≡ (if b then others + 1 else others) → (if s then found + 1 else found) ≡ (if b then (if s then others + 1 else others) + 1 else (if s then others + 1 else others))
-      counts true true e = omega (arith, e)
-      counts true false e = e
-      counts false true e = omega (arith, e)
-      counts false false e = e
+      both : (b s : Bool) → found ≡ (if b then others + 1 else others) → (if s then found + 1 else found) ≡ (if b then (if s then others + 1 else others) + 1 else (if s then others + 1 else others))
+      both true true e = omega (arith, e)
+      both true false e = e
+      both false true e = omega (arith, e)
+      both false false e = e
+
+  -- where each selected line is a row, and nothing else
+  pub rows_numbered : form options ≡ lines → (number : ℕ) (ls : List Text) → All (Selected es options) ls → RowsOfLines es options many name number ls (rows_selected options many name number ls) (length ls)
+  rows_numbered asked number [] all = (refl, refl)
+  rows_numbered asked number (l ∷ ls) all =
+      let own : List Text = (head colon (name_shown many name) (shown_number options number) ++ l) ∷ [] in
+      let are : RowsOfSelected es options many (form options) name number l own = subst (λ shape. RowsOfSelected es options many shape name number l own) (sym asked) refl in
+      let selected = All-head (Selected es options) l ls all in
+      (own, rows_selected options many name (number + 1) ls, true, length ls, inl (selected, are), decided_yes selected, rows_numbered asked (number + 1) ls (All-tail (Selected es options) l ls all), refl, (let long : length (l ∷ ls) ≡ length ls + 1 = omega arith in long))
 
   -- no more lines are selected than there are
-  pub found_within : (number : ℕ) (ls : List Text) (old new : Writer) (found : ℕ) → TakesLines es options many name number ls old new found → found ≤ length ls
-  found_within number [] old new found (same, zero) = omega (arith, zero)
-  found_within number (l ∷ ls) old new found (mid, b, others, one, rest, is) = at_most b is (found_within (number + 1) ls mid new others rest)
+  pub found_within : (number : ℕ) (ls rows : List Text) (found : ℕ) → RowsOfLines es options many name number ls rows found → found ≤ length ls
+  found_within number [] rows found (none, zero) = omega (arith, zero)
+  found_within number (l ∷ ls) rows found (own, later, b, others, is, tells, are, joined, counted) = at_most b counted (found_within (number + 1) ls later others are)
     where
       at_most : (b : Bool) → found ≡ (if b then others + 1 else others) → others ≤ length ls → found ≤ length (l ∷ ls)
       at_most true e few = omega (arith, e, few)
       at_most false e few = omega (arith, e, few)
 
-  -- the lines of a stretch before one that is selected have no rows, and its rows were written
-  pub stretch_written : (number : ℕ) (before : List Text) (line : Text) (old new : Writer) → All (λ l. ¬ Selected es options l) before → Selected es options line → (at : ℕ) → at ≡ number + length before → WritesSelected es options many name at line old new
-      → TakesLines es options many name number (before ++ line ∷ []) old new 1
-  stretch_written number before line old new none selected at is w =
-      let t : TakesLine es options many name (number + length before) line old new true = subst (λ n. TakesLine es options many name n line old new true) is (record { rows = w.rows; are_rows = inl (selected, w.are_rows); wrote = w.wrote; told = ((λ _. selected), (λ _. refl)) }) in
-      takes_one_more number before line old old new 0 true (takes_unselected number before old none) t
+  -- the lines of a stretch before one that is selected have no rows, and that line has its own
+  pub rows_matched : (number : ℕ) (before : List Text) (line : Text) (own : List Text) → All (λ l. ¬ Selected es options l) before → Selected es options line → (at : ℕ) → at ≡ number + length before → RowsOfSelected es options many (form options) name at line own
+      → RowsOfLines es options many name number (before ++ line ∷ []) own 1
+  rows_matched number before line own none selected at is are =
+      rows_one_more number before line [] own 0 true (rows_unselected number before none) (subst (λ n. RowsOfLine es options many name n line own) is (inl (selected, are))) (decided_yes selected)
 
-  -- or a beginning of them
-  pub stretch_broken : (number : ℕ) (before : List Text) (line : Text) (old new : Writer) → All (λ l. ¬ Selected es options l) before → Selected es options line → (at : ℕ) → at ≡ number + length before → BreaksSelected es options many name at line old new
-      → BreaksLines es options many name number (before ++ line ∷ []) old new
-  stretch_broken number before line old new none selected at is w = record {
-    done = before;
-    line = line;
-    more = [];
-    parted = refl;
-    mid = old;
-    found = 0;
-    took = takes_unselected number before old none;
-    broke = subst (λ n. BreaksLine es options many name n line old new) is (record { rows = w.rows; are_rows = inl (selected, w.are_rows); wrote = w.wrote; counted = w.counted });
-  }
+  -- under `-v` those lines are selected, and the one after them is not
+  pub rows_unmatched : (number : ℕ) (before rows : List Text) (line : Text) → RowsOfLines es options many name number before rows (length before) → ¬ Selected es options line → RowsOfLines es options many name number (before ++ line ∷ []) rows (length before)
+  rows_unmatched number before rows line are out =
+      subst (λ r. RowsOfLines es options many name number (before ++ line ∷ []) r (length before)) (append-nil rows) (rows_one_more number before line rows [] (length before) false are (inr (out, refl)) (decided_no out))
 
--- where a line is selected that is matched, the lines of a stretch before its last are not, and that
--- one is; there is no line where a line is selected that is not matched
-module _ (es : List Expression) (options : Options) (whole : Bool) (asks : whole ≡ options.line_regexp) (count : ℕ) (forward : options.invert_match ≡ true → count ≡ 0) where
+-- bare rows are the lines with their newlines
+pub bare_bytes : (options : Options) (many : Bool) (name : Text) → IsBare options many → (number : ℕ) (ls : List Text) → written [] (rows_selected options many name number ls) ≡ terminated ls
+bare_bytes options many name bare number [] = refl
+bare_bytes options many name bare number (l ∷ ls) =
+    let none : head colon (name_shown many name) (shown_number options number) ≡ [] = rw (bare.no_name, bare.no_number) refl in
+    ap (λ h. ((h ++ l) ++ newline ∷ []) ++ written [] (rows_selected options many name (number + 1) ls)) none ∙ append_assoc l (newline ∷ []) (written [] (rows_selected options many name (number + 1) ls))
+    ∙ ap (λ t. l ++ newline ∷ t) (bare_bytes options many name bare (number + 1) ls)
+
+-- under `-v` a line is selected exactly if it is not matched, and else if it is
+module _ (es : List Expression) (options : Options) (whole : Bool) (asks : whole ≡ options.line_regexp) where
   abbrev s : Sought
   s = record { expressions = es; whole = whole }
 
-  plain : 1 ≤ count → options.invert_match ≡ false
-  plain some = by_sign options.invert_match refl
-    where
-      by_sign : (b : Bool) → options.invert_match ≡ b → options.invert_match ≡ false
-      by_sign true e = absurd (omega (arith, some, forward e))
-      by_sign false e = e
+  pub selected_matched : options.invert_match ≡ false → (line : Text) → IsSought s line → Selected es options line
+  selected_matched plain line h = rw plain (rw asks at h)
 
-  matched_if : (line : Text) → options.invert_match ≡ false → Selected es options line → IsSought s line
-  matched_if line e h = rw asks (rw e at h)
+  pub unselected_unmatched : options.invert_match ≡ false → (ls : List Text) → All (λ line. ¬ IsSought s line) ls → All (λ line. ¬ Selected es options line) ls
+  unselected_unmatched plain ls none = λ k d below h. none k d below (rw asks (rw plain at h))
 
-  pub line_selected_if : (line : Text) → 1 ≤ count → IsSought s line → Selected es options line
-  line_selected_if line some h = rw (plain some) (rw asks at h)
+  pub selected_unmatched : options.invert_match ≡ true → (ls : List Text) → All (λ line. ¬ IsSought s line) ls → All (Selected es options) ls
+  selected_unmatched inverts ls none = λ k d below. rw inverts (λ m. none k d below (rw asks m))
 
-  pub none_selected : (ls : List Text) → length ls ≤ count → All (λ line. ¬ IsSought s line) ls → All (λ line. ¬ Selected es options line) ls
-  none_selected ls few none = λ k d below h. none k d below (matched_if _ (plain (omega (arith, few, below))) h)
+  pub unselected_matched : options.invert_match ≡ true → (line : Text) → IsSought s line → ¬ Selected es options line
+  unselected_matched inverts line h = λ selected. (rw inverts at selected) (rw asks at h)
+
+-- where a stretch has lines only if lines are selected that are matched, they are
+pub plain_if : (invert : Bool) (count : ℕ) → (invert ≡ true → count ≡ 0) → 1 ≤ count → invert ≡ false
+plain_if true count none some = absurd (omega (arith, some, none refl))
+plain_if false count none some = refl
+
+-- then none of the lines before the matched one is selected
+pub unselected_before : (es : List Expression) (options : Options) (whole : Bool) → whole ≡ options.line_regexp → (count : ℕ) → (options.invert_match ≡ true → count ≡ 0) → (ls : List Text) → length ls ≤ count → All (λ line. ¬ IsSought (record { expressions = es; whole = whole }) line) ls → All (λ line. ¬ Selected es options line) ls
+unselected_before es options whole asks count none ls few unsought = λ k d below.
+    unselected_unmatched es options whole asks (plain_if options.invert_match count none (omega (arith, few, below))) ls unsought k d below
+
+-- a stretch is asked for under `-v` only where rows are bare
+pub bare_if : {count : ℕ} {P : Type 0} (invert bare : Bool) → ((not invert || bare) ≡ false → count ≡ 0) → (IsTrue bare → P) → invert ≡ true → (count ≡ 0) ⊎ P
+bare_if true true none is e = inr (is refl)
+bare_if true false none is e = inl (none refl)
+bare_if false bare none is e = absurd (false≢true e)
 
 -- a stretch is divided as well for matchers that search for the same
 pub divided_kept : {old new : Sought} {stretch : Stretch} {before all : List Text} → new ≡ old → IsDivided old stretch before all → IsDivided new stretch before all
@@ -215,3 +230,22 @@ module _ {s : Sought} {stretch : Stretch} {before all : List Text} (d : IsDivide
 
   pub before_lines : lines_of stretch.before.now ≡ before
   before_lines = ap lines_of d.bytes ∙ lines_of-terminated before before_free
+
+  -- under `-v` they are its rows, and where it has none there is nothing to write
+  pub stretch_inverted : (es : List Expression) (options : Options) (whole : Bool) → whole ≡ options.line_regexp → s ≡ record { expressions = es; whole = whole } → (many : Bool) (name : Text) → options.invert_match ≡ true → (number : ℕ) → (stretch.count ≡ 0) ⊎ IsBare options many
+      → (rows : List Text) × RowsOfLines es options many name number all rows (length before) × (stretch.before.now ≡ written [] rows)
+  stretch_inverted es options whole asks same many name inverts number (inl empty) =
+      let none : all ≡ [] = nil_from_length all (omega (arith, empty, d.counted)) in
+      let none_before : before ≡ [] = nil_from_length before (omega (arith, empty, before_within)) in
+      ([], subst (λ ls. RowsOfLines es options many name number ls [] (length before)) (sym none) (refl, ap length none_before), d.bytes ∙ ap terminated none_before)
+  stretch_inverted es options whole asks same many name inverts number (inr bare) =
+      (rows_selected options many name number before, rest stretch.line d.next, d.bytes ∙ sym (bare_bytes options many name bare number before))
+    where
+      first : RowsOfLines es options many name number before (rows_selected options many name number before) (length before)
+      first = rows_numbered es options many name bare.asked number before (selected_unmatched es options whole asks inverts before (subst (λ t. All (λ line. ¬ IsSought t line) before) same d.none))
+
+      rest : (line : Option (Bor Text)) → MatchOption line (all ≡ before) (λ l. IsSought s l.now × (all ≡ before ++ l.now ∷ [])) → RowsOfLines es options many name number all (rows_selected options many name number before) (length before)
+      rest None is = subst (λ ls. RowsOfLines es options many name number ls (rows_selected options many name number before) (length before)) (sym is) first
+      rest (Some l) (holds, is) =
+          subst (λ ls. RowsOfLines es options many name number ls (rows_selected options many name number before) (length before)) (sym is)
+          (rows_unmatched es options many name number before (rows_selected options many name number before) l.now first (unselected_matched es options whole asks inverts l.now (subst (λ t. IsSought t l.now) same holds)))

@@ -1,20 +1,36 @@
 -- What is written for one line of a file, and for a file's first lines.
-use Rattle.std.specs.Prelude.{◌≡◌, ℕ, Bool, IsTrue, ◌↔◌, List, [], ◌∷◌, ◌++◌, ⊤}
+use Rattle.std.specs.Prelude.{◌≡◌, ℕ, ◌+◌, Bool, false, IsTrue, ◌↔◌, List, [], ◌∷◌, ◌++◌, ⊤}
 use Rattle.re_syntax.specs.Bytes.{Text}
 use Rattle.re_syntax.specs.Expression.{Expression}
 use Rattle.grep_core.specs.declared.options.Options.{Options}
 use Rattle.grep_core.specs.Counted.{one_more}
 use Rattle.grep_core.specs.Choose.{IfHolds}
 use Rattle.grep_core.specs.Files.{File, Selected}
-use Rattle.grep_core.specs.Output.{Form, parts, lines, around, form, head_of, RowsOf, PartsOfLine}
+use Rattle.grep_core.specs.Row.{colon, head}
+use Rattle.grep_core.specs.Output.{Form, parts, lines, around, form, head_of, shown_number}
+use Rattle.grep_core.specs.Output.{RowsOf, PartsOfLine}
 use Rattle.grep_core.specs.Output.{PartRowsOf, GroupsOf}
 use Rattle.grep_core.specs.Run.{Writer, TakesAll, TakesFront}
 use Rattle.grep_core.specs.Working.Handed.{file_so_far}
+use Rattle.grep_core.specs.Working.Wanted.{name_shown}
 
 -- no lines are shown around selected ones
 abbrev pub IsPlain : Form → Type 0
 IsPlain (around context) = ⊥
 IsPlain _ = ⊤
+
+-- selected lines are written with nothing before them
+pub record IsBare (options : Options) (many : Bool) : Type 0 where
+  pub asked : form options ≡ lines
+  pub no_name : many ≡ false
+  pub no_number : options.line_number ≡ false
+
+-- the rows of selected lines, the first of which has this number
+abbrev pub rows_selected : Options → Bool → Text → ℕ → List Text → List Text
+rows_selected options many name number [] = []
+rows_selected options many name number (line ∷ text) =
+    (head colon (name_shown many name) (shown_number options number) ++ line)
+    ∷ rows_selected options many name (number + 1) text
 
 module _ (es : List Expression) (options : Options) (many : Bool) where
   -- the rows of a file's lines, each group of them after a separator where lines around are shown;

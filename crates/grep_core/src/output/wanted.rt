@@ -1,13 +1,14 @@
 //! What is asked of one file.
-ghost use Rattle.std.specs.Prelude.{◌≡◌, ◌≤◌, ◌++◌, length, slice_range};
+ghost use Rattle.std.specs.Prelude.{◌≡◌, ◌≤◌, IsTrue, ◌++◌, length, slice_range};
 ghost use Rattle.std.specs.Option.{option_copied};
 ghost use Rattle.grep_core.specs.Output.{shown_number};
 ghost use Rattle.grep_core.specs.Row.{colon, hyphen, head, output_line};
+ghost use Rattle.grep_core.specs.Working.OneLine.{IsBare};
 ghost use Rattle.grep_core.specs.Working.Wanted.{name_shown};
 ghost use Rattle.grep_core.specs.Written.{Writes};
 
 use crate::devices::counted::{CountedWrite, WriteFault};
-use crate::options::Options;
+use crate::options::{Form, Options};
 use crate::output::rows::write_row;
 use re_search::Span;
 
@@ -38,6 +39,16 @@ impl Wanted<'_> {
             Some(number)
         } else {
             None
+        }
+    }
+
+    /// Whether the rows of selected lines are these lines and nothing else.
+    pub fn writes_bare_lines(&self) -> bool
+        ensures { IsTrue result → IsBare self.now.options self.now.many }
+    {
+        match self.options.form() {
+            Form::Lines => !self.many & !self.options.line_number,
+            _ => false,
         }
     }
 

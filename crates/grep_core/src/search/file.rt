@@ -147,9 +147,10 @@ fn search_lines<R: CountedRead, M: LineMatch, W: CountedWrite>(
     ensures same { SameSearchers M.expression M.whole searchers.old searchers.new }
 {
     let early = wanted.options.leaves_early();
+    let asked = !wanted.options.invert_match | wanted.writes_bare_lines();
     let mut selected: u64 = 0;
     'lines: loop {
-        let stretch = next_held(lines, searchers, !wanted.options.invert_match, meter);
+        let stretch = next_held(lines, searchers, asked, meter);
         let found = write_stretch(&stretch, searchers, wanted, lines.number(), out, meter)?;
         let (bytes, count, goes_on) = (stretch.bytes, stretch.count, stretch.line.is_some());
         lines.pass(bytes, count);

@@ -1,5 +1,5 @@
 //! The search of the lines that are held in one piece, and the rows that are written for them.
-ghost use Rattle.std.specs.Prelude.{◌≡◌, ◌*◌, ◌+◌, ◌^◌, ◌<◌, List, length, false, true, IfOk, OnErr};
+ghost use Rattle.std.specs.Prelude.{◌≡◌, ◌⊎◌, ◌*◌, ◌+◌, ◌^◌, ◌<◌, List, length, false, true, IfOk, OnErr};
 ghost use Rattle.re_syntax.specs.Bytes.{Text};
 ghost use Rattle.re_syntax.specs.Lines.{terminated};
 ghost use Rattle.re_search.specs.Searching.{AddsAtMost};
@@ -8,12 +8,14 @@ ghost use Rattle.re_search.specs.Working.Asking.{SameSearchers, asks_whole, expr
 ghost use Rattle.re_search.specs.Working.Asking.{sought_by};
 ghost use Rattle.grep_core.specs.Cost.{SearchesLines};
 ghost use Rattle.grep_core.specs.Run.{writer};
+ghost use Rattle.grep_core.specs.Working.OneLine.{IsBare};
 ghost use Rattle.grep_core.specs.Working.Stretches.{IsDivided, IsNextOf};
 ghost use Rattle.grep_core.specs.Working.StretchRows.{TakesLines, BreaksLines};
 
 use crate::devices::counted::{CountedRead, CountedWrite, WriteFault};
 use crate::input::newlines::count_newlines;
 use crate::input::numbered::NumberedLines;
+use crate::output::push::push_all;
 use crate::output::wanted::Wanted;
 use crate::search::line::write_selected;
 use crate::search::stretch::Stretch;
@@ -67,7 +69,8 @@ pub fn next_held<'a, R: CountedRead, M: LineMatch>(
 }
 
 /// Writes the rows of the selected lines of a stretch, and returns how many they are. `number` lines
-/// are before it. Its lines are not searched again.
+/// are before it. Its lines are not searched again. Under `-v` its lines before the matched one are
+/// selected, and are written as they are.
 pub fn write_stretch<M: LineMatch, W: CountedWrite>(
     stretch: &Stretch,
     searchers: &mut Searchers<'_, '_, M>,
@@ -77,7 +80,8 @@ pub fn write_stretch<M: LineMatch, W: CountedWrite>(
     meter: &mut Meter,
 ) -> Result<u64, WriteFault>
     requires whole { asks_whole searchers.old ≡ wanted.now.options.line_regexp }
-    requires forward { wanted.now.options.invert_match ≡ true → stretch.now.count ≡ 0 }
+    requires bare { wanted.now.options.invert_match ≡ true → (stretch.now.count ≡ 0)
+        ⊎ IsBare wanted.now.options wanted.now.many }
     requires few { number + stretch.now.count < 2 ^ 64 }
     ensures ok { (before : List Text) (all : List Text)
         → IsDivided (sought_by M.expression searchers.old) stretch.now before all → IfOk result
@@ -97,6 +101,10 @@ pub fn write_stretch<M: LineMatch, W: CountedWrite>(
         → SearchesLines (expressions_by M.expression searchers.old) wanted.now.options
         (length (expressions_by M.expression searchers.old)) all began meter.new }
 {
+    if wanted.options.invert_match {
+        push_all(out, stretch.before)?;
+        return Ok(stretch.before_count);
+    }
     let Some(line) = stretch.line else {
         return Ok(0);
     };

@@ -1,1 +1,0 @@
-use Rattle.grep_core.proofs.search.around.wait.Goals as goal

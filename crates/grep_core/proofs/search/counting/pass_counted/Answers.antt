@@ -1,4 +1,4 @@
-use Rattle.std.proofs.Common.{◌≤◌, length, map, sym, subst, arith}
+use Rattle.std.proofs.Common.{map, sym, subst, arith}
 use Rattle.re_syntax.specs.Lines.{lines_of}
 use Rattle.re_search.specs.Working.Asking.{sought_by}
 use Rattle.re_search.specs.Working.Blocks.{HoldsOfMany}

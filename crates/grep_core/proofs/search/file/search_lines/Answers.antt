@@ -1,4 +1,4 @@
-use Rattle.std.proofs.Common.{◌≡◌, ◌∙◌, [], Bool, false, not, Result, Err, map, refl, sym, ap, subst, arith}
+use Rattle.std.proofs.Common.{◌≡◌, ◌∙◌, [], Bool, false, Result, Err, map, refl, sym, ap, subst, arith}
 use Rattle.re_search.proofs.lemmas.KeptMatchers.{unasked, asked_over, same_sought}
 use Rattle.grep_core.specs.declared.input.lines.ReadFault.{ReadFault}
 use Rattle.grep_core.specs.Working.Numbered.{NextIs}
@@ -6,7 +6,7 @@ use Rattle.grep_core.specs.Working.Searched.{leaves_early}
 use Rattle.grep_core.proofs.lemmas.WrittenLemmas.{TakesAll-written, TakesFront-written}
 use Rattle.grep_core.proofs.lemmas.FileOutput.{rows_none}
 use Rattle.grep_core.proofs.lemmas.PassedLines.{are_ahead, passed_state, handed_with, handed_passed}
-use Rattle.grep_core.proofs.lemmas.StretchLemmas.{divided_kept, stretch_spent, line_within}
+use Rattle.grep_core.proofs.lemmas.StretchLemmas.{bare_if, divided_kept, stretch_spent, line_within}
 use Rattle.grep_core.proofs.lemmas.LinesLemmas.{written_plain, searched_none, searched_among, leaves_among, breaks_in_lines, numbers_further, numbers_on, searched_sent, breaks_sending, may_count, fewer_left, searched_line, goes_on, goes_on_with, leaves_with, leaves_at, breaks_at, ends_whole, ends_broken, runs_out}
 use Rattle.grep_core.proofs.search.file.search_lines.Goals as goal
 
@@ -23,7 +23,7 @@ write_stretch-requires g c =
     let (before, all, d, n) = held.divided in
     record {
       whole = held.same.same_whole ∙ c.lines.invariant.same.same_whole ∙ c.requires.whole;
-      forward = λ inverts. held.none (ap not inverts);
+      bare = bare_if c.args.wanted.now.options.invert_match c.writes_bare_lines.result held.none c.writes_bare_lines.ensures;
       few = omega (arith, n.few, d.counted, c.number.ensures);
     }
 

@@ -1,5 +1,4 @@
-use Rattle.std.proofs.Common.{map, sym}
-use Rattle.re_search.specs.Searching.{SomeMatches}
+use Rattle.std.proofs.Common.{map}
 use Rattle.grep_core.proofs.lemmas.OneLineLemmas.{selected_by}
 use Rattle.grep_core.proofs.search.matching.is_selected.Goals as goal
 
