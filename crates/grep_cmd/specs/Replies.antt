@@ -92,25 +92,26 @@ Replies (step ∷ steps) before replies after =
 
 -- ---- work
 
--- the most steps of search that a command takes: none, or what its edit costs; what is no edit
+-- a command takes this many steps of search at most: none, or what its edit costs; what is no edit
 -- searches nothing
-abbrev pub MostOf : Step → Inputs → ℕ → Type 0
-MostOf (does edit) before most = (most ≡ 0) ⊎ Costs edit before most
-MostOf _ before most = most ≡ 0
+abbrev pub SearchesAtMost : Step → Inputs → ℕ → Type 0
+SearchesAtMost (does edit) before most = (most ≡ 0) ⊎ Costs edit before most
+SearchesAtMost _ before most = most ≡ 0
 
--- the sum of these numbers over some commands that were answered so
-abbrev pub MostOfAll : List Step → Watched → List Text → Watched → ℕ → Type 0
-MostOfAll [] before replies after most = (replies ≡ []) × (after ≡ before) × (most ≡ 0)
-MostOfAll (step ∷ steps) before replies after most =
+-- some commands, answered so, take this many together
+abbrev pub AllSearchAtMost : List Step → Watched → List Text → Watched → ℕ → Type 0
+AllSearchAtMost [] before replies after most = (replies ≡ []) × (after ≡ before) × (most ≡ 0)
+AllSearchAtMost (step ∷ steps) before replies after most =
     (reply : List Text) × (between : Watched) × (rest : List Text) × (own : ℕ) × (others : ℕ) ×
-    RepliesTo step before reply between × MostOf step before.inputs own ×
-    MostOfAll steps between rest after others × (replies ≡ reply ++ rest) × (most ≡ own + others)
+    RepliesTo step before reply between × SearchesAtMost step before.inputs own ×
+    AllSearchAtMost steps between rest after others × (replies ≡ reply ++ rest) ×
+    (most ≡ own + others)
 
 -- the commands of a script, answered so, took no more steps of search than their edits cost
 pub record SearchesTouched (steps : List Step) (replies : List Text) (after : Watched)
     (begun spent : StepCounts) : Type 0 where
   pub most : ℕ
-  pub is_most : MostOfAll steps new_watched replies after most
+  pub is_most : AllSearchAtMost steps new_watched replies after most
   pub few : AddsAtMost most begun spent
 
 -- ---- runs

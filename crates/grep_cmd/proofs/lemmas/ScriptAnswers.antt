@@ -30,7 +30,7 @@ use Rattle.grep_live.specs.Rows.{hit_row, change_row, change_rows, changes_rows,
 use Rattle.grep_cmd.specs.Show.{AreShown, behind, status_line}
 use Rattle.grep_cmd.specs.Lists.{ReportsChanges, ReportsPage}
 use Rattle.grep_cmd.specs.Script.{Step, counts, IsStep, line_command}
-use Rattle.grep_cmd.specs.Replies.{RepliesTo, MostOf, reply_to, truncated, is_refusal}
+use Rattle.grep_cmd.specs.Replies.{RepliesTo, SearchesAtMost, reply_to, truncated, is_refusal}
 use Rattle.grep_cmd.specs.Working.Answered.{ReadsNext, TakesLines, FlushesFor, Replied, DoesStep, WantsLines, AnswersLine, answer_for, was_refused}
 
 -- ---- lines joined
@@ -176,7 +176,7 @@ module _ {R W : Type 0} (remaining : R → Option Text) (failures : R → ℕ) (
 
   -- a command for which its line is enough
   pub does_alone : (step : Step) (reply : List Text) → HasHanded remaining failures reader now handed → IsStep (line_command line) [] step → RepliesTo step before reply after
-      → (most : ℕ) → MostOf step before.inputs most → AddsAtMost most begun spent
+      → (most : ℕ) → SearchesAtMost step before.inputs most → AddsAtMost most begun spent
       → DoesStep remaining failures reader handed line now begun spent before after reply
   does_alone step reply h is replies most is_most few = record {
     taken = [];

@@ -11,7 +11,7 @@ use Rattle.grep_core.proofs.lemmas.CostLaws.{adds_both, adds_none}
 use Rattle.grep_live.specs.Marks.{Watched, new_watched}
 use Rattle.grep_cmd.specs.declared.script.ScriptEnd.TheVariants.{Clean, Refused}
 use Rattle.grep_cmd.specs.Script.{Step, IsStep, line_command, Steps}
-use Rattle.grep_cmd.specs.Replies.{RepliesTo, Replies, MostOf, MostOfAll, SearchesTouched, is_refusal, end_for}
+use Rattle.grep_cmd.specs.Replies.{RepliesTo, Replies, SearchesAtMost, AllSearchAtMost, SearchesTouched, is_refusal, end_for}
 use Rattle.grep_cmd.specs.Working.Answered.{AreDone}
 
 -- one more step
@@ -40,8 +40,8 @@ replies_push (s ∷ steps) step before between after replies reply (own, mid, re
     (own, mid, rest ++ reply, first, replies_push steps step mid between after rest reply others h, ap (λ rs. rs ++ reply) cut ∙ append_assoc own rest reply)
 
 -- the sum with one more command
-most_push : (steps : List Step) (step : Step) (before between after : Watched) (replies reply : List Text) (most own : ℕ) → MostOfAll steps before replies between most → RepliesTo step between reply after
-    → MostOf step between.inputs own → MostOfAll (steps ++ step ∷ []) before (replies ++ reply) after (most + own)
+most_push : (steps : List Step) (step : Step) (before between after : Watched) (replies reply : List Text) (most own : ℕ) → AllSearchAtMost steps before replies between most → RepliesTo step between reply after
+    → SearchesAtMost step between.inputs own → AllSearchAtMost (steps ++ step ∷ []) before (replies ++ reply) after (most + own)
 most_push [] step before between after replies reply most own (none, same, zero) h cost = (
   reply,
   after,
@@ -49,7 +49,7 @@ most_push [] step before between after replies reply most own (none, same, zero)
   own,
   0,
   subst (λ i. RepliesTo step i reply after) same h,
-  subst (λ (i : Watched). MostOf step i.inputs own) same cost,
+  subst (λ (i : Watched). SearchesAtMost step i.inputs own) same cost,
   (refl, refl, refl),
   ap (λ rs. rs ++ reply) none ∙ sym (append-nil reply),
   omega (arith, zero),
@@ -73,7 +73,7 @@ work_none steps = record { most = 0; is_most = (refl, refl, refl); few = adds_no
 
 -- one more command searches no more than it costs
 pub work_push : (steps : List Step) (step : Step) (between after : Watched) (replies reply : List Text) (begun spent last : StepCounts) (own : ℕ) → SearchesTouched steps replies between begun spent
-    → RepliesTo step between reply after → MostOf step between.inputs own → AddsAtMost own spent last → SearchesTouched (steps ++ step ∷ []) (replies ++ reply) after begun last
+    → RepliesTo step between reply after → SearchesAtMost step between.inputs own → AddsAtMost own spent last → SearchesTouched (steps ++ step ∷ []) (replies ++ reply) after begun last
 work_push steps step between after replies reply begun spent last own w h cost few = record {
   most = w.most + own;
   is_most = most_push steps step new_watched between after replies reply w.most own w.is_most h cost;

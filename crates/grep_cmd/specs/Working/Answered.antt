@@ -16,7 +16,7 @@ use Rattle.grep_cmd.specs.declared.script.ScriptEnd.{ScriptEnd}
 use Rattle.grep_cmd.specs.declared.script.reply.Answer.{Answer}
 use Rattle.grep_cmd.specs.declared.script.reply.Answer.TheVariants.{Accepted, Refused, Truncated}
 use Rattle.grep_cmd.specs.Script.{Step, IsStep, WantsMore, AsksForMemory, line_command}
-use Rattle.grep_cmd.specs.Replies.{RepliesTo, Replies, MostOf, SearchesTouched, truncated}
+use Rattle.grep_cmd.specs.Replies.{RepliesTo, Replies, SearchesAtMost, SearchesTouched, truncated}
 use Rattle.grep_cmd.specs.Replies.{is_refusal, end_for}
 use Rattle.grep_live.specs.Marks.{Watched, new_watched}
 
@@ -95,7 +95,7 @@ module _ {R : Type 0} (remaining : R → Option Text) (failures : R → ℕ) (re
     pub is_step : IsStep (line_command line) taken step
     pub replies_to : RepliesTo step before reply after
     pub most : ℕ
-    pub is_most : MostOf step before.inputs most
+    pub is_most : SearchesAtMost step before.inputs most
     pub few : AddsAtMost most begun spent
 
 module _ {R : Type 0} (remaining : R → Option Text) (failures : R → ℕ) (reader : R)
