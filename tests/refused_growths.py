@@ -5,8 +5,9 @@
 
 A run in which one request was refused has to go on as if nothing had happened; or to answer one
 edit that may need memory with `refused Memory`, and all else as the script without that edit is
-answered; or to end after some whole reply with `occur: out of memory` and status 2. Each kind of
-edit that may need memory has to be refused for it in some run. At the end programs that are wrong
+answered; or to end with `occur: out of memory` and status 2, after the replies to all commands before
+the one that made the request, and no other. Each kind of edit that may need memory has to be refused
+for it in some run. At the end programs that are wrong
 on purpose are judged in the same way: each has to fail. It needs a C compiler.
 """
 
@@ -17,6 +18,7 @@ import os
 import subprocess
 import sys
 import tempfile
+from bisect import bisect_left
 from collections import Counter
 from collections.abc import Callable, Iterable, Sequence
 from concurrent.futures import ThreadPoolExecutor
@@ -103,6 +105,17 @@ def whole_fronts(steps: Sequence[Step]) -> set[bytes]:
     return {replies_of(steps[:count]) for count in range(len(steps) + 1)}
 
 
+def requests_of(steps: Steps, ask: Ask) -> int:
+    """How many requests a run of the script makes."""
+    made, more = 0, 1
+    while ask(steps, more)[1]:
+        made, more = more, 2 * more
+    while more - made > 1:
+        middle = (made + more) // 2
+        made, more = (middle, more) if ask(steps, middle)[1] else (made, middle)
+    return made
+
+
 def edit_not_made(steps: Steps, given: Answer, without: Callable[[int], Answer]) -> str | None:
     """The kind of the edit that was refused for memory, where the answer is that of the script
     without it but for this reply; `None` where it is no such answer."""
@@ -140,6 +153,7 @@ def try_script(steps: Steps, ask: Ask) -> Counter[str]:
     def without(place: int) -> Answer:
         return ask(steps[:place] + steps[place + 1 :], 0)[0]
 
+    made = [requests_of(steps[:count], ask) for count in range(len(steps) + 1)]
     ends: Counter[str] = Counter()
     number = 1
     while True:
@@ -149,6 +163,8 @@ def try_script(steps: Steps, ask: Ask) -> Counter[str]:
         end = judge(steps, given, without)
         if end == "went on" and given.status != wanted.status:
             raise Wrong(f"request {number} refused: status {given.status}")
+        if end == "ended" and given.out != replies_of(steps[: max(bisect_left(made, number) - 1, 0)]):
+            raise Wrong(f"request {number} refused: {given} has not the replies before that command")
         ends[end] += 1
         number += 1
 
@@ -224,6 +240,12 @@ def breaks_a_reply(given: Answer, refused: bool) -> Answer:
     return Answer(replies_of(TRIED)[:12], ENDED, 2) if refused else given
 
 
+def drops_a_reply(given: Answer, refused: bool) -> Answer:
+    """The last command before the end has no reply."""
+    fronts = sorted(whole_fronts(TRIED), key=len)
+    return Answer(fronts[max(fronts.index(given.out) - 1, 0)], ENDED, 2) if given.err == ENDED else given
+
+
 def ends_as_success(given: Answer, refused: bool) -> Answer:
     """The exit status does not show the refusal."""
     return Answer(given.out, given.err, 0)
@@ -235,7 +257,7 @@ def crashes(given: Answer, refused: bool) -> Answer:
 
 
 MUTANTS = (always_ends, takes_no_pattern, makes_what_it_refused, refuses_to_close, loses_a_reply,
-           breaks_a_reply, ends_as_success, crashes)
+           breaks_a_reply, drops_a_reply, ends_as_success, crashes)
 
 
 def passed_mutants(program: Path, library: Path) -> list[str]:

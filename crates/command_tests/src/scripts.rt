@@ -1,6 +1,7 @@
 //! Scripts and their replies, and devices that fail at each byte of them.
 use grep_cmd::{ScriptEnd, ScriptFault, run_script};
 use grep_core::{Limited, Tally};
+use re_auto::fresh_meter;
 use std::alloc::Global;
 use std::process::Abort;
 use std::test::Fail;
@@ -37,7 +38,8 @@ fn replies_to(
     let mut reader = Tally::new(Limited::new(script, limits.step, limits.read));
     let replies = Limited::new(Vec::new(alloc), limits.step, limits.written);
     let mut writer = Tally::new(replies);
-    let answer = run_script(alloc, &mut reader, &mut writer, STATES);
+    let mut meter = fresh_meter();
+    let answer = run_script(alloc, &mut reader, &mut writer, STATES, &mut meter);
     (answer, writer.into_inner().into_inner())
 }
 

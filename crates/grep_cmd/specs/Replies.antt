@@ -1,19 +1,23 @@
 -- The replies to a script (occur(1), REPLIES), and what a run of it writes and returns.
-use Rattle.std.specs.Prelude.{◌≡◌, ◌≢◌, ℕ, Bool, if◌then◌else◌, List, [], ◌∷◌, ◌++◌, take, codes}
-use Rattle.std.specs.Prelude.{bytes_eq, Option, Result, Ok, Err, ◌⊎◌}
+use Rattle.std.specs.Prelude.{◌≡◌, ◌≢◌, ℕ, ◌+◌, Bool, if◌then◌else◌, List, [], ◌∷◌, ◌++◌, take}
+use Rattle.std.specs.Prelude.{codes, bytes_eq, Option, Result, Ok, Err, ◌⊎◌}
 use Rattle.std.specs.List.{list_any}
 use Rattle.std.specs.Fmt.{decimal}
+use Rattle.std.specs.Io.KnownBytes.{prepend_known, Consumes}
 use Rattle.re_syntax.specs.Bytes.{Text}
-use Rattle.grep_core.specs.Files.{File, whole, broken}
+use Rattle.re_syntax.specs.Lines.{lines_of}
+use Rattle.grep_core.specs.Files.{File, Inputs, whole, broken}
+use Rattle.grep_core.specs.Meters.{Steps as StepCounts}
 use Rattle.grep_core.specs.Output.{written}
 use Rattle.grep_core.specs.Reading.{Reading, IsReadingOf, AreLeft, open_source, file_of}
 use Rattle.grep_core.specs.Reading.{failures_of}
 use Rattle.grep_core.specs.Run.{count_more}
+use Rattle.grep_core.specs.Searching.{AddsAtMost}
 use Rattle.grep_core.specs.Written.{GoesOut, StopsWithin}
 use Rattle.grep_session.specs.declared.fault.EditFault.{EditFault}
 use Rattle.grep_session.specs.declared.fault.EditFault.TheVariants as fault
 use Rattle.grep_session.specs.Edits.{Edit, EditGives}
-use Rattle.grep_session.specs.Touched.{NeedsNoMemory}
+use Rattle.grep_session.specs.Touched.{Costs, NeedsNoMemory}
 use Rattle.grep_cmd.specs.declared.script.ScriptEnd.{ScriptEnd}
 use Rattle.grep_cmd.specs.declared.script.ScriptEnd.TheVariants.{Clean, Refused}
 use Rattle.grep_cmd.specs.declared.script.ScriptFault.{ScriptFault}
@@ -21,7 +25,7 @@ use Rattle.grep_cmd.specs.declared.script.ScriptFault.TheVariants.{Read, Write, 
 use Rattle.grep_live.specs.Marks.{Watched, new_watched}
 use Rattle.grep_live.specs.Following.{Carries}
 use Rattle.grep_cmd.specs.Script.{Step, does, reports, reports_changes, reports_page, is_bad}
-use Rattle.grep_cmd.specs.Script.{is_truncated, Steps, IsUnfinished}
+use Rattle.grep_cmd.specs.Script.{is_truncated, Steps, IsUnfinished, IsBegun}
 use Rattle.grep_cmd.specs.Show.{AreShown}
 use Rattle.grep_cmd.specs.Lists.{ReportsChanges, ReportsPage}
 use Rattle.grep_utility.specs.Texts.{kind_name}
@@ -86,6 +90,30 @@ Replies (step ∷ steps) before replies after =
     RepliesTo step before reply between × Replies steps between rest after ×
     (replies ≡ reply ++ rest)
 
+-- ---- work
+
+-- a command takes this many steps of search at most: none, or what its edit costs; what is no edit
+-- searches nothing
+abbrev pub SearchesAtMost : Step → Inputs → ℕ → Type 0
+SearchesAtMost (does edit) before most = (most ≡ 0) ⊎ Costs edit before most
+SearchesAtMost _ before most = most ≡ 0
+
+-- some commands, answered so, take this many together
+abbrev pub AllSearchAtMost : List Step → Watched → List Text → Watched → ℕ → Type 0
+AllSearchAtMost [] before replies after most = (replies ≡ []) × (after ≡ before) × (most ≡ 0)
+AllSearchAtMost (step ∷ steps) before replies after most =
+    (reply : List Text) × (between : Watched) × (rest : List Text) × (own : ℕ) × (others : ℕ) ×
+    RepliesTo step before reply between × SearchesAtMost step before.inputs own ×
+    AllSearchAtMost steps between rest after others × (replies ≡ reply ++ rest) ×
+    (most ≡ own + others)
+
+-- the commands of a script, answered so, took no more steps of search than their edits cost
+pub record SearchesTouched (steps : List Step) (replies : List Text) (after : Watched)
+    (begun spent : StepCounts) : Type 0 where
+  pub most : ℕ
+  pub is_most : AllSearchAtMost steps new_watched replies after most
+  pub few : AddsAtMost most begun spent
+
 -- ---- runs
 
 -- how a script ends that was answered with these replies
@@ -118,12 +146,22 @@ pub record BeginsScript (known : Option Text) (failed_before failed : ℕ)
   pub is_file : file ≡ file_of [] reading
   pub none_failed : failed ≡ failed_before
 
+-- a reader gave these lines: the bytes that it had are those of the lines, those that were read
+-- past them, and those that it has left
+pub record GaveLines (known left : Option Text) (lines : List Text) : Type 0 where
+  pub given : Text
+  pub are_lines : lines_of given ≡ lines
+  pub ahead : Text
+  pub gave : Consumes known (prepend_known ahead left) given
+
 -- the rest of a script whose reading failed holds no whole command
 abbrev pub IsCutShort : List Text → Type 0
 IsCutShort rest = (rest ≡ []) ⊎ IsUnfinished rest
 
-module _ {W : Type 0} (contents : W → Option Text) (failures : W → ℕ) (known left : Option Text)
-    (failed_before failed : ℕ) (old new : W) where
+-- `has_read lines` says that these lines of the script were read, and no more
+module _ {W : Type 0} (contents : W → Option Text) (failures : W → ℕ)
+    (has_read : List Text → Type 0) (known left : Option Text) (failed_before failed : ℕ)
+    (begun spent : StepCounts) (old new : W) where
   -- all commands were answered
   pub record Ends (ending : ScriptEnd) : Type 0 where
     pub file : File
@@ -131,6 +169,7 @@ module _ {W : Type 0} (contents : W → Option Text) (failures : W → ℕ) (kno
     pub is_whole : file.ending ≡ whole
     pub replies : List Text
     pub answers : AnswersScript file replies []
+    pub work : SearchesTouched answers.steps replies answers.after begun spent
     pub goes : GoesOut contents failures old new (written [] replies)
     pub ended : ending ≡ end_for replies
 
@@ -144,15 +183,25 @@ module _ {W : Type 0} (contents : W → Option Text) (failures : W → ℕ) (kno
     pub rest : List Text
     pub answers : AnswersScript file replies rest
     pub cut_short : IsCutShort rest
+    pub work : SearchesTouched answers.steps replies answers.after begun spent
     pub goes : GoesOut contents failures old new (written [] replies)
 
-  -- a growth was refused: the commands before that were answered
+  -- a growth was refused: the lines that were read are those of all commands that were answered,
+  -- and the first of one more command or none of it
   pub record RunsOut : Type 0 where
     pub file : File
     pub reads : BeginsScript known failed_before failed file
     pub replies : List Text
+    pub done : List Text
     pub rest : List Text
+    pub is_file : file.lines ≡ done ++ rest
     pub answers : AnswersScript file replies rest
+    pub first : List Text
+    pub others : List Text
+    pub is_rest : rest ≡ first ++ others
+    pub is_begun : IsBegun first
+    pub were_read : has_read (done ++ first)
+    pub work : SearchesTouched answers.steps replies answers.after begun spent
     pub goes : GoesOut contents failures old new (written [] replies)
 
   -- a write failed: a beginning of the replies to the first commands was written
@@ -163,9 +212,10 @@ module _ {W : Type 0} (contents : W → Option Text) (failures : W → ℕ) (kno
     pub replies : List Text
     pub rest : List Text
     pub answers : AnswersScript file replies rest
+    pub work : SearchesTouched answers.steps replies answers.after begun spent
     pub stops : StopsWithin contents failures old new (written [] replies)
 
-  -- what a run of a script writes and returns
+  -- what a run of a script writes, counts and returns
   abbrev pub ScriptGives : Result ScriptEnd ScriptFault → Type 0
   ScriptGives (Ok ending) = Ends ending
   ScriptGives (Err Read) = IsCut

@@ -1,8 +1,8 @@
 -- Scripts of a session: a script's lines are commands, each with the lines that it counts
 -- (occur(1), COMMANDS).
-use Rattle.std.specs.Prelude.{◌≡◌, ℕ, ◌<◌, nat_eq, Bool, true, false, if◌then◌else◌, List, []}
-use Rattle.std.specs.Prelude.{◌∷◌, ◌++◌, length, codes, bytes_eq, Option, Some, None, option_map}
-use Rattle.std.specs.Prelude.{◌⊎◌}
+use Rattle.std.specs.Prelude.{◌≡◌, ℕ, ◌<◌, ◌≤◌, nat_eq, Bool, true, false, if◌then◌else◌, List}
+use Rattle.std.specs.Prelude.{[], ◌∷◌, ◌++◌, length, codes, bytes_eq, Option, Some, None, option_map}
+use Rattle.std.specs.Prelude.{◌⊎◌, ⊤}
 use Rattle.re_syntax.specs.declared.syntax.Syntax.{Syntax}
 use Rattle.re_syntax.specs.declared.syntax.Syntax.TheVariants.{Basic, Extended, Fixed}
 use Rattle.re_syntax.specs.Bytes.{Text}
@@ -210,6 +210,18 @@ WantsMore _ taken = ⊥
 abbrev pub IsUnfinished : List Text → Type 0
 IsUnfinished [] = ⊥
 IsUnfinished (line ∷ taken) = WantsMore (line_command line) taken
+
+-- memory can run out at the command, of which these lines were taken: for its name, for one of the
+-- lines that it counts, or for the list that is made of them
+abbrev pub AsksForMemory : Option Command → List Text → Type 0
+AsksForMemory (Some (counts count edit)) taken = length taken ≤ count
+AsksForMemory (Some (edits (AddMissing name))) taken = taken ≡ []
+AsksForMemory _ taken = ⊥
+
+-- the lines are the first of one such command, or none
+abbrev pub IsBegun : List Text → Type 0
+IsBegun [] = ⊤
+IsBegun (line ∷ taken) = AsksForMemory (line_command line) taken
 
 -- the first lines of a script are these steps, each a command line and the lines that it takes, and
 -- the rest is left. Where the script was read to its end, a command that counts more lines than

@@ -4,7 +4,8 @@ ghost use Rattle.re_syntax.specs.Profile.{most_states};
 ghost use Rattle.grep_core.specs.declared.input.lines.Stage.{Stage};
 ghost use Rattle.grep_live.specs.Marks.{new_watched};
 ghost use Rattle.grep_cmd.specs.declared.script.ScriptFault.{ScriptFault};
-ghost use Rattle.grep_cmd.specs.Replies.{ScriptGives};
+ghost use Rattle.grep_core.specs.Working.Numbered.{HasHanded};
+ghost use Rattle.grep_cmd.specs.Replies.{GaveLines, ScriptGives};
 ghost use Rattle.grep_cmd.specs.Working.Answered.{FlushesBehind};
 
 mod answer;
@@ -18,7 +19,7 @@ use crate::script::counted::next_line;
 use crate::script::reply::Answer;
 use grep_core::{CountedRead, CountedWrite, NumberedLines, WriteFault};
 use grep_live::Live;
-use re_auto::{Meter, fresh_meter};
+use grep_session::Meter;
 use std::alloc::Global;
 
 /// How a script ended.
@@ -53,10 +54,11 @@ fn answer_all<R: CountedRead, W: CountedWrite>(
     requires none_ahead { lines.old.lines.ahead ≡ [] }
     requires still_open { lines.old.lines.stage ≡ Stage.Open }
     requires none_numbered { lines.old.number ≡ 0 }
-    ensures gives { ScriptGives W.contents W.failures (R.remaining lines.old.lines.reader)
-        (R.remaining lines.new.lines.reader)
-        (R.failures lines.old.lines.reader) (R.failures lines.new.lines.reader) out.old out.new
-        result }
+    ensures gives { ScriptGives W.contents W.failures
+        (HasHanded R.remaining R.failures lines.old.lines.reader lines.new)
+        (R.remaining lines.old.lines.reader) (R.remaining lines.new.lines.reader)
+        (R.failures lines.old.lines.reader) (R.failures lines.new.lines.reader) meter.old meter.new
+        out.old out.new result }
     ensures same_loan { R.loan lines.new.lines.reader ≡ R.loan lines.old.lines.reader }
 {
     let mut end = ScriptEnd::Clean;
@@ -99,26 +101,28 @@ fn send_replies<W: CountedWrite>(
 /// The replies are those that the definition of a script gives for its lines, but an edit may be
 /// refused as out of memory. All of them were sent. Before each read that may wait, all replies to
 /// the commands before it are sent, so that the sender of a command sees its reply without sending
-/// another.
+/// another. No more steps are counted than the edits cost, which search only what they touch.
 ///
 /// # Errors
 ///
 /// `ScriptFault::Read` where a read fails, or there are more lines than a `u64` can number, and
-/// `ScriptFault::Memory` where a line, a name or the lines of a command can't be held: the commands
-/// before that were answered, and of a script whose reading failed no whole command is left.
-/// `ScriptFault::Write` where a write fails: a beginning of the replies was written. No read or
-/// write is tried again.
+/// `ScriptFault::Memory` where a line, a name or the lines of a command can't be held: all commands
+/// before that were answered. Of a script whose reading failed no whole command is left, and of one
+/// that ran out of memory no line after that command was taken. `ScriptFault::Write` where a write
+/// fails: a beginning of the replies was written. No read or write is tried again.
 pub fn run_script<R: CountedRead, W: CountedWrite>(
     alloc: Global,
     reader: &mut R,
     writer: &mut W,
     states: usize,
+    meter: &mut Meter,
 ) -> Result<ScriptEnd, ScriptFault>
     requires some { 1 ≤ states }
     requires few { states ≤ most_states }
-    ensures gives { ScriptGives W.contents W.failures (R.remaining reader.old)
-        (R.remaining reader.new) (R.failures reader.old) (R.failures reader.new) writer.old
-        writer.new result }
+    ensures gives { ScriptGives W.contents W.failures
+        (GaveLines (R.remaining reader.old) (R.remaining reader.new)) (R.remaining reader.old)
+        (R.remaining reader.new) (R.failures reader.old) (R.failures reader.new) meter.old meter.new
+        writer.old writer.new result }
     ensures sent { result ≢ Err ScriptFault.Write → W.waiting writer.new ≡ 0 }
 {
     let mut lines = match NumberedLines::new(alloc, reader) {
@@ -126,8 +130,7 @@ pub fn run_script<R: CountedRead, W: CountedWrite>(
         Err(_reader) => return send_replies(Err(ScriptFault::Memory), writer),
     };
     let mut session = Live::new(alloc, states);
-    let mut meter = fresh_meter();
-    let ended = answer_all(alloc, &mut lines, &mut session, &mut meter, writer);
+    let ended = answer_all(alloc, &mut lines, &mut session, meter, writer);
     let _reader = lines.into_reader();
     send_replies(ended, writer)
 }

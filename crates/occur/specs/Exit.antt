@@ -1,9 +1,12 @@
 -- How the program reports its faults, and its exit status.
-use Rattle.std.specs.Prelude.{◌≡◌, ℕ, [], ◌∷◌, ◌++◌, codes, Result, Ok, Err}
+use Rattle.std.specs.Prelude.{◌≡◌, ◌≢◌, ℕ, [], ◌∷◌, ◌++◌, codes, Option, Result, Ok, Err}
 use Rattle.clap.specs.declared.error.kind.ErrorKind.{ErrorKind}
 use Rattle.clap.specs.declared.error.kind.ErrorKind.TheVariants.{DisplayHelp}
+use Rattle.grep_core.specs.Buffer.{BufferedWriter, all_contents}
+use Rattle.grep_core.specs.Meters.{Steps}
 use Rattle.grep_core.specs.Run.{Writer}
 use Rattle.grep_cmd.specs.Bytes.{Text}
+use Rattle.grep_cmd.specs.Replies.{GaveLines, ScriptGives}
 use Rattle.grep_utility.specs.Command.{TellsLines}
 use Rattle.grep_cmd.specs.declared.script.ScriptEnd.{ScriptEnd}
 use Rattle.grep_cmd.specs.declared.script.ScriptEnd.TheVariants.{Clean, Refused}
@@ -34,6 +37,35 @@ abbrev pub EndsScript : Result ScriptEnd ScriptFault → Writer → Writer → �
 EndsScript (Ok Clean) old new status = (status ≡ 0) × (new ≡ old)
 EndsScript (Ok Refused) old new status = (status ≡ 1) × (new ≡ old)
 EndsScript (Err fault) old new status = (status ≡ 2) × TellsLines old new (fault_text fault ∷ [])
+
+-- the script: the bytes that its reader has left, where they are known, and how often reads failed;
+-- standard output, buffered; standard error; and the steps that were counted
+pub record Streams (W : Type 0) : Type 0 where
+  pub script : Option Text
+  pub script_failures : ℕ
+  pub out : BufferedWriter W
+  pub messages : Writer
+  pub steps : Steps
+
+abbrev pub streams : {W : Type 0} → Option Text → ℕ → BufferedWriter W → Writer → Steps → Streams W
+streams script failures out messages steps = record {
+  script = script;
+  script_failures = failures;
+  out = out;
+  messages = messages;
+  steps = steps;
+}
+
+module _ {W : Type 0} (contents : W → Option Text) (failures waiting : W → ℕ) where
+  -- what the program does for a script: what a run of it does, and then how the program ends;
+  -- unless a write failed, all replies were sent
+  pub record ProgramGives (old new : Streams W) (status : ℕ) : Type 0 where
+    pub ended : Result ScriptEnd ScriptFault
+    pub script : ScriptGives (all_contents contents) (λ out. failures out.inner)
+        (GaveLines old.script new.script) old.script new.script old.script_failures
+        new.script_failures old.steps new.steps old.out new.out ended
+    pub sent : ended ≢ Err Write → (new.out.waiting ≡ []) × (waiting new.out.inner ≡ 0)
+    pub ends : EndsScript ended old.messages new.messages status
 
 -- refused words have status 2, those that ask for help status 0
 abbrev pub words_status : ErrorKind → ℕ

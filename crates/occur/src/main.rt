@@ -7,12 +7,16 @@ mod words;
 
 ghost use Rattle.std.specs.Prelude.{◌≤◌};
 ghost use Rattle.re_syntax.specs.Profile.{most_states};
+ghost use Rattle.grep_core.specs.Run.{writer};
+ghost use Rattle.occur.specs.Exit.{ProgramGives, streams};
 
 use crate::ending::{end_script, refuse_memory, refuse_script, refuse_words, words_status};
 use crate::words::{Choices, OccurFault, occur_words};
 use clap::Error;
 use grep_cmd::{FAILED, ScriptFault, run_script};
-use grep_core::{Buffered, CountedRead, Tally};
+use grep_core::{Buffered, CountedRead, CountedWrite, Tally};
+use re_auto::{Meter, fresh_meter};
+use std::alloc::Global;
 use std::fs::Metadata;
 use std::io::ErrorKind;
 use std::os::unix::fs::MetadataExt;
@@ -33,6 +37,31 @@ fn refuse_output(rt: &HostRuntime) -> u8 {
     end_script(&mut Tally::new(rt.stderr()), Err(ScriptFault::Read))
 }
 
+/// Runs the script from the reader with its replies on the writer, reports what kept it from its end,
+/// and returns the exit status. A write that fails is not tried again.
+fn run_gathered<R: CountedRead, W: CountedWrite, M: CountedWrite>(
+    alloc: Global,
+    reader: &mut R,
+    out: &mut Buffered<W>,
+    messages: &mut M,
+    states: usize,
+    meter: &mut Meter,
+) -> u8
+    requires least { 1 ≤ states }
+    requires most { states ≤ most_states }
+    ensures { ProgramGives W.contents W.failures W.waiting
+        (streams (R.remaining reader.old) (R.failures reader.old) out.old
+        (writer M.contents M.failures messages.old)
+        meter.old)
+        (streams (R.remaining reader.new) (R.failures reader.new) out.new
+        (writer M.contents M.failures messages.new)
+        meter.new)
+        result }
+{
+    let ended = run_script(alloc, reader, out, states, meter);
+    end_script(messages, ended)
+}
+
 /// Runs the script from the reader, with its replies on standard output, and returns the exit
 /// status.
 fn run_from<R: CountedRead>(rt: &HostRuntime, reader: &mut R, states: usize) -> u8
@@ -40,11 +69,18 @@ fn run_from<R: CountedRead>(rt: &HostRuntime, reader: &mut R, states: usize) -> 
     requires most { states ≤ most_states }
 {
     let mut messages = Tally::new(rt.stderr());
-    let Ok(mut writer) = Buffered::new(rt.alloc(), Tally::new(rt.stdout())) else {
+    let Ok(mut out) = Buffered::new(rt.alloc(), Tally::new(rt.stdout())) else {
         return refuse_memory(&mut messages);
     };
-    let ended = run_script(rt.alloc(), reader, &mut writer, states);
-    end_script(&mut messages, ended)
+    let mut meter = fresh_meter();
+    run_gathered(
+        rt.alloc(),
+        reader,
+        &mut out,
+        &mut messages,
+        states,
+        &mut meter,
+    )
 }
 
 /// Runs the script that the words choose, and returns the exit status. A script that is standard

@@ -9,6 +9,8 @@ use Rattle.re_syntax.specs.Lines.{newline, joined}
 use Rattle.grep_core.specs.declared.status.Status.{Status}
 use Rattle.grep_core.specs.declared.status.Status.TheVariants as status
 use Rattle.grep_core.specs.Files.{Inputs}
+use Rattle.grep_core.specs.Meters.{Steps as StepCounts}
+use Rattle.grep_core.specs.Searching.{AddsAtMost}
 use Rattle.grep_core.specs.Output.{written}
 use Rattle.grep_core.specs.Row.{output_line}
 use Rattle.grep_core.specs.Written.{GoesOut, Writes}
@@ -28,7 +30,7 @@ use Rattle.grep_live.specs.Rows.{hit_row, change_row, change_rows, changes_rows,
 use Rattle.grep_cmd.specs.Show.{AreShown, behind, status_line}
 use Rattle.grep_cmd.specs.Lists.{ReportsChanges, ReportsPage}
 use Rattle.grep_cmd.specs.Script.{Step, counts, IsStep, line_command}
-use Rattle.grep_cmd.specs.Replies.{RepliesTo, reply_to, truncated, is_refusal}
+use Rattle.grep_cmd.specs.Replies.{RepliesTo, SearchesAtMost, reply_to, truncated, is_refusal}
 use Rattle.grep_cmd.specs.Working.Answered.{ReadsNext, TakesLines, FlushesFor, Replied, DoesStep, WantsLines, AnswersLine, answer_for, was_refused}
 
 -- ---- lines joined
@@ -135,18 +137,18 @@ module _ {R : Type 0} (remaining : R → Option Text) (failures : R → ℕ) (re
   pub takes_fewer : (count : ℕ) (now : Numbered R) (taken : List Text) (fault : ScriptFault) → length taken < count → ReadsNext remaining failures reader (handed ++ taken) now (Err fault)
       → TakesLines remaining failures reader handed count now (Err fault)
   takes_fewer count now taken Read few h = (taken, few, h)
-  takes_fewer count now taken Write few h = (taken, h)
-  takes_fewer count now taken Memory few h = (taken, h)
+  takes_fewer count now taken Write few h = (taken, omega (arith, few), h)
+  takes_fewer count now taken Memory few h = (taken, omega (arith, few), h)
 
 -- ---- one command
 
-module _ {R W : Type 0} (remaining : R → Option Text) (failures : R → ℕ) (reader : R) (handed : List Text) (line : Text) (now : Numbered R) (before after : Watched)
+module _ {R W : Type 0} (remaining : R → Option Text) (failures : R → ℕ) (reader : R) (handed : List Text) (line : Text) (now : Numbered R) (begun spent : StepCounts) (before after : Watched)
     (contents : W → Option Text) (write_failures : W → ℕ) (old mid new : W) (flushed : GoesOut contents write_failures old mid []) where
   abbrev Answers : Result Answer ScriptFault → Type 0
-  Answers = AnswersLine remaining failures reader handed line now before after contents write_failures old new
+  Answers = AnswersLine remaining failures reader handed line now begun spent before after contents write_failures old new
 
   -- a command was done and answered
-  pub answers_step : (reply : List Text) (answer : Answer) (r : Result Answer ScriptFault) → DoesStep remaining failures reader handed line now before after reply
+  pub answers_step : (reply : List Text) (answer : Answer) (r : Result Answer ScriptFault) → DoesStep remaining failures reader handed line now begun spent before after reply
       → list_any is_refusal reply ≡ was_refused answer → answer ≢ Truncated → Replied contents write_failures mid new reply answer r → Answers r
   answers_step reply Accepted (Ok Accepted) d none apart h = (reply, d, goes_on contents write_failures old mid new [] (written [] reply) flushed h.1, none)
   answers_step reply Accepted (Ok Refused) d none apart h = absurd (let no : ⊥ = cc (h.0) in no)
@@ -163,9 +165,9 @@ module _ {R W : Type 0} (remaining : R → Option Text) (failures : R → ℕ) (
   answers_step reply Refused (Err Memory) d none apart h = absurd h
 
   -- the changes were written, and this was left
-  pub answers_changes : (reply : List Text) (left : Watched) (r : Result Answer ScriptFault) → DoesStep remaining failures reader handed line now before left reply
+  pub answers_changes : (reply : List Text) (left : Watched) (r : Result Answer ScriptFault) → DoesStep remaining failures reader handed line now begun spent before left reply
       → list_any is_refusal reply ≡ false → IfOk r (λ _. after ≡ left) → Replied contents write_failures mid new reply Accepted r → Answers r
-  answers_changes reply left (Ok Accepted) d none e h = (reply, subst (λ (w : Watched). DoesStep remaining failures reader handed line now before w reply) (sym e) d, goes_on contents write_failures old mid new [] (written [] reply) flushed h.1, none)
+  answers_changes reply left (Ok Accepted) d none e h = (reply, subst (λ (w : Watched). DoesStep remaining failures reader handed line now begun spent before w reply) (sym e) d, goes_on contents write_failures old mid new [] (written [] reply) flushed h.1, none)
   answers_changes reply left (Ok Refused) d none e h = absurd (let no : ⊥ = cc (h.0) in no)
   answers_changes reply left (Ok Truncated) d none e h = absurd (let no : ⊥ = cc (h.0) in no)
   answers_changes reply left (Err Write) d none e h = inr (inl (left, reply, d, stops_later contents write_failures old mid new [] (written [] reply) flushed h))
@@ -174,17 +176,21 @@ module _ {R W : Type 0} (remaining : R → Option Text) (failures : R → ℕ) (
 
   -- a command for which its line is enough
   pub does_alone : (step : Step) (reply : List Text) → HasHanded remaining failures reader now handed → IsStep (line_command line) [] step → RepliesTo step before reply after
-      → DoesStep remaining failures reader handed line now before after reply
-  does_alone step reply h is replies = record {
+      → (most : ℕ) → SearchesAtMost step before.inputs most → AddsAtMost most begun spent
+      → DoesStep remaining failures reader handed line now begun spent before after reply
+  does_alone step reply h is replies most is_most few = record {
     taken = [];
     step = step;
     has_handed = subst (HasHanded remaining failures reader now) (sym (append-nil handed)) h;
     is_step = is;
     replies_to = replies;
+    most = most;
+    is_most = is_most;
+    few = few;
   }
 
   -- fewer lines follow than it counts
-  pub answers_truncated : (r : Result Answer ScriptFault) → WantsLines remaining failures reader handed line now before after → Replied contents write_failures mid new (truncated ∷ []) Truncated r → Answers r
+  pub answers_truncated : (r : Result Answer ScriptFault) → WantsLines remaining failures reader handed line now begun spent before after → Replied contents write_failures mid new (truncated ∷ []) Truncated r → Answers r
   answers_truncated (Ok Truncated) w h = (w, goes_on contents write_failures old mid new [] (written [] (truncated ∷ [])) flushed h.1)
   answers_truncated (Ok Accepted) w h = absurd (let no : ⊥ = cc (h.0) in no)
   answers_truncated (Ok Refused) w h = absurd (let no : ⊥ = cc (h.0) in no)
@@ -192,11 +198,11 @@ module _ {R W : Type 0} (remaining : R → Option Text) (failures : R → ℕ) (
   answers_truncated (Err Read) w h = absurd h
   answers_truncated (Err Memory) w h = absurd h
 
-module _ {R W : Type 0} (remaining : R → Option Text) (failures : R → ℕ) (reader : R) (handed : List Text) (line : Text) (now : Numbered R) (before : Watched)
+module _ {R W : Type 0} (remaining : R → Option Text) (failures : R → ℕ) (reader : R) (handed : List Text) (line : Text) (now : Numbered R) (begun spent : StepCounts) (before : Watched)
     (contents : W → Option Text) (write_failures : W → ℕ) (old new : W) where
   -- not all lines that it counts were read
   pub answers_lost : (count : ℕ) (edit : List Text → Edit) (f : ScriptFault) → line_command line ≡ Some (counts count edit) → TakesLines remaining failures reader handed count now (Err f)
-      → FlushesFor contents write_failures old new f → AnswersLine remaining failures reader handed line now before before contents write_failures old new (Err f)
-  answers_lost count edit Read is t sent = (record { taken = t.0; wants = rw is t.1; stands = t.2 }, sent)
-  answers_lost count edit Memory is t sent = (record { taken = t.0; has_handed = t.1 }, sent)
-  answers_lost count edit Write is t sent = inl (record { taken = t.0; has_handed = t.1 }, sent)
+      → FlushesFor contents write_failures old new f → spent ≡ begun → AnswersLine remaining failures reader handed line now begun spent before before contents write_failures old new (Err f)
+  answers_lost count edit Read is t sent idle = (record { taken = t.0; wants = rw is t.1; stands = t.2; idle = idle }, sent)
+  answers_lost count edit Memory is t sent idle = (record { taken = t.0; asks = rw is t.1; has_handed = t.2; idle = idle }, sent)
+  answers_lost count edit Write is t sent idle = inl (record { taken = t.0; has_handed = t.2; idle = idle }, sent)

@@ -3,12 +3,18 @@ use Rattle.std.proofs.Common.{◌≡◌, ℕ, ◌<◌, ◌≤◌, true, false, L
 use Rattle.std.proofs.lemmas.List.{length-append}
 use Rattle.std.specs.List.{list_any}
 use Rattle.re_syntax.specs.Bytes.{Text}
+use Rattle.re_syntax.specs.Lines.{lines_of}
+use Rattle.re_syntax.proofs.lemmas.LinesLaws.{lines_of-terminated}
 use Rattle.grep_core.specs.Files.{File, Ending, whole, broken}
+use Rattle.grep_core.specs.Meters.{Steps as StepCounts}
 use Rattle.grep_core.specs.Output.{written}
 use Rattle.grep_core.specs.Reading.{file_of, most_lines}
 use Rattle.grep_core.specs.Written.{GoesOut, StopsWithin}
 use Rattle.grep_core.specs.Working.Numbered.{Numbered, HasHanded, StandsAs}
-use Rattle.grep_core.specs.declared.input.lines.Stage.TheVariants.{Open}
+use Rattle.grep_core.specs.Working.Handed.{AreHanded}
+use Rattle.grep_core.specs.declared.input.lines.Stage.{Stage}
+use Rattle.grep_core.specs.declared.input.lines.Stage.TheVariants.{Open, Ended, Failed}
+use Rattle.grep_core.proofs.lemmas.CostLaws.{adds_none}
 use Rattle.grep_core.proofs.lemmas.HandedLemmas.{begins_with}
 use Rattle.grep_core.proofs.lemmas.NumberedLemmas.{has_handed_none}
 use Rattle.grep_core.proofs.lemmas.RowLemmas.{goes_nowhere, goes_on, stops_later}
@@ -18,10 +24,10 @@ use Rattle.grep_cmd.specs.declared.script.ScriptFault.{ScriptFault}
 use Rattle.grep_cmd.specs.declared.script.ScriptFault.TheVariants.{Read, Write, Memory}
 use Rattle.grep_cmd.specs.declared.script.ScriptEnd.{ScriptEnd}
 use Rattle.grep_cmd.specs.declared.script.ScriptEnd.TheVariants.{Clean, Refused}
-use Rattle.grep_cmd.specs.Script.{is_truncated}
-use Rattle.grep_cmd.specs.Replies.{truncated, is_refusal, end_for, AnswersScript, ReadsScript, BeginsScript, Ends, IsCut, RunsOut, StopsWriting, ScriptGives}
+use Rattle.grep_cmd.specs.Script.{is_truncated, IsBegun}
+use Rattle.grep_cmd.specs.Replies.{truncated, is_refusal, end_for, AnswersScript, ReadsScript, BeginsScript, GaveLines, SearchesTouched, StopsWriting, ScriptGives}
 use Rattle.grep_cmd.specs.Working.Answered.{ReadsNext, FlushesFor, FlushesBehind, DoesStep, WantsLines, LosesLines, AnswersLine, AnsweredSoFar}
-use Rattle.grep_cmd.proofs.lemmas.ScriptSteps.{done_push, done_steps, done_alone, replies_push, end_kept, end_refused}
+use Rattle.grep_cmd.proofs.lemmas.ScriptSteps.{done_push, done_steps, done_alone, replies_push, work_none, work_push, end_kept, end_refused}
 
 abbrev script_of : List Text → Ending → File
 script_of lines ending = record { name = []; lines = lines; ending = ending }
@@ -30,7 +36,7 @@ script_of lines ending = record { name = []; lines = lines; ending = ending }
 line_then : (handed : List Text) (line : Text) (taken : List Text) → (handed ++ line ∷ []) ++ taken ≡ handed ++ line ∷ taken
 line_then handed line taken = append_assoc handed (line ∷ []) taken
 
-module _ {R W : Type 0} (remaining : R → Option Text) (failures : R → ℕ) (contents : W → Option Text) (write_failures : W → ℕ) (reader : R) (old : W) where
+module _ {R W : Type 0} (remaining : R → Option Text) (failures : R → ℕ) (contents : W → Option Text) (write_failures : W → ℕ) (reader : R) (begun : StepCounts) (old : W) where
   -- the lines of a reader, with their ending, are a script
   reads : (now : Numbered R) (lines : List Text) (ending : Ending) → StandsAs remaining failures reader now lines ending
       → ReadsScript (remaining reader) (remaining now.lines.reader) (failures reader) (failures now.lines.reader) (script_of lines ending)
@@ -66,7 +72,7 @@ module _ {R W : Type 0} (remaining : R → Option Text) (failures : R → ℕ) (
   stops_same a b c bytes first second = subst (StopsWithin contents write_failures a c) (append-nil bytes) (stops_later contents write_failures a b c bytes [] first second)
 
   -- no line was handed out
-  pub so_far_none : (now : Numbered R) → HasHanded remaining failures reader now [] → AnsweredSoFar remaining failures contents write_failures reader old now new_watched old Clean
+  pub so_far_none : (now : Numbered R) → HasHanded remaining failures reader now [] → AnsweredSoFar remaining failures contents write_failures reader begun old now new_watched begun old Clean
   so_far_none now h = record {
     handed = [];
     has_handed = h;
@@ -74,11 +80,17 @@ module _ {R W : Type 0} (remaining : R → Option Text) (failures : R → ℕ) (
     are_done = refl;
     replies = [];
     are_replies = (refl, refl);
+    work = work_none begun;
     goes = goes_nowhere contents write_failures old;
     ended = refl;
   }
 
-  module _ (now : Numbered R) (inputs : Watched) (mid : W) (ending : ScriptEnd) (s : AnsweredSoFar remaining failures contents write_failures reader old now inputs mid ending) where
+  -- what a run gives that read so far, counted so many steps, and wrote so much
+  abbrev Gives : Numbered R → StepCounts → W → Result ScriptEnd ScriptFault → Type 0
+  Gives next last new result =
+      ScriptGives contents write_failures (HasHanded remaining failures reader next) (remaining reader) (remaining next.lines.reader) (failures reader) (failures next.lines.reader) begun last old new result
+
+  module _ (now : Numbered R) (inputs : Watched) (spent : StepCounts) (mid : W) (ending : ScriptEnd) (s : AnsweredSoFar remaining failures contents write_failures reader begun old now inputs spent mid ending) where
     -- the steps so far, of a script that continues
     answers_so_far : (file : File) (rest : List Text) → file.lines ≡ s.handed ++ rest → AnswersScript file s.replies rest
     answers_so_far file rest is = record {
@@ -93,20 +105,23 @@ module _ {R W : Type 0} (remaining : R → Option Text) (failures : R → ℕ) (
     module _ (next : Numbered R) (new : W) where
       -- they are all
       pub ends_here : StandsAs remaining failures reader next s.handed whole → GoesOut contents write_failures mid new []
-          → Ends contents write_failures (remaining reader) (remaining next.lines.reader) (failures reader) (failures next.lines.reader) old new ending
+          → Gives next spent new (Ok ending)
+      unfolding answers_so_far
       ends_here stands flushed = record {
         file = script_of s.handed whole;
         reads = reads next s.handed whole stands;
         is_whole = refl;
         replies = s.replies;
         answers = answers_so_far (script_of s.handed whole) [] (sym (append-nil s.handed));
+        work = s.work;
         goes = goes_same old mid new (written [] s.replies) s.goes flushed;
         ended = s.ended;
       }
 
       -- a read failed
       pub cut_here : StandsAs remaining failures reader next s.handed broken → GoesOut contents write_failures mid new []
-          → IsCut contents write_failures (remaining reader) (remaining next.lines.reader) (failures reader) (failures next.lines.reader) old new
+          → Gives next spent new (Err Read)
+      unfolding answers_so_far
       cut_here stands flushed = record {
         file = script_of s.handed broken;
         reads = reads next s.handed broken stands;
@@ -115,26 +130,38 @@ module _ {R W : Type 0} (remaining : R → Option Text) (failures : R → ℕ) (
         rest = [];
         answers = answers_so_far (script_of s.handed broken) [] (sym (append-nil s.handed));
         cut_short = inl refl;
+        work = s.work;
         goes = goes_same old mid new (written [] s.replies) s.goes flushed;
       }
 
       -- a growth was refused, with the next command or without it
-      pub runs_out : (others : List Text) → HasHanded remaining failures reader next (s.handed ++ others) → GoesOut contents write_failures mid new []
-          → RunsOut contents write_failures (remaining reader) (remaining next.lines.reader) (failures reader) (failures next.lines.reader) old new
-      runs_out others handed flushed =
-          let b = begins next (s.handed ++ others) handed in
+      pub runs_out : (first : List Text) → IsBegun first → HasHanded remaining failures reader next (s.handed ++ first) → GoesOut contents write_failures mid new []
+          → Gives next spent new (Err Memory)
+      unfolding answers_so_far
+      runs_out first is_begun handed flushed =
+          let b = begins next (s.handed ++ first) handed in
+          let is = b.2.1 ∙ append_assoc s.handed first b.2.0 in
           record {
             file = b.0;
             reads = b.1;
             replies = s.replies;
-            rest = others ++ b.2.0;
-            answers = answers_so_far b.0 (others ++ b.2.0) (b.2.1 ∙ append_assoc s.handed others b.2.0);
+            done = s.handed;
+            rest = first ++ b.2.0;
+            is_file = is;
+            answers = answers_so_far b.0 (first ++ b.2.0) is;
+            first = first;
+            others = b.2.0;
+            is_rest = refl;
+            is_begun = is_begun;
+            were_read = handed;
+            work = s.work;
             goes = goes_same old mid new (written [] s.replies) s.goes flushed;
           }
 
       -- what was buffered could not be sent
       pub stops_sending : (others : List Text) → HasHanded remaining failures reader next (s.handed ++ others) → StopsWithin contents write_failures mid new []
-          → StopsWriting contents write_failures (remaining reader) (remaining next.lines.reader) (failures reader) (failures next.lines.reader) old new
+          → Gives next spent new (Err Write)
+      unfolding answers_so_far
       stops_sending others handed stops =
           let b = begins next (s.handed ++ others) handed in
           record {
@@ -143,28 +170,36 @@ module _ {R W : Type 0} (remaining : R → Option Text) (failures : R → ℕ) (
             replies = s.replies;
             rest = others ++ b.2.0;
             answers = answers_so_far b.0 (others ++ b.2.0) (b.2.1 ∙ append_assoc s.handed others b.2.0);
+            work = s.work;
             stops = stops_same old mid new (written [] s.replies) s.goes stops;
           }
 
     -- no further line was read
     pub next_fails : (next : Numbered R) (new : W) (f : ScriptFault) → ReadsNext remaining failures reader s.handed next (Err f) → FlushesFor contents write_failures mid new f
-        → ScriptGives contents write_failures (remaining reader) (remaining next.lines.reader) (failures reader) (failures next.lines.reader) old new (Err f)
+        → Gives next spent new (Err f)
     next_fails next new Read stands sent = cut_here next new stands sent
-    next_fails next new Memory handed sent = runs_out next new [] (subst (HasHanded remaining failures reader next) (sym (append-nil s.handed)) handed) sent
+    next_fails next new Memory handed sent = runs_out next new [] tt (subst (HasHanded remaining failures reader next) (sym (append-nil s.handed)) handed) sent
     next_fails next new Write handed stops = stops_sending next new [] (subst (HasHanded remaining failures reader next) (sym (append-nil s.handed)) handed) stops
 
     -- ---- a command line was handed out
 
-    module _ (line : Text) (sent : W) (flushed : GoesOut contents write_failures mid sent []) (next : Numbered R) (after : Watched) (new : W) where
+    module _ (line : Text) (sent : W) (flushed : GoesOut contents write_failures mid sent []) (next : Numbered R) (after : Watched) (last : StepCounts) (new : W) where
       abbrev Does : List Text → Type 0
-      Does reply = DoesStep remaining failures reader (s.handed ++ line ∷ []) line next inputs after reply
+      Does reply = DoesStep remaining failures reader (s.handed ++ line ∷ []) line next spent last inputs after reply
 
       abbrev Wants : Type 0
-      Wants = WantsLines remaining failures reader (s.handed ++ line ∷ []) line next inputs after
+      Wants = WantsLines remaining failures reader (s.handed ++ line ∷ []) line next spent last inputs after
+
+      works : (then : Watched) (reply : List Text) → (d : DoesStep remaining failures reader (s.handed ++ line ∷ []) line next spent last inputs then reply) → SearchesTouched (s.steps ++ d.step ∷ []) (s.replies ++ reply) then begun last
+      works then reply d = work_push s.steps d.step inputs then s.replies reply begun spent last d.most s.work d.replies_to d.is_most d.few
+
+      -- without a step
+      idles : last ≡ spent → SearchesTouched s.steps s.replies inputs begun last
+      idles idle = subst (SearchesTouched s.steps s.replies inputs begun) (sym idle) s.work
 
       -- it was answered
       answered : (reply : List Text) → Does reply → GoesOut contents write_failures sent new (written [] reply) → (end : ScriptEnd) → end ≡ end_for (s.replies ++ reply)
-          → AnsweredSoFar remaining failures contents write_failures reader old next after new end
+          → AnsweredSoFar remaining failures contents write_failures reader begun old next after last new end
       answered reply d goes end is = record {
         handed = s.handed ++ line ∷ d.taken;
         has_handed = subst (HasHanded remaining failures reader next) (line_then s.handed line d.taken) d.has_handed;
@@ -172,16 +207,17 @@ module _ {R W : Type 0} (remaining : R → Option Text) (failures : R → ℕ) (
         are_done = done_push s.handed s.steps line d.taken d.step s.are_done d.is_step;
         replies = s.replies ++ reply;
         are_replies = replies_push s.steps d.step new_watched inputs after s.replies reply s.are_replies d.replies_to;
+        work = works after reply d;
         goes = goes_both old mid sent new s.replies reply s.goes flushed goes;
         ended = is;
       }
 
       pub so_far_accepted : (reply : List Text) → Does reply → GoesOut contents write_failures sent new (written [] reply) → list_any is_refusal reply ≡ false
-          → AnsweredSoFar remaining failures contents write_failures reader old next after new ending
+          → AnsweredSoFar remaining failures contents write_failures reader begun old next after last new ending
       so_far_accepted reply d goes none = answered reply d goes ending (s.ended ∙ sym (end_kept s.replies reply none))
 
       pub so_far_refused : (reply : List Text) → Does reply → GoesOut contents write_failures sent new (written [] reply) → list_any is_refusal reply ≡ true
-          → AnsweredSoFar remaining failures contents write_failures reader old next after new Refused
+          → AnsweredSoFar remaining failures contents write_failures reader begun old next after last new Refused
       so_far_refused reply d goes some = answered reply d goes Refused (sym (end_refused s.replies reply some))
 
       -- fewer lines follow than it counts
@@ -193,25 +229,31 @@ module _ {R W : Type 0} (remaining : R → Option Text) (failures : R → ℕ) (
         are_replies = replies_push s.steps is_truncated new_watched inputs inputs s.replies (truncated ∷ []) s.are_replies (refl, refl);
       }
 
+      works_truncated : last ≡ spent → SearchesTouched (s.steps ++ is_truncated ∷ []) (s.replies ++ truncated ∷ []) inputs begun last
+      works_truncated idle = work_push s.steps is_truncated inputs inputs s.replies (truncated ∷ []) begun last last 0 (idles idle) (refl, refl) refl (adds_none 0 last)
+
       reads_all : (taken : List Text) (kind : Ending) → StandsAs remaining failures reader next ((s.handed ++ line ∷ []) ++ taken) kind
           → ReadsScript (remaining reader) (remaining next.lines.reader) (failures reader) (failures next.lines.reader) (script_of (s.handed ++ line ∷ taken) kind)
       reads_all taken kind stands = reads next (s.handed ++ line ∷ taken) kind (subst (λ lines. StandsAs remaining failures reader next lines kind) (line_then s.handed line taken) stands)
 
       pub ends_truncated : Wants → GoesOut contents write_failures sent new (written [] (truncated ∷ []))
-          → Ends contents write_failures (remaining reader) (remaining next.lines.reader) (failures reader) (failures next.lines.reader) old new Refused
+          → Gives next last new (Ok Refused)
+      unfolding truncates
       ends_truncated w goes = record {
         file = script_of (s.handed ++ line ∷ w.taken) whole;
         reads = reads_all w.taken whole w.stands;
         is_whole = refl;
         replies = s.replies ++ truncated ∷ [];
         answers = truncates (script_of (s.handed ++ line ∷ w.taken) whole) w refl refl;
+        work = works_truncated w.idle;
         goes = goes_both old mid sent new s.replies (truncated ∷ []) s.goes flushed goes;
         ended = sym (end_refused s.replies (truncated ∷ []) refl);
       }
 
       -- a read failed before all lines were read
-      pub cut_within : LosesLines remaining failures reader (s.handed ++ line ∷ []) line next inputs after → GoesOut contents write_failures sent new []
-          → IsCut contents write_failures (remaining reader) (remaining next.lines.reader) (failures reader) (failures next.lines.reader) old new
+      pub cut_within : LosesLines remaining failures reader (s.handed ++ line ∷ []) line next spent last inputs after → GoesOut contents write_failures sent new []
+          → Gives next last new (Err Read)
+      unfolding answers_so_far
       cut_within l goes = record {
         file = script_of (s.handed ++ line ∷ l.taken) broken;
         reads = reads_all l.taken broken l.stands;
@@ -220,6 +262,7 @@ module _ {R W : Type 0} (remaining : R → Option Text) (failures : R → ℕ) (
         rest = line ∷ l.taken;
         answers = answers_so_far (script_of (s.handed ++ line ∷ l.taken) broken) (line ∷ l.taken) refl;
         cut_short = inr l.wants;
+        work = idles l.idle;
         goes = goes_same old mid new (written [] s.replies) s.goes (goes_same mid sent new [] flushed goes);
       }
 
@@ -230,8 +273,8 @@ module _ {R W : Type 0} (remaining : R → Option Text) (failures : R → ℕ) (
           (omega (arith, longer, h.counted, s.has_handed.counted), omega (arith, h.counted, h.few))
 
       -- a write failed within the reply
-      pub stops_replying : (then : Watched) (reply : List Text) → DoesStep remaining failures reader (s.handed ++ line ∷ []) line next inputs then reply → StopsWithin contents write_failures sent new (written [] reply)
-          → StopsWriting contents write_failures (remaining reader) (remaining next.lines.reader) (failures reader) (failures next.lines.reader) old new
+      pub stops_replying : (then : Watched) (reply : List Text) → DoesStep remaining failures reader (s.handed ++ line ∷ []) line next spent last inputs then reply → StopsWithin contents write_failures sent new (written [] reply)
+          → Gives next last new (Err Write)
       stops_replying then reply d stops =
           let handed = subst (HasHanded remaining failures reader next) (line_then s.handed line d.taken) d.has_handed in
           let b = begins next (s.handed ++ line ∷ d.taken) handed in
@@ -246,34 +289,39 @@ module _ {R W : Type 0} (remaining : R → Option Text) (failures : R → ℕ) (
               after = then;
               are_replies = replies_push s.steps d.step new_watched inputs then s.replies reply s.are_replies d.replies_to;
             };
+            work = works then reply d;
             stops = stops_both old mid sent new s.replies reply s.goes flushed stops;
           }
 
       pub stops_truncated : Wants → StopsWithin contents write_failures sent new (written [] (truncated ∷ []))
-          → StopsWriting contents write_failures (remaining reader) (remaining next.lines.reader) (failures reader) (failures next.lines.reader) old new
+          → Gives next last new (Err Write)
+      unfolding truncates
       stops_truncated w stops = record {
         file = script_of (s.handed ++ line ∷ w.taken) whole;
         reads = inr (reads_all w.taken whole w.stands);
         replies = s.replies ++ truncated ∷ [];
         rest = [];
         answers = truncates (script_of (s.handed ++ line ∷ w.taken) whole) w refl refl;
+        work = works_truncated w.idle;
         stops = stops_both old mid sent new s.replies (truncated ∷ []) s.goes flushed stops;
       }
 
       -- the command wasn't answered
-      pub answer_fails : (f : ScriptFault) → AnswersLine remaining failures reader (s.handed ++ line ∷ []) line next inputs after contents write_failures sent new (Err f)
-          → ScriptGives contents write_failures (remaining reader) (remaining next.lines.reader) (failures reader) (failures next.lines.reader) old new (Err f)
+      pub answer_fails : (f : ScriptFault) → AnswersLine remaining failures reader (s.handed ++ line ∷ []) line next spent last inputs after contents write_failures sent new (Err f)
+          → Gives next last new (Err f)
       answer_fails Read h = cut_within h.0 h.1
       answer_fails Memory h =
-          runs_out next new (line ∷ h.0.taken) (subst (HasHanded remaining failures reader next) (line_then s.handed line h.0.taken) h.0.has_handed) (goes_same mid sent new [] flushed h.1)
+          let handed = subst (HasHanded remaining failures reader next) (line_then s.handed line h.0.taken) h.0.has_handed in
+          subst (λ (n : StepCounts). Gives next n new (Err Memory)) (sym h.0.idle) (runs_out next new (line ∷ h.0.taken) h.0.asks handed (goes_same mid sent new [] flushed h.1))
       answer_fails Write (inl h) =
-          stops_sending next new (line ∷ h.0.taken) (subst (HasHanded remaining failures reader next) (line_then s.handed line h.0.taken) h.0.has_handed) (stops_same mid sent new [] flushed h.1)
+          let handed = subst (HasHanded remaining failures reader next) (line_then s.handed line h.0.taken) h.0.has_handed in
+          subst (λ (n : StepCounts). Gives next n new (Err Write)) (sym h.0.idle) (stops_sending next new (line ∷ h.0.taken) handed (stops_same mid sent new [] flushed h.1))
       answer_fails Write (inr (inl h)) = stops_replying h.0 h.1 h.2 h.3
       answer_fails Write (inr (inr h)) = stops_truncated h.0 h.1
 
 -- ---- the end
 
-module _ {W : Type 0} (contents : W → Option Text) (failures : W → ℕ) (known left : Option Text) (failed_before failed : ℕ) (old mid new : W) where
+module _ {W : Type 0} (contents : W → Option Text) (failures : W → ℕ) (has_read : List Text → Type 0) (known left : Option Text) (failed_before failed : ℕ) (begun spent : StepCounts) (old mid new : W) where
   goes_on_same : (bytes : Text) → GoesOut contents failures old mid bytes → GoesOut contents failures mid new [] → GoesOut contents failures old new bytes
   goes_on_same bytes first second = subst (GoesOut contents failures old new) (append-nil bytes) (goes_on contents failures old mid new bytes [] first second)
 
@@ -281,34 +329,60 @@ module _ {W : Type 0} (contents : W → Option Text) (failures : W → ℕ) (kno
   stops_on_same bytes first second = subst (StopsWithin contents failures old new) (append-nil bytes) (stops_later contents failures old mid new bytes [] first second)
 
   -- what was buffered was sent after a run, or that failed
-  pub sends_behind : (ended result : Result ScriptEnd ScriptFault) → ScriptGives contents failures known left failed_before failed old mid ended → FlushesBehind contents failures mid new ended result
-      → ScriptGives contents failures known left failed_before failed old new result
+  pub sends_behind : (ended result : Result ScriptEnd ScriptFault) → ScriptGives contents failures has_read known left failed_before failed begun spent old mid ended → FlushesBehind contents failures mid new ended result
+      → ScriptGives contents failures has_read known left failed_before failed begun spent old new result
   sends_behind (Ok end) result e (inl (sent, is)) =
-      subst (ScriptGives contents failures known left failed_before failed old new) (sym is)
-      (record { file = e.file; reads = e.reads; is_whole = e.is_whole; replies = e.replies; answers = e.answers; goes = goes_on_same (written [] e.replies) e.goes sent; ended = e.ended })
+      subst (ScriptGives contents failures has_read known left failed_before failed begun spent old new) (sym is)
+      (record { file = e.file; reads = e.reads; is_whole = e.is_whole; replies = e.replies; answers = e.answers; work = e.work; goes = goes_on_same (written [] e.replies) e.goes sent; ended = e.ended })
   sends_behind (Ok end) result e (inr (stops, is)) =
-      subst (ScriptGives contents failures known left failed_before failed old new) (sym is)
-      (record { file = e.file; reads = inr e.reads; replies = e.replies; rest = []; answers = e.answers; stops = stops_on_same (written [] e.replies) e.goes stops })
+      subst (ScriptGives contents failures has_read known left failed_before failed begun spent old new) (sym is)
+      (record { file = e.file; reads = inr e.reads; replies = e.replies; rest = []; answers = e.answers; work = e.work; stops = stops_on_same (written [] e.replies) e.goes stops })
   sends_behind (Err Read) result e (inl (sent, is)) =
-      subst (ScriptGives contents failures known left failed_before failed old new) (sym is)
-      (record { file = e.file; reads = e.reads; is_broken = e.is_broken; replies = e.replies; rest = e.rest; answers = e.answers; cut_short = e.cut_short; goes = goes_on_same (written [] e.replies) e.goes sent })
+      subst (ScriptGives contents failures has_read known left failed_before failed begun spent old new) (sym is)
+      (record { file = e.file; reads = e.reads; is_broken = e.is_broken; replies = e.replies; rest = e.rest; answers = e.answers; cut_short = e.cut_short; work = e.work; goes = goes_on_same (written [] e.replies) e.goes sent })
   sends_behind (Err Read) result e (inr (stops, is)) =
-      subst (ScriptGives contents failures known left failed_before failed old new) (sym is)
-      (record { file = e.file; reads = inr e.reads; replies = e.replies; rest = e.rest; answers = e.answers; stops = stops_on_same (written [] e.replies) e.goes stops })
+      subst (ScriptGives contents failures has_read known left failed_before failed begun spent old new) (sym is)
+      (record { file = e.file; reads = inr e.reads; replies = e.replies; rest = e.rest; answers = e.answers; work = e.work; stops = stops_on_same (written [] e.replies) e.goes stops })
   sends_behind (Err Memory) result e (inl (sent, is)) =
-      subst (ScriptGives contents failures known left failed_before failed old new) (sym is)
-      (record { file = e.file; reads = e.reads; replies = e.replies; rest = e.rest; answers = e.answers; goes = goes_on_same (written [] e.replies) e.goes sent })
+      subst (ScriptGives contents failures has_read known left failed_before failed begun spent old new) (sym is)
+      (record { file = e.file; reads = e.reads; replies = e.replies; done = e.done; rest = e.rest; is_file = e.is_file; answers = e.answers; first = e.first; others = e.others; is_rest = e.is_rest; is_begun = e.is_begun; were_read = e.were_read; work = e.work; goes = goes_on_same (written [] e.replies) e.goes sent })
   sends_behind (Err Memory) result e (inr (stops, is)) =
-      subst (ScriptGives contents failures known left failed_before failed old new) (sym is)
-      (record { file = e.file; reads = inl e.reads; replies = e.replies; rest = e.rest; answers = e.answers; stops = stops_on_same (written [] e.replies) e.goes stops })
+      subst (ScriptGives contents failures has_read known left failed_before failed begun spent old new) (sym is)
+      (record { file = e.file; reads = inl e.reads; replies = e.replies; rest = e.rest; answers = e.answers; work = e.work; stops = stops_on_same (written [] e.replies) e.goes stops })
   sends_behind (Err Write) result e (same, is) =
-      subst (ScriptGives contents failures known left failed_before failed old new) (sym is) (subst (λ w. StopsWriting contents failures known left failed_before failed old w) (sym same) e)
+      subst (ScriptGives contents failures has_read known left failed_before failed begun spent old new) (sym is) (subst (λ w. StopsWriting contents failures has_read known left failed_before failed begun spent old w) (sym same) e)
+
+-- ---- what the reader gave
+
+-- the lines that were handed out are those of the bytes that the reader gave
+lines_handed : (stage : Stage) (given : Text) (handed : List Text) → AreHanded stage given handed → lines_of given ≡ handed
+lines_handed Open given handed h = ap lines_of h.0 ∙ lines_of-terminated handed h.1
+lines_handed Ended given handed h = h
+lines_handed Failed given handed h = absurd h
+
+module _ {R W : Type 0} (remaining : R → Option Text) (failures : R → ℕ) (contents : W → Option Text) (write_failures : W → ℕ) (reader : R) where
+  gave : (now : Numbered R) (handed : List Text) → HasHanded remaining failures reader now handed → GaveLines (remaining reader) (remaining now.lines.reader) handed
+  gave now handed h = record { given = h.hands.given; are_lines = lines_handed now.lines.stage h.hands.given handed h.hands.are_handed; ahead = now.lines.ahead; gave = h.hands.gave }
+
+  -- a run that handed out some lines is one whose reader gave them
+  pub gives_by_reader : (now : Numbered R) (begun spent : StepCounts) (old new : W) (result : Result ScriptEnd ScriptFault)
+      → ScriptGives contents write_failures (HasHanded remaining failures reader now) (remaining reader) (remaining now.lines.reader) (failures reader) (failures now.lines.reader) begun spent old new result
+      → ScriptGives contents write_failures (GaveLines (remaining reader) (remaining now.lines.reader)) (remaining reader) (remaining now.lines.reader) (failures reader) (failures now.lines.reader) begun spent old new result
+  gives_by_reader now begun spent old new (Ok end) e =
+      record { file = e.file; reads = e.reads; is_whole = e.is_whole; replies = e.replies; answers = e.answers; work = e.work; goes = e.goes; ended = e.ended }
+  gives_by_reader now begun spent old new (Err Read) e =
+      record { file = e.file; reads = e.reads; is_broken = e.is_broken; replies = e.replies; rest = e.rest; answers = e.answers; cut_short = e.cut_short; work = e.work; goes = e.goes }
+  gives_by_reader now begun spent old new (Err Memory) e =
+      record { file = e.file; reads = e.reads; replies = e.replies; done = e.done; rest = e.rest; is_file = e.is_file; answers = e.answers; first = e.first; others = e.others; is_rest = e.is_rest; is_begun = e.is_begun; were_read = gave now (e.done ++ e.first) e.were_read; work = e.work; goes = e.goes }
+  gives_by_reader now begun spent old new (Err Write) e =
+      record { file = e.file; reads = e.reads; replies = e.replies; rest = e.rest; answers = e.answers; work = e.work; stops = e.stops }
 
 -- no memory for a reader of lines
-pub runs_out_at_once : {R W : Type 0} (remaining : R → Option Text) (failures : R → ℕ) (contents : W → Option Text) (write_failures : W → ℕ) (reader : R) (out : W)
-    → ScriptGives contents write_failures (remaining reader) (remaining reader) (failures reader) (failures reader) out out (Err Memory)
+pub runs_out_at_once : {R W : Type 0} (remaining : R → Option Text) (failures : R → ℕ) (contents : W → Option Text) (write_failures : W → ℕ) (reader : R) (steps : StepCounts) (out : W)
+    → ScriptGives contents write_failures (GaveLines (remaining reader) (remaining reader)) (remaining reader) (remaining reader) (failures reader) (failures reader) steps steps out out (Err Memory)
 unfolding so_far_none
-runs_out_at_once {R} remaining failures contents write_failures reader out =
+runs_out_at_once {R} remaining failures contents write_failures reader steps out =
     let now : Numbered R = record { lines = record { reader = reader; ahead = []; line = []; stage = Open }; number = 0 } in
     let none = has_handed_none remaining failures now refl refl refl in
-    runs_out remaining failures contents write_failures reader out now new_watched out Clean (so_far_none remaining failures contents write_failures reader out now none) now out [] none (goes_nowhere contents write_failures out)
+    gives_by_reader remaining failures contents write_failures reader now steps steps out out (Err Memory)
+    (runs_out remaining failures contents write_failures reader steps out now new_watched steps out Clean (so_far_none remaining failures contents write_failures reader steps out now none) now out [] tt none (goes_nowhere contents write_failures out))

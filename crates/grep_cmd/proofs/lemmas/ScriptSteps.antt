@@ -1,14 +1,17 @@
--- The steps of a script and the replies to them, one more at a time.
-use Rattle.std.proofs.Common.{◌≡◌, true, false, ◌||◌, if◌then◌else◌, List, [], ◌∷◌, ◌++◌, inl, refl, sym, ap, ◌∙◌, subst, append_assoc, append-nil}
+-- The steps of a script, the replies to them and what they search, one more at a time.
+use Rattle.std.proofs.Common.{◌≡◌, ℕ, ◌+◌, true, false, ◌||◌, if◌then◌else◌, List, [], ◌∷◌, ◌++◌, inl, refl, sym, ap, ◌∙◌, subst, append_assoc, append-nil, arith}
 use Rattle.std.proofs.lemmas.Bool.{or_right}
 use Rattle.std.proofs.lemmas.List.Folds.{list_any-append}
 use Rattle.std.specs.List.{list_any}
 use Rattle.re_syntax.specs.Bytes.{Text}
 use Rattle.grep_core.specs.Files.{Ending}
-use Rattle.grep_live.specs.Marks.{Watched}
+use Rattle.grep_core.specs.Meters.{Steps as StepCounts}
+use Rattle.grep_core.specs.Searching.{AddsAtMost}
+use Rattle.grep_core.proofs.lemmas.CostLaws.{adds_both, adds_none}
+use Rattle.grep_live.specs.Marks.{Watched, new_watched}
 use Rattle.grep_cmd.specs.declared.script.ScriptEnd.TheVariants.{Clean, Refused}
 use Rattle.grep_cmd.specs.Script.{Step, IsStep, line_command, Steps}
-use Rattle.grep_cmd.specs.Replies.{RepliesTo, Replies, is_refusal, end_for}
+use Rattle.grep_cmd.specs.Replies.{RepliesTo, Replies, SearchesAtMost, AllSearchAtMost, SearchesTouched, is_refusal, end_for}
 use Rattle.grep_cmd.specs.Working.Answered.{AreDone}
 
 -- one more step
@@ -35,6 +38,47 @@ replies_push [] step before between after replies reply (none, same) h =
     (reply, after, [], subst (λ i. RepliesTo step i reply after) same h, (refl, refl), ap (λ rs. rs ++ reply) none ∙ sym (append-nil reply))
 replies_push (s ∷ steps) step before between after replies reply (own, mid, rest, first, others, cut) h =
     (own, mid, rest ++ reply, first, replies_push steps step mid between after rest reply others h, ap (λ rs. rs ++ reply) cut ∙ append_assoc own rest reply)
+
+-- the sum with one more command
+most_push : (steps : List Step) (step : Step) (before between after : Watched) (replies reply : List Text) (most own : ℕ) → AllSearchAtMost steps before replies between most → RepliesTo step between reply after
+    → SearchesAtMost step between.inputs own → AllSearchAtMost (steps ++ step ∷ []) before (replies ++ reply) after (most + own)
+most_push [] step before between after replies reply most own (none, same, zero) h cost = (
+  reply,
+  after,
+  [],
+  own,
+  0,
+  subst (λ i. RepliesTo step i reply after) same h,
+  subst (λ (i : Watched). SearchesAtMost step i.inputs own) same cost,
+  (refl, refl, refl),
+  ap (λ rs. rs ++ reply) none ∙ sym (append-nil reply),
+  omega (arith, zero),
+)
+most_push (s ∷ steps) step before between after replies reply most own (first, mid, rest, one, others, given, cost, more, cut, sum) h last = (
+  first,
+  mid,
+  rest ++ reply,
+  one,
+  others + own,
+  given,
+  cost,
+  most_push steps step mid between after rest reply others own more h last,
+  ap (λ rs. rs ++ reply) cut ∙ append_assoc first rest reply,
+  omega (arith, sum),
+)
+
+-- nothing was searched for no command
+pub work_none : (steps : StepCounts) → SearchesTouched [] [] new_watched steps steps
+work_none steps = record { most = 0; is_most = (refl, refl, refl); few = adds_none 0 steps }
+
+-- one more command searches no more than it costs
+pub work_push : (steps : List Step) (step : Step) (between after : Watched) (replies reply : List Text) (begun spent last : StepCounts) (own : ℕ) → SearchesTouched steps replies between begun spent
+    → RepliesTo step between reply after → SearchesAtMost step between.inputs own → AddsAtMost own spent last → SearchesTouched (steps ++ step ∷ []) (replies ++ reply) after begun last
+work_push steps step between after replies reply begun spent last own w h cost few = record {
+  most = w.most + own;
+  is_most = most_push steps step new_watched between after replies reply w.most own w.is_most h cost;
+  few = adds_both w.most own begun spent last w.few few;
+}
 
 -- a reply that refuses nothing
 pub end_kept : (replies reply : List Text) → list_any is_refusal reply ≡ false → end_for (replies ++ reply) ≡ end_for replies

@@ -1,10 +1,12 @@
 -- How a script is answered, one command after the other.
-use Rattle.std.specs.Prelude.{◌≡◌, ℕ, ◌<◌, Bool, true, false, List, [], ◌∷◌, ◌++◌, length, Option}
-use Rattle.std.specs.Prelude.{Some, None, Result, Ok, Err, ◌⊎◌}
+use Rattle.std.specs.Prelude.{◌≡◌, ℕ, ◌<◌, ◌≤◌, Bool, true, false, List, [], ◌∷◌, ◌++◌, length}
+use Rattle.std.specs.Prelude.{Option, Some, None, Result, Ok, Err, ◌⊎◌}
 use Rattle.std.specs.List.{list_any}
 use Rattle.re_syntax.specs.Bytes.{Text}
 use Rattle.grep_core.specs.Files.{whole, broken}
+use Rattle.grep_core.specs.Meters.{Steps as StepCounts}
 use Rattle.grep_core.specs.Output.{written}
+use Rattle.grep_core.specs.Searching.{AddsAtMost}
 use Rattle.grep_core.specs.Written.{GoesOut, StopsWithin}
 use Rattle.grep_core.specs.Working.Numbered.{Numbered, HasHanded, StandsAs}
 use Rattle.grep_session.specs.declared.fault.EditFault.{EditFault}
@@ -13,8 +15,9 @@ use Rattle.grep_cmd.specs.declared.script.ScriptFault.TheVariants.{Read, Write, 
 use Rattle.grep_cmd.specs.declared.script.ScriptEnd.{ScriptEnd}
 use Rattle.grep_cmd.specs.declared.script.reply.Answer.{Answer}
 use Rattle.grep_cmd.specs.declared.script.reply.Answer.TheVariants.{Accepted, Refused, Truncated}
-use Rattle.grep_cmd.specs.Script.{Step, IsStep, WantsMore, line_command}
-use Rattle.grep_cmd.specs.Replies.{RepliesTo, Replies, truncated, is_refusal, end_for}
+use Rattle.grep_cmd.specs.Script.{Step, IsStep, WantsMore, AsksForMemory, line_command}
+use Rattle.grep_cmd.specs.Replies.{RepliesTo, Replies, SearchesAtMost, SearchesTouched, truncated}
+use Rattle.grep_cmd.specs.Replies.{is_refusal, end_for}
 use Rattle.grep_live.specs.Marks.{Watched, new_watched}
 
 -- how an edit was answered
@@ -39,7 +42,8 @@ module _ {R : Type 0} (remaining : R → Option Text) (failures : R → ℕ) (re
   ReadsNext now (Err Read) = StandsAs remaining failures reader now handed broken
   ReadsNext now (Err fault) = HasHanded remaining failures reader now handed
 
-  -- after these lines the counted number was taken; or fewer are left; or a read failed before
+  -- after these lines the counted number was taken; or fewer are left; or a read failed before; or
+  -- no more than these were taken
   abbrev pub TakesLines : ℕ → Numbered R → Result (Option (List Text)) ScriptFault → Type 0
   TakesLines count now (Ok (Some taken)) =
       (length taken ≡ count) × HasHanded remaining failures reader now (handed ++ taken)
@@ -50,7 +54,8 @@ module _ {R : Type 0} (remaining : R → Option Text) (failures : R → ℕ) (re
       (taken : List Text) × (length taken < count) ×
       StandsAs remaining failures reader now (handed ++ taken) broken
   TakesLines count now (Err fault) =
-      (taken : List Text) × HasHanded remaining failures reader now (handed ++ taken)
+      (taken : List Text) × (length taken ≤ count) ×
+      HasHanded remaining failures reader now (handed ++ taken)
 
 module _ {W : Type 0} (contents : W → Option Text) (failures : W → ℕ) (old new : W) where
   -- what was buffered was sent, or that failed
@@ -80,37 +85,52 @@ module _ {W : Type 0} (contents : W → Option Text) (failures : W → ℕ) (old
 -- ---- one command
 
 module _ {R : Type 0} (remaining : R → Option Text) (failures : R → ℕ) (reader : R)
-    (handed : List Text) (line : Text) (now : Numbered R) (before : Watched) where
-  -- a command was done, which left this, with this reply
+    (handed : List Text) (line : Text) (now : Numbered R) (begun spent : StepCounts)
+    (before : Watched) where
+  -- a command was done, which left this, with this reply and no more steps of search than it costs
   pub record DoesStep (after : Watched) (reply : List Text) : Type 0 where
     pub taken : List Text
     pub step : Step
     pub has_handed : HasHanded remaining failures reader now (handed ++ taken)
     pub is_step : IsStep (line_command line) taken step
     pub replies_to : RepliesTo step before reply after
+    pub most : ℕ
+    pub is_most : SearchesAtMost step before.inputs most
+    pub few : AddsAtMost most begun spent
 
 module _ {R : Type 0} (remaining : R → Option Text) (failures : R → ℕ) (reader : R)
-    (handed : List Text) (line : Text) (now : Numbered R) (before after : Watched) where
+    (handed : List Text) (line : Text) (now : Numbered R) (begun spent : StepCounts)
+    (before after : Watched) where
   -- what the command leaves and its reply, where it was done
   abbrev pub Does : Watched → List Text → Type 0
-  Does then reply = DoesStep remaining failures reader handed line now before then reply
+  Does then reply = DoesStep remaining failures reader handed line now begun spent before then reply
 
   -- fewer lines follow than the command counts
   pub record WantsLines : Type 0 where
     pub taken : List Text
     pub wants : WantsMore (line_command line) taken
     pub stands : StandsAs remaining failures reader now (handed ++ taken) whole
+    pub idle : spent ≡ begun
 
   -- a read failed before all lines that the command counts were read
   pub record LosesLines : Type 0 where
     pub taken : List Text
     pub wants : WantsMore (line_command line) taken
     pub stands : StandsAs remaining failures reader now (handed ++ taken) broken
+    pub idle : spent ≡ begun
+
+  -- a growth was refused for the command, of which these lines were taken
+  pub record RunsShort : Type 0 where
+    pub taken : List Text
+    pub asks : AsksForMemory (line_command line) taken
+    pub has_handed : HasHanded remaining failures reader now (handed ++ taken)
+    pub idle : spent ≡ begun
 
   -- the command was given up
   pub record GivesUp : Type 0 where
     pub taken : List Text
     pub has_handed : HasHanded remaining failures reader now (handed ++ taken)
+    pub idle : spent ≡ begun
 
   module _ {W : Type 0} (contents : W → Option Text) (write_failures : W → ℕ) (old new : W) where
     abbrev pub AnswersLine : Result Answer ScriptFault → Type 0
@@ -121,7 +141,7 @@ module _ {R : Type 0} (remaining : R → Option Text) (failures : R → ℕ) (re
         GoesOut contents write_failures old new (written [] reply) ×
         (list_any is_refusal reply ≡ was_refused answer)
     AnswersLine (Err Read) = LosesLines × GoesOut contents write_failures old new []
-    AnswersLine (Err Memory) = GivesUp × GoesOut contents write_failures old new []
+    AnswersLine (Err Memory) = RunsShort × GoesOut contents write_failures old new []
     AnswersLine (Err Write) =
         (GivesUp × StopsWithin contents write_failures old new [])
         ⊎ (((then : Watched) × (reply : List Text) × Does then reply ×
@@ -138,9 +158,10 @@ AreDone lines (step ∷ steps) =
     IsStep (line_command line) taken step × AreDone more steps
 
 module _ {R W : Type 0} (remaining : R → Option Text) (failures : R → ℕ)
-    (contents : W → Option Text) (write_failures : W → ℕ) (reader : R) (old : W) where
+    (contents : W → Option Text) (write_failures : W → ℕ) (reader : R) (begun : StepCounts)
+    (old : W) where
   -- the lines handed out so far were answered
-  pub record AnsweredSoFar (now : Numbered R) (watched : Watched) (new : W)
+  pub record AnsweredSoFar (now : Numbered R) (watched : Watched) (spent : StepCounts) (new : W)
       (ending : ScriptEnd) : Type 0 where
     pub handed : List Text
     pub has_handed : HasHanded remaining failures reader now handed
@@ -148,5 +169,6 @@ module _ {R W : Type 0} (remaining : R → Option Text) (failures : R → ℕ)
     pub are_done : AreDone handed steps
     pub replies : List Text
     pub are_replies : Replies steps new_watched replies watched
+    pub work : SearchesTouched steps replies watched begun spent
     pub goes : GoesOut contents write_failures old new (written [] replies)
     pub ended : ending ≡ end_for replies

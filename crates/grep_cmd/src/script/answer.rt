@@ -4,7 +4,7 @@ ghost use Rattle.re_syntax.specs.Bytes.{Text};
 ghost use Rattle.grep_core.specs.Working.Numbered.{HasHanded};
 ghost use Rattle.grep_session.specs.declared.fault.EditFault.TheVariants.{Memory};
 ghost use Rattle.grep_session.specs.Edits.{EditGives};
-ghost use Rattle.grep_session.specs.Touched.{NeedsNoMemory};
+ghost use Rattle.grep_session.specs.Touched.{NeedsNoMemory, TakesSteps};
 ghost use Rattle.grep_cmd.specs.Script.{line_command, counts};
 ghost use Rattle.grep_cmd.specs.declared.script.reply.Answer.{Answer};
 ghost use Rattle.grep_cmd.specs.Show.{AreShown};
@@ -22,14 +22,14 @@ use crate::script::reply::{Answer, write_reply};
 use crate::showing::{show, show_changes, show_page};
 use grep_core::{CountedRead, CountedWrite, NumberedLines, WriteFault, write_line};
 use grep_live::Live;
-use grep_session::EditFault;
-use re_auto::Meter;
+use grep_session::{EditFault, Meter};
 use std::alloc::{AllocError, Global};
 
 /// Makes an edit for which the command line is enough.
 fn make_edit(session: &mut Live, edit: LineEdit, meter: &mut Meter) -> Result<(), EditFault>
     ensures gives { EditGives (line_meant edit) session.old.inputs session.new.inputs result }
     ensures carries { Carries (line_meant edit) session.old session.new result }
+    ensures steps { TakesSteps (line_meant edit) session.old.inputs meter.old meter.new }
     ensures memory { NeedsNoMemory (line_meant edit) session.old.inputs →
         IfErr result (λ fault. fault ≢ Memory) }
 {
@@ -63,6 +63,10 @@ fn make_counted_edit(
         (λ answer.
         Carries (counted_meant edit (map (λ l. l.items) lines.items)) session.old session.new
         answer) }
+    ensures steps { IfOk result
+        (λ _. TakesSteps (counted_meant edit (map (λ l. l.items) lines.items)) session.old.inputs
+        meter.old meter.new) }
+    ensures idle { IfErr result (λ _. meter.new ≡ meter.old) }
     ensures memory { IfOk result
         (λ answer. NeedsNoMemory (counted_meant edit (map (λ l. l.items) lines.items)) session.old.inputs →
         IfErr answer (λ fault. fault ≢ Memory)) }
@@ -169,7 +173,7 @@ fn answer_counted<R: CountedRead, W: CountedWrite>(
     ensures answers { (reader : R) (handed : List Text) (line : Text) →
         HasHanded R.remaining R.failures reader lines.old handed
         → line_command line ≡ Some (counts count (counted_meant edit))
-        → AnswersLine R.remaining R.failures reader handed line lines.new session.old session.new
+        → AnswersLine R.remaining R.failures reader handed line lines.new meter.old meter.new session.old session.new
         W.contents W.failures out.old out.new result }
     ensures same_loan { R.loan lines.new.lines.reader ≡ R.loan lines.old.lines.reader }
 {
@@ -194,7 +198,7 @@ pub fn answer_command<R: CountedRead, W: CountedWrite>(
 ) -> Result<Answer, ScriptFault>
     ensures answers { (reader : R) (handed : List Text) →
         HasHanded R.remaining R.failures reader lines.old handed
-        → AnswersLine R.remaining R.failures reader handed lines.old.lines.line lines.new
+        → AnswersLine R.remaining R.failures reader handed lines.old.lines.line lines.new meter.old meter.new
         session.old session.new W.contents W.failures out.old out.new result }
     ensures same_loan { R.loan lines.new.lines.reader ≡ R.loan lines.old.lines.reader }
 {

@@ -1,5 +1,5 @@
 //! The commands of a script.
-ghost use Rattle.std.specs.Prelude.{◌≡◌, IfOk, option_map};
+ghost use Rattle.std.specs.Prelude.{◌≡◌, [], Some, IfOk, IfErr, option_map};
 ghost use Rattle.grep_utility.specs.Words.{number_of};
 ghost use Rattle.grep_cmd.specs.Script.{name_of, flag_of, switch_of, syntax_of, file_command};
 ghost use Rattle.grep_cmd.specs.Script.{missing_command, close_command, splice_command};
@@ -7,7 +7,7 @@ ghost use Rattle.grep_cmd.specs.Script.{patterns_command, drop_command, flag_com
 ghost use Rattle.grep_cmd.specs.Script.{syntax_command, no_context, context_from};
 ghost use Rattle.grep_cmd.specs.Script.{context_command, show_command, unnamed_command};
 ghost use Rattle.grep_cmd.specs.Script.{line_command, changes_command, page_command};
-ghost use Rattle.grep_cmd.specs.Script.{listing_command};
+ghost use Rattle.grep_cmd.specs.Script.{listing_command, AsksForMemory};
 ghost use Rattle.grep_cmd.specs.Working.Commands.{meant};
 
 use crate::script::line_words::{LineWords, words_of};
@@ -64,7 +64,8 @@ pub enum Command {
 
 /// The name that the word is.
 fn read_name(alloc: Global, word: &[u8]) -> Result<Option<Vec<u8>>, AllocError>
-    ensures { IfOk result (λ name. option_map (λ text. text.items) name ≡ name_of word.now) }
+    ensures name { IfOk result (λ name. option_map (λ text. text.items) name ≡ name_of word.now) }
+    ensures short { IfErr result (λ _. name_of word.now ≡ Some word.now) }
 {
     if word.is_empty() {
         return Ok(None);
@@ -118,7 +119,8 @@ fn read_syntax(word: &[u8]) -> Option<Syntax>
 
 /// `file NAME COUNT`
 fn read_file(alloc: Global, words: LineWords<'_>) -> Result<Option<Command>, AllocError>
-    ensures { IfOk result (λ command. option_map meant command ≡ file_command words.entry) }
+    ensures read { IfOk result (λ command. option_map meant command ≡ file_command words.entry) }
+    ensures short { IfErr result (λ _. AsksForMemory (file_command words.entry) []) }
 {
     let Some((name, count)) = words.two() else {
         return Ok(None);
@@ -134,7 +136,9 @@ fn read_file(alloc: Global, words: LineWords<'_>) -> Result<Option<Command>, All
 
 /// `missing NAME`
 fn read_missing(alloc: Global, words: LineWords<'_>) -> Result<Option<Command>, AllocError>
-    ensures { IfOk result (λ command. option_map meant command ≡ missing_command words.entry) }
+    ensures read { IfOk result
+        (λ command. option_map meant command ≡ missing_command words.entry) }
+    ensures short { IfErr result (λ _. AsksForMemory (missing_command words.entry) []) }
 {
     let Some(word) = words.only() else {
         return Ok(None);
@@ -316,7 +320,8 @@ fn read_unnamed(word: &[u8], words: LineWords<'_>) -> Option<Command>
 
 /// The command of a line, where it is one. A growth may be refused for its name.
 pub fn read_command(alloc: Global, line: &[u8]) -> Result<Option<Command>, AllocError>
-    ensures { IfOk result (λ command. option_map meant command ≡ line_command line.now) }
+    ensures read { IfOk result (λ command. option_map meant command ≡ line_command line.now) }
+    ensures short { IfErr result (λ _. AsksForMemory (line_command line.now) []) }
 {
     let mut words = words_of(line);
     let Some(word) = words.next() else {

@@ -1,5 +1,5 @@
--- The bytes of a message about the script, written as a row.
-use Rattle.std.proofs.Common.{◌≡◌, ℕ, [], ◌∷◌, ◌++◌, Option, None, Some, Result, codes, sym, ap, ◌∙◌, append_assoc, append-nil, subst}
+-- The bytes of a message about the script, written as a row, and that no reply waits.
+use Rattle.std.proofs.Common.{◌≡◌, ℕ, ◌+◌, [], ◌∷◌, ◌++◌, length, Option, None, Some, Result, codes, refl, arith, sym, ap, ◌∙◌, append_assoc, append-nil, subst}
 use Rattle.grep_core.specs.Row.{colon, head, output_line}
 use Rattle.grep_core.specs.Written.{Writes}
 use Rattle.grep_cmd.specs.Bytes.{Text}
@@ -16,3 +16,8 @@ pub writes_cannot_open : {W T E : Type 0} (contents : W → Option Text) (failur
     → Writes contents failures a b (output_line (codes "occur: ") (head colon (Some name) None ++ codes " cannot open")) r
     → Writes contents failures a b (output_line [] (cannot_open name)) r
 writes_cannot_open contents failures a b name r w = subst (λ bytes. Writes contents failures a b bytes r) (message_row-is name (codes " cannot open")) w
+
+-- no byte waits, neither in the buffer nor in the device
+pub all_sent : (bytes : Text) (n : ℕ) → length bytes + n ≡ 0 → (bytes ≡ []) × (n ≡ 0)
+all_sent [] n none = (refl, omega (arith, none))
+all_sent (b ∷ bytes) n none = absurd (omega (arith, none))

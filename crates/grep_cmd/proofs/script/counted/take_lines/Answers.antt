@@ -41,7 +41,9 @@ returns-in-Err-push_line-clause-takes g c =
     let taken = map (λ t. t.items) c.loop-alloc.taken.items in
     let line = c.next_line.new.lines.lines.line in
     let next = rw c.in-Ok-true.field-0-test at c.in-Ok-true.ensures.next in
-    λ reader handed h. (taken ++ line ∷ [], one_more_taken g.R.CountedRead.remaining g.R.CountedRead.failures reader handed c.next_line.new.lines taken line (next reader (handed ++ taken) (c.loop-alloc.invariant.0 reader handed h)))
+    let below : length c.loop-alloc.taken.items < c.args.count = search rules in
+    let few : length (taken ++ line ∷ []) ≤ c.args.count = omega (arith, below, length-map c.loop-alloc.taken.items (λ t. t.items), length_push taken line) in
+    λ reader handed h. (taken ++ line ∷ [], few, one_more_taken g.R.CountedRead.remaining g.R.CountedRead.failures reader handed c.next_line.new.lines taken line (next reader (handed ++ taken) (c.loop-alloc.invariant.0 reader handed h)))
 
 pub returns-clause-takes : goal.returns-clause-takes
 returns-clause-takes g c =
