@@ -1,11 +1,11 @@
 -- The replies to a script (occur(1), REPLIES), and what a run of it writes and returns.
-use Rattle.std.specs.Prelude.{◌≡◌, ◌≢◌, ℕ, ◌+◌, Bool, if◌then◌else◌, List, [], ◌∷◌, ◌++◌, take}
+use Rattle.std.specs.Prelude.{◌≡◌, ◌≢◌, ℕ, ◌+◌, ◌-◌, length, Bool, if◌then◌else◌, List, [], ◌∷◌, ◌++◌, take}
 use Rattle.std.specs.Prelude.{codes, bytes_eq, Option, Result, Ok, Err, ◌⊎◌}
 use Rattle.std.specs.List.{list_any}
 use Rattle.std.specs.Fmt.{decimal}
 use Rattle.std.specs.Io.KnownBytes.{prepend_known, Consumes}
 use Rattle.re_syntax.specs.Bytes.{Text}
-use Rattle.re_syntax.specs.Lines.{lines_of}
+use Rattle.re_syntax.specs.Lines.{HasNoNewline, lines_of}
 use Rattle.grep_core.specs.Files.{File, Inputs, whole, broken}
 use Rattle.grep_core.specs.Meters.{Steps as StepCounts}
 use Rattle.grep_core.specs.Output.{written}
@@ -147,12 +147,14 @@ pub record BeginsScript (known : Option Text) (failed_before failed : ℕ)
   pub none_failed : failed ≡ failed_before
 
 -- a reader gave these lines: the bytes that it had are those of the lines, those that were read
--- past them, and those that it has left
+-- past them, and those that it has left; of these that were read, but for the last 65,536 bytes, all
+-- are the beginning of one line
 pub record GaveLines (known left : Option Text) (lines : List Text) : Type 0 where
   pub given : Text
   pub are_lines : lines_of given ≡ lines
   pub ahead : Text
   pub gave : Consumes known (prepend_known ahead left) given
+  pub few : HasNoNewline (take (length ahead - 65536) ahead)
 
 -- the rest of a script whose reading failed holds no whole command
 abbrev pub IsCutShort : List Text → Type 0

@@ -4,9 +4,8 @@ ghost use Rattle.re_syntax.specs.Profile.{most_states};
 ghost use Rattle.grep_core.specs.declared.input.lines.Stage.{Stage};
 ghost use Rattle.grep_live.specs.Marks.{new_watched};
 ghost use Rattle.grep_cmd.specs.declared.script.ScriptFault.{ScriptFault};
-ghost use Rattle.grep_core.specs.Working.Numbered.{HasHanded};
 ghost use Rattle.grep_cmd.specs.Replies.{GaveLines, ScriptGives};
-ghost use Rattle.grep_cmd.specs.Working.Answered.{FlushesBehind};
+ghost use Rattle.grep_cmd.specs.Working.Answered.{FlushesBehind, HasRead};
 
 mod answer;
 mod command;
@@ -55,7 +54,7 @@ fn answer_all<R: CountedRead, W: CountedWrite>(
     requires still_open { lines.old.lines.stage ≡ Stage.Open }
     requires none_numbered { lines.old.number ≡ 0 }
     ensures gives { ScriptGives W.contents W.failures
-        (HasHanded R.remaining R.failures lines.old.lines.reader lines.new)
+        (HasRead R.remaining R.failures lines.old.lines.reader lines.new)
         (R.remaining lines.old.lines.reader) (R.remaining lines.new.lines.reader)
         (R.failures lines.old.lines.reader) (R.failures lines.new.lines.reader) meter.old meter.new
         out.old out.new result }

@@ -3,7 +3,7 @@ use Rattle.std.proofs.Common.{◌≡◌, ℕ, ◌<◌, ◌≤◌, true, false, L
 use Rattle.std.proofs.lemmas.List.{length-append}
 use Rattle.std.specs.List.{list_any}
 use Rattle.re_syntax.specs.Bytes.{Text}
-use Rattle.re_syntax.specs.Lines.{lines_of}
+use Rattle.re_syntax.specs.Lines.{HasNoNewline, lines_of}
 use Rattle.re_syntax.proofs.lemmas.LinesLaws.{lines_of-terminated}
 use Rattle.grep_core.specs.Files.{File, Ending, whole, broken}
 use Rattle.grep_core.specs.Meters.{Steps as StepCounts}
@@ -12,6 +12,7 @@ use Rattle.grep_core.specs.Reading.{file_of, most_lines}
 use Rattle.grep_core.specs.Written.{GoesOut, StopsWithin}
 use Rattle.grep_core.specs.Working.Numbered.{Numbered, HasHanded, StandsAs}
 use Rattle.grep_core.specs.Working.Handed.{AreHanded}
+use Rattle.grep_core.specs.Working.Held.{IsOneLineAndFew}
 use Rattle.grep_core.specs.declared.input.lines.Stage.{Stage}
 use Rattle.grep_core.specs.declared.input.lines.Stage.TheVariants.{Open, Ended, Failed}
 use Rattle.grep_core.proofs.lemmas.CostLaws.{adds_none}
@@ -26,7 +27,7 @@ use Rattle.grep_cmd.specs.declared.script.ScriptEnd.{ScriptEnd}
 use Rattle.grep_cmd.specs.declared.script.ScriptEnd.TheVariants.{Clean, Refused}
 use Rattle.grep_cmd.specs.Script.{is_truncated, IsBegun}
 use Rattle.grep_cmd.specs.Replies.{truncated, is_refusal, end_for, AnswersScript, ReadsScript, BeginsScript, GaveLines, SearchesTouched, StopsWriting, ScriptGives}
-use Rattle.grep_cmd.specs.Working.Answered.{ReadsNext, FlushesFor, FlushesBehind, DoesStep, WantsLines, LosesLines, AnswersLine, AnsweredSoFar}
+use Rattle.grep_cmd.specs.Working.Answered.{HasRead, ReadsNext, FlushesFor, FlushesBehind, DoesStep, WantsLines, LosesLines, AnswersLine, AnsweredSoFar}
 use Rattle.grep_cmd.proofs.lemmas.ScriptSteps.{done_push, done_steps, done_alone, replies_push, work_none, work_push, end_kept, end_refused}
 
 abbrev script_of : List Text → Ending → File
@@ -88,7 +89,7 @@ module _ {R W : Type 0} (remaining : R → Option Text) (failures : R → ℕ) (
   -- what a run gives that read so far, counted so many steps, and wrote so much
   abbrev Gives : Numbered R → StepCounts → W → Result ScriptEnd ScriptFault → Type 0
   Gives next last new result =
-      ScriptGives contents write_failures (HasHanded remaining failures reader next) (remaining reader) (remaining next.lines.reader) (failures reader) (failures next.lines.reader) begun last old new result
+      ScriptGives contents write_failures (HasRead remaining failures reader next) (remaining reader) (remaining next.lines.reader) (failures reader) (failures next.lines.reader) begun last old new result
 
   module _ (now : Numbered R) (inputs : Watched) (spent : StepCounts) (mid : W) (ending : ScriptEnd) (s : AnsweredSoFar remaining failures contents write_failures reader begun old now inputs spent mid ending) where
     -- the steps so far, of a script that continues
@@ -135,10 +136,10 @@ module _ {R W : Type 0} (remaining : R → Option Text) (failures : R → ℕ) (
       }
 
       -- a growth was refused, with the next command or without it
-      pub runs_out : (first : List Text) → IsBegun first → HasHanded remaining failures reader next (s.handed ++ first) → GoesOut contents write_failures mid new []
+      pub runs_out : (first : List Text) → IsBegun first → IsOneLineAndFew next.lines.ahead → HasHanded remaining failures reader next (s.handed ++ first) → GoesOut contents write_failures mid new []
           → Gives next spent new (Err Memory)
       unfolding answers_so_far
-      runs_out first is_begun handed flushed =
+      runs_out first is_begun few handed flushed =
           let b = begins next (s.handed ++ first) handed in
           let is = b.2.1 ∙ append_assoc s.handed first b.2.0 in
           record {
@@ -153,7 +154,7 @@ module _ {R W : Type 0} (remaining : R → Option Text) (failures : R → ℕ) (
             others = b.2.0;
             is_rest = refl;
             is_begun = is_begun;
-            were_read = handed;
+            were_read = (handed, few);
             work = s.work;
             goes = goes_same old mid new (written [] s.replies) s.goes flushed;
           }
@@ -175,11 +176,11 @@ module _ {R W : Type 0} (remaining : R → Option Text) (failures : R → ℕ) (
           }
 
     -- no further line was read
-    pub next_fails : (next : Numbered R) (new : W) (f : ScriptFault) → ReadsNext remaining failures reader s.handed next (Err f) → FlushesFor contents write_failures mid new f
+    pub next_fails : (next : Numbered R) (new : W) (f : ScriptFault) → IsOneLineAndFew next.lines.ahead → ReadsNext remaining failures reader s.handed next (Err f) → FlushesFor contents write_failures mid new f
         → Gives next spent new (Err f)
-    next_fails next new Read stands sent = cut_here next new stands sent
-    next_fails next new Memory handed sent = runs_out next new [] tt (subst (HasHanded remaining failures reader next) (sym (append-nil s.handed)) handed) sent
-    next_fails next new Write handed stops = stops_sending next new [] (subst (HasHanded remaining failures reader next) (sym (append-nil s.handed)) handed) stops
+    next_fails next new Read few stands sent = cut_here next new stands sent
+    next_fails next new Memory few handed sent = runs_out next new [] tt few (subst (HasHanded remaining failures reader next) (sym (append-nil s.handed)) handed) sent
+    next_fails next new Write few handed stops = stops_sending next new [] (subst (HasHanded remaining failures reader next) (sym (append-nil s.handed)) handed) stops
 
     -- ---- a command line was handed out
 
@@ -307,17 +308,17 @@ module _ {R W : Type 0} (remaining : R → Option Text) (failures : R → ℕ) (
       }
 
       -- the command wasn't answered
-      pub answer_fails : (f : ScriptFault) → AnswersLine remaining failures reader (s.handed ++ line ∷ []) line next spent last inputs after contents write_failures sent new (Err f)
+      pub answer_fails : (f : ScriptFault) → IsOneLineAndFew next.lines.ahead → AnswersLine remaining failures reader (s.handed ++ line ∷ []) line next spent last inputs after contents write_failures sent new (Err f)
           → Gives next last new (Err f)
-      answer_fails Read h = cut_within h.0 h.1
-      answer_fails Memory h =
+      answer_fails Read few h = cut_within h.0 h.1
+      answer_fails Memory few h =
           let handed = subst (HasHanded remaining failures reader next) (line_then s.handed line h.0.taken) h.0.has_handed in
-          subst (λ (n : StepCounts). Gives next n new (Err Memory)) (sym h.0.idle) (runs_out next new (line ∷ h.0.taken) h.0.asks handed (goes_same mid sent new [] flushed h.1))
-      answer_fails Write (inl h) =
+          subst (λ (n : StepCounts). Gives next n new (Err Memory)) (sym h.0.idle) (runs_out next new (line ∷ h.0.taken) h.0.asks few handed (goes_same mid sent new [] flushed h.1))
+      answer_fails Write few (inl h) =
           let handed = subst (HasHanded remaining failures reader next) (line_then s.handed line h.0.taken) h.0.has_handed in
           subst (λ (n : StepCounts). Gives next n new (Err Write)) (sym h.0.idle) (stops_sending next new (line ∷ h.0.taken) handed (stops_same mid sent new [] flushed h.1))
-      answer_fails Write (inr (inl h)) = stops_replying h.0 h.1 h.2 h.3
-      answer_fails Write (inr (inr h)) = stops_truncated h.0 h.1
+      answer_fails Write few (inr (inl h)) = stops_replying h.0 h.1 h.2 h.3
+      answer_fails Write few (inr (inr h)) = stops_truncated h.0 h.1
 
 -- ---- the end
 
@@ -354,6 +355,9 @@ module _ {W : Type 0} (contents : W → Option Text) (failures : W → ℕ) (has
 
 -- ---- what the reader gave
 
+none_in_nothing : HasNoNewline []
+none_in_nothing i d below = absurd (omega arith)
+
 -- the lines that were handed out are those of the bytes that the reader gave
 lines_handed : (stage : Stage) (given : Text) (handed : List Text) → AreHanded stage given handed → lines_of given ≡ handed
 lines_handed Open given handed h = ap lines_of h.0 ∙ lines_of-terminated handed h.1
@@ -361,12 +365,12 @@ lines_handed Ended given handed h = h
 lines_handed Failed given handed h = absurd h
 
 module _ {R W : Type 0} (remaining : R → Option Text) (failures : R → ℕ) (contents : W → Option Text) (write_failures : W → ℕ) (reader : R) where
-  gave : (now : Numbered R) (handed : List Text) → HasHanded remaining failures reader now handed → GaveLines (remaining reader) (remaining now.lines.reader) handed
-  gave now handed h = record { given = h.hands.given; are_lines = lines_handed now.lines.stage h.hands.given handed h.hands.are_handed; ahead = now.lines.ahead; gave = h.hands.gave }
+  gave : (now : Numbered R) (handed : List Text) → HasRead remaining failures reader now handed → GaveLines (remaining reader) (remaining now.lines.reader) handed
+  gave now handed (h, few) = record { given = h.hands.given; are_lines = lines_handed now.lines.stage h.hands.given handed h.hands.are_handed; ahead = now.lines.ahead; gave = h.hands.gave; few = few }
 
   -- a run that handed out some lines is one whose reader gave them
   pub gives_by_reader : (now : Numbered R) (begun spent : StepCounts) (old new : W) (result : Result ScriptEnd ScriptFault)
-      → ScriptGives contents write_failures (HasHanded remaining failures reader now) (remaining reader) (remaining now.lines.reader) (failures reader) (failures now.lines.reader) begun spent old new result
+      → ScriptGives contents write_failures (HasRead remaining failures reader now) (remaining reader) (remaining now.lines.reader) (failures reader) (failures now.lines.reader) begun spent old new result
       → ScriptGives contents write_failures (GaveLines (remaining reader) (remaining now.lines.reader)) (remaining reader) (remaining now.lines.reader) (failures reader) (failures now.lines.reader) begun spent old new result
   gives_by_reader now begun spent old new (Ok end) e =
       record { file = e.file; reads = e.reads; is_whole = e.is_whole; replies = e.replies; answers = e.answers; work = e.work; goes = e.goes; ended = e.ended }
@@ -385,4 +389,4 @@ runs_out_at_once {R} remaining failures contents write_failures reader steps out
     let now : Numbered R = record { lines = record { reader = reader; ahead = []; line = []; stage = Open }; number = 0 } in
     let none = has_handed_none remaining failures now refl refl refl in
     gives_by_reader remaining failures contents write_failures reader now steps steps out out (Err Memory)
-    (runs_out remaining failures contents write_failures reader steps out now new_watched steps out Clean (so_far_none remaining failures contents write_failures reader steps out now none) now out [] tt none (goes_nowhere contents write_failures out))
+    (runs_out remaining failures contents write_failures reader steps out now new_watched steps out Clean (so_far_none remaining failures contents write_failures reader steps out now none) now out [] tt none_in_nothing none (goes_nowhere contents write_failures out))

@@ -8,6 +8,7 @@ use Rattle.grep_core.specs.Meters.{Steps as StepCounts}
 use Rattle.grep_core.specs.Output.{written}
 use Rattle.grep_core.specs.Searching.{AddsAtMost}
 use Rattle.grep_core.specs.Written.{GoesOut, StopsWithin}
+use Rattle.grep_core.specs.Working.Held.{IsOneLineAndFew}
 use Rattle.grep_core.specs.Working.Numbered.{Numbered, HasHanded, StandsAs}
 use Rattle.grep_session.specs.declared.fault.EditFault.{EditFault}
 use Rattle.grep_cmd.specs.declared.script.ScriptFault.{ScriptFault}
@@ -31,6 +32,12 @@ was_refused Refused = true
 was_refused Truncated = true
 
 -- ---- the next lines
+
+-- these lines were handed out, and what was read past them is the beginning of one line, but for the
+-- last 65,536 bytes
+abbrev pub HasRead : {R : Type 0} → (R → Option Text) → (R → ℕ) → R → Numbered R → List Text → Type 0
+HasRead remaining failures reader now lines =
+    HasHanded remaining failures reader now lines × IsOneLineAndFew now.lines.ahead
 
 module _ {R : Type 0} (remaining : R → Option Text) (failures : R → ℕ) (reader : R)
     (handed : List Text) where

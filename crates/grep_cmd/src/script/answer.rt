@@ -1,6 +1,7 @@
 //! How a command is done and answered.
 ghost use Rattle.std.specs.Prelude.{◌≡◌, ◌≢◌, List, [], ◌∷◌, Some, IfOk, IfErr, map};
 ghost use Rattle.re_syntax.specs.Bytes.{Text};
+ghost use Rattle.grep_core.specs.Working.Held.{IsOneLineAndFew};
 ghost use Rattle.grep_core.specs.Working.Numbered.{HasHanded};
 ghost use Rattle.grep_session.specs.declared.fault.EditFault.TheVariants.{Memory};
 ghost use Rattle.grep_session.specs.Edits.{EditGives};
@@ -175,6 +176,7 @@ fn answer_counted<R: CountedRead, W: CountedWrite>(
         → line_command line ≡ Some (counts count (counted_meant edit))
         → AnswersLine R.remaining R.failures reader handed line lines.new meter.old meter.new session.old session.new
         W.contents W.failures out.old out.new result }
+    ensures held { IsOneLineAndFew lines.old.lines.ahead → IsOneLineAndFew lines.new.lines.ahead }
     ensures same_loan { R.loan lines.new.lines.reader ≡ R.loan lines.old.lines.reader }
 {
     let taken = match take_lines(alloc, lines, count, out) {
@@ -200,6 +202,7 @@ pub fn answer_command<R: CountedRead, W: CountedWrite>(
         HasHanded R.remaining R.failures reader lines.old handed
         → AnswersLine R.remaining R.failures reader handed lines.old.lines.line lines.new meter.old meter.new
         session.old session.new W.contents W.failures out.old out.new result }
+    ensures held { IsOneLineAndFew lines.old.lines.ahead → IsOneLineAndFew lines.new.lines.ahead }
     ensures same_loan { R.loan lines.new.lines.reader ≡ R.loan lines.old.lines.reader }
 {
     match read_command(alloc, lines.line()) {

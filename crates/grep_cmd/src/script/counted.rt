@@ -3,6 +3,7 @@ ghost use Rattle.std.specs.Prelude.{◌≡◌, [], ◌∷◌, ◌++◌, List, If
 ghost use Rattle.std.specs.Result.{result_map_both};
 ghost use Rattle.re_syntax.specs.Bytes.{Text};
 ghost use Rattle.re_syntax.specs.Lines.{joined, newline};
+ghost use Rattle.grep_core.specs.Working.Held.{IsOneLineAndFew};
 ghost use Rattle.grep_core.specs.Working.Numbered.{HasHanded};
 ghost use Rattle.grep_cmd.specs.Working.Answered.{ReadsNext, TakesLines, Flushes};
 
@@ -22,6 +23,7 @@ pub fn next_line<R: CountedRead, W: CountedWrite>(
         HasHanded R.remaining R.failures reader lines.old handed →
         ReadsNext R.remaining R.failures reader handed lines.new result }
     ensures sent { Flushes W.contents W.failures out.old out.new result }
+    ensures held { IsOneLineAndFew lines.old.lines.ahead → IsOneLineAndFew lines.new.lines.ahead }
     ensures same_loan { R.loan lines.new.lines.reader ≡ R.loan lines.old.lines.reader }
 {
     match send_before_read(lines, out) {
@@ -61,6 +63,7 @@ pub fn take_lines<R: CountedRead, W: CountedWrite>(
         (result_map_both (λ taken. option_map (λ ls. map (λ l. l.items) ls.items) taken)
         (λ e. e) result) }
     ensures sent { Flushes W.contents W.failures out.old out.new result }
+    ensures held { IsOneLineAndFew lines.old.lines.ahead → IsOneLineAndFew lines.new.lines.ahead }
     ensures same_loan { R.loan lines.new.lines.reader ≡ R.loan lines.old.lines.reader }
 {
     let mut taken = Vec::new(alloc);

@@ -4,7 +4,7 @@ ghost use Rattle.re_syntax.specs.Bytes.{Text};
 ghost use Rattle.re_syntax.specs.Lines.{lines_of};
 ghost use Rattle.re_search.specs.Working.Blocks.{IsBlock};
 ghost use Rattle.grep_core.specs.declared.input.lines.Stage.{Stage};
-ghost use Rattle.grep_core.specs.Working.Held.{HasWholeLine};
+ghost use Rattle.grep_core.specs.Working.Held.{HasWholeLine, IsOneLineAndFew};
 ghost use Rattle.grep_core.specs.Reading.{most_lines};
 ghost use Rattle.grep_core.specs.Working.Numbered.{AreAhead, HandsNext, PassesNext};
 
@@ -122,6 +122,7 @@ impl<R: CountedRead> NumberedLines<R> {
     /// numbered. After `ReadFault::Memory` the next call continues with the same line.
     pub fn next_line(&mut self) -> Result<bool, ReadFault>
         ensures next { HandsNext R.remaining R.failures self.old self.new result }
+        ensures held { IsOneLineAndFew self.new.lines.ahead }
         ensures same_loan { R.loan self.new.lines.reader ≡ R.loan self.old.lines.reader }
     {
         match self.lines.next_line() {

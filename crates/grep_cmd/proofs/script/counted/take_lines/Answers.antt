@@ -34,6 +34,7 @@ loop-alloc-preserved g c =
       goes_on g.W.CountedWrite.contents g.W.CountedWrite.failures c.args.out.now c.loop-alloc.out c.next_line.new.out [] [] c.loop-alloc.invariant.1 c.in-Ok-true.ensures.sent,
       (let longer = ap length pushed ∙ length_push taken line in omega (arith, longer, few)),
       c.next_line.ensures.same_loan ∙ c.loop-alloc.invariant.3,
+      λ few. c.next_line.ensures.held (c.loop-alloc.invariant.4 few),
     )
 
 pub returns-in-Err-push_line-clause-takes : goal.returns-in-Err-push_line-clause-takes

@@ -1,6 +1,7 @@
 use Rattle.std.proofs.Common.{◌≡◌, ◌≤◌, ◌-◌, length, List, [], ◌++◌, map}
 use Rattle.re_syntax.specs.Bytes.{Text}
 use Rattle.grep_core.specs.Written.{GoesOut}
+use Rattle.grep_core.specs.Working.Held.{IsOneLineAndFew}
 use Rattle.grep_core.specs.Working.Numbered.{HasHanded}
 use Rattle.grep_cmd.proofs.script.counted.take_lines.Given as goal
 
@@ -12,6 +13,7 @@ invariant-loop-alloc g l =
     × GoesOut g.W.CountedWrite.contents g.W.CountedWrite.failures l.fn.out l.out []
     × (length (map (λ t. t.items) l.taken.items) ≤ l.count)
     × (g.R.CountedRead.loan l.lines.lines.reader ≡ g.R.CountedRead.loan l.fn.lines.lines.reader)
+    × (IsOneLineAndFew l.fn.lines.lines.ahead → IsOneLineAndFew l.lines.lines.ahead)
 
 abbrev pub decreases-loop-alloc : goal.decreases-loop-alloc
 decreases-loop-alloc g l = l.count - l.taken.len
