@@ -24,8 +24,8 @@
 
 (defun live-occur-test--busy-p ()
   "Whether a reply of this list is on its way."
-  (and (live-occur--running-p live-occur--session)
-       (live-occur--session-waiting live-occur--session)))
+  (and (not live-occur--fault)
+       (process-get live-occur--process 'waiting)))
 
 (defun live-occur-test--wait ()
   "Wait until all replies of this list have come."
@@ -162,11 +162,11 @@ All buffers and processes that it makes are taken away after it."
           (live-occur-add-pattern))
         (should (equal (live-occur-test--rows list) "a:1:one\na:2:two\na:3:three\n"))
         (cl-letf (((symbol-function 'completing-read) (lambda (&rest _) "two")))
-          (live-occur-drop-pattern))
+          (call-interactively #'live-occur-drop-pattern))
         (should (equal (live-occur-test--rows list) "a:1:one\na:3:three\n"))
         (cl-letf (((symbol-function 'completing-read) (lambda (&rest _) "one"))
                   ((symbol-function 'read-from-minibuffer) (live-occur-test--answers "wo")))
-          (live-occur-change-pattern))
+          (call-interactively #'live-occur-change-pattern))
         (should (equal live-occur--patterns '("wo" "hr")))
         (should (equal (live-occur-test--rows list) "a:2:two\na:3:three\n"))))))
 
@@ -320,11 +320,11 @@ All buffers and processes that it makes are taken away after it."
       (cl-letf* ((send (symbol-function 'live-occur--send))
                  (due 0)
                  ((symbol-function 'live-occur--send)
-                  (lambda (session text function)
+                  (lambda (text function)
                     (if (not (equal text "changes\n"))
-                        (funcall send session text function)
+                        (funcall send text function)
                       (setq due (1+ due) all (1+ all) most (max most due))
-                      (funcall send session text
+                      (funcall send text
                                (lambda (&rest reply)
                                  (setq due (1- due))
                                  (apply function reply)))))))
@@ -519,17 +519,17 @@ All buffers and processes that it makes are taken away after it."
   (live-occur-test--with '("a\n")
     (let ((list (live-occur "a")) seen)
       (live-occur-test--rows list)
-      (let* ((session (buffer-local-value 'live-occur--session list))
+      (let* ((process (buffer-local-value 'live-occur--process list))
              (take (lambda (name)
-                     (lambda (reply)
-                       (push (list name (buffer-string) reply) seen)
+                     (lambda (reply rows)
+                       (push (list name rows reply) seen)
                        (when (eq name 'first)
-                         (live-occur--read session "4 - ab\nstatus 0\no"))))))
-        (setf (live-occur--session-waiting session)
-              (mapcar take '(first second third fourth)))
-        (live-occur--read session "h 0 1 2 3 1\nr 2 - status 5\nstatus 1\nhits 1\np 0 ")
-        (live-occur--read session "k\nrefused NoSuchFile")
-        (live-occur--read session "\n"))
+                         (live-occur--read process "4 - ab\nstatus 0\no"))))))
+        (process-put process 'waiting
+                     (mapcar take '(first second third fourth)))
+        (live-occur--read process "h 0 1 2 3 1\nr 2 - status 5\nstatus 1\nhits 1\np 0 ")
+        (live-occur--read process "k\nrefused NoSuchFile")
+        (live-occur--read process "\n"))
       (should (equal (nreverse seen)
                      '((first "h 0 1 2 3 1\nr 2 - status 5\n" "status 1")
                        (second "hits 1\np 0 4 - ab\n" "status 0")
@@ -571,9 +571,11 @@ All buffers and processes that it makes are taken away after it."
   (should (equal-including-properties
            (live-occur--underlined "ab" 2)
            #("ab " 2 3 (face live-occur-fault))))
-  (should (equal (live-occur--fault-in "refused Pattern 1 BadRange 3" '("" "é[z-a]"))
-                 '(1 "BadRange" 2)))
-  (should-not (live-occur--fault-in "refused Memory" '("a"))))
+  (should (equal (live-occur--fault-in "refused Pattern 3 BadRange 3" "\né[z-a]" 2)
+                 '("BadRange" 3)))
+  (should (equal (live-occur--fault-in "refused Memory" "a" 0)
+                 '("refused Memory" 0)))
+  (should-not (live-occur--fault-in "ok" "a" 0)))
 
 (ert-deftest live-occur-keeps-a-syntax-that-another-cannot-replace ()
   (live-occur-test--with '("a(\n")
@@ -612,7 +614,7 @@ All buffers and processes that it makes are taken away after it."
       (with-current-buffer list
         (cl-letf (((symbol-function 'message)
                    (lambda (&rest words) (setq told (apply #'format words)))))
-          (signal-process (live-occur--session-process live-occur--session) 'KILL)
+          (signal-process live-occur--process 'KILL)
           (with-timeout (10) (while (not told) (accept-process-output nil 0.05))))
         (should (string-match-p
                  "\\`\\*Live Occur\\*: .*occur was killed by signal 9; r in the list starts it again\\'"
@@ -696,7 +698,7 @@ All buffers and processes that it makes are taken away after it."
       (insert "a\n")
       (should (equal (live-occur-test--rows list) "a:1:a\na:2:a\n"))
       (with-current-buffer list
-        (should-not (live-occur--source-lost (car live-occur--sources)))))))
+        (should-not (live-occur--lost (car live-occur--sources)))))))
 
 (ert-deftest live-occur-offers-the-symbol-at-point ()
   (live-occur-test--with '("")
@@ -862,7 +864,7 @@ It is nil where the pattern is refused."
 (defun live-occur-test--kill (list)
   "Kill the program of LIST, and wait until that is known."
   (with-current-buffer list
-    (signal-process (live-occur--session-process live-occur--session) 'KILL)
+    (signal-process live-occur--process 'KILL)
     (with-timeout (10 (error "The end of the program is not known"))
       (while (not live-occur--fault)
         (accept-process-output nil 0.01)))))
@@ -893,7 +895,7 @@ It is nil where the pattern is refused."
           (should (equal (live-occur-test--restart list) rows)))
         (ert-info ("while changes are on their way")
           (with-current-buffer list
-            (signal-process (live-occur--session-process live-occur--session) 'STOP)
+            (signal-process live-occur--process 'STOP)
             (with-current-buffer a
               (goto-char (point-min))
               (insert "x\n"))
@@ -961,7 +963,7 @@ It is nil where the pattern is refused."
     (let ((list (live-occur "a")))
       (should (equal (live-occur-test--rows list) "a:1:a\n"))
       (with-current-buffer list
-        (let ((process (live-occur--session-process live-occur--session)))
+        (let ((process live-occur--process))
           (signal-process process 'STOP)
           (with-timeout (10)
             (while (eq (process-status process) 'run)
@@ -1051,7 +1053,7 @@ It is nil where the pattern is refused."
         (goto-char (point-max))
         (insert "x\n")
         (with-current-buffer list
-          (live-occur--flush (car live-occur--sources) live-occur--session 0))
+          (live-occur--flush (car live-occur--sources) 0))
         (goto-char 100)
         (insert "\n\n\n")
         (goto-char (point-min))
@@ -1075,7 +1077,7 @@ It is nil where the pattern is refused."
           (should (eq (current-buffer) list)))
         (should (= (line-number-at-pos (window-point (get-buffer-window a))) 3))
         (with-current-buffer list
-          (live-occur-toggle-follow)
+          (next-error-follow-minor-mode 'toggle)
           (live-occur-previous 2)
           (run-hooks 'post-command-hook))
         (should (= (line-number-at-pos (window-point (get-buffer-window a))) 3))))))
@@ -1324,19 +1326,23 @@ It is nil where the pattern is refused."
             (insert (make-string (random 60) ?\n))))))
   (undo-boundary))
 
+(defun live-occur-test--add (text)
+  "Add the patterns in TEXT to this list."
+  (live-occur--put (append live-occur--patterns (split-string text "\n"))))
+
 (defun live-occur-test--change (list)
   "Change at random a flag, the syntax or the patterns of LIST."
   (with-current-buffer list
     (pcase (random 9)
       (8 (live-occur-set-context (random 3) (random 3)))
-      ((or 0 1 2 3) (live-occur--toggle (nth (random 3) live-occur--flag-letters)))
+      ((or 0 1 2 3) (live-occur--toggle (nth (random 3) '(?i ?v ?x))))
       (4 (live-occur--choose-syntax (nth (random 3) '(basic extended fixed))))
-      (5 (live-occur--add (nth (random 6) '("a" "b$" "^" "a*b" "\\(a" "[ab]B"))))
+      (5 (live-occur-test--add (nth (random 6) '("a" "b$" "^" "a*b" "\\(a" "[ab]B"))))
       (6 (when live-occur--patterns
-           (live-occur--drop (random (length live-occur--patterns)))))
-      (7 (live-occur--add (concat (live-occur-test--text 1) "\nb"))))
+           (live-occur-drop-pattern (random (length live-occur--patterns)))))
+      (7 (live-occur-test--add (concat (live-occur-test--text 1) "\nb"))))
     (unless live-occur--patterns
-      (live-occur--add "a"))))
+      (live-occur-test--add "a"))))
 
 (defun live-occur-test--searched (list folder &optional parts)
   "What grep writes for all that LIST has, with files in FOLDER.
@@ -1347,7 +1353,7 @@ With PARTS non-nil it is the matched parts."
           (coding-system-for-read 'utf-8-emacs-unix)
           names)
       (dolist (source live-occur--sources)
-        (with-current-buffer (live-occur--source-buffer source)
+        (with-current-buffer (live-occur--buffer source)
           (push (buffer-name) names)
           (save-restriction
             (widen)
@@ -1415,10 +1421,10 @@ The answer is how many they are."
        (lambda (hit)
          (let ((source (live-occur--hit-source hit))
                (line (live-occur--line-of hit)))
-           (unless (or (live-occur--source-lost source)
-                       (/= (live-occur--source-tick source)
-                           (buffer-chars-modified-tick (live-occur--source-buffer source)))
-                       (cl-loop for (at _ is) in (live-occur--source-edits source)
+           (unless (or (live-occur--lost source)
+                       (/= (live-occur--tick source)
+                           (buffer-chars-modified-tick (live-occur--buffer source)))
+                       (cl-loop for (at _ is) in (live-occur--edits source)
                                 thereis (<= at line (+ at is))))
              (cl-incf checked)
              (should (equal (live-occur--bytes (live-occur--text-of-line hit))
@@ -1515,7 +1521,7 @@ of the edits: of the command alone, and with the update."
               (live-occur--update)
               (while (live-occur-test--busy-p)
                 (accept-process-output
-                 (live-occur--session-process live-occur--session) 1)))
+                 live-occur--process 1)))
             (push (- (float-time) start) updates)))
         (with-current-buffer list
           (should (= (live-occur--total) (+ turns (/ (+ lines every -1) every)))))
