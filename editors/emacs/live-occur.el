@@ -112,19 +112,15 @@ The whole line is searched."
 (defvar-local live-occur--patterns nil "The patterns, in their order.")
 (defvar-local live-occur--asked nil
   "Whether changes of hits are on their way; `again' to ask for more then.")
-(defvar-local live-occur--fresh nil
-  "Whether the program has reported no hit yet.")
-(defvar-local live-occur--trying nil
-  "Whether a reply to patterns is on its way.")
+(defvar-local live-occur--trying nil "Whether patterns wait for a reply.")
 (defvar-local live-occur--wanted nil "The patterns that are wanted after it.")
 (defvar-local live-occur--previewing nil "Whether a pattern is being typed.")
 (defvar-local live-occur--page nil
-  "The number of hits of which a page is shown, and what was in view before.")
+  "Where the hits are not shown, how many to tell of, and where to go back to.")
 (defvar-local live-occur--editing nil "Whether the rows are edited.")
-(defvar-local live-occur--made 0
-  "How many rows at the beginning were made while idle.")
+(defvar-local live-occur--made 0 "How many rows were made while idle.")
 (defvar-local live-occur--idle-timer nil "The timer that looks for edits.")
-(defvar-local live-occur--due nil "The functions that a timer calls once.")
+(defvar-local live-occur--timer nil "The timer that does so once, or nil.")
 
 (defmacro live-occur--in (buffer &rest body)
   "Run BODY in BUFFER, if it is alive."
@@ -132,16 +128,12 @@ The whole line is searched."
   `(when (buffer-live-p ,buffer)
      (with-current-buffer ,buffer ,@body)))
 
-(defun live-occur--later (list seconds function)
-  "Call FUNCTION in LIST in SECONDS, unless a timer does so already."
+(defun live-occur--look-later (list seconds)
+  "Look at LIST in SECONDS, unless a timer does so already."
   (live-occur--in list
-    (unless (memq function live-occur--due)
-      (push function live-occur--due)
-      (run-with-timer seconds nil
-                      (lambda ()
-                        (live-occur--in list
-                          (cl-callf2 remq function live-occur--due)
-                          (funcall function)))))))
+    (unless live-occur--timer
+      (setq live-occur--timer
+            (run-with-timer seconds nil #'live-occur--look list)))))
 
 ;;;; A program and its replies
 
@@ -228,23 +220,19 @@ get here again: the reply is taken out of the buffer before."
                          status said)))))))
 
 (defun live-occur--tell-fault (what)
-  "Report that this list is no longer kept right, since WHAT happened."
-  (setq live-occur--fault what)
+  "Report that this list is no longer kept right, since WHAT happened.
+Tell what helps, if the list was ever shown."
+  (setq live-occur--fault
+        (concat what (when live-occur--patterns
+                       (substitute-command-keys "; \\<live-occur-mode-map>\
+\\[live-occur-restart] in the list starts it again"))))
   (force-mode-line-update)
-  (message "%s: %s" (buffer-name) (live-occur--fault-and-help)))
-
-(defun live-occur--fault-and-help ()
-  "What made this list wrong, and what helps, if it was ever shown."
-  (concat live-occur--fault
-          (when live-occur--patterns
-            (substitute-command-keys
-             "; \\<live-occur-mode-map>\\[live-occur-restart] in the list \
-starts it again"))))
+  (message "%s: %s" (buffer-name) live-occur--fault))
 
 (defun live-occur--check ()
   "Signal an error where this list is no longer kept right."
   (when live-occur--fault
-    (user-error "%s" (live-occur--fault-and-help))))
+    (user-error "%s" live-occur--fault)))
 
 (defun live-occur--wait-for (done)
   "Wait until the function DONE answers what is not nil, and answer that."
@@ -268,7 +256,6 @@ starts it again"))))
         live-occur--asked nil
         live-occur--trying nil
         live-occur--wanted nil
-        live-occur--fresh t
         live-occur--process (live-occur--start))
   (process-put live-occur--process 'list (current-buffer))
   (live-occur--order "flag o on\n")
@@ -317,21 +304,15 @@ starts it again"))))
   (hits 0)                              ; how many they are
   tick                          ; the buffer's tick up to which edits are known
   (lost t)                      ; whether a change was missed: all is to be sent
-  change)                               ; the last one: see `live-occur--note'
+  (change '(1 0)))                      ; the last one: see `live-occur--note'
 
 (defvar-local live-occur--sources-here nil
   "The sources that have this buffer's text.")
-(put 'live-occur--sources-here 'permanent-local t)
-
-(defconst live-occur--hooks
-  '((before-change-functions . live-occur--before-change)
-    (after-change-functions . live-occur--after-change)
-    (kill-buffer-hook . live-occur--killed))
-  "The hooks of a buffer that is searched.")
 
 ;; A change of the major mode, as by `revert-buffer', leaves these in place.
-(pcase-dolist (`(,_ . ,function) live-occur--hooks)
-  (put function 'permanent-local-hook t))
+(put 'live-occur--sources-here 'permanent-local t)
+(put 'live-occur--before-change 'permanent-local-hook t)
+(put 'live-occur--after-change 'permanent-local-hook t)
 
 (defmacro live-occur--in-text (source &rest body)
   "Run BODY in the whole buffer of SOURCE, and stay there where it was.
@@ -355,8 +336,8 @@ It is not run where the buffer is gone."
     (when (live-occur--has-text-p buffer source)
       (with-current-buffer buffer
         (push source live-occur--sources-here)
-        (pcase-dolist (`(,hook . ,function) live-occur--hooks)
-          (add-hook hook function nil t))))))
+        (add-hook 'before-change-functions #'live-occur--before-change nil t)
+        (add-hook 'after-change-functions #'live-occur--after-change nil t)))))
 
 (defun live-occur--untrack (source)
   "Gather no more edits of SOURCE."
@@ -365,8 +346,8 @@ It is not run where the buffer is gone."
       (with-current-buffer buffer
         (unless (cl-callf2 remq source live-occur--sources-here)
           (kill-local-variable 'live-occur--sources-here)
-          (pcase-dolist (`(,hook . ,function) live-occur--hooks)
-            (remove-hook hook function t)))))))
+          (remove-hook 'before-change-functions #'live-occur--before-change t)
+          (remove-hook 'after-change-functions #'live-occur--after-change t))))))
 
 (defun live-occur--count-newlines (start end)
   "Answer how many newlines are from START to END."
@@ -374,26 +355,19 @@ It is not run where the buffer is gone."
     (narrow-to-region start end)
     (1- (line-number-at-pos (point-max)))))
 
-(defun live-occur--anchor (source)
-  "A position of SOURCE of which the line is known, and that line."
-  (pcase (live-occur--change source)
-    (`(,start ,_ ,line . ,_) (cons start line))
-    (_ '(1 . 0))))
-
 (defun live-occur--line-at (source position)
   "Answer the line of SOURCE in which POSITION is."
-  (pcase-let ((`(,anchor . ,line) (live-occur--anchor source)))
-    (if (< position anchor)
-        (- line (live-occur--count-newlines position anchor))
-      (+ line (live-occur--count-newlines anchor position)))))
+  (pcase-let ((`(,start ,line . ,_) (live-occur--change source)))
+    (if (< position start)
+        (- line (live-occur--count-newlines position start))
+      (+ line (live-occur--count-newlines start position)))))
 
 (defun live-occur--go-to-line (source line)
   "Move to the beginning of LINE of SOURCE.
 Where Emacs keeps a cache of newlines it walks over lines much slower."
-  (let ((anchor (live-occur--anchor source))
-        (cache-long-scans nil))
-    (goto-char (car anchor))
-    (forward-line (- line (cdr anchor)))))
+  (let ((cache-long-scans nil))
+    (goto-char (car (live-occur--change source)))
+    (forward-line (- line (nth 1 (live-occur--change source))))))
 
 ;;;; Changes
 
@@ -415,7 +389,7 @@ Where Emacs keeps a cache of newlines it walks over lines much slower."
   (setf (live-occur--lost source) t
         (live-occur--edits source) nil
         (live-occur--moves source) nil
-        (live-occur--change source) nil))
+        (live-occur--change source) '(1 0)))
 
 (defun live-occur--gather (function)
   "Call FUNCTION with each source that has this text, all of it accessible.
@@ -436,11 +410,11 @@ A copy of a buffer has its local variables, and another text."
 
 (defun live-occur--note (source start end line)
   "Take note of the text of SOURCE from START, which is in LINE, to END.
-It is kept as START, the distance of END from the buffer's end, LINE, the
+It is kept as START, LINE, the distance of END from the buffer's end, the
 number of lines that are touched, whether these are whole lines, and the
 buffer's size."
   (setf (live-occur--change source)
-        (list start (- (point-max) end) line
+        (list start line (- (point-max) end)
               (1+ (live-occur--count-newlines start end))
               (and (live-occur--begins-line-p start)
                    (live-occur--begins-line-p end))
@@ -455,11 +429,10 @@ buffer's size."
   (live-occur--gather
    (lambda (source)
      (when (current-idle-time)
-       (live-occur--later (live-occur--list source) live-occur-delay
-                          #'live-occur--look))
+       (live-occur--look-later (live-occur--list source) live-occur-delay))
      (unless (live-occur--known-p source)
        (pcase (live-occur--change source)
-         ((and `(,from ,tail ,line ,count ,whole ,size)
+         ((and `(,from ,line ,tail ,count ,whole ,size)
                (let to (- (point-max) tail))
                (guard (<= from start end to))
                (guard (= (buffer-size) (+ size (- end start removed)))))
@@ -481,23 +454,17 @@ WHOLE says that whole lines became whole lines: the last one did not change."
     (unless (live-occur--begins-line-p (car (live-occur--change source)))
       (cl-incf line))
     (push (list line (1- count) (1- now)) (live-occur--moves source))
-    (live-occur--later (live-occur--list source) 0 #'live-occur--make-in-view)))
-
-(defconst live-occur--gap 50
-  "Edits with at most this number of lines between them are sent as one.")
-
-(defconst live-occur--most-edits 32
-  "Where there would be more edits than this, all are sent as one.")
+    ;; The numbers of rows in view are corrected when they are redrawn.
+    (with-current-buffer (live-occur--list source)
+      (force-mode-line-update))))
 
 (defun live-occur--changed (edits start old new)
   "EDITS and the one that put NEW lines in the place of OLD ones at START.
-A change is a list of where it begins now, how many lines there were, and
-how many there are.  They come in order, with lines between them that did
-not change."
+An edit is a list of where it begins now, how many lines there were, and how
+many there are.  They come in order, with lines between them that did not
+change: those with at most 50 such lines become one, and so do more than 32."
   (let ((low start) (high (+ start old)) (more 0) before after
-        (gap (if (length= edits live-occur--most-edits)
-                 most-positive-fixnum
-               live-occur--gap)))
+        (gap (if (length= edits 32) most-positive-fixnum 50)))
     (pcase-dolist (`(,at ,was ,is) edits)
       (cond ((> (- low at is) gap)
              (push (list at was is) before))
@@ -549,17 +516,15 @@ has the lines of the others where they were."
             (live-occur--tick source) (buffer-chars-modified-tick))
       t)))
 
-(defconst live-occur--block 20000
-  "How many characters of a text are sent at once, but for longer lines.")
-
 (defun live-occur--splice (source file start removed added)
   "Put the ADDED lines after point in the place of REMOVED ones at START.
 SOURCE is number FILE of its list.  Where a pipe is full Emacs sleeps, and far
-too long.  So a long text is sent in blocks, and few are in the pipe."
+too long.  So a long text is sent in blocks of about 20,000 characters, and
+few are in the pipe."
   (let* ((list (live-occur--list source))
          (process (buffer-local-value 'live-occur--process list))
          (width (/ (buffer-size) (1+ (live-occur--newlines source))))
-         (size (1+ (/ live-occur--block (1+ width)))))
+         (size (1+ (/ 20000 (1+ width)))))
     (while (let* ((count (min size added))
                   (text (buffer-substring-no-properties
                          (point) (progn (forward-line count) (point)))))
@@ -577,10 +542,11 @@ too long.  So a long text is sent in blocks, and few are in the pipe."
 
 ;;;; Hits
 
-;; Each source has the hits that the program has reported, in pieces.  A piece
-;; keeps its rows as the bytes that came.  They are read when they come into
-;; view, so a million hits cost little until then.  Where lines before a piece
-;; come or go, the number to add to the places in it changes, and no byte.
+;; Each source has the hits that the program has reported, in pieces of at most
+;; 500.  A piece keeps its rows as the bytes that came.  They are read when they
+;; come into view, so a million hits cost little until then.  Where lines before
+;; a piece come or go, the number to add to the places in it changes, and no
+;; byte.
 
 (cl-defstruct (live-occur--piece (:copier nil))
   "Hits that follow one another."
@@ -595,9 +561,6 @@ too long.  So a long text is sent in blocks, and few are in the pipe."
   place                      ; its number in the source when it was reported
   parts                                 ; pairs of places in the bytes
   bytes)
-
-(defconst live-occur--most-in-piece 500
-  "How many hits a piece has at most.")
 
 (defun live-occur--place-in (rows start)
   "The place of the hit in the bytes ROWS that begins at START."
@@ -617,14 +580,6 @@ too long.  So a long text is sent in blocks, and few are in the pipe."
    :first (live-occur--place-in rows 0)
    :last (live-occur--place-in rows
                                (live-occur--after-rows rows 0 (1- count)))))
-
-(defun live-occur--part-of (piece from to)
-  "The hits FROM to TO of PIECE as a piece."
-  (let* ((rows (live-occur--piece-rows piece))
-         (start (live-occur--after-rows rows 0 from))
-         (end (live-occur--after-rows rows start (- to from))))
-    (live-occur--piece-of (substring rows start end) (- to from)
-                          (live-occur--piece-shift piece))))
 
 (defun live-occur--count-below (piece line)
   "How many hits of PIECE have a place below LINE."
@@ -646,13 +601,23 @@ too long.  So a long text is sent in blocks, and few are in the pipe."
             (count (live-occur--piece-count piece)))
         (cond ((= below count) (push piece head))
               ((= below 0) (push piece tail))
-              (t (push (live-occur--part-of piece 0 below) head)
-                 (push (live-occur--part-of piece below count) tail)))))
+              (t (let* ((rows (live-occur--piece-rows piece))
+                        (shift (live-occur--piece-shift piece))
+                        (cut (live-occur--after-rows rows 0 below)))
+                   (push (live-occur--piece-of (substring rows 0 cut)
+                                               below shift)
+                         head)
+                   (push (live-occur--piece-of (substring rows cut)
+                                               (- count below) shift)
+                         tail))))))
     (cons (nreverse head) (nreverse tail))))
 
-(defun live-occur--count (pieces)
-  "How many hits PIECES have."
-  (cl-loop for piece in pieces sum (live-occur--piece-count piece)))
+(defun live-occur--count (pieces &optional line)
+  "How many hits PIECES have, or with LINE, how many of a place below it."
+  (cl-loop for piece in pieces
+           sum (if line
+                   (live-occur--count-below piece line)
+                 (live-occur--piece-count piece))))
 
 (defun live-occur--total ()
   "How many hits this list has, or 0 while a page of them is in it."
@@ -665,18 +630,16 @@ too long.  So a long text is sent in blocks, and few are in the pipe."
 
 (defun live-occur--hit-in (source rows start shift)
   "The hit of SOURCE in the bytes ROWS that begins at START, with SHIFT."
-  (let* ((first (string-search " " rows (+ start 2)))
-         (second (string-search " " rows (1+ first)))
-         (parts (substring rows (1+ first) second)))
+  (save-match-data
+    (string-match "\\([0-9]+\\) \\([-,0-9]+\\) \\(.*\\)" rows start)
     (make-live-occur--hit
      :source source
-     :place (+ shift (live-occur--place-in rows start))
-     :parts (unless (equal parts "-")
-              (cl-loop for part in (split-string parts ",")
-                       for (start end) = (split-string part "-")
-                       collect (cons (string-to-number start)
-                                     (string-to-number end))))
-     :bytes (substring rows (1+ second) (string-search "\n" rows second)))))
+     :place (+ shift (string-to-number (match-string 1 rows)))
+     :bytes (match-string 3 rows)
+     :parts (cl-loop for part in (split-string (match-string 2 rows) "," t "-")
+                     for (start end) = (split-string part "-")
+                     collect (cons (string-to-number start)
+                                   (string-to-number end))))))
 
 (defun live-occur--map-hits (function first count)
   "Call FUNCTION with each of COUNT hits of this list, from number FIRST on."
@@ -716,19 +679,27 @@ too long.  So a long text is sent in blocks, and few are in the pipe."
 
 ;;;; Changes of hits
 
-(defun live-occur--look ()
-  "Bring this list up to date if anything has changed, and make some rows."
-  (if live-occur--editing
-      (live-occur--follow-lines)
-    (live-occur--update)
-    (live-occur--make-in-view)
-    (live-occur--make-ahead)))
+(defun live-occur--look (list)
+  "Bring LIST up to date if anything has changed, and make some rows."
+  (live-occur--in list
+    (setq live-occur--timer nil)
+    (if live-occur--editing
+        (live-occur--follow-lines)
+      (live-occur--update)
+      (live-occur--make-in-view)
+      (when (and (current-idle-time)
+                 (< live-occur--made (min live-occur-idle-rows
+                                          (live-occur--total))))
+        (live-occur--make-rows live-occur--made 200)
+        (cl-incf live-occur--made 200)
+        (live-occur--look-later list 0.02)))))
 
 (defun live-occur--update (&optional always)
   "Send what has changed, and ask for what changed of the hits.
 If nothing has changed ask for none, but with ALWAYS non-nil."
-  (when (and (not live-occur--fault)
-             (not (or live-occur--previewing live-occur--editing))
+  (when (and (not (or live-occur--fault
+                      live-occur--previewing
+                      live-occur--editing))
              (or (live-occur--flush-all) always))
     (if live-occur--asked
         (setq live-occur--asked 'again)
@@ -743,56 +714,44 @@ step.  A buffer may be killed without a word, as temporary ones are."
   (unless live-occur--sending
     (let ((inhibit-quit t)
           (live-occur--sending t)
-          any)
-      (dolist (source live-occur--sources)
-        (unless (buffer-live-p (live-occur--buffer source))
-          (live-occur--close source)
-          (setq any t)))
-      (seq-do-indexed (lambda (source file)
-                        (when (live-occur--flush source file)
-                          (setq any t)))
-                      live-occur--sources)
-      any)))
+          (gone (seq-remove (lambda (source)
+                              (buffer-live-p (live-occur--buffer source)))
+                            live-occur--sources)))
+      (mapc #'live-occur--close gone)
+      (append gone (delq nil (seq-map-indexed #'live-occur--flush
+                                              live-occur--sources))))))
 
 (defun live-occur--ask-for-changes ()
   "Ask for what changed of the hits, and apply it when it comes."
-  (let ((fresh live-occur--fresh)
-        (moves (cl-loop for source in live-occur--sources
+  (let ((moves (cl-loop for source in live-occur--sources
                         collect (cons source (live-occur--moves source)))))
-    (setq live-occur--asked t
-          live-occur--fresh nil)
-    (live-occur--send
-     "changes\n"
-     (lambda (_ rows)
-       (live-occur--apply-all rows moves fresh)
-       (when (eq 'again (prog1 live-occur--asked
-                          (setq live-occur--asked nil)))
-         (live-occur--ask-for-changes))))))
+    (setq live-occur--asked t)
+    (live-occur--send "changes\n"
+                      (lambda (_ rows)
+                        (live-occur--apply-all rows moves)
+                        (when (eq 'again (cl-shiftf live-occur--asked nil))
+                          (live-occur--ask-for-changes))))))
 
-(defun live-occur--apply-all (rows moves fresh)
+(defun live-occur--apply-all (rows moves)
   "Apply what has changed, which is in the bytes ROWS.
 MOVES has the sources, and how their lines had moved when the program was
-asked.  If it was FRESH, what comes replaces all hits that are known."
-  (let ((at 0) (left moves))
+asked."
+  (let ((at 0))
     (while (< at (length rows))
       (pcase-let* ((start (live-occur--after-rows rows at 1))
                    (`(,_ ,file ,front ,removed ,added ,count)
                     (mapcar #'string-to-number
                             (split-string (substring rows at start) " ")))
-                   (source (nth file moves)))
-        (setq at (live-occur--after-rows rows start count)
-              left (remq source left))
-        (live-occur--apply source front (if fresh most-positive-fixnum removed)
-                           added (live-occur--pieces-in rows start count))))
-    (when fresh
-      (dolist (source left)
-        (live-occur--apply source 0 most-positive-fixnum 0 nil))))
+                   (`(,source . ,moved) (nth file moves)))
+        (when (memq source live-occur--sources)
+          (live-occur--apply source moved front removed added
+                             (live-occur--pieces-in rows start count)))
+        (setq at (live-occur--after-rows rows start count)))))
   (pcase-dolist (`(,source . ,before) moves)
     (setf (live-occur--moves source)
           (cl-ldiff (live-occur--moves source) before)))
   (when live-occur--page
-    (setq live-occur--page nil)
-    (live-occur--forget-rows))
+    (live-occur--show-hits))
   (force-mode-line-update)
   (live-occur--make-in-view))
 
@@ -800,33 +759,36 @@ asked.  If it was FRESH, what comes replaces all hits that are known."
   "The COUNT hits in the bytes ROWS from START on, in pieces."
   (let (pieces)
     (while (> count 0)
-      (let* ((some (min count live-occur--most-in-piece))
+      (let* ((some (min count 500))
              (end (live-occur--after-rows rows start some)))
         (push (live-occur--piece-of (substring rows start end) some 0) pieces)
         (setq start end)
         (cl-decf count some)))
     (nreverse pieces)))
 
-(defun live-occur--apply (moved front removed added new)
-  "Put the hits NEW in the place of those among REMOVED lines of a source.
-They are those among the ADDED lines from line FRONT on.  MOVED is the source
-and how its lines have moved."
-  (pcase-let ((`(,source . ,moves) moved))
-    (when (memq source live-occur--sources)
-      (pcase-let* ((`(,head . ,rest)
-                    (live-occur--cut (live-occur--pieces source) front))
-                   (`(,gone . ,tail) (live-occur--cut rest (+ front removed)))
-                   (row (+ (live-occur--row-of-source source)
-                           (live-occur--count head)))
-                   (less (live-occur--count gone))
-                   (more (live-occur--count new))
-                   (spots (live-occur--spots row less moves)))
-        (dolist (piece tail)
-          (cl-incf (live-occur--piece-shift piece) (- added removed)))
-        (setf (live-occur--pieces source) (nconc head new tail))
-        (cl-incf (live-occur--hits source) (- more less))
-        (live-occur--replace-rows row less more)
-        (live-occur--go-to-spots spots)))))
+(defun live-occur--apply (source moves front removed added new)
+  "Put the hits NEW in the place of those among REMOVED lines of SOURCE.
+They are those among the ADDED lines from line FRONT on.  MOVES is how lines
+have moved."
+  (pcase-let* ((`(,head . ,rest)
+                (live-occur--cut (live-occur--pieces source) front))
+               (`(,gone . ,tail) (live-occur--cut rest (+ front removed)))
+               (row (+ (live-occur--row-of-source source)
+                       (live-occur--count head)))
+               (less (live-occur--count gone))
+               (more (live-occur--count new))
+               (spots (live-occur--spots row less)))
+    (dolist (spot spots)
+      (let* ((hit (live-occur--hit (car spot)))
+             (line (and hit
+                        (live-occur--moved (live-occur--hit-place hit) moves))))
+        (setcar spot (+ row (if hit (live-occur--count new line) more)))))
+    (dolist (piece tail)
+      (cl-incf (live-occur--piece-shift piece) (- added removed)))
+    (setf (live-occur--pieces source) (nconc head new tail))
+    (cl-incf (live-occur--hits source) (- more less))
+    (live-occur--replace-rows row less more)
+    (live-occur--go-to-spots spots)))
 
 ;;;; Rows
 
@@ -854,62 +816,51 @@ and how its lines have moved."
       (setq buffer-undo-list nil))
     (cl-callf min live-occur--made row)))
 
-(defun live-occur--forget-rows (&optional spots)
-  "Show all hits of this list again, at SPOTS or where it is."
-  (let* ((total (live-occur--total))
-         (spots (or spots (live-occur--spots 0 total))))
+(defun live-occur--show-hits (&optional spots)
+  "Show the hits of this list again, at SPOTS or where it is."
+  (let ((spots (or spots (live-occur--spots 0 (buffer-size)))))
+    (setq live-occur--page nil)
     (with-silent-modifications
       (erase-buffer))
-    (live-occur--replace-rows 0 0 total)
+    (live-occur--replace-rows 0 0 (live-occur--total))
     (live-occur--go-to-spots spots)
     (live-occur--make-in-view)))
 
-(defun live-occur--spots (row count &optional moves)
-  "List what of point and of the windows is in the COUNT rows from ROW on.
-An element is a list of its window and the function that moves it, the source
-of its row, or nil after the last one, the line after MOVES, and the column."
-  (unless (or live-occur--page (= count 0))
-    (let ((positions (live-occur--positions)))
+(defun live-occur--spots (row count)
+  "List where point and the windows are in the COUNT rows from ROW on.
+An element is a list of the row and the column, the window or nil, and the
+function that moves it."
+  (unless (= count 0)
+    (let ((positions
+           (cons (list (point) nil (lambda (_ position) (goto-char position)))
+                 (cl-loop
+                  for window in (get-buffer-window-list nil nil t)
+                  collect (list (window-point window) window
+                                #'set-window-point)
+                  collect (list (window-start window) window
+                                (lambda (window start)
+                                  (set-window-start window start t)))))))
       (save-excursion
         (live-occur--go-to-row row)
         (cl-loop
          with start = (point) and end = (line-beginning-position (1+ count))
-         for (position window mover) in positions
+         for (position . how) in positions
          when (or (and (<= start position) (< position end))
                   (= position end (point-max)))
-         collect (let ((hit (live-occur--hit (live-occur--row-at position))))
+         collect (progn
                    (goto-char position)
-                   (list window mover
-                         (and hit (live-occur--hit-source hit))
-                         (and hit (live-occur--moved (live-occur--hit-place hit)
-                                                     moves))
-                         (- position (line-beginning-position)))))))))
-
-(defun live-occur--positions ()
-  "Point, and the points of the windows of this list and where they begin.
-Each is a list of the position, the window or nil, and the function that sets
-the position of a window."
-  (cons (list (point) nil (lambda (_ position) (goto-char position)))
-        (cl-loop for window in (get-buffer-window-list nil nil t)
-                 collect (list (window-point window) window #'set-window-point)
-                 collect (list (window-start window) window
-                               (lambda (window start)
-                                 (set-window-start window start t))))))
+                   `(,(live-occur--row-at position)
+                     ,(- position (line-beginning-position)) ,@how)))))))
 
 (defun live-occur--go-to-spots (spots)
   "Go back to SPOTS, or to rows after them."
-  (pcase-dolist (`(,window ,mover ,source ,line ,column) spots)
+  (pcase-dolist (`(,row ,column ,window ,mover) spots)
     (when (or (not window) (eq (window-buffer window) (current-buffer)))
-      (let ((row (if source
-                     (+ (live-occur--row-of-source source)
-                        (cl-loop for piece in (live-occur--pieces source)
-                                 sum (live-occur--count-below piece line)))
-                   (live-occur--total))))
-        (live-occur--make-rows row 1)
-        (funcall mover window
-                 (save-excursion
-                   (live-occur--go-to-row row)
-                   (min (+ (point) column) (line-end-position))))))))
+      (live-occur--make-rows row 1)
+      (funcall mover window
+               (save-excursion
+                 (live-occur--go-to-row row)
+                 (min (+ (point) column) (line-end-position)))))))
 
 (defun live-occur--make-rows (first count)
   "Make COUNT rows from FIRST on, and bring their numbers up to date."
@@ -928,15 +879,20 @@ the position of a window."
 
 (defun live-occur--make-row (hit)
   "Make the row of HIT at point, or correct its head, and lose point."
-  (let ((number (1+ (live-occur--line-of hit)))
-        (name (live-occur--source-name (live-occur--hit-source hit))))
+  (let ((head (live-occur--row-head hit (live-occur--line-of hit))))
     (cond ((eolp)
-           (live-occur--insert-head hit number)
+           (insert head)
            (live-occur--insert-text hit))
-          ((not (and (= number (get-text-property (point) 'live-occur-number))
-                     (eq name (get-text-property (point) 'live-occur-name))))
+          ((not (equal head (buffer-substring-no-properties
+                             (point) (live-occur--after-head))))
            (delete-region (point) (live-occur--after-head))
-           (live-occur--insert-head hit number)))))
+           (insert head)))))
+
+(defun live-occur--row-head (hit line)
+  "The head of the row of HIT, which is at LINE."
+  (let ((name (live-occur--source-name (live-occur--hit-source hit))))
+    (propertize (live-occur--head name (1+ line) ":")
+                'mouse-face 'highlight 'live-occur-number (1+ line))))
 
 (defun live-occur--source-name (source)
   "What rows call SOURCE."
@@ -945,13 +901,6 @@ the position of a window."
 (defun live-occur--after-head ()
   "Where the text of the row at point begins."
   (next-single-property-change (point) 'live-occur-number))
-
-(defun live-occur--insert-head (hit number)
-  "Insert the head of the row of HIT, with the line's NUMBER."
-  (let ((name (live-occur--source-name (live-occur--hit-source hit))))
-    (insert (propertize (live-occur--head name number ":")
-                        'mouse-face 'highlight
-                        'live-occur-number number 'live-occur-name name))))
 
 (defun live-occur--head (name number mark)
   "The head of a row of line NUMBER of the buffer NAME.
@@ -1005,15 +954,6 @@ A window may be moved to its point when it is redrawn, so rows there are made."
       (dolist (near (if in-view (list start) (list start row)))
         (live-occur--make-rows (max 0 (- near height)) (* 3 height))
         (live-occur--show-around (max 0 (- near height)) (* 3 height))))))
-
-(defun live-occur--make-ahead ()
-  "Make some rows of this list, and go on while Emacs is idle."
-  (let ((left (- (min (live-occur--total) live-occur-idle-rows)
-                 live-occur--made)))
-    (when (and (> left 0) (current-idle-time) (not live-occur--editing))
-      (live-occur--make-rows live-occur--made (min 200 left))
-      (cl-incf live-occur--made 200)
-      (live-occur--later (current-buffer) 0.02 #'live-occur--make-ahead))))
 
 ;;;; Lines around
 
@@ -1171,7 +1111,7 @@ Undo works in the list, and in the buffers.
   (remove-hook 'after-change-functions #'live-occur--row-changed t)
   (live-occur--let-edit nil live-occur-mode-map "Live-Occur")
   (set-buffer-modified-p nil)
-  (live-occur--forget-rows)
+  (live-occur--show-hits)
   (live-occur--update))
 
 (defun live-occur--let-edit (on map name)
@@ -1211,14 +1151,14 @@ Newlines in it become spaces."
       (subst-char-in-region start end ?\n ?\s)
       (goto-char start)
       (forward-line 0)
-      (when-let ((hit (live-occur--hit (live-occur--row-at (point)))))
-        (let* ((old (get-text-property (point) 'live-occur-text))
-               (text (live-occur--row-text))
-               (problem (live-occur--change-line hit old text)))
-          (if (eq problem t)
-              (live-occur--note-text text)
-            (message "%s; the row alone is edited"
-                     (or problem "The buffer of this row is gone"))))))))
+      (when-let ((hit (live-occur--hit (live-occur--row-at (point))))
+                 (text (live-occur--row-text)))
+        (condition-case problem
+            (live-occur--change-line
+             hit (get-text-property (point) 'live-occur-text) text)
+          (:success (live-occur--note-text text))
+          (error (message "%s; the row alone is edited"
+                          (error-message-string problem))))))))
 
 (defun live-occur--note-text (text)
   "Keep that the row at point and its line have TEXT."
@@ -1227,25 +1167,27 @@ Newlines in it become spaces."
 
 (defun live-occur--row-text ()
   "The text of the row at point."
-  (buffer-substring-no-properties (live-occur--after-head)
-                                  (line-end-position)))
+  (save-excursion
+    (goto-char (live-occur--after-head))
+    (live-occur--text-after-point)))
+
+(defun live-occur--text-after-point ()
+  "The text from point to the end of the line."
+  (buffer-substring-no-properties (point) (line-end-position)))
 
 (defun live-occur--change-line (hit old new)
-  "Put the text NEW in the place of OLD in the line of HIT.
-Answer t, or why it can't be done, or nil where the buffer is gone."
-  (live-occur--at-line-of hit
-    (cond (buffer-read-only
-           (format "Buffer %s is read-only" (buffer-name)))
-          ((not (equal old (buffer-substring-no-properties
-                            (point) (line-end-position))))
-           (format "The line of this row in %s is gone, or was edited there"
-                   (buffer-name)))
-          (t (condition-case problem
-                 (let ((inhibit-modification-hooks nil))
-                   (replace-region-contents (point) (line-end-position)
-                                            (lambda () new))
-                   t)
-               (error (error-message-string problem)))))))
+  "Put the text NEW in the place of OLD in the line of HIT, or signal an error."
+  (unless (live-occur--at-line-of hit
+            (when buffer-read-only
+              (user-error "Buffer %s is read-only" (buffer-name)))
+            (unless (equal old (live-occur--text-after-point))
+              (user-error "The line of this row in %s is gone, \
+or was edited there" (buffer-name)))
+            (let ((inhibit-modification-hooks nil))
+              (replace-region-contents (point) (line-end-position)
+                                       (lambda () new)))
+            t)
+    (user-error "The buffer of this row is gone")))
 
 (defun live-occur--follow-lines ()
   "Bring rows in view up to date with their lines.
@@ -1268,7 +1210,7 @@ Rows that were edited alone stay as they are."
 (defun live-occur--text-of-line (hit)
   "The text of the line of HIT as it is now, or nil if its buffer is gone."
   (live-occur--at-line-of hit
-    (buffer-substring-no-properties (point) (line-end-position))))
+    (live-occur--text-after-point)))
 
 ;;;; Patterns
 
@@ -1416,7 +1358,7 @@ They go between the patterns BEFORE and AFTER."
     (when (and live-occur--page
                (or live-occur--fault
                    (not (equal patterns live-occur--patterns))))
-      (live-occur--forget-rows (cdr (cl-shiftf live-occur--page nil))))
+      (live-occur--show-hits (cdr live-occur--page)))
     (if live-occur--fault
         (setq live-occur--patterns patterns)
       (live-occur--want patterns #'ignore))))
@@ -1468,20 +1410,21 @@ They go between the patterns BEFORE and AFTER."
         (cons (string-to-number (substring rows (length "hits ")))
               (if live-occur--page
                   (cdr live-occur--page)
-                (live-occur--spots 0 (live-occur--total)))))
+                (live-occur--spots 0 (buffer-size)))))
   (with-silent-modifications
     (erase-buffer)
     (let ((start (live-occur--after-rows rows 0 1)))
       (while (< start (length rows))
         (let* ((source (nth (live-occur--place-in rows start) sources))
-               (place (1- (string-search " " rows (+ start 2))))
+               (place (string-search " " rows (+ start 2)))
                (hit (live-occur--hit-in source rows place 0)))
-          (live-occur--insert-head hit (1+ (live-occur--hit-place hit)))
+          (insert (live-occur--row-head hit (live-occur--hit-place hit)))
           (live-occur--insert-text hit)
           (insert "\n")
           (setq start (live-occur--after-rows rows start 1))))))
-  (pcase-dolist (`(,_ ,window ,mover) (live-occur--positions))
-    (funcall mover window (point-min)))
+  (goto-char (point-min))
+  (dolist (window (get-buffer-window-list nil nil t))
+    (set-window-point window (point-min)))
   (force-mode-line-update))
 
 ;;;; Syntax and flags
@@ -1509,24 +1452,20 @@ They go between the patterns BEFORE and AFTER."
     (add-face-text-property place (1+ place) 'live-occur-fault nil text)
     text))
 
-(defun live-occur--choose-syntax (syntax)
-  "Read all patterns in SYNTAX."
-  (live-occur--set 'live-occur-syntax syntax (format "syntax %s" syntax)))
-
 (defun live-occur-basic ()
   "Read the patterns as basic regular expressions."
   (interactive)
-  (live-occur--choose-syntax 'basic))
+  (live-occur--set 'live-occur-syntax 'basic "syntax basic"))
 
 (defun live-occur-extended ()
   "Read the patterns as extended regular expressions."
   (interactive)
-  (live-occur--choose-syntax 'extended))
+  (live-occur--set 'live-occur-syntax 'extended "syntax extended"))
 
 (defun live-occur-fixed ()
   "Read the patterns as fixed strings."
   (interactive)
-  (live-occur--choose-syntax 'fixed))
+  (live-occur--set 'live-occur-syntax 'fixed "syntax fixed"))
 
 (defun live-occur--toggle (letter)
   "Turn the flag LETTER on or off."
@@ -1586,7 +1525,7 @@ Where both numbers are 0 no other lines are shown."
          "no pattern")
        "  "
        (if live-occur--fault
-           (propertize (live-occur--fault-and-help) 'face 'error)
+           (propertize live-occur--fault 'face 'error)
          (format "%d row%s, %d buffer%s" rows (if (= rows 1) "" "s")
                  buffers (if (= buffers 1) "" "s")))
        (when live-occur--editing
@@ -1601,9 +1540,14 @@ rows are edited, \\[live-occur-end-edit] ends it")))
   (live-occur--update t))
 
 (defun live-occur-restart ()
-  "Start the program of this list again."
+  "Start the program of this list again.
+What the list shows stays until the program has reported."
   (interactive)
   (live-occur--end)
+  (setq live-occur--page (list (live-occur--total)))
+  (dolist (source live-occur--sources)
+    (setf (live-occur--pieces source) nil
+          (live-occur--hits source) 0))
   (live-occur--begin)
   (live-occur--update t))
 
@@ -1625,23 +1569,13 @@ rows are edited, \\[live-occur-end-edit] ends it")))
   (live-occur--order "file buffer 0\n"))
 
 (defun live-occur--close (source)
-  "Take SOURCE out of its list."
+  "Take SOURCE out of this list."
   (live-occur--untrack source)
-  (live-occur--in (live-occur--list source)
-    (when-let ((file (seq-position live-occur--sources source #'eq)))
-      (live-occur--replace-rows (live-occur--row-of-source source)
-                                (live-occur--hits source) 0)
-      (setq live-occur--sources (remq source live-occur--sources))
-      (unless live-occur--fault
-        (live-occur--order (format "close %d\n" file)))
-      (live-occur--later (current-buffer) live-occur-delay
-                         #'live-occur--look))))
-
-(defun live-occur--killed ()
-  "Take this buffer, which is killed, out of all lists."
-  (dolist (source live-occur--sources-here)
-    (when (eq (live-occur--buffer source) (current-buffer))
-      (live-occur--close source))))
+  (live-occur--replace-rows (live-occur--row-of-source source)
+                            (live-occur--hits source) 0)
+  (let ((file (seq-position live-occur--sources source #'eq)))
+    (setq live-occur--sources (remq source live-occur--sources))
+    (live-occur--order (format "close %d\n" file))))
 
 (defun live-occur--discard ()
   "End the program of this list, which is killed."
@@ -1732,11 +1666,8 @@ rows are edited, \\[live-occur-end-edit] ends it")))
               truncate-lines t
               buffer-undo-list t
               live-occur--idle-timer
-              (let ((list (current-buffer)))
-                (run-with-idle-timer live-occur-delay t
-                                     (lambda ()
-                                       (live-occur--in list
-                                         (live-occur--look))))))
+              (run-with-idle-timer live-occur-delay t #'live-occur--look
+                                   (current-buffer)))
   (when live-occur-follow
     (next-error-follow-minor-mode))
   (add-hook 'kill-buffer-hook #'live-occur--discard nil t)
@@ -1748,18 +1679,13 @@ rows are edited, \\[live-occur-end-edit] ends it")))
   (with-current-buffer buffer (derived-mode-p 'live-occur-mode)))
 
 (defun live-occur--read-buffers ()
-  "Read the names of buffers, until one is empty."
-  (cl-loop
-   for name = (read-buffer
-               (if buffers
-                   "Next buffer to search (RET to end): "
-                 (format-prompt "First buffer to search" (buffer-name)))
-               (if buffers "" (current-buffer)) t
-               (lambda (name)
-                 (not (memq (get-buffer (or (car-safe name) name)) buffers))))
-   until (string-empty-p name)
-   collect (get-buffer name) into buffers
-   finally return buffers))
+  "Read the names of buffers, until one is empty, and answer the buffers."
+  (cl-loop for name = (read-buffer "First buffer to search: "
+                                   (current-buffer) t)
+           then (read-buffer "Next buffer to search (RET to end): " "" t)
+           until (string-empty-p name)
+           collect (get-buffer name) into buffers
+           finally return (seq-uniq buffers)))
 
 ;;;###autoload
 (defun live-occur (&optional pattern buffers)

@@ -464,7 +464,7 @@ All buffers and processes that it makes are taken away after it."
           (setq now (append (seq-take now start) (make-list new 'new)
                             (seq-drop now (+ start old)))
                 edits (live-occur--changed edits start old new))))
-      (should (length< edits (1+ live-occur--most-edits)))
+      (should (length< edits (1+ 32)))
       (let ((shift (cl-loop for (_ was is) in edits sum (- is was))))
         (should (= (length now) (+ (length held) shift)))
         (pcase-dolist (`(,at ,was ,is) (reverse edits))
@@ -658,6 +658,7 @@ All buffers and processes that it makes are taken away after it."
     (let ((list (live-occur "a" buffers)))
       (should (equal (live-occur-test--rows list) "a:1:a\nb:1:a\nc:1:a\n"))
       (kill-buffer (nth 1 buffers))
+      (live-occur--look list)
       (with-current-buffer list
         (should (equal (live-occur-test--text-shown) "a:1:a\nc:1:a\n")))
       (with-current-buffer (nth 2 buffers)
@@ -1036,11 +1037,10 @@ It is nil where the pattern is refused."
         (goto-char (point-min))
         (forward-line 1)
         (insert "c\nd\n")
-        (with-timeout (10 (error "Numbers are not corrected"))
-          (while (not (equal (with-current-buffer list (live-occur-test--text-shown))
-                             "a:1:a1\na:5:a2\na:6:a3\nb:1:a4\n"))
-            (accept-process-output nil 0.01)))
         (with-current-buffer list
+          (run-hook-with-args 'pre-redisplay-functions (get-buffer-window list))
+          (should (equal (live-occur-test--text-shown)
+                         "a:1:a1\na:5:a2\na:6:a3\nb:1:a4\n"))
           (should-not (live-occur-test--busy-p)))))))
 
 (ert-deftest live-occur-visits-lines-that-have-moved ()
@@ -1233,7 +1233,7 @@ It is nil where the pattern is refused."
         (undo)
         (should (equal (buffer-string) "one\ntwo\n"))
         (with-current-buffer list
-          (live-occur--look)
+          (live-occur--look list)
           (should (equal (live-occur-test--text-shown) "a:1:one\na:2:two\n"))
           (search-backward "tw")
           (insert "3"))
@@ -1336,7 +1336,8 @@ It is nil where the pattern is refused."
     (pcase (random 9)
       (8 (live-occur-set-context (random 3) (random 3)))
       ((or 0 1 2 3) (live-occur--toggle (nth (random 3) '(?i ?v ?x))))
-      (4 (live-occur--choose-syntax (nth (random 3) '(basic extended fixed))))
+      (4 (let ((syntax (nth (random 3) '(basic extended fixed))))
+           (live-occur--set 'live-occur-syntax syntax (format "syntax %s" syntax))))
       (5 (live-occur-test--add (nth (random 6) '("a" "b$" "^" "a*b" "\\(a" "[ab]B"))))
       (6 (when live-occur--patterns
            (live-occur-drop-pattern (random (length live-occur--patterns)))))
