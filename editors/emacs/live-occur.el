@@ -128,6 +128,10 @@ The whole line is searched."
   `(when (buffer-live-p ,buffer)
      (with-current-buffer ,buffer ,@body)))
 
+(defun live-occur--text-after-point ()
+  "The text from point to the end of the line."
+  (buffer-substring-no-properties (point) (line-end-position)))
+
 (defun live-occur--look-later (list seconds)
   "Look at LIST in SECONDS, unless a timer does so already."
   (live-occur--in list
@@ -205,19 +209,16 @@ get here again: the reply is taken out of the buffer before."
 (defun live-occur--ended (process _event)
   "Report in the list of PROCESS that it has ended, if it has."
   (unless (process-live-p process)
-    (let* ((status (process-exit-status process))
-           (killed (eq (process-status process) 'signal))
-           (said (unless killed
-                   (with-current-buffer (process-buffer process)
-                     (goto-char (point-min))
-                     (buffer-substring (point) (line-end-position))))))
+    (let ((how (if (eq (process-status process) 'signal)
+                   "%s was killed by signal %d"
+                 "%s ended with status %d (%s)"))
+          (said (live-occur--in (process-buffer process)
+                  (goto-char (point-min))
+                  (live-occur--text-after-point))))
       (with-current-buffer (process-get process 'list)
         (live-occur--tell-fault
-         (concat (file-name-nondirectory live-occur-program)
-                 (format (if killed
-                             " was killed by signal %d"
-                           " ended with status %d (%s)")
-                         status said)))))))
+         (format how (file-name-nondirectory live-occur-program)
+                 (process-exit-status process) said))))))
 
 (defun live-occur--tell-fault (what)
   "Report that this list is no longer kept right, since WHAT happened.
@@ -330,15 +331,6 @@ It is not run where the buffer is gone."
     (eq (or (buffer-base-buffer buffer) buffer)
         (or (buffer-base-buffer other) other))))
 
-(defun live-occur--track (source)
-  "Gather the edits of SOURCE from now on."
-  (dolist (buffer (buffer-list))
-    (when (live-occur--has-text-p buffer source)
-      (with-current-buffer buffer
-        (push source live-occur--sources-here)
-        (add-hook 'before-change-functions #'live-occur--before-change nil t)
-        (add-hook 'after-change-functions #'live-occur--after-change nil t)))))
-
 (defun live-occur--untrack (source)
   "Gather no more edits of SOURCE."
   (dolist (buffer (buffer-list))
@@ -349,18 +341,11 @@ It is not run where the buffer is gone."
           (remove-hook 'before-change-functions #'live-occur--before-change t)
           (remove-hook 'after-change-functions #'live-occur--after-change t))))))
 
-(defun live-occur--count-newlines (start end)
-  "Answer how many newlines are from START to END."
+(defun live-occur--count-newlines (from to)
+  "Answer how many newlines are from FROM to TO, below 0 if TO comes first."
   (save-restriction
-    (narrow-to-region start end)
-    (1- (line-number-at-pos (point-max)))))
-
-(defun live-occur--line-at (source position)
-  "Answer the line of SOURCE in which POSITION is."
-  (pcase-let ((`(,start ,line . ,_) (live-occur--change source)))
-    (if (< position start)
-        (- line (live-occur--count-newlines position start))
-      (+ line (live-occur--count-newlines start position)))))
+    (narrow-to-region from to)
+    (* (if (< to from) -1 1) (1- (line-number-at-pos (point-max))))))
 
 (defun live-occur--go-to-line (source line)
   "Move to the beginning of LINE of SOURCE.
@@ -405,7 +390,9 @@ A copy of a buffer has its local variables, and another text."
   (live-occur--gather
    (lambda (source)
      (if (live-occur--known-p source)
-         (live-occur--note source start end (live-occur--line-at source start))
+         (pcase-let ((`(,at ,line . ,_) (live-occur--change source)))
+           (cl-incf line (live-occur--count-newlines at start))
+           (live-occur--note source start end line))
        (live-occur--lose source)))))
 
 (defun live-occur--note (source start end line)
@@ -436,27 +423,27 @@ buffer's size."
                (let to (- (point-max) tail))
                (guard (<= from start end to))
                (guard (= (buffer-size) (+ size (- end start removed)))))
-          (pcase-let ((`(,_ ,_ ,_ ,now ,whole-now ,_)
-                       (live-occur--note source from to line)))
-            (live-occur--took source line count now (and whole whole-now))))
+          (live-occur--note source from to line)
+          (live-occur--took source line count whole))
          (_ (live-occur--lose source)))))))
 
-(defun live-occur--took (source line count now whole)
-  "Note that of SOURCE the COUNT lines from LINE on became NOW lines.
-WHOLE says that whole lines became whole lines: the last one did not change."
-  (let ((less (if whole 1 0)))
+(defun live-occur--took (source line count whole)
+  "Note that COUNT lines of SOURCE from LINE on became those of its change.
+WHOLE says whether they were whole lines."
+  (pcase-let* ((`(,from ,_ ,_ ,now ,whole-now ,_) (live-occur--change source))
+               (less (if (and whole whole-now) 1 0)))
     (setf (live-occur--tick source) (buffer-chars-modified-tick)
           (live-occur--edits source)
           (live-occur--changed (live-occur--edits source)
-                               line (- count less) (- now less))))
-  (cl-incf (live-occur--newlines source) (- now count))
-  (unless (= count now)
-    (unless (live-occur--begins-line-p (car (live-occur--change source)))
-      (cl-incf line))
-    (push (list line (1- count) (1- now)) (live-occur--moves source))
-    ;; The numbers of rows in view are corrected when they are redrawn.
-    (with-current-buffer (live-occur--list source)
-      (force-mode-line-update))))
+                               line (- count less) (- now less)))
+    (cl-incf (live-occur--newlines source) (- now count))
+    (unless (= count now)
+      (push (list (if (live-occur--begins-line-p from) line (1+ line))
+                  (1- count) (1- now))
+            (live-occur--moves source))
+      ;; The numbers of rows in view are corrected when they are redrawn.
+      (with-current-buffer (live-occur--list source)
+        (force-mode-line-update)))))
 
 (defun live-occur--changed (edits start old new)
   "EDITS and the one that put NEW lines in the place of OLD ones at START.
@@ -552,7 +539,7 @@ few are in the pipe."
   "Hits that follow one another."
   rows                                  ; bytes, one line for each hit
   count
-  first last              ; the places of the first and the last in the bytes
+  last                                  ; the place of the last in the bytes
   (shift 0))                            ; what to add to each place
 
 (cl-defstruct (live-occur--hit (:copier nil))
@@ -577,7 +564,6 @@ few are in the pipe."
   "A piece of the COUNT rows in the bytes ROWS, with SHIFT."
   (make-live-occur--piece
    :rows rows :count count :shift shift
-   :first (live-occur--place-in rows 0)
    :last (live-occur--place-in rows
                                (live-occur--after-rows rows 0 (1- count)))))
 
@@ -586,31 +572,27 @@ few are in the pipe."
   (let ((rows (live-occur--piece-rows piece))
         (line (- line (live-occur--piece-shift piece)))
         (start 0))
-    (cond ((< (live-occur--piece-last piece) line)
-           (live-occur--piece-count piece))
-          ((>= (live-occur--piece-first piece) line) 0)
-          (t (cl-loop while (< (live-occur--place-in rows start) line)
-                      do (setq start (live-occur--after-rows rows start 1))
-                      count t)))))
+    (if (< (live-occur--piece-last piece) line)
+        (live-occur--piece-count piece)
+      (cl-loop while (< (live-occur--place-in rows start) line)
+               do (setq start (live-occur--after-rows rows start 1))
+               count t))))
 
 (defun live-occur--cut (pieces line)
   "PIECES with a place below LINE, and the others, as a pair of lists."
-  (let (head tail)
-    (dolist (piece pieces)
-      (let ((below (live-occur--count-below piece line))
-            (count (live-occur--piece-count piece)))
-        (cond ((= below count) (push piece head))
-              ((= below 0) (push piece tail))
-              (t (let* ((rows (live-occur--piece-rows piece))
-                        (shift (live-occur--piece-shift piece))
-                        (cut (live-occur--after-rows rows 0 below)))
-                   (push (live-occur--piece-of (substring rows 0 cut)
-                                               below shift)
-                         head)
-                   (push (live-occur--piece-of (substring rows cut)
-                                               (- count below) shift)
-                         tail))))))
-    (cons (nreverse head) (nreverse tail))))
+  (let ((below 0) head)
+    (while (and pieces
+                (= (setq below (live-occur--count-below (car pieces) line))
+                   (live-occur--piece-count (car pieces))))
+      (push (pop pieces) head))
+    (when (and pieces (> below 0))
+      (pcase-let* (((cl-struct live-occur--piece rows count shift)
+                    (pop pieces))
+                   (cut (live-occur--after-rows rows 0 below)))
+        (push (live-occur--piece-of (substring rows 0 cut) below shift) head)
+        (push (live-occur--piece-of (substring rows cut) (- count below) shift)
+              pieces)))
+    (cons (nreverse head) pieces)))
 
 (defun live-occur--count (pieces &optional line)
   "How many hits PIECES have, or with LINE, how many of a place below it."
@@ -912,9 +894,8 @@ MARK is after each of its parts."
 
 (defun live-occur--insert-text (hit)
   "Insert the text of HIT, with its parts highlighted, or its beginning."
-  (let* ((bytes (live-occur--hit-bytes hit))
-         (bytes (substring bytes 0 (min (length bytes)
-                                        (* 5 (1+ live-occur-max-columns)))))
+  (let* ((bytes (seq-take (live-occur--hit-bytes hit)
+                          (* 5 (1+ live-occur-max-columns))))
          (text (live-occur--text bytes))
          (most (min (length text) live-occur-max-columns)))
     (pcase-dolist (`(,start . ,end) (live-occur--in-characters
@@ -930,30 +911,26 @@ MARK is after each of its parts."
 A character of which only some bytes are in a place is in it."
   (let* ((text (live-occur--text line))
          (last (length line))
-         (all (if (= (length text) last)
-                  #'identity
-                (apply-partially
-                 #'aref
-                 (vconcat
-                  (cl-loop for character across text and number from 0
-                           nconc (make-list (length (live-occur--bytes
-                                                     (string character)))
-                                            number)))))))
-    (cl-loop for (start . end) in places while (< start last)
-             collect (cons (funcall all start)
-                           (1+ (funcall all (1- (min end last))))))))
+         (numbers (unless (length= text last)
+                    (vconcat (cl-loop
+                              for character across text and number from 0
+                              nconc (make-list (length (live-occur--bytes
+                                                        (string character)))
+                                               number))))))
+    (cl-flet ((number (byte) (if numbers (aref numbers byte) byte)))
+      (cl-loop for (start . end) in places while (< start last)
+               collect (cons (number start)
+                             (1+ (number (1- (min end last)))))))))
 
 (defun live-occur--make-in-view (&optional window &rest _)
   "Make the rows in WINDOW and near it, or in all windows of this list.
 A window may be moved to its point when it is redrawn, so rows there are made."
   (dolist (window (if window (list window) (get-buffer-window-list nil nil t)))
-    (let* ((height (window-body-height window))
-           (start (live-occur--row-at (window-start window)))
-           (row (live-occur--row-at (window-point window)))
-           (in-view (<= start row (+ start height))))
-      (dolist (near (if in-view (list start) (list start row)))
-        (live-occur--make-rows (max 0 (- near height)) (* 3 height))
-        (live-occur--show-around (max 0 (- near height)) (* 3 height))))))
+    (dolist (position (list (window-start window) (window-point window)))
+      (let* ((height (window-body-height window))
+             (first (max 0 (- (live-occur--row-at position) height))))
+        (live-occur--make-rows first (* 3 height))
+        (live-occur--show-around first (* 3 height))))))
 
 ;;;; Lines around
 
@@ -1000,16 +977,13 @@ ABOVE is nil before the first hit of the list, and BELOW after the last one."
   (when (< from to)
     (live-occur--in-text source
       (live-occur--go-to-line source from)
-      (cl-loop
-       for number from (1+ from) to to until (eobp)
-       concat (live-occur--head (buffer-name) number "-")
-       concat (propertize (concat (buffer-substring-no-properties
-                                   (point)
-                                   (min (line-end-position)
-                                        (+ (point) live-occur-max-columns)))
-                                  "\n")
-                          'face 'live-occur-line)
-       do (forward-line 1)))))
+      (cl-loop for number from (1+ from) to to until (eobp)
+               concat (live-occur--head (buffer-name) number "-")
+               concat (propertize (seq-take (live-occur--text-after-point)
+                                            live-occur-max-columns)
+                                  'face 'live-occur-line)
+               concat "\n"
+               do (forward-line 1)))))
 
 ;;;; Going to a line
 
@@ -1068,149 +1042,6 @@ This is the `next-error-function' of lists."
   (when-let ((window (get-buffer-window nil 0)))
     (set-window-point window (point)))
   (live-occur-visit))
-
-;;;; Editing rows
-
-;; While rows are edited, each change of one is made in its line as well, and
-;; the list gets no other rows.  Heads and newlines are read-only.  A head
-;; keeps the text that the row and its line had last, so that a line that
-;; has changed otherwise is not overwritten.
-
-(defvar live-occur-mode-map)
-
-(defvar live-occur-edit-map
-  (let ((map (make-sparse-keymap)))
-    (define-key map (kbd "C-c C-c") #'live-occur-end-edit)
-    (define-key map (kbd "C-c C-o") #'live-occur-display)
-    map)
-  "Keys in lists of which the rows are edited.")
-
-(defun live-occur-edit ()
-  "Edit the rows of this list, and with each its line.
-Undo works in the list, and in the buffers.
-\\<live-occur-edit-map>\\[live-occur-end-edit] ends it."
-  (interactive)
-  (live-occur--check)
-  (live-occur--update)
-  (live-occur--wait-for (lambda () (not live-occur--asked)))
-  (let ((total (live-occur--total)))
-    (unless (or (<= total live-occur-idle-rows)
-                (yes-or-no-p (format "Make all %d rows to edit them? " total)))
-      (user-error "The rows are not edited"))
-    (live-occur--make-rows 0 total)
-    (with-silent-modifications
-      (live-occur--map-rows #'live-occur--protect-row 0 total)))
-  (add-hook 'after-change-functions #'live-occur--row-changed nil t)
-  (live-occur--let-edit t live-occur-edit-map "Live-Occur-Edit")
-  (message "%s" (substitute-command-keys "Edit the rows; \
-\\<live-occur-edit-map>\\[live-occur-end-edit] ends it")))
-
-(defun live-occur-end-edit ()
-  "Edit the rows of this list no longer, and bring it up to date."
-  (interactive)
-  (remove-hook 'after-change-functions #'live-occur--row-changed t)
-  (live-occur--let-edit nil live-occur-mode-map "Live-Occur")
-  (set-buffer-modified-p nil)
-  (live-occur--show-hits)
-  (live-occur--update))
-
-(defun live-occur--let-edit (on map name)
-  "Let rows be edited if ON, with the keys of MAP, and NAME in the mode line."
-  (setq live-occur--editing on
-        buffer-read-only (not on)
-        buffer-undo-list (not on)
-        mode-name name)
-  (use-local-map map)
-  (force-mode-line-update))
-
-(defun live-occur--protect-row (hit)
-  "Make the head and the newline of the row of HIT at point read-only.
-All of it is where its buffer is read-only, or its text is shortened."
-  (let* ((buffer (live-occur--buffer (live-occur--hit-source hit)))
-         (head (live-occur--after-head))
-         (end (line-end-position))
-         (text (live-occur--row-text))
-         (line (live-occur--text (live-occur--hit-bytes hit)))
-         (why (cond ((buffer-local-value 'buffer-read-only buffer)
-                     (format "buffer %s" (buffer-name buffer)))
-                    ((not (equal text line)) "a row that is shortened"))))
-    (add-text-properties (point) head
-                         (list 'read-only (or why "the head of a row")
-                               'live-occur-text text
-                               'front-sticky '(read-only) 'rear-nonsticky t))
-    (put-text-property end (1+ end) 'read-only (or why "the end of a row"))
-    (when why
-      (put-text-property head end 'read-only why)
-      (put-text-property (1- end) end 'rear-nonsticky nil))))
-
-(defun live-occur--row-changed (start end _removed)
-  "Make the change of a row, from START to END, in its line as well.
-Newlines in it become spaces."
-  (save-match-data
-    (save-excursion
-      (subst-char-in-region start end ?\n ?\s)
-      (goto-char start)
-      (forward-line 0)
-      (when-let ((hit (live-occur--hit (live-occur--row-at (point))))
-                 (text (live-occur--row-text)))
-        (condition-case problem
-            (live-occur--change-line
-             hit (get-text-property (point) 'live-occur-text) text)
-          (:success (live-occur--note-text text))
-          (error (message "%s; the row alone is edited"
-                          (error-message-string problem))))))))
-
-(defun live-occur--note-text (text)
-  "Keep that the row at point and its line have TEXT."
-  (with-silent-modifications
-    (put-text-property (point) (live-occur--after-head) 'live-occur-text text)))
-
-(defun live-occur--row-text ()
-  "The text of the row at point."
-  (save-excursion
-    (goto-char (live-occur--after-head))
-    (live-occur--text-after-point)))
-
-(defun live-occur--text-after-point ()
-  "The text from point to the end of the line."
-  (buffer-substring-no-properties (point) (line-end-position)))
-
-(defun live-occur--change-line (hit old new)
-  "Put the text NEW in the place of OLD in the line of HIT, or signal an error."
-  (unless (live-occur--at-line-of hit
-            (when buffer-read-only
-              (user-error "Buffer %s is read-only" (buffer-name)))
-            (unless (equal old (live-occur--text-after-point))
-              (user-error "The line of this row in %s is gone, \
-or was edited there" (buffer-name)))
-            (let ((inhibit-modification-hooks nil))
-              (replace-region-contents (point) (line-end-position)
-                                       (lambda () new)))
-            t)
-    (user-error "The buffer of this row is gone")))
-
-(defun live-occur--follow-lines ()
-  "Bring rows in view up to date with their lines.
-Rows that were edited alone stay as they are."
-  (dolist (window (get-buffer-window-list nil nil t))
-    (live-occur--map-rows
-     (lambda (hit)
-       (let ((inhibit-modification-hooks t)
-             (inhibit-read-only t)
-             (old (get-text-property (point) 'live-occur-text))
-             (new (live-occur--text-of-line hit)))
-         (when (and new
-                    (not (equal old new))
-                    (equal old (live-occur--row-text)))
-           (replace-region-contents (live-occur--after-head)
-                                    (line-end-position) (lambda () new))
-           (live-occur--note-text new))))
-     (live-occur--row-at (window-start window)) (window-body-height window))))
-
-(defun live-occur--text-of-line (hit)
-  "The text of the line of HIT as it is now, or nil if its buffer is gone."
-  (live-occur--at-line-of hit
-    (live-occur--text-after-point)))
 
 ;;;; Patterns
 
@@ -1286,8 +1117,8 @@ Call REPORT with the reply.  Of several wishes the last one is kept."
     (add-hook 'minibuffer-exit-hook (lambda () (cancel-timer timer)) nil t)
     (add-hook 'post-command-hook
               (lambda ()
-                (unless (equal text (minibuffer-contents-no-properties))
-                  (setq text (minibuffer-contents-no-properties))
+                (unless (equal
+                         text (setq text (minibuffer-contents-no-properties)))
                   (cancel-timer timer)
                   (setq timer (run-with-timer
                                live-occur-typing-delay nil #'live-occur--try
@@ -1318,8 +1149,8 @@ Call REPORT with the reply.  Of several wishes the last one is kept."
       ('basic (replace-regexp-in-string "[][\\.*^$]" "\\\\\\&" symbol))
       (_ (replace-regexp-in-string "[][\\.*^$+?(){}|]" "\\\\\\&" symbol)))))
 
-(defun live-occur--ask (list prompt &optional initial before after)
-  "Read patterns with PROMPT and the text INITIAL until LIST takes them.
+(defun live-occur--ask (list prompt &optional text before after)
+  "Read patterns with PROMPT, and TEXT at first, until LIST takes them.
 They go between the patterns BEFORE and AFTER."
   (let ((offered (live-occur--symbol-at-point
                   (buffer-local-value 'live-occur-syntax list)))
@@ -1332,21 +1163,16 @@ They go between the patterns BEFORE and AFTER."
                 (live-occur--show-fault fault)
                 (when live-occur-typing-delay
                   (live-occur--follow-typing list before after)))
-            (setq initial (read-from-minibuffer
-                           (if fault
-                               (apply #'format "%s at %d; %s"
-                                      (append fault (list prompt)))
-                             prompt)
-                           (if fault
-                               (cons initial (1+ (nth 1 fault)))
-                             initial)
-                           nil nil 'live-occur-history offered)))
+            (setq text (read-from-minibuffer
+                        (concat (and fault (apply #'format "%s at %d; " fault))
+                                prompt)
+                        (if fault (cons text (1+ (nth 1 fault))) text)
+                        nil nil 'live-occur-history offered)))
           (with-current-buffer list
             (setq fault (live-occur--fault-in
-                         (live-occur--put (append before
-                                                  (split-string initial "\n")
-                                                  after))
-                         initial (length before))
+                         (live-occur--put
+                          (append before (split-string text "\n") after))
+                         text (length before))
                   done (not fault))))
       (live-occur--in list
         (live-occur--end-preview (if done live-occur--patterns old))))))
@@ -1396,10 +1222,8 @@ They go between the patterns BEFORE and AFTER."
 
 (defun live-occur--ask-for-page ()
   "Ask for the hits that are in view, and show them when they come."
-  (let* ((sources live-occur--sources)
-         (windows (get-buffer-window-list nil nil t))
-         (count (apply #'max 50 (mapcar #'window-body-height windows))))
-    (live-occur--send (format "page 0 %d\n" count)
+  (let ((sources live-occur--sources))
+    (live-occur--send (format "page 0 %d\n" (max 50 (frame-height)))
                       (lambda (_ rows)
                         (when live-occur--previewing
                           (live-occur--show-page rows sources))))))
@@ -1413,15 +1237,16 @@ They go between the patterns BEFORE and AFTER."
                 (live-occur--spots 0 (buffer-size)))))
   (with-silent-modifications
     (erase-buffer)
-    (let ((start (live-occur--after-rows rows 0 1)))
-      (while (< start (length rows))
-        (let* ((source (nth (live-occur--place-in rows start) sources))
+    (cl-loop
+     for start = (live-occur--after-rows rows 0 1)
+     then (live-occur--after-rows rows start 1)
+     while (< start (length rows))
+     do (let* ((source (nth (live-occur--place-in rows start) sources))
                (place (string-search " " rows (+ start 2)))
                (hit (live-occur--hit-in source rows place 0)))
           (insert (live-occur--row-head hit (live-occur--hit-place hit)))
           (live-occur--insert-text hit)
-          (insert "\n")
-          (setq start (live-occur--after-rows rows start 1))))))
+          (insert "\n"))))
   (goto-char (point-min))
   (dolist (window (get-buffer-window-list nil nil t))
     (set-window-point window (point-min)))
@@ -1513,24 +1338,24 @@ Where both numbers are 0 no other lines are shown."
     (string-replace
      "%" "%%"
      (propertize
-      (concat
-       (format " %s" live-occur-syntax)
-       (and live-occur-flags (concat " -" live-occur-flags))
-       (pcase live-occur-context
-         (`(,before . ,after) (format " -B %d -A %d" before after)))
-       "  "
-       (if live-occur--patterns
-           (mapconcat (lambda (pattern) (propertize pattern 'face 'bold))
-                      live-occur--patterns "  ")
-         "no pattern")
-       "  "
-       (if live-occur--fault
-           (propertize live-occur--fault 'face 'error)
-         (format "%d row%s, %d buffer%s" rows (if (= rows 1) "" "s")
-                 buffers (if (= buffers 1) "" "s")))
-       (when live-occur--editing
-         (substitute-command-keys "  \\<live-occur-edit-map>\
-rows are edited, \\[live-occur-end-edit] ends it")))
+      (format " %s%s%s  %s  %s%s"
+              live-occur-syntax
+              (if live-occur-flags (concat " -" live-occur-flags) "")
+              (pcase live-occur-context
+                (`(,before . ,after) (format " -B %d -A %d" before after))
+                (_ ""))
+              (if live-occur--patterns
+                  (mapconcat (lambda (pattern) (propertize pattern 'face 'bold))
+                             live-occur--patterns "  ")
+                "no pattern")
+              (if live-occur--fault
+                  (propertize live-occur--fault 'face 'error)
+                (format "%d row%s, %d buffer%s" rows (if (= rows 1) "" "s")
+                        buffers (if (= buffers 1) "" "s")))
+              (if live-occur--editing
+                  (substitute-command-keys "  \\<live-occur-edit-map>\
+rows are edited, \\[live-occur-end-edit] ends it")
+                ""))
       'help-echo "In the list: C-h m describes the keys"))))
 
 (defun live-occur-refresh (&rest _)
@@ -1552,13 +1377,18 @@ What the list shows stays until the program has reported."
   (live-occur--update t))
 
 (defun live-occur--add-source (buffer)
-  "Search BUFFER in this list as well, after the other buffers."
-  (when (live-occur--list-p buffer)
+  "Search BUFFER in this list as well, and gather its edits from now on."
+  (when (buffer-local-value 'live-occur--process buffer)
     (user-error "%s is a list itself" (buffer-name buffer)))
   (let ((source (make-live-occur--source :buffer buffer
                                          :list (current-buffer))))
     (cl-callf append live-occur--sources (list source))
-    (live-occur--track source)
+    (dolist (other (buffer-list))
+      (when (live-occur--has-text-p other source)
+        (with-current-buffer other
+          (push source live-occur--sources-here)
+          (add-hook 'before-change-functions #'live-occur--before-change nil t)
+          (add-hook 'after-change-functions #'live-occur--after-change nil t))))
     (unless live-occur--fault
       (live-occur--open source))))
 
@@ -1674,9 +1504,138 @@ What the list shows stays until the program has reported."
   (add-hook 'change-major-mode-hook #'live-occur--discard nil t)
   (add-hook 'pre-redisplay-functions #'live-occur--make-in-view nil t))
 
-(defun live-occur--list-p (buffer)
-  "Whether BUFFER is a list."
-  (with-current-buffer buffer (derived-mode-p 'live-occur-mode)))
+;;;; Editing rows
+
+;; While rows are edited, each change of one is made in its line as well, and
+;; the list gets no other rows.  Heads and newlines are read-only.  A head
+;; keeps the text that the row and its line had last, so that a line that
+;; has changed otherwise is not overwritten.
+
+(defvar live-occur-edit-map
+  (let ((map (make-sparse-keymap)))
+    (define-key map (kbd "C-c C-c") #'live-occur-end-edit)
+    (define-key map (kbd "C-c C-o") #'live-occur-display)
+    map)
+  "Keys in lists of which the rows are edited.")
+
+(defun live-occur-edit ()
+  "Edit the rows of this list, and with each its line.
+Undo works in the list, and in the buffers.
+\\<live-occur-edit-map>\\[live-occur-end-edit] ends it."
+  (interactive)
+  (live-occur--check)
+  (live-occur--update)
+  (live-occur--wait-for (lambda () (not live-occur--asked)))
+  (let ((total (live-occur--total)))
+    (unless (or (<= total live-occur-idle-rows)
+                (yes-or-no-p (format "Make all %d rows to edit them? " total)))
+      (user-error "The rows are not edited"))
+    (live-occur--make-rows 0 total)
+    (with-silent-modifications
+      (live-occur--map-rows #'live-occur--protect-row 0 total)))
+  (add-hook 'after-change-functions #'live-occur--row-changed nil t)
+  (live-occur--let-edit t live-occur-edit-map "Live-Occur-Edit"))
+
+(defun live-occur-end-edit ()
+  "Edit the rows of this list no longer, and bring it up to date."
+  (interactive)
+  (remove-hook 'after-change-functions #'live-occur--row-changed t)
+  (live-occur--let-edit nil live-occur-mode-map "Live-Occur")
+  (set-buffer-modified-p nil)
+  (live-occur--show-hits)
+  (live-occur--update))
+
+(defun live-occur--let-edit (on map name)
+  "Let rows be edited if ON, with the keys of MAP, and NAME in the mode line."
+  (setq live-occur--editing on
+        buffer-read-only (not on)
+        buffer-undo-list (not on)
+        mode-name name)
+  (use-local-map map)
+  (force-mode-line-update))
+
+(defun live-occur--protect-row (hit)
+  "Make the head and the newline of the row of HIT at point read-only.
+All of it is where its buffer is read-only, or its text is shortened."
+  (let* ((buffer (live-occur--buffer (live-occur--hit-source hit)))
+         (head (live-occur--after-head))
+         (end (line-end-position))
+         (text (live-occur--row-text))
+         (line (live-occur--text (live-occur--hit-bytes hit)))
+         (why (cond ((buffer-local-value 'buffer-read-only buffer)
+                     (format "buffer %s" (buffer-name buffer)))
+                    ((not (equal text line)) "a row that is shortened"))))
+    (add-text-properties (point) head
+                         (list 'read-only (or why "the head of a row")
+                               'live-occur-text text
+                               'front-sticky '(read-only) 'rear-nonsticky t))
+    (put-text-property end (1+ end) 'read-only (or why "the end of a row"))
+    (when why
+      (put-text-property head end 'read-only why)
+      (put-text-property (1- end) end 'rear-nonsticky nil))))
+
+(defun live-occur--row-changed (start end _removed)
+  "Make the change of a row, from START to END, in its line as well.
+Newlines in it become spaces."
+  (save-match-data
+    (save-excursion
+      (subst-char-in-region start end ?\n ?\s)
+      (goto-char start)
+      (forward-line 0)
+      (when-let ((hit (live-occur--hit (live-occur--row-at (point))))
+                 (text (live-occur--row-text)))
+        (condition-case problem
+            (live-occur--change-line
+             hit (get-text-property (point) 'live-occur-text) text)
+          (:success (live-occur--note-text text))
+          (error (message "%s; the row alone is edited"
+                          (error-message-string problem))))))))
+
+(defun live-occur--note-text (text)
+  "Keep that the row at point and its line have TEXT."
+  (with-silent-modifications
+    (put-text-property (point) (live-occur--after-head) 'live-occur-text text)))
+
+(defun live-occur--row-text ()
+  "The text of the row at point."
+  (save-excursion
+    (goto-char (live-occur--after-head))
+    (live-occur--text-after-point)))
+
+(defun live-occur--change-line (hit old new)
+  "Put the text NEW in the place of OLD in the line of HIT, or signal an error."
+  (unless (live-occur--at-line-of hit
+            (when buffer-read-only
+              (user-error "Buffer %s is read-only" (buffer-name)))
+            (unless (equal old (live-occur--text-after-point))
+              (user-error "The line of this row in %s is gone, \
+or was edited there" (buffer-name)))
+            (let ((inhibit-modification-hooks nil))
+              (replace-region-contents (point) (line-end-position)
+                                       (lambda () new)))
+            t)
+    (user-error "The buffer of this row is gone")))
+
+(defun live-occur--follow-lines ()
+  "Bring rows in view up to date with their lines.
+Rows that were edited alone stay as they are."
+  (dolist (window (get-buffer-window-list nil nil t))
+    (live-occur--map-rows
+     (lambda (hit)
+       (let ((inhibit-modification-hooks t)
+             (inhibit-read-only t)
+             (old (get-text-property (point) 'live-occur-text))
+             (new (live-occur--at-line-of hit
+                    (live-occur--text-after-point))))
+         (when (and new
+                    (not (equal old new))
+                    (equal old (live-occur--row-text)))
+           (replace-region-contents (live-occur--after-head)
+                                    (line-end-position) (lambda () new))
+           (live-occur--note-text new))))
+     (live-occur--row-at (window-start window)) (window-body-height window))))
+
+;;;; Commands to begin a list
 
 (defun live-occur--read-buffers ()
   "Read the names of buffers, until one is empty, and answer the buffers."
@@ -1724,15 +1683,14 @@ whatever it is narrowed to."
     (display-buffer list)
     list))
 
-;;;; Which buffers
-
-(defun live-occur--in-buffers (buffers)
-  "List lines of those of BUFFERS that may be searched."
-  (live-occur nil (or (seq-remove
+(defun live-occur--in-buffers (buffers &optional predicate)
+  "List lines of those of BUFFERS that PREDICATE takes and may be searched."
+  (live-occur nil (or (seq-filter
                        (lambda (buffer)
-                         (or (string-prefix-p " " (buffer-name buffer))
-                             (live-occur--list-p buffer)))
-                       buffers)
+                         (not (or (string-prefix-p " " (buffer-name buffer))
+                                  (buffer-local-value 'live-occur--process
+                                                      buffer))))
+                       (seq-filter (or predicate #'identity) buffers))
                       (user-error "There is no such buffer"))))
 
 ;;;###autoload
@@ -1747,31 +1705,30 @@ whatever it is narrowed to."
   (interactive
    (list (intern (completing-read
                   (format-prompt "Buffers of mode" major-mode)
-                  (seq-uniq (mapcar (apply-partially #'buffer-local-value
-                                                     'major-mode)
+                  (seq-uniq (mapcar (lambda (buffer)
+                                      (buffer-local-value 'major-mode buffer))
                                     (buffer-list)))
                   nil t nil nil (symbol-name major-mode)))))
-  (live-occur--in-buffers (seq-filter (lambda (buffer)
-                                        (with-current-buffer buffer
-                                          (derived-mode-p mode)))
-                                      (buffer-list))))
+  (live-occur--in-buffers (buffer-list)
+                          (lambda (buffer)
+                            (with-current-buffer buffer
+                              (derived-mode-p mode)))))
 
 ;;;###autoload
 (defun live-occur-in-buffers-matching (regexp)
   "List the lines that match in the buffers of which REGEXP matches the name."
   (interactive (list (read-regexp "Buffers whose names match: ")))
-  (live-occur--in-buffers (seq-filter (lambda (buffer)
-                                        (string-match-p regexp
-                                                        (buffer-name buffer)))
-                                      (buffer-list))))
+  (live-occur--in-buffers (buffer-list)
+                          (lambda (buffer)
+                            (string-match-p regexp (buffer-name buffer)))))
 
 ;;;###autoload
 (defun live-occur-in-dired ()
   "List the lines that match in the marked files of this Dired buffer."
   (interactive)
-  (live-occur--in-buffers (mapcar #'find-file-noselect
-                                  (seq-filter #'file-regular-p
-                                              (dired-get-marked-files)))))
+  (live-occur--in-buffers
+   (mapcar #'find-file-noselect
+           (seq-filter #'file-regular-p (dired-get-marked-files)))))
 
 ;;;###autoload
 (defun live-occur-isearch ()

@@ -112,6 +112,11 @@ All buffers and processes that it makes are taken away after it."
   "A function in the place of `read-from-minibuffer' that gives ANSWERS."
   (lambda (&rest _) (or (pop answers) (error "Asked too often"))))
 
+(defun live-occur-test--line-of (hit)
+  "The text of the line of HIT as it is now."
+  (live-occur--at-line-of hit
+    (live-occur--text-after-point)))
+
 (defun live-occur-test--tell (&rest words)
   "Tell WORDS, as `message' does, though messages may be off."
   (let ((inhibit-message nil))
@@ -1268,7 +1273,7 @@ It is nil where the pattern is refused."
              (should (equal (buffer-substring-no-properties
                              (next-single-property-change (point) 'live-occur-number)
                              (line-end-position))
-                            (live-occur--text-of-line hit)))
+                            (live-occur-test--line-of hit)))
              (forward-line 1))
            0 (live-occur--total)))
         (live-occur-end-edit))
@@ -1428,7 +1433,7 @@ The answer is how many they are."
                        (cl-loop for (at _ is) in (live-occur--edits source)
                                 thereis (<= at line (+ at is))))
              (cl-incf checked)
-             (should (equal (live-occur--bytes (live-occur--text-of-line hit))
+             (should (equal (live-occur--bytes (live-occur-test--line-of hit))
                             (live-occur--hit-bytes hit))))))
        0 (live-occur--total))
       checked)))
