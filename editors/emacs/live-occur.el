@@ -117,10 +117,11 @@ The whole line is searched."
 (defvar-local live-occur--previewing nil "Whether a pattern is being typed.")
 (defvar-local live-occur--page nil
   "Where the hits are not shown, how many to tell of, and where to go back to.")
-(defvar-local live-occur--editing nil "Whether the rows are edited.")
 (defvar-local live-occur--made 0 "How many rows were made while idle.")
 (defvar-local live-occur--idle-timer nil "The timer that looks for edits.")
 (defvar-local live-occur--timer nil "The timer that does so once, or nil.")
+
+(defvar live-occur-edit-mode)
 
 (defmacro live-occur--in (buffer &rest body)
   "Run BODY in BUFFER, if it is alive."
@@ -298,13 +299,10 @@ Tell what helps, if the list was ever shown."
   buffer
   list                                  ; the buffer with the rows
   (lines 0)                             ; how many lines the program holds
-  (newlines 0)                          ; how many newlines the buffer has
   edits                         ; what changed since: see `live-occur--changed'
   moves                         ; how lines moved since the hits were reported
   pieces                                ; the hits, in `live-occur--piece's
-  (hits 0)                              ; how many they are
-  tick                          ; the buffer's tick up to which edits are known
-  (lost t)                      ; whether a change was missed: all is to be sent
+  tick        ; the buffer's tick up to which edits are known, or nil to send all
   (change '(1 0)))                      ; the last one: see `live-occur--note'
 
 (defvar-local live-occur--sources-here nil
@@ -317,13 +315,15 @@ Tell what helps, if the list was ever shown."
 
 (defmacro live-occur--in-text (source &rest body)
   "Run BODY in the whole buffer of SOURCE, and stay there where it was.
-It is not run where the buffer is gone."
+It is not run where the buffer is gone.  A cache of newlines would make it
+slower to walk over many lines."
   (declare (indent 1) (debug t))
   `(live-occur--in (live-occur--buffer ,source)
      (save-excursion
        (save-restriction
          (widen)
-         ,@body))))
+         (let ((cache-long-scans nil))
+           ,@body)))))
 
 (defun live-occur--has-text-p (buffer source)
   "Whether BUFFER has the text of SOURCE."
@@ -349,10 +349,10 @@ It is not run where the buffer is gone."
 
 (defun live-occur--go-to-line (source line)
   "Move to the beginning of LINE of SOURCE.
-Where Emacs keeps a cache of newlines it walks over lines much slower."
-  (let ((cache-long-scans nil))
-    (goto-char (car (live-occur--change source)))
-    (forward-line (- line (nth 1 (live-occur--change source))))))
+It is counted from the last change."
+  (pcase-let ((`(,start ,from . ,_) (live-occur--change source)))
+    (goto-char start)
+    (forward-line (- line from))))
 
 ;;;; Changes
 
@@ -365,13 +365,12 @@ Where Emacs keeps a cache of newlines it walks over lines much slower."
 
 (defun live-occur--known-p (source)
   "Whether all edits of SOURCE are known, and none is lost."
-  (and (not (live-occur--lost source))
-       (= (live-occur--tick source)
-          (buffer-chars-modified-tick (live-occur--buffer source)))))
+  (eql (live-occur--tick source)
+       (buffer-chars-modified-tick (live-occur--buffer source))))
 
 (defun live-occur--lose (source)
   "Forget the edits of SOURCE: all of its text is to be sent."
-  (setf (live-occur--lost source) t
+  (setf (live-occur--tick source) nil
         (live-occur--edits source) nil
         (live-occur--moves source) nil
         (live-occur--change source) '(1 0)))
@@ -436,7 +435,6 @@ WHOLE says whether they were whole lines."
           (live-occur--edits source)
           (live-occur--changed (live-occur--edits source)
                                line (- count less) (- now less)))
-    (cl-incf (live-occur--newlines source) (- now count))
     (unless (= count now)
       (push (list (if (live-occur--begins-line-p from) line (1+ line))
                   (1- count) (1- now))
@@ -482,21 +480,16 @@ has the lines of the others where they were."
   (live-occur--in-text source
     (unless (live-occur--known-p source)
       (live-occur--lose source)
-      (let ((newlines (live-occur--count-newlines 1 (point-max))))
-        (setf (live-occur--lost source) nil
-              (live-occur--newlines source) newlines
-              (live-occur--edits source)
-              (list (list 0 (live-occur--lines source) (1+ newlines))))))
+      (setf (live-occur--edits source)
+            (list (list 0 (live-occur--lines source) most-positive-fixnum))))
     (when-let ((edits (live-occur--edits source)))
-      (let ((lines (+ (live-occur--newlines source)
-                      (if (live-occur--begins-line-p (point-max)) 0 1)))
-            (shift (cl-loop for (_ was is) in edits sum (- is was))))
+      (let ((shift (cl-loop for (_ was is) in edits sum (- is was))))
         (pcase-dolist (`(,at ,was ,is) (reverse edits))
           (cl-decf shift (- is was))
+          (live-occur--go-to-line source at)
           (let* ((start (- at shift))
                  (removed (min was (- (live-occur--lines source) start)))
-                 (added (min is (- lines at))))
-            (live-occur--go-to-line source at)
+                 (added (- is (save-excursion (forward-line is)))))
             (live-occur--splice source file start removed added)
             (cl-incf (live-occur--lines source) (- added removed)))))
       (setf (live-occur--edits source) nil
@@ -506,13 +499,13 @@ has the lines of the others where they were."
 (defun live-occur--splice (source file start removed added)
   "Put the ADDED lines after point in the place of REMOVED ones at START.
 SOURCE is number FILE of its list.  Where a pipe is full Emacs sleeps, and far
-too long.  So a long text is sent in blocks of about 20,000 characters, and
-few are in the pipe."
+too long.  So a text is sent in blocks of 20,000 characters, if lines are not
+longer, and few are in the pipe."
   (let* ((list (live-occur--list source))
-         (process (buffer-local-value 'live-occur--process list))
-         (width (/ (buffer-size) (1+ (live-occur--newlines source))))
-         (size (1+ (/ 20000 (1+ width)))))
-    (while (let* ((count (min size added))
+         (process (buffer-local-value 'live-occur--process list)))
+    (while (let* ((end (min (point-max) (+ (point) 20000)))
+                  (lines (live-occur--count-newlines (point) end))
+                  (count (min added (max 1 lines)))
                   (text (buffer-substring-no-properties
                          (point) (progn (forward-line count) (point)))))
              (with-current-buffer list
@@ -608,7 +601,8 @@ few are in the pipe."
 (defun live-occur--row-of-source (source)
   "The number of the first row of SOURCE, or of all rows if it is nil."
   (cl-loop for other in live-occur--sources
-           until (eq other source) sum (live-occur--hits other)))
+           until (eq other source)
+           sum (live-occur--count (live-occur--pieces other))))
 
 (defun live-occur--hit-in (source rows start shift)
   "The hit of SOURCE in the bytes ROWS that begins at START, with SHIFT."
@@ -665,10 +659,9 @@ few are in the pipe."
   "Bring LIST up to date if anything has changed, and make some rows."
   (live-occur--in list
     (setq live-occur--timer nil)
-    (if live-occur--editing
+    (if live-occur-edit-mode
         (live-occur--follow-lines)
       (live-occur--update)
-      (live-occur--make-in-view)
       (when (and (current-idle-time)
                  (< live-occur--made (min live-occur-idle-rows
                                           (live-occur--total))))
@@ -681,7 +674,7 @@ few are in the pipe."
 If nothing has changed ask for none, but with ALWAYS non-nil."
   (when (and (not (or live-occur--fault
                       live-occur--previewing
-                      live-occur--editing))
+                      live-occur-edit-mode))
              (or (live-occur--flush-all) always))
     (if live-occur--asked
         (setq live-occur--asked 'again)
@@ -734,8 +727,7 @@ asked."
           (cl-ldiff (live-occur--moves source) before)))
   (when live-occur--page
     (live-occur--show-hits))
-  (force-mode-line-update)
-  (live-occur--make-in-view))
+  (force-mode-line-update))
 
 (defun live-occur--pieces-in (rows start count)
   "The COUNT hits in the bytes ROWS from START on, in pieces."
@@ -768,7 +760,6 @@ have moved."
     (dolist (piece tail)
       (cl-incf (live-occur--piece-shift piece) (- added removed)))
     (setf (live-occur--pieces source) (nconc head new tail))
-    (cl-incf (live-occur--hits source) (- more less))
     (live-occur--replace-rows row less more)
     (live-occur--go-to-spots spots)))
 
@@ -794,7 +785,7 @@ have moved."
         (live-occur--go-to-row row)
         (delete-region (point) (line-beginning-position (1+ removed)))
         (insert-char ?\n added)))
-    (when live-occur--editing
+    (when live-occur-edit-mode
       (setq buffer-undo-list nil))
     (cl-callf min live-occur--made row)))
 
@@ -805,8 +796,7 @@ have moved."
     (with-silent-modifications
       (erase-buffer))
     (live-occur--replace-rows 0 0 (live-occur--total))
-    (live-occur--go-to-spots spots)
-    (live-occur--make-in-view)))
+    (live-occur--go-to-spots spots)))
 
 (defun live-occur--spots (row count)
   "List where point and the windows are in the COUNT rows from ROW on.
@@ -846,7 +836,7 @@ function that moves it."
 
 (defun live-occur--make-rows (first count)
   "Make COUNT rows from FIRST on, and bring their numbers up to date."
-  (unless (or live-occur--page live-occur--editing)
+  (unless (or live-occur--page live-occur-edit-mode)
     (with-silent-modifications
       (live-occur--map-rows #'live-occur--make-row first count))))
 
@@ -922,15 +912,14 @@ A character of which only some bytes are in a place is in it."
                collect (cons (number start)
                              (1+ (number (1- (min end last)))))))))
 
-(defun live-occur--make-in-view (&optional window &rest _)
-  "Make the rows in WINDOW and near it, or in all windows of this list.
-A window may be moved to its point when it is redrawn, so rows there are made."
-  (dolist (window (if window (list window) (get-buffer-window-list nil nil t)))
-    (dolist (position (list (window-start window) (window-point window)))
-      (let* ((height (window-body-height window))
-             (first (max 0 (- (live-occur--row-at position) height))))
-        (live-occur--make-rows first (* 3 height))
-        (live-occur--show-around first (* 3 height))))))
+(defun live-occur--make-in-view (window)
+  "Make the rows of this list in WINDOW and near it, before it is redrawn.
+It may be moved to its point then, so rows there are made, too."
+  (dolist (position (list (window-start window) (window-point window)))
+    (let* ((height (window-body-height window))
+           (first (max 0 (- (live-occur--row-at position) height))))
+      (live-occur--make-rows first (* 3 height))
+      (live-occur--show-around first (* 3 height)))))
 
 ;;;; Lines around
 
@@ -1326,7 +1315,6 @@ Where both numbers are 0 no other lines are shown."
     (user-error "A number of lines is 0 or more"))
   (setq live-occur-context (unless (= 0 before after) (cons before after)))
   (remove-overlays (point-min) (point-max) 'live-occur-around t)
-  (live-occur--make-in-view)
   (force-mode-line-update))
 
 ;;;; The list as a whole
@@ -1352,9 +1340,9 @@ Where both numbers are 0 no other lines are shown."
                   (propertize live-occur--fault 'face 'error)
                 (format "%d row%s, %d buffer%s" rows (if (= rows 1) "" "s")
                         buffers (if (= buffers 1) "" "s")))
-              (if live-occur--editing
-                  (substitute-command-keys "  \\<live-occur-edit-map>\
-rows are edited, \\[live-occur-end-edit] ends it")
+              (if live-occur-edit-mode
+                  (substitute-command-keys "  \\<live-occur-edit-mode-map>\
+rows are edited, \\[live-occur-edit-mode] ends it")
                 ""))
       'help-echo "In the list: C-h m describes the keys"))))
 
@@ -1371,8 +1359,7 @@ What the list shows stays until the program has reported."
   (live-occur--end)
   (setq live-occur--page (list (live-occur--total)))
   (dolist (source live-occur--sources)
-    (setf (live-occur--pieces source) nil
-          (live-occur--hits source) 0))
+    (setf (live-occur--pieces source) nil))
   (live-occur--begin)
   (live-occur--update t))
 
@@ -1402,7 +1389,7 @@ What the list shows stays until the program has reported."
   "Take SOURCE out of this list."
   (live-occur--untrack source)
   (live-occur--replace-rows (live-occur--row-of-source source)
-                            (live-occur--hits source) 0)
+                            (live-occur--count (live-occur--pieces source)) 0)
   (let ((file (seq-position live-occur--sources source #'eq)))
     (setq live-occur--sources (remq source live-occur--sources))
     (live-occur--order (format "close %d\n" file))))
@@ -1440,7 +1427,7 @@ What the list shows stays until the program has reported."
     ("SPC" live-occur-display "Show Line")
     ("f" next-error-follow-minor-mode "Show Lines as Point Moves"
      :style toggle :selected next-error-follow-minor-mode)
-    ("e" live-occur-edit "Edit Rows")
+    ("e" live-occur-edit-mode "Edit Rows")
     ("a" live-occur-add-pattern "Add Pattern...")
     ("c" live-occur-change-pattern "Change Pattern..."
      :active live-occur--patterns)
@@ -1511,48 +1498,44 @@ What the list shows stays until the program has reported."
 ;; keeps the text that the row and its line had last, so that a line that
 ;; has changed otherwise is not overwritten.
 
-(defvar live-occur-edit-map
+(defvar live-occur-edit-mode-map
   (let ((map (make-sparse-keymap)))
-    (define-key map (kbd "C-c C-c") #'live-occur-end-edit)
+    (define-key map (kbd "C-c C-c") #'live-occur-edit-mode)
     (define-key map (kbd "C-c C-o") #'live-occur-display)
     map)
   "Keys in lists of which the rows are edited.")
 
-(defun live-occur-edit ()
+(define-minor-mode live-occur-edit-mode
   "Edit the rows of this list, and with each its line.
-Undo works in the list, and in the buffers.
-\\<live-occur-edit-map>\\[live-occur-end-edit] ends it."
-  (interactive)
-  (live-occur--check)
-  (live-occur--update)
-  (live-occur--wait-for (lambda () (not live-occur--asked)))
+Undo works in the list, and in the buffers."
+  :lighter " Edit"
+  (let ((on live-occur-edit-mode))
+    (setq live-occur-edit-mode nil)
+    (when on
+      (live-occur--check)
+      (live-occur--update)
+      (live-occur--wait-for (lambda () (not live-occur--asked)))
+      (live-occur--make-all-rows))
+    (setq live-occur-edit-mode on
+          buffer-read-only (not on)
+          buffer-undo-list (not on))
+    (use-local-map (unless on live-occur-mode-map))
+    (if on
+        (add-hook 'after-change-functions #'live-occur--row-changed nil t)
+      (remove-hook 'after-change-functions #'live-occur--row-changed t)
+      (set-buffer-modified-p nil)
+      (live-occur--show-hits)
+      (live-occur--update))))
+
+(defun live-occur--make-all-rows ()
+  "Make all rows to edit them, unless they are too many for the user."
   (let ((total (live-occur--total)))
     (unless (or (<= total live-occur-idle-rows)
                 (yes-or-no-p (format "Make all %d rows to edit them? " total)))
       (user-error "The rows are not edited"))
     (live-occur--make-rows 0 total)
     (with-silent-modifications
-      (live-occur--map-rows #'live-occur--protect-row 0 total)))
-  (add-hook 'after-change-functions #'live-occur--row-changed nil t)
-  (live-occur--let-edit t live-occur-edit-map "Live-Occur-Edit"))
-
-(defun live-occur-end-edit ()
-  "Edit the rows of this list no longer, and bring it up to date."
-  (interactive)
-  (remove-hook 'after-change-functions #'live-occur--row-changed t)
-  (live-occur--let-edit nil live-occur-mode-map "Live-Occur")
-  (set-buffer-modified-p nil)
-  (live-occur--show-hits)
-  (live-occur--update))
-
-(defun live-occur--let-edit (on map name)
-  "Let rows be edited if ON, with the keys of MAP, and NAME in the mode line."
-  (setq live-occur--editing on
-        buffer-read-only (not on)
-        buffer-undo-list (not on)
-        mode-name name)
-  (use-local-map map)
-  (force-mode-line-update))
+      (live-occur--map-rows #'live-occur--protect-row 0 total))))
 
 (defun live-occur--protect-row (hit)
   "Make the head and the newline of the row of HIT at point read-only.

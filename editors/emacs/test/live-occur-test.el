@@ -43,7 +43,9 @@
     (live-occur-test--text-shown)))
 
 (defun live-occur-test--text-shown ()
-  "The text of this list with the lines around rows."
+  "The text of this list with the lines around rows, as it is drawn."
+  (dolist (window (get-buffer-window-list nil nil t))
+    (run-hook-with-args 'pre-redisplay-functions window))
   (save-excursion
     (goto-char (point-min))
     (let (all)
@@ -704,7 +706,7 @@ All buffers and processes that it makes are taken away after it."
       (insert "a\n")
       (should (equal (live-occur-test--rows list) "a:1:a\na:2:a\n"))
       (with-current-buffer list
-        (should-not (live-occur--lost (car live-occur--sources)))))))
+        (should (live-occur--tick (car live-occur--sources)))))))
 
 (ert-deftest live-occur-offers-the-symbol-at-point ()
   (live-occur-test--with '("")
@@ -918,12 +920,12 @@ It is nil where the pattern is refused."
           (should (equal (live-occur-test--restart list) rows)))
         (ert-info ("while rows are edited")
           (with-current-buffer list
-            (live-occur-edit)
+            (live-occur-edit-mode)
             (live-occur-test--kill list)
             (goto-char (point-min))
             (search-forward "one")
             (insert "s")
-            (live-occur-end-edit))
+            (live-occur-edit-mode -1))
           (should (equal (live-occur-test--restart list)
                          "a:1:ones\na:2:two\nb:1:four\n")))))))
 
@@ -1182,7 +1184,7 @@ It is nil where the pattern is refused."
         (should (equal (live-occur-test--rows list) "a:1:Xone\nb:1:abfour\n"))
         (with-current-buffer list
           (should buffer-read-only)
-          (should (eq (key-binding "e") #'live-occur-edit)))))))
+          (should (eq (key-binding "e") #'live-occur-edit-mode)))))))
 
 (defun live-occur-test--press (keys)
   "Press KEYS in the selected window."
@@ -1195,7 +1197,7 @@ It is nil where the pattern is refused."
     (let ((list (live-occur "o" buffers)) told)
       (should (equal (live-occur-test--rows list) "a:1:one\na:2:two\na:3:o3\nb:1:four\n"))
       (with-current-buffer list
-        (live-occur-edit)
+        (live-occur-edit-mode)
         (goto-char (point-max))
         (forward-char -3)
         (should (equal (should-error (insert "x") :type 'text-read-only)
@@ -1219,7 +1221,7 @@ It is nil where the pattern is refused."
             (setq buffer-read-only t))
           (insert "y")
           (should (equal told "Buffer a is read-only; the row alone is edited")))
-        (live-occur-end-edit))
+        (live-occur-edit-mode -1))
       (should (equal (live-occur-test--rows list) "a:1:one\na:2:o3x\nb:1:four\n")))))
 
 (ert-deftest live-occur-follows-lines-while-rows-are-edited ()
@@ -1229,7 +1231,7 @@ It is nil where the pattern is refused."
         (live-occur-test--rows list)
         (setq buffer-undo-list nil)
         (with-selected-window (get-buffer-window list)
-          (live-occur-edit)
+          (live-occur-edit-mode)
           (goto-char (point-min))
           (search-forward "tw")
           (insert "12"))
@@ -1244,7 +1246,7 @@ It is nil where the pattern is refused."
           (insert "3"))
         (should (equal (buffer-string) "one\n3two\n"))
         (with-current-buffer list
-          (live-occur-end-edit))
+          (live-occur-edit-mode -1))
         (should (equal (live-occur-test--rows list) "a:1:one\na:2:3two\n"))))))
 
 (ert-deftest live-occur-edits-rows-at-random ()
@@ -1254,7 +1256,7 @@ It is nil where the pattern is refused."
     (let ((list (live-occur "a" buffers)))
       (live-occur-test--rows list)
       (with-current-buffer list
-        (live-occur-edit)
+        (live-occur-edit-mode)
         (dotimes (_ 300)
           (live-occur--go-to-row (random (live-occur--total)))
           (let* ((start (next-single-property-change (point) 'live-occur-number))
@@ -1276,7 +1278,7 @@ It is nil where the pattern is refused."
                             (live-occur-test--line-of hit)))
              (forward-line 1))
            0 (live-occur--total)))
-        (live-occur-end-edit))
+        (live-occur-edit-mode -1))
       (should (equal (with-current-buffer a (count-lines 1 (point-max))) 6))
       (let ((folder (make-temp-file "live-occur" t)))
         (unwind-protect
@@ -1427,9 +1429,7 @@ The answer is how many they are."
        (lambda (hit)
          (let ((source (live-occur--hit-source hit))
                (line (live-occur--line-of hit)))
-           (unless (or (live-occur--lost source)
-                       (/= (live-occur--tick source)
-                           (buffer-chars-modified-tick (live-occur--buffer source)))
+           (unless (or (not (live-occur--known-p source))
                        (cl-loop for (at _ is) in (live-occur--edits source)
                                 thereis (<= at line (+ at is))))
              (cl-incf checked)
