@@ -34,8 +34,7 @@
 
 (defgroup live-occur nil
   "Lines that match, kept right while buffers are edited."
-  :group 'matching
-  :prefix "live-occur-")
+  :group 'matching)
 
 (defcustom live-occur-program "occur"
   "The program that searches.
@@ -121,6 +120,7 @@ The whole line is searched."
 (defvar-local live-occur--idle-timer nil "The timer that looks for edits.")
 (defvar-local live-occur--timer nil "The timer that does so once, or nil.")
 
+(defvar live-occur--sending nil "Whether edits are being sent.")
 (defvar live-occur-edit-mode)
 
 (defmacro live-occur--in (buffer &rest body)
@@ -134,9 +134,9 @@ The whole line is searched."
   (buffer-substring-no-properties (point) (line-end-position)))
 
 (defun live-occur--look-later (list seconds)
-  "Look at LIST in SECONDS, unless a timer does so already."
+  "Look at LIST in SECONDS, if Emacs is idle and no other timer does."
   (live-occur--in list
-    (unless live-occur--timer
+    (when (and (current-idle-time) (not live-occur--timer))
       (setq live-occur--timer
             (run-with-timer seconds nil #'live-occur--look list)))))
 
@@ -269,15 +269,14 @@ Tell what helps, if the list was ever shown."
   (mapc #'live-occur--open live-occur--sources))
 
 (defun live-occur--command (words count lines)
-  "A command of WORDS with COUNT lines that are in the bytes LINES."
-  (concat (format "%s %d\n" words count) lines
+  "A command of WORDS with COUNT lines that are in the text LINES."
+  (concat (format "%s %d\n" words count) (live-occur--bytes lines)
           (if (or (= count 0) (string-suffix-p "\n" lines)) "" "\n")))
 
 (defun live-occur--patterns-command (patterns)
   "A command with PATTERNS."
   (live-occur--command "patterns" (length patterns)
-                       (live-occur--bytes
-                        (concat (string-join patterns "\n") "\n"))))
+                       (concat (string-join patterns "\n") "\n")))
 
 (defun live-occur--bytes (text)
   "The bytes of TEXT: UTF-8, and bytes that are no character as they are."
@@ -302,7 +301,7 @@ Tell what helps, if the list was ever shown."
   edits                         ; what changed since: see `live-occur--changed'
   moves                         ; how lines moved since the hits were reported
   pieces                                ; the hits, in `live-occur--piece's
-  tick        ; the buffer's tick up to which edits are known, or nil to send all
+  tick            ; the buffer's tick when its edits were known, or nil if lost
   (change '(1 0)))                      ; the last one: see `live-occur--note'
 
 (defvar-local live-occur--sources-here nil
@@ -310,8 +309,8 @@ Tell what helps, if the list was ever shown."
 
 ;; A change of the major mode, as by `revert-buffer', leaves these in place.
 (put 'live-occur--sources-here 'permanent-local t)
-(put 'live-occur--before-change 'permanent-local-hook t)
-(put 'live-occur--after-change 'permanent-local-hook t)
+(put 'live-occur--before 'permanent-local-hook t)
+(put 'live-occur--after 'permanent-local-hook t)
 
 (defmacro live-occur--in-text (source &rest body)
   "Run BODY in the whole buffer of SOURCE, and stay there where it was.
@@ -338,8 +337,8 @@ slower to walk over many lines."
       (with-current-buffer buffer
         (unless (cl-callf2 remq source live-occur--sources-here)
           (kill-local-variable 'live-occur--sources-here)
-          (remove-hook 'before-change-functions #'live-occur--before-change t)
-          (remove-hook 'after-change-functions #'live-occur--after-change t))))))
+          (remove-hook 'before-change-functions #'live-occur--before t)
+          (remove-hook 'after-change-functions #'live-occur--after t))))))
 
 (defun live-occur--count-newlines (from to)
   "Answer how many newlines are from FROM to TO, below 0 if TO comes first."
@@ -348,8 +347,7 @@ slower to walk over many lines."
     (* (if (< to from) -1 1) (1- (line-number-at-pos (point-max))))))
 
 (defun live-occur--go-to-line (source line)
-  "Move to the beginning of LINE of SOURCE.
-It is counted from the last change."
+  "Move to the beginning of LINE of SOURCE, counted from the last change."
   (pcase-let ((`(,start ,from . ,_) (live-occur--change source)))
     (goto-char start)
     (forward-line (- line from))))
@@ -384,7 +382,7 @@ A copy of a buffer has its local variables, and another text."
       (when (live-occur--has-text-p (current-buffer) source)
         (funcall function source)))))
 
-(defun live-occur--before-change (start end)
+(defun live-occur--before (start end)
   "Take note of the lines from START to END, which are about to change."
   (live-occur--gather
    (lambda (source)
@@ -410,12 +408,11 @@ buffer's size."
   "Whether a line begins at POSITION."
   (memq (char-before position) '(nil ?\n)))
 
-(defun live-occur--after-change (start end removed)
+(defun live-occur--after (start end removed)
   "Gather the change that put START to END in the place of REMOVED characters."
   (live-occur--gather
    (lambda (source)
-     (when (current-idle-time)
-       (live-occur--look-later (live-occur--list source) live-occur-delay))
+     (live-occur--look-later (live-occur--list source) live-occur-delay)
      (unless (live-occur--known-p source)
        (pcase (live-occur--change source)
          ((and `(,from ,line ,tail ,count ,whole ,size)
@@ -467,8 +464,7 @@ change: those with at most 50 such lines become one, and so do more than 32."
 MOVES say how lines have moved, the last one first."
   (pcase-dolist (`(,at ,was ,is) (reverse moves))
     (cond ((>= line (+ at was)) (cl-incf line (- is was)))
-          ((>= line at)
-           (setq line (+ at (min (- line at) (max 0 (1- is))))))))
+          ((>= line at) (setq line (min line (max at (+ at is -1)))))))
   line)
 
 ;;;; Sending lines
@@ -511,8 +507,7 @@ longer, and few are in the pipe."
              (with-current-buffer list
                (live-occur--order
                 (live-occur--command
-                 (format "splice %d %d %d" file start removed)
-                 count (live-occur--bytes text))))
+                 (format "splice %d %d %d" file start removed) count text)))
              (cl-incf start count)
              (setq removed 0)
              (> (cl-decf added count) 0))
@@ -522,11 +517,10 @@ longer, and few are in the pipe."
 
 ;;;; Hits
 
-;; Each source has the hits that the program has reported, in pieces of at most
-;; 500.  A piece keeps its rows as the bytes that came.  They are read when they
-;; come into view, so a million hits cost little until then.  Where lines before
-;; a piece come or go, the number to add to the places in it changes, and no
-;; byte.
+;; Each source has the hits that the program has reported, in pieces of 500 at
+;; most.  A piece keeps its rows as the bytes that came.  They are read when
+;; they come into view, so a million hits cost little.  Where lines before a
+;; piece come or go, the number to add to the places in it changes, no byte.
 
 (cl-defstruct (live-occur--piece (:copier nil))
   "Hits that follow one another."
@@ -617,21 +611,19 @@ longer, and few are in the pipe."
                      collect (cons (string-to-number start)
                                    (string-to-number end))))))
 
-(defun live-occur--map-hits (function first count)
-  "Call FUNCTION with each of COUNT hits of this list, from number FIRST on."
+(defun live-occur--map-hits (function first most)
+  "Call FUNCTION with each of MOST hits of this list, from number FIRST on."
   (dolist (source live-occur--sources)
-    (dolist (piece (live-occur--pieces source))
-      (let ((some (min count (- (live-occur--piece-count piece) first))))
-        (if (<= some 0)
-            (cl-decf first (live-occur--piece-count piece))
-          (let* ((rows (live-occur--piece-rows piece))
-                 (shift (live-occur--piece-shift piece))
-                 (start (live-occur--after-rows rows 0 first)))
+    (pcase-dolist ((cl-struct live-occur--piece rows count shift)
+                   (live-occur--pieces source))
+      (let ((some (min most (- count first))))
+        (when (> some 0)
+          (let ((start (live-occur--after-rows rows 0 first)))
             (dotimes (_ some)
               (funcall function (live-occur--hit-in source rows start shift))
               (setq start (live-occur--after-rows rows start 1))))
-          (cl-decf count some)
-          (setq first 0))))))
+          (cl-decf most some))
+        (setq first (max 0 (- first count)))))))
 
 (defun live-occur--hit (row)
   "The hit of the row of number ROW, or nil where there is none."
@@ -662,9 +654,8 @@ longer, and few are in the pipe."
     (if live-occur-edit-mode
         (live-occur--follow-lines)
       (live-occur--update)
-      (when (and (current-idle-time)
-                 (< live-occur--made (min live-occur-idle-rows
-                                          (live-occur--total))))
+      (when (< live-occur--made (min live-occur-idle-rows
+                                     (live-occur--total)))
         (live-occur--make-rows live-occur--made 200)
         (cl-incf live-occur--made 200)
         (live-occur--look-later list 0.02)))))
@@ -672,15 +663,11 @@ longer, and few are in the pipe."
 (defun live-occur--update (&optional always)
   "Send what has changed, and ask for what changed of the hits.
 If nothing has changed ask for none, but with ALWAYS non-nil."
-  (when (and (not (or live-occur--fault
-                      live-occur--previewing
-                      live-occur-edit-mode))
-             (or (live-occur--flush-all) always))
+  (unless (or live-occur--fault live-occur--previewing live-occur-edit-mode
+              (not (or (live-occur--flush-all) always)))
     (if live-occur--asked
         (setq live-occur--asked 'again)
       (live-occur--ask-for-changes))))
-
-(defvar live-occur--sending nil "Whether edits are being sent.")
 
 (defun live-occur--flush-all ()
   "Send what has changed in all sources, and answer whether anything has.
@@ -709,8 +696,7 @@ step.  A buffer may be killed without a word, as temporary ones are."
 
 (defun live-occur--apply-all (rows moves)
   "Apply what has changed, which is in the bytes ROWS.
-MOVES has the sources, and how their lines had moved when the program was
-asked."
+MOVES has the sources, and how their lines had moved at the question."
   (let ((at 0))
     (while (< at (length rows))
       (pcase-let* ((start (live-occur--after-rows rows at 1))
@@ -731,14 +717,11 @@ asked."
 
 (defun live-occur--pieces-in (rows start count)
   "The COUNT hits in the bytes ROWS from START on, in pieces."
-  (let (pieces)
-    (while (> count 0)
-      (let* ((some (min count 500))
-             (end (live-occur--after-rows rows start some)))
-        (push (live-occur--piece-of (substring rows start end) some 0) pieces)
-        (setq start end)
-        (cl-decf count some)))
-    (nreverse pieces)))
+  (cl-loop for left downfrom count above 0 by 500
+           for some = (min left 500)
+           for end = (live-occur--after-rows rows start some)
+           collect (live-occur--piece-of (substring rows start end) some 0)
+           do (setq start end)))
 
 (defun live-occur--apply (source moves front removed added new)
   "Put the hits NEW in the place of those among REMOVED lines of SOURCE.
@@ -928,11 +911,11 @@ It may be moved to its point then, so rows there are made, too."
 
 (defun live-occur--show-around (first count)
   "Show the lines around COUNT rows from FIRST on."
+  (save-excursion
+    (live-occur--go-to-row first)
+    (remove-overlays (point) (line-beginning-position (1+ count))
+                     'live-occur-around t))
   (when (and live-occur-context (not live-occur--page))
-    (save-excursion
-      (live-occur--go-to-row first)
-      (remove-overlays (point) (line-beginning-position (1+ count))
-                       'live-occur-around t))
     (let ((before (and (> first 0) (live-occur--hit (1- first)))))
       (live-occur--map-rows
        (lambda (hit)
@@ -1022,12 +1005,10 @@ The list keeps its window."
   (interactive "p")
   (live-occur-next (- (or count 1))))
 
-(defun live-occur--next-error (&optional count reset)
+(defun live-occur--next-error (count reset)
   "Move COUNT rows on, or with RESET from the first row, and go to the line.
 This is the `next-error-function' of lists."
-  (when reset
-    (goto-char (point-min)))
-  (live-occur-next (if reset 0 (or count 1)))
+  (live-occur-next (if reset (- (live-occur--row-at (point))) count))
   (when-let ((window (get-buffer-window nil 0)))
     (set-window-point window (point)))
   (live-occur-visit))
@@ -1044,9 +1025,9 @@ is refused the kind is REPLY itself."
      (let* ((bytes (live-occur--bytes (concat text "\n")))
             (at (+ (live-occur--after-rows
                     bytes 0 (- (string-to-number number) first))
-                   (string-to-number at)))
-            (place `((,at . ,(1+ at)))))
-       (list kind (caar (live-occur--in-characters bytes place)))))
+                   (string-to-number at))))
+       (list kind (caar (live-occur--in-characters
+                         bytes `((,at . ,(1+ at))))))))
     (_ (list reply 0))))
 
 (defun live-occur--want (patterns report)
@@ -1054,14 +1035,13 @@ is refused the kind is REPLY itself."
 Call REPORT with the reply.  Of several wishes the last one is kept."
   (if live-occur--trying
       (setq live-occur--wanted (list patterns report))
-    (let ((answered (lambda (reply &rest _)
-                      (live-occur--got reply patterns report))))
-      (setq live-occur--trying t)
-      (if (or (null patterns) (equal patterns live-occur--patterns))
-          (funcall answered "ok")
-        (live-occur--send (live-occur--patterns-command patterns) answered)))))
+    (setq live-occur--trying t)
+    (if (or (null patterns) (equal patterns live-occur--patterns))
+        (live-occur--got patterns report "ok")
+      (live-occur--send (live-occur--patterns-command patterns)
+                        (apply-partially #'live-occur--got patterns report)))))
 
-(defun live-occur--got (reply patterns report)
+(defun live-occur--got (patterns report reply &optional _)
   "Take REPLY to the wish for PATTERNS, and call REPORT with it."
   (when (and (equal reply "ok") (not (equal patterns live-occur--patterns)))
     (dolist (_ live-occur--patterns)
@@ -1221,9 +1201,8 @@ They go between the patterns BEFORE and AFTER."
   "Show the page in the bytes ROWS, with hits of SOURCES, instead of the rows."
   (setq live-occur--page
         (cons (string-to-number (substring rows (length "hits ")))
-              (if live-occur--page
-                  (cdr live-occur--page)
-                (live-occur--spots 0 (buffer-size)))))
+              (or (cdr live-occur--page)
+                  (live-occur--spots 0 (buffer-size)))))
   (with-silent-modifications
     (erase-buffer)
     (cl-loop
@@ -1283,12 +1262,11 @@ They go between the patterns BEFORE and AFTER."
 
 (defun live-occur--toggle (letter)
   "Turn the flag LETTER on or off."
-  (let ((on (not (memq letter live-occur-flags))))
-    (live-occur--set 'live-occur-flags
-                     (if on
-                         (sort (cons letter live-occur-flags) #'<)
-                       (remq letter live-occur-flags))
-                     (format "flag %c %s" letter (if on "on" "off")))))
+  (let ((flags (sort (cl-set-exclusive-or (list letter) live-occur-flags)
+                     #'<)))
+    (live-occur--set 'live-occur-flags flags
+                     (format "flag %c %s" letter
+                             (if (memq letter flags) "on" "off")))))
 
 (defun live-occur-toggle-case ()
   "Match both cases of letters, or no longer: flag i."
@@ -1314,7 +1292,6 @@ Where both numbers are 0 no other lines are shown."
   (unless (and (natnump before) (natnump after))
     (user-error "A number of lines is 0 or more"))
   (setq live-occur-context (unless (= 0 before after) (cons before after)))
-  (remove-overlays (point-min) (point-max) 'live-occur-around t)
   (force-mode-line-update))
 
 ;;;; The list as a whole
@@ -1363,9 +1340,13 @@ What the list shows stays until the program has reported."
   (live-occur--begin)
   (live-occur--update t))
 
+(defun live-occur--list-p (buffer)
+  "Whether BUFFER is a list."
+  (buffer-local-value 'live-occur--process buffer))
+
 (defun live-occur--add-source (buffer)
   "Search BUFFER in this list as well, and gather its edits from now on."
-  (when (buffer-local-value 'live-occur--process buffer)
+  (when (live-occur--list-p buffer)
     (user-error "%s is a list itself" (buffer-name buffer)))
   (let ((source (make-live-occur--source :buffer buffer
                                          :list (current-buffer))))
@@ -1374,10 +1355,9 @@ What the list shows stays until the program has reported."
       (when (live-occur--has-text-p other source)
         (with-current-buffer other
           (push source live-occur--sources-here)
-          (add-hook 'before-change-functions #'live-occur--before-change nil t)
-          (add-hook 'after-change-functions #'live-occur--after-change nil t))))
-    (unless live-occur--fault
-      (live-occur--open source))))
+          (add-hook 'before-change-functions #'live-occur--before nil t)
+          (add-hook 'after-change-functions #'live-occur--after nil t))))
+    (live-occur--open source)))
 
 (defun live-occur--open (source)
   "Put SOURCE after the files that the program has, without lines."
@@ -1666,14 +1646,13 @@ whatever it is narrowed to."
     (display-buffer list)
     list))
 
-(defun live-occur--in-buffers (buffers &optional predicate)
-  "List lines of those of BUFFERS that PREDICATE takes and may be searched."
-  (live-occur nil (or (seq-filter
-                       (lambda (buffer)
-                         (not (or (string-prefix-p " " (buffer-name buffer))
-                                  (buffer-local-value 'live-occur--process
-                                                      buffer))))
-                       (seq-filter (or predicate #'identity) buffers))
+(defun live-occur--in-buffers (buffers)
+  "List lines of those of BUFFERS that may be searched."
+  (live-occur nil (or (cl-loop for buffer in buffers
+                               unless (or (string-prefix-p
+                                           " " (buffer-name buffer))
+                                          (live-occur--list-p buffer))
+                               collect buffer)
                       (user-error "There is no such buffer"))))
 
 ;;;###autoload
@@ -1692,18 +1671,18 @@ whatever it is narrowed to."
                                       (buffer-local-value 'major-mode buffer))
                                     (buffer-list)))
                   nil t nil nil (symbol-name major-mode)))))
-  (live-occur--in-buffers (buffer-list)
-                          (lambda (buffer)
-                            (with-current-buffer buffer
-                              (derived-mode-p mode)))))
+  (live-occur--in-buffers
+   (seq-filter (lambda (buffer)
+                 (with-current-buffer buffer (derived-mode-p mode)))
+               (buffer-list))))
 
 ;;;###autoload
 (defun live-occur-in-buffers-matching (regexp)
   "List the lines that match in the buffers of which REGEXP matches the name."
   (interactive (list (read-regexp "Buffers whose names match: ")))
-  (live-occur--in-buffers (buffer-list)
-                          (lambda (buffer)
-                            (string-match-p regexp (buffer-name buffer)))))
+  (live-occur--in-buffers
+   (seq-filter (lambda (buffer) (string-match-p regexp (buffer-name buffer)))
+               (buffer-list))))
 
 ;;;###autoload
 (defun live-occur-in-dired ()

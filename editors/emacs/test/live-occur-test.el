@@ -384,7 +384,7 @@ All buffers and processes that it makes are taken away after it."
             (emacs-lisp-mode)
             (goto-char (point-max))
             (insert "o\n")
-            (should (memq #'live-occur--after-change after-change-functions))
+            (should (memq #'live-occur--after after-change-functions))
             (should (equal (live-occur-test--rows list)
                            "visited:1:zero\nvisited:2:one\nvisited:4:too\nvisited:5:o\n")))
         (delete-file file)))))
