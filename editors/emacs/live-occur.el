@@ -100,8 +100,7 @@ The whole line is searched."
 (defface live-occur-fault '((t :inherit error :underline t))
   "Face for the place at which a pattern is refused.")
 
-(defvar live-occur-history nil
-  "Patterns that were read from the minibuffer.")
+(defvar live-occur-history nil "Patterns that were read from the minibuffer.")
 
 ;;;; A list
 
@@ -111,8 +110,8 @@ The whole line is searched."
 (defvar-local live-occur--patterns nil "The patterns, in their order.")
 (defvar-local live-occur--asked nil
   "Whether changes of hits are on their way; `again' to ask for more then.")
-(defvar-local live-occur--trying nil "Whether patterns wait for a reply.")
-(defvar-local live-occur--wanted nil "The patterns that are wanted after it.")
+(defvar-local live-occur--trying nil
+  "Whether patterns wait for a reply, or what is wanted after that.")
 (defvar-local live-occur--previewing nil "Whether a pattern is being typed.")
 (defvar-local live-occur--page nil
   "Where the hits are not shown, how many to tell of, and where to go back to.")
@@ -257,7 +256,6 @@ Tell what helps, if the list was ever shown."
   (setq live-occur--fault nil
         live-occur--asked nil
         live-occur--trying nil
-        live-occur--wanted nil
         live-occur--process (live-occur--start))
   (process-put live-occur--process 'list (current-buffer))
   (live-occur--order "flag o on\n")
@@ -324,11 +322,9 @@ slower to walk over many lines."
          (let ((cache-long-scans nil))
            ,@body)))))
 
-(defun live-occur--has-text-p (buffer source)
-  "Whether BUFFER has the text of SOURCE."
-  (let ((other (live-occur--buffer source)))
-    (eq (or (buffer-base-buffer buffer) buffer)
-        (or (buffer-base-buffer other) other))))
+(defun live-occur--base (buffer)
+  "The buffer that has the text of BUFFER, which may be an indirect one."
+  (or (buffer-base-buffer buffer) buffer))
 
 (defun live-occur--untrack (source)
   "Gather no more edits of SOURCE."
@@ -357,9 +353,8 @@ slower to walk over many lines."
 ;; A change is reported before and after it is made, but not always in pairs,
 ;; and not always with the same bounds.  What is reported before is kept with
 ;; the number of lines in it; what is reported after has to lie inside, and the
-;; size of the buffer has to be what both say.  Where it is not, or where the
-;; tick shows that a change was not reported at all, the whole text is sent
-;; again.
+;; size of the buffer has to be what both say.  Where it is not, or the tick
+;; tells of a change that was not reported, the whole text is sent again.
 
 (defun live-occur--known-p (source)
   "Whether all edits of SOURCE are known, and none is lost."
@@ -379,7 +374,8 @@ A copy of a buffer has its local variables, and another text."
   (save-restriction
     (widen)
     (dolist (source live-occur--sources-here)
-      (when (live-occur--has-text-p (current-buffer) source)
+      (when (eq (live-occur--base (current-buffer))
+                (live-occur--base (live-occur--buffer source)))
         (funcall function source)))))
 
 (defun live-occur--before (start end)
@@ -557,13 +553,11 @@ longer, and few are in the pipe."
 (defun live-occur--count-below (piece line)
   "How many hits of PIECE have a place below LINE."
   (let ((rows (live-occur--piece-rows piece))
-        (line (- line (live-occur--piece-shift piece)))
-        (start 0))
+        (line (- line (live-occur--piece-shift piece))))
     (if (< (live-occur--piece-last piece) line)
         (live-occur--piece-count piece)
-      (cl-loop while (< (live-occur--place-in rows start) line)
-               do (setq start (live-occur--after-rows rows start 1))
-               count t))))
+      (cl-loop for start = 0 then (live-occur--after-rows rows start 1)
+               while (< (live-occur--place-in rows start) line) count t))))
 
 (defun live-occur--cut (pieces line)
   "PIECES with a place below LINE, and the others, as a pair of lists."
@@ -584,9 +578,7 @@ longer, and few are in the pipe."
 (defun live-occur--count (pieces &optional line)
   "How many hits PIECES have, or with LINE, how many of a place below it."
   (cl-loop for piece in pieces
-           sum (if line
-                   (live-occur--count-below piece line)
-                 (live-occur--piece-count piece))))
+           sum (live-occur--count-below piece (or line most-positive-fixnum))))
 
 (defun live-occur--total ()
   "How many hits this list has, or 0 while a page of them is in it."
@@ -858,8 +850,7 @@ function that moves it."
   (next-single-property-change (point) 'live-occur-number))
 
 (defun live-occur--head (name number mark)
-  "The head of a row of line NUMBER of the buffer NAME.
-MARK is after each of its parts."
+  "The head of a row of line NUMBER of NAME, with MARK after each part."
   (concat (propertize (string-replace "\n" " " name) 'face 'live-occur-name)
           mark
           (propertize (number-to-string number) 'face 'live-occur-line)
@@ -1034,7 +1025,7 @@ is refused the kind is REPLY itself."
   "Make PATTERNS those of this list, once the program has answered.
 Call REPORT with the reply.  Of several wishes the last one is kept."
   (if live-occur--trying
-      (setq live-occur--wanted (list patterns report))
+      (setq live-occur--trying (list patterns report))
     (setq live-occur--trying t)
     (if (or (null patterns) (equal patterns live-occur--patterns))
         (live-occur--got patterns report "ok")
@@ -1047,17 +1038,15 @@ Call REPORT with the reply.  Of several wishes the last one is kept."
     (dolist (_ live-occur--patterns)
       (live-occur--order "drop 0\n"))
     (setq live-occur--patterns patterns))
-  (setq live-occur--trying nil)
   (funcall report reply)
-  (cond (live-occur--wanted
-         (apply #'live-occur--want (cl-shiftf live-occur--wanted nil)))
-        ((not (equal reply "ok")))
-        (live-occur--previewing (live-occur--ask-for-page))
-        (t (live-occur--update t))))
+  (let ((wanted (cl-shiftf live-occur--trying nil)))
+    (cond ((consp wanted) (apply #'live-occur--want wanted))
+          ((not (equal reply "ok")))
+          (live-occur--previewing (live-occur--ask-for-page))
+          (t (live-occur--update t)))))
 
 (defun live-occur--put (patterns)
   "Make PATTERNS those of this list, wait until they are, and answer the reply."
-  (live-occur--check)
   (let (answer)
     (live-occur--want patterns (lambda (reply) (setq answer reply)))
     (live-occur--wait-for (lambda () answer))))
@@ -1224,7 +1213,6 @@ They go between the patterns BEFORE and AFTER."
 
 (defun live-occur--set (variable value words)
   "Give VARIABLE of this list VALUE if the program takes the command of WORDS."
-  (live-occur--check)
   (let ((text (string-join live-occur--patterns "\n"))
         answer)
     (live-occur--send (concat words "\n")
@@ -1352,7 +1340,7 @@ What the list shows stays until the program has reported."
                                          :list (current-buffer))))
     (cl-callf append live-occur--sources (list source))
     (dolist (other (buffer-list))
-      (when (live-occur--has-text-p other source)
+      (when (eq (live-occur--base other) (live-occur--base buffer))
         (with-current-buffer other
           (push source live-occur--sources-here)
           (add-hook 'before-change-functions #'live-occur--before nil t)
@@ -1478,17 +1466,12 @@ What the list shows stays until the program has reported."
 ;; keeps the text that the row and its line had last, so that a line that
 ;; has changed otherwise is not overwritten.
 
-(defvar live-occur-edit-mode-map
-  (let ((map (make-sparse-keymap)))
-    (define-key map (kbd "C-c C-c") #'live-occur-edit-mode)
-    (define-key map (kbd "C-c C-o") #'live-occur-display)
-    map)
-  "Keys in lists of which the rows are edited.")
-
 (define-minor-mode live-occur-edit-mode
   "Edit the rows of this list, and with each its line.
 Undo works in the list, and in the buffers."
   :lighter " Edit"
+  :keymap `((,(kbd "C-c C-c") . live-occur-edit-mode)
+            (,(kbd "C-c C-o") . live-occur-display))
   (let ((on live-occur-edit-mode))
     (setq live-occur-edit-mode nil)
     (when on
@@ -1561,9 +1544,8 @@ Newlines in it become spaces."
 
 (defun live-occur--row-text ()
   "The text of the row at point."
-  (save-excursion
-    (goto-char (live-occur--after-head))
-    (live-occur--text-after-point)))
+  (buffer-substring-no-properties (live-occur--after-head)
+                                  (line-end-position)))
 
 (defun live-occur--change-line (hit old new)
   "Put the text NEW in the place of OLD in the line of HIT, or signal an error."
