@@ -69,8 +69,7 @@ In a list it has how many are shown now."
                  (cons (natnum :tag "Before") (natnum :tag "After"))))
 
 (defcustom live-occur-follow nil
-  "Whether a list begins with `next-error-follow-minor-mode' on.
-The line of a row is shown then as soon as point moves to the row."
+  "Whether lists begin with `next-error-follow-minor-mode' on."
   :type 'boolean)
 
 (defcustom live-occur-typing-delay 0.1
@@ -187,9 +186,7 @@ status.  There is none before point.  What takes a reply may send more, and so
 get here again: the reply is taken out of the buffer before."
   (let ((output (process-buffer process)))
     (live-occur--in output
-      (save-excursion
-        (goto-char (point-max))
-        (insert text))
+      (save-excursion (goto-char (point-max)) (insert text))
       (while (and (buffer-live-p output)
                   (save-excursion
                     (goto-char (point-min))
@@ -311,9 +308,8 @@ Tell what helps, if the list was ever shown."
 (put 'live-occur--after 'permanent-local-hook t)
 
 (defmacro live-occur--in-text (source &rest body)
-  "Run BODY in the whole buffer of SOURCE, and stay there where it was.
-It is not run where the buffer is gone.  A cache of newlines would make it
-slower to walk over many lines."
+  "Run BODY in the whole buffer of SOURCE, if it is alive, and stay there.
+A cache of newlines would make it slower to walk over many lines."
   (declare (indent 1) (debug t))
   `(live-occur--in (live-occur--buffer ,source)
      (save-excursion
@@ -390,9 +386,8 @@ A copy of a buffer has its local variables, and another text."
 
 (defun live-occur--note (source start end line)
   "Take note of the text of SOURCE from START, which is in LINE, to END.
-It is kept as START, LINE, the distance of END from the buffer's end, the
-number of lines that are touched, whether these are whole lines, and the
-buffer's size."
+It is kept as START, LINE, the distance of END from the buffer's end, how many
+lines are touched, whether they are whole lines, and the buffer's size."
   (setf (live-occur--change source)
         (list start line (- (point-max) end)
               (1+ (live-occur--count-newlines start end))
@@ -444,8 +439,7 @@ change: those with at most 50 such lines become one, and so do more than 32."
   (let ((low start) (high (+ start old)) (more 0) before after
         (gap (if (length= edits 32) most-positive-fixnum 50)))
     (pcase-dolist (`(,at ,was ,is) edits)
-      (cond ((> (- low at is) gap)
-             (push (list at was is) before))
+      (cond ((> (- low at is) gap) (push (list at was is) before))
             ((> (- at high) gap)
              (push (list (+ at (- new old)) was is) after))
             (t (setq low (min low at)
@@ -768,8 +762,7 @@ have moved."
   "Show the hits of this list again, at SPOTS or where it is."
   (let ((spots (or spots (live-occur--spots 0 (buffer-size)))))
     (setq live-occur--page nil)
-    (with-silent-modifications
-      (erase-buffer))
+    (with-silent-modifications (erase-buffer))
     (live-occur--replace-rows 0 0 (live-occur--total))
     (live-occur--go-to-spots spots)))
 
@@ -827,9 +820,7 @@ function that moves it."
 (defun live-occur--make-row (hit)
   "Make the row of HIT at point, or correct its head, and lose point."
   (let ((head (live-occur--row-head hit (live-occur--line-of hit))))
-    (cond ((eolp)
-           (insert head)
-           (live-occur--insert-text hit))
+    (cond ((eolp) (insert head) (live-occur--insert-text hit))
           ((not (equal head (buffer-substring-no-properties
                              (point) (live-occur--after-head))))
            (delete-region (point) (live-occur--after-head))
@@ -980,8 +971,7 @@ The list keeps its window."
 (defun live-occur-display ()
   "Show the line of the row at point in another window, and stay here."
   (interactive)
-  (save-selected-window
-    (live-occur-visit)))
+  (save-selected-window (live-occur-visit)))
 
 (defun live-occur-next (&optional count)
   "Move COUNT rows on."
@@ -1453,8 +1443,7 @@ What the list shows stays until the program has reported."
               live-occur--idle-timer
               (run-with-idle-timer live-occur-delay t #'live-occur--look
                                    (current-buffer)))
-  (when live-occur-follow
-    (next-error-follow-minor-mode))
+  (when live-occur-follow (next-error-follow-minor-mode))
   (add-hook 'kill-buffer-hook #'live-occur--discard nil t)
   (add-hook 'change-major-mode-hook #'live-occur--discard nil t)
   (add-hook 'pre-redisplay-functions #'live-occur--make-in-view nil t))
@@ -1616,8 +1605,7 @@ whatever it is narrowed to."
                 (unless (equal reply "ok")
                   (user-error "The program answered: %s" reply)))))
           (unless pattern
-            (when live-occur-typing-delay
-              (display-buffer list))
+            (when live-occur-typing-delay (display-buffer list))
             (live-occur--ask list "List lines that match: "))
           (setq done t))
       (unless done
