@@ -144,23 +144,6 @@ The whole line is searched."
 ;; for a reply in a queue.  It is the property `waiting' of the process.  What
 ;; the program says to its standard error follows its last reply.
 
-(defun live-occur--start ()
-  "Start the program, and answer its process."
-  (unless (executable-find live-occur-program)
-    (user-error "There is no program %s: set live-occur-program"
-                live-occur-program))
-  (let ((default-directory temporary-file-directory)
-        (process-adaptive-read-buffering nil)
-        (output (generate-new-buffer " *live-occur replies*" t)))
-    (with-current-buffer output (set-buffer-multibyte nil))
-    (make-process
-     :name "live-occur" :buffer output :noquery t
-     :connection-type 'pipe :coding 'binary
-     :command (cons live-occur-program
-                    (and live-occur-states
-                         (list "--states" (format "%d" live-occur-states))))
-     :filter #'live-occur--read :sentinel #'live-occur--ended)))
-
 (defun live-occur--end ()
   "End the program of this list, if there is one."
   (when live-occur--process
@@ -250,11 +233,23 @@ Tell what helps, if the list was ever shown."
 
 (defun live-occur--begin ()
   "Start the program of this list, and send it all that it has to hold."
-  (setq live-occur--fault nil
-        live-occur--asked nil
-        live-occur--trying nil
-        live-occur--process (live-occur--start))
+  (unless (executable-find live-occur-program)
+    (user-error "There is no program %s: set live-occur-program"
+                live-occur-program))
+  (let ((default-directory temporary-file-directory)
+        (process-adaptive-read-buffering nil)
+        (output (generate-new-buffer " *live-occur replies*" t)))
+    (with-current-buffer output (set-buffer-multibyte nil))
+    (setq live-occur--process
+          (make-process
+           :name "live-occur" :buffer output :noquery t
+           :connection-type 'pipe :coding 'binary
+           :command `(,live-occur-program
+                      ,@(and live-occur-states
+                             (list "--states" (format "%d" live-occur-states))))
+           :filter #'live-occur--read :sentinel #'live-occur--ended)))
   (process-put live-occur--process 'list (current-buffer))
+  (setq live-occur--fault nil live-occur--asked nil live-occur--trying nil)
   (live-occur--order "flag o on\n")
   (live-occur--order (format "syntax %s\n" live-occur-syntax))
   (dolist (letter live-occur-flags)
@@ -1308,8 +1303,7 @@ rows are edited, \\[live-occur-edit-mode] ends it")
   (live-occur--update t))
 
 (defun live-occur-restart ()
-  "Start the program of this list again.
-What the list shows stays until the program has reported."
+  "Start the program again.  The list stays as it is until that has reported."
   (interactive)
   (live-occur--end)
   (setq live-occur--page (list (live-occur--total)))
@@ -1383,14 +1377,15 @@ What the list shows stays until the program has reported."
 (defconst live-occur--commands
   '(("RET" live-occur-visit "Go to Line")
     ("SPC" live-occur-display "Show Line")
+    ("n" live-occur-next "Next Row")
+    ("p" live-occur-previous "Previous Row")
     ("f" next-error-follow-minor-mode "Show Lines as Point Moves"
      :style toggle :selected next-error-follow-minor-mode)
     ("e" live-occur-edit-mode "Edit Rows")
     ("a" live-occur-add-pattern "Add Pattern...")
     ("c" live-occur-change-pattern "Change Pattern..."
      :active live-occur--patterns)
-    ("d" live-occur-drop-pattern "Drop Pattern..."
-     :active live-occur--patterns)
+    ("d" live-occur-drop-pattern "Drop Pattern..." :active live-occur--patterns)
     ("i" live-occur-toggle-case "Both Cases of Letters"
      :style toggle :selected (memq ?i live-occur-flags))
     ("v" live-occur-toggle-inverse "Lines That Don't Match"
@@ -1406,16 +1401,16 @@ What the list shows stays until the program has reported."
     ("C" live-occur-set-context "Lines Around...")
     ("+" live-occur-add-buffer "Add Buffer...")
     ("-" live-occur-remove-buffer "Leave Out Buffer...")
-    ("r" live-occur-restart "Start the Program Again"))
-  "Keys in lists, with their commands and what these are in the menu.")
+    ("g" live-occur-refresh "Bring Up to Date")
+    ("r" live-occur-restart "Start the Program Again")
+    ("q" quit-window "Hide List"))
+  "Keys in lists by use, with their commands and what these are in the menu.")
 
 (defvar live-occur-mode-map
   (let ((map (make-sparse-keymap)))
     (pcase-dolist (`(,key ,command . ,_) live-occur--commands)
       (define-key map (kbd key) command))
     (define-key map (kbd "C-o") #'live-occur-display)
-    (define-key map (kbd "n") #'live-occur-next)
-    (define-key map (kbd "p") #'live-occur-previous)
     (define-key map [mouse-2] #'live-occur-visit)
     (define-key map [follow-link] 'mouse-face)
     map)
@@ -1429,14 +1424,14 @@ What the list shows stays until the program has reported."
                 live-occur--commands)))
 
 (define-derived-mode live-occur-mode special-mode "Live-Occur"
-  "A list of the lines that match, kept right while buffers are edited.
-
-\\{live-occur-mode-map}"
+  "A list of the lines that match, kept right while buffers are edited."
   (setq-local live-occur-syntax live-occur-syntax
               live-occur-context live-occur-context
               live-occur-flags (sort (copy-sequence live-occur-flags) #'<)
               revert-buffer-function #'live-occur-refresh
               next-error-function #'live-occur--next-error
+              next-error-find-buffer-function (lambda (&rest _)
+                                                (current-buffer))
               header-line-format '((:eval (live-occur--header)))
               truncate-lines t
               buffer-undo-list t
@@ -1447,6 +1442,14 @@ What the list shows stays until the program has reported."
   (add-hook 'kill-buffer-hook #'live-occur--discard nil t)
   (add-hook 'change-major-mode-hook #'live-occur--discard nil t)
   (add-hook 'pre-redisplay-functions #'live-occur--make-in-view nil t))
+
+;; The keys are described in this order, and not in that of the keymap.
+(put 'live-occur-mode 'function-documentation
+     (concat "A list of lines that match, kept right while buffers are edited.
+\\<live-occur-mode-map>"
+             (mapconcat (pcase-lambda (`(,_ ,command ,label . ,_))
+                          (format "\n\\[%s]\t%s" command label))
+                        live-occur--commands "")))
 
 ;;;; Editing rows
 
@@ -1573,9 +1576,8 @@ Rows that were edited alone stay as they are."
 
 (defun live-occur--read-buffers ()
   "Read the names of buffers, until one is empty, and answer the buffers."
-  (cl-loop for name = (read-buffer "First buffer to search: "
-                                   (current-buffer) t)
-           then (read-buffer "Next buffer to search (RET to end): " "" t)
+  (cl-loop for name = (read-buffer "First buffer: " (current-buffer) t)
+           then (read-buffer "Next buffer (RET to end): " "" t)
            until (string-empty-p name)
            collect (get-buffer name) into buffers
            finally return (seq-uniq buffers)))

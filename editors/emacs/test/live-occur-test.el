@@ -1083,11 +1083,17 @@ It is nil where the pattern is refused."
           (run-hooks 'post-command-hook)
           (should (eq (current-buffer) list)))
         (should (= (line-number-at-pos (window-point (get-buffer-window a))) 3))
+        (save-window-excursion
+          (live-occur "x1"))
+        (with-selected-window (get-buffer-window list)
+          (live-occur-previous 1)
+          (run-hooks 'post-command-hook))
+        (should (= (line-number-at-pos (window-point (get-buffer-window a))) 2))
         (with-current-buffer list
           (next-error-follow-minor-mode 'toggle)
-          (live-occur-previous 2)
+          (live-occur-previous 1)
           (run-hooks 'post-command-hook))
-        (should (= (line-number-at-pos (window-point (get-buffer-window a))) 3))))))
+        (should (= (line-number-at-pos (window-point (get-buffer-window a))) 2))))))
 
 (ert-deftest live-occur-stays-at-its-row ()
   (live-occur-test--with '("x1\nx2\nx3\nx4\n")
