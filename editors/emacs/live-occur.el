@@ -225,11 +225,10 @@ Tell what helps, if the list was ever shown."
 
 (defun live-occur--order (command)
   "Send COMMAND, which the program has to accept."
-  (live-occur--send command
-                    (lambda (reply _)
-                      (unless (equal reply "ok")
-                        (live-occur--tell-fault
-                         (concat "occur answered: " reply))))))
+  (live-occur--send
+   command (lambda (reply _)
+             (unless (equal reply "ok")
+               (live-occur--tell-fault (concat "occur answered: " reply))))))
 
 (defun live-occur--begin ()
   "Start the program of this list, and send it all that it has to hold."
@@ -652,17 +651,20 @@ If nothing has changed ask for none, but with ALWAYS non-nil."
 
 (defun live-occur--flush-all ()
   "Send what has changed in all sources, and answer whether anything has.
-To be broken off between, or begun again, would leave the program out of
-step.  A buffer may be killed without a word, as temporary ones are."
+To be broken off between, or begun again, would leave the program out of step."
   (unless live-occur--sending
-    (let ((inhibit-quit t)
-          (live-occur--sending t)
-          (gone (seq-remove (lambda (source)
+    (let ((inhibit-quit t) (live-occur--sending t))
+      (append (live-occur--close-killed)
+              (delq nil (seq-map-indexed #'live-occur--flush
+                                         live-occur--sources))))))
+
+(defun live-occur--close-killed ()
+  "Close the sources of this list whose buffers were killed, and answer them."
+  (let ((killed (seq-remove (lambda (source)
                               (buffer-live-p (live-occur--buffer source)))
                             live-occur--sources)))
-      (mapc #'live-occur--close gone)
-      (append gone (delq nil (seq-map-indexed #'live-occur--flush
-                                              live-occur--sources))))))
+    (mapc #'live-occur--close killed)
+    killed))
 
 (defun live-occur--ask-for-changes ()
   "Ask for what changed of the hits, and apply it when it comes."
@@ -749,8 +751,7 @@ have moved."
         (live-occur--go-to-row row)
         (delete-region (point) (line-beginning-position (1+ removed)))
         (insert-char ?\n added)))
-    (when live-occur-edit-mode
-      (setq buffer-undo-list nil))
+    (when live-occur-edit-mode (setq buffer-undo-list nil))
     (cl-callf min live-occur--made row)))
 
 (defun live-occur--show-hits (&optional spots)
@@ -875,6 +876,7 @@ A character of which only some bytes are in a place is in it."
 (defun live-occur--make-in-view (window)
   "Make the rows of this list in WINDOW and near it, before it is redrawn.
 It may be moved to its point then, so rows there are made, too."
+  (live-occur--close-killed)
   (dolist (position (list (window-start window) (window-point window)))
     (let* ((height (window-body-height window))
            (first (max 0 (- (live-occur--row-at position) height))))
@@ -1198,12 +1200,10 @@ They go between the patterns BEFORE and AFTER."
 
 (defun live-occur--set (variable value words)
   "Give VARIABLE of this list VALUE if the program takes the command of WORDS."
-  (let ((text (string-join live-occur--patterns "\n"))
-        answer)
+  (let ((text (string-join live-occur--patterns "\n")) answer)
     (live-occur--send (concat words "\n")
                       (lambda (reply _)
-                        (setq answer reply)
-                        (when (equal reply "ok")
+                        (when (equal (setq answer reply) "ok")
                           (set variable value))))
     (live-occur--wait-for (lambda () answer))
     (pcase (live-occur--fault-in answer text 0)
