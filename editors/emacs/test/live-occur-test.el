@@ -1461,7 +1461,10 @@ The answer is how many they are."
           (progn
             (live-occur-test--rows list)
             (advice-add 'live-occur--lose :before
-                        (lambda (_) (cl-incf lost)) '((name . live-occur-test)))
+                        (lambda (source)
+                          (when (live-occur--tick source)
+                            (cl-incf lost)))
+                        '((name . live-occur-test)))
             (dotimes (_ live-occur-test--edits)
               (with-current-buffer (or (nth (random 5) buffers) indirect)
                 (pcase (random 60)
@@ -1560,6 +1563,25 @@ of the edits: of the command alone, and with the update."
                              (* 1000 (live-occur-test--median edits))
                              (* 1000 (live-occur-test--median updates))
                              (* 1000 (apply #'max updates))))))
+
+;;;; Keys
+
+(ert-deftest live-occur-describes-its-keys-in-order-of-use ()
+  (with-temp-buffer
+    (insert (substitute-command-keys (documentation 'live-occur-mode)))
+    (goto-char (point-min))
+    (forward-line 1)
+    (pcase-dolist (`(,key ,command ,label . ,_) live-occur--commands)
+      (forward-line 1)
+      (should (commandp command))
+      (should (eq (lookup-key live-occur-mode-map (kbd key)) command))
+      (should (looking-at-p (concat "[^\t\n]+\t" (regexp-quote (substitute-command-keys label)) "$"))))
+    (forward-line 1)
+    (should (eobp))))
+
+(ert-deftest live-occur-has-a-menu ()
+  (dolist (entry live-occur--commands)
+    (should (where-is-internal (nth 1 entry) (list (list 'keymap live-occur-menu))))))
 
 ;;;; The file
 
