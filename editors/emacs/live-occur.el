@@ -165,8 +165,8 @@ ended; its sentinel reports either."
 (defun live-occur--read (process text)
   "Take TEXT from PROCESS, and hand out the replies in it.
 A reply of several lines begins with h or hits, and ends in the line of its
-status.  There is none before point.  What takes a reply may send more, and so
-get here again: the reply is taken out of the buffer before."
+status.  None ends before point.  What takes a reply may send more, and so get
+here again: the reply is taken out of the buffer before."
   (let ((output (process-buffer process)))
     (live-occur--in output
       (save-excursion (goto-char (point-max)) (insert text))
@@ -422,7 +422,7 @@ WHOLE says whether they were whole lines."
                   (1- count) (1- now))
             (live-occur--moves source))
       ;; The numbers of rows in view are corrected when they are redrawn.
-      (with-current-buffer (live-occur--list source)
+      (live-occur--in (live-occur--list source)
         (force-mode-line-update)))))
 
 (defun live-occur--changed (edits start old new)
@@ -461,7 +461,7 @@ has the lines of the others where they were."
     (unless (live-occur--known-p source)
       (live-occur--lose source)
       (setf (live-occur--edits source)
-            (list (list 0 (live-occur--lines source) most-positive-fixnum))))
+            (list (list 0 (live-occur--lines source) (1+ (buffer-size))))))
     (when-let ((edits (live-occur--edits source)))
       (let ((shift (cl-loop for (_ was is) in edits sum (- is was))))
         (pcase-dolist (`(,at ,was ,is) (reverse edits))
