@@ -694,8 +694,7 @@ MOVES has the sources, and how their lines had moved at the question."
   (pcase-dolist (`(,source . ,before) moves)
     (setf (live-occur--moves source)
           (cl-ldiff (live-occur--moves source) before)))
-  (when live-occur--page
-    (live-occur--show-hits))
+  (when live-occur--page (live-occur--show-hits))
   (force-mode-line-update))
 
 (defun live-occur--pieces-in (rows start count)
@@ -717,7 +716,7 @@ have moved."
                        (live-occur--count head)))
                (less (live-occur--count gone))
                (more (live-occur--count new))
-               (spots (live-occur--spots row less)))
+               (spots (unless live-occur--page (live-occur--spots row less))))
     (dolist (spot spots)
       (let* ((hit (live-occur--hit (car spot)))
              (line (and hit
@@ -1034,6 +1033,7 @@ Call REPORT with the reply.  Of several wishes the last one is kept."
 
 (defun live-occur--put (patterns)
   "Make PATTERNS those of this list, wait until they are, and answer the reply."
+  (live-occur--check)
   (let (answer)
     (live-occur--want patterns (lambda (reply) (setq answer reply)))
     (live-occur--wait-for (lambda () answer))))

@@ -628,7 +628,9 @@ All buffers and processes that it makes are taken away after it."
                  told))
         (should (string-search "was killed by signal 9" (live-occur--header)))
         (should-error (live-occur-refresh) :type 'user-error)
-        (should-error (live-occur-toggle-case) :type 'user-error))
+        (should-error (live-occur-toggle-case) :type 'user-error)
+        (should-error (live-occur-drop-pattern 0) :type 'user-error)
+        (should (equal live-occur--patterns '("a"))))
       (insert "aa\n")
       (should (equal (live-occur-test--rows list) "a:1:a\n"))
       (with-current-buffer list
@@ -803,6 +805,7 @@ It is the text there, that of the list, and what is said of a fault."
                            ("t" "a:2:two(\na:3:three\n" nil)
                            ("tw" "a:2:two(\n" nil))))
           (should (equal (live-occur-test--rows list) "a:2:two(\n"))
+          (should (bobp))
           (should (equal live-occur--patterns '("tw"))))))))
 
 (ert-deftest live-occur-goes-away-by-quitting ()
