@@ -24,8 +24,8 @@
 
 (defun live-occur-test--busy-p ()
   "Whether a reply of this list is on its way."
-  (and (live-occur--running-p live-occur--session)
-       (live-occur--session-waiting live-occur--session)))
+  (and (not live-occur--fault)
+       (process-get live-occur--process 'waiting)))
 
 (defun live-occur-test--wait ()
   "Wait until all replies of this list have come."
@@ -43,7 +43,9 @@
     (live-occur-test--text-shown)))
 
 (defun live-occur-test--text-shown ()
-  "The text of this list with the lines around rows."
+  "The text of this list with the lines around rows, as it is drawn."
+  (dolist (window (get-buffer-window-list nil nil t))
+    (run-hook-with-args 'pre-redisplay-functions window))
   (save-excursion
     (goto-char (point-min))
     (let (all)
@@ -112,6 +114,11 @@ All buffers and processes that it makes are taken away after it."
   "A function in the place of `read-from-minibuffer' that gives ANSWERS."
   (lambda (&rest _) (or (pop answers) (error "Asked too often"))))
 
+(defun live-occur-test--line-of (hit)
+  "The text of the line of HIT as it is now."
+  (live-occur--at-line-of hit
+    (live-occur--text-after-point)))
+
 (defun live-occur-test--tell (&rest words)
   "Tell WORDS, as `message' does, though messages may be off."
   (let ((inhibit-message nil))
@@ -162,11 +169,11 @@ All buffers and processes that it makes are taken away after it."
           (live-occur-add-pattern))
         (should (equal (live-occur-test--rows list) "a:1:one\na:2:two\na:3:three\n"))
         (cl-letf (((symbol-function 'completing-read) (lambda (&rest _) "two")))
-          (live-occur-drop-pattern))
+          (call-interactively #'live-occur-drop-pattern))
         (should (equal (live-occur-test--rows list) "a:1:one\na:3:three\n"))
         (cl-letf (((symbol-function 'completing-read) (lambda (&rest _) "one"))
                   ((symbol-function 'read-from-minibuffer) (live-occur-test--answers "wo")))
-          (live-occur-change-pattern))
+          (call-interactively #'live-occur-change-pattern))
         (should (equal live-occur--patterns '("wo" "hr")))
         (should (equal (live-occur-test--rows list) "a:2:two\na:3:three\n"))))))
 
@@ -320,11 +327,11 @@ All buffers and processes that it makes are taken away after it."
       (cl-letf* ((send (symbol-function 'live-occur--send))
                  (due 0)
                  ((symbol-function 'live-occur--send)
-                  (lambda (session text function)
+                  (lambda (text function)
                     (if (not (equal text "changes\n"))
-                        (funcall send session text function)
+                        (funcall send text function)
                       (setq due (1+ due) all (1+ all) most (max most due))
-                      (funcall send session text
+                      (funcall send text
                                (lambda (&rest reply)
                                  (setq due (1- due))
                                  (apply function reply)))))))
@@ -377,7 +384,7 @@ All buffers and processes that it makes are taken away after it."
             (emacs-lisp-mode)
             (goto-char (point-max))
             (insert "o\n")
-            (should (memq #'live-occur--after-change after-change-functions))
+            (should (memq #'live-occur--after after-change-functions))
             (should (equal (live-occur-test--rows list)
                            "visited:1:zero\nvisited:2:one\nvisited:4:too\nvisited:5:o\n")))
         (delete-file file)))))
@@ -464,7 +471,7 @@ All buffers and processes that it makes are taken away after it."
           (setq now (append (seq-take now start) (make-list new 'new)
                             (seq-drop now (+ start old)))
                 edits (live-occur--changed edits start old new))))
-      (should (length< edits (1+ live-occur--most-edits)))
+      (should (length< edits (1+ 32)))
       (let ((shift (cl-loop for (_ was is) in edits sum (- is was))))
         (should (= (length now) (+ (length held) shift)))
         (pcase-dolist (`(,at ,was ,is) (reverse edits))
@@ -519,17 +526,17 @@ All buffers and processes that it makes are taken away after it."
   (live-occur-test--with '("a\n")
     (let ((list (live-occur "a")) seen)
       (live-occur-test--rows list)
-      (let* ((session (buffer-local-value 'live-occur--session list))
+      (let* ((process (buffer-local-value 'live-occur--process list))
              (take (lambda (name)
-                     (lambda (reply)
-                       (push (list name (buffer-string) reply) seen)
+                     (lambda (reply rows)
+                       (push (list name rows reply) seen)
                        (when (eq name 'first)
-                         (live-occur--read session "4 - ab\nstatus 0\no"))))))
-        (setf (live-occur--session-waiting session)
-              (mapcar take '(first second third fourth)))
-        (live-occur--read session "h 0 1 2 3 1\nr 2 - status 5\nstatus 1\nhits 1\np 0 ")
-        (live-occur--read session "k\nrefused NoSuchFile")
-        (live-occur--read session "\n"))
+                         (live-occur--read process "4 - ab\nstatus 0\no"))))))
+        (process-put process 'waiting
+                     (mapcar take '(first second third fourth)))
+        (live-occur--read process "h 0 1 2 3 1\nr 2 - status 5\nstatus 1\nhits 1\np 0 ")
+        (live-occur--read process "k\nrefused NoSuchFile")
+        (live-occur--read process "\n"))
       (should (equal (nreverse seen)
                      '((first "h 0 1 2 3 1\nr 2 - status 5\n" "status 1")
                        (second "hits 1\np 0 4 - ab\n" "status 0")
@@ -571,9 +578,11 @@ All buffers and processes that it makes are taken away after it."
   (should (equal-including-properties
            (live-occur--underlined "ab" 2)
            #("ab " 2 3 (face live-occur-fault))))
-  (should (equal (live-occur--fault-in "refused Pattern 1 BadRange 3" '("" "é[z-a]"))
-                 '(1 "BadRange" 2)))
-  (should-not (live-occur--fault-in "refused Memory" '("a"))))
+  (should (equal (live-occur--fault-in "refused Pattern 3 BadRange 3" "\né[z-a]" 2)
+                 '("BadRange" 3)))
+  (should (equal (live-occur--fault-in "refused Memory" "a" 0)
+                 '("refused Memory" 0)))
+  (should-not (live-occur--fault-in "ok" "a" 0)))
 
 (ert-deftest live-occur-keeps-a-syntax-that-another-cannot-replace ()
   (live-occur-test--with '("a(\n")
@@ -612,14 +621,16 @@ All buffers and processes that it makes are taken away after it."
       (with-current-buffer list
         (cl-letf (((symbol-function 'message)
                    (lambda (&rest words) (setq told (apply #'format words)))))
-          (signal-process (live-occur--session-process live-occur--session) 'KILL)
+          (signal-process live-occur--process 'KILL)
           (with-timeout (10) (while (not told) (accept-process-output nil 0.05))))
         (should (string-match-p
                  "\\`\\*Live Occur\\*: .*occur was killed by signal 9; r in the list starts it again\\'"
                  told))
         (should (string-search "was killed by signal 9" (live-occur--header)))
         (should-error (live-occur-refresh) :type 'user-error)
-        (should-error (live-occur-toggle-case) :type 'user-error))
+        (should-error (live-occur-toggle-case) :type 'user-error)
+        (should-error (live-occur-drop-pattern 0) :type 'user-error)
+        (should (equal live-occur--patterns '("a"))))
       (insert "aa\n")
       (should (equal (live-occur-test--rows list) "a:1:a\n"))
       (with-current-buffer list
@@ -656,6 +667,7 @@ All buffers and processes that it makes are taken away after it."
     (let ((list (live-occur "a" buffers)))
       (should (equal (live-occur-test--rows list) "a:1:a\nb:1:a\nc:1:a\n"))
       (kill-buffer (nth 1 buffers))
+      (live-occur--look list)
       (with-current-buffer list
         (should (equal (live-occur-test--text-shown) "a:1:a\nc:1:a\n")))
       (with-current-buffer (nth 2 buffers)
@@ -696,7 +708,7 @@ All buffers and processes that it makes are taken away after it."
       (insert "a\n")
       (should (equal (live-occur-test--rows list) "a:1:a\na:2:a\n"))
       (with-current-buffer list
-        (should-not (live-occur--source-lost (car live-occur--sources)))))))
+        (should (live-occur--tick (car live-occur--sources)))))))
 
 (ert-deftest live-occur-offers-the-symbol-at-point ()
   (live-occur-test--with '("")
@@ -793,6 +805,7 @@ It is the text there, that of the list, and what is said of a fault."
                            ("t" "a:2:two(\na:3:three\n" nil)
                            ("tw" "a:2:two(\n" nil))))
           (should (equal (live-occur-test--rows list) "a:2:two(\n"))
+          (should (bobp))
           (should (equal live-occur--patterns '("tw"))))))))
 
 (ert-deftest live-occur-goes-away-by-quitting ()
@@ -862,7 +875,7 @@ It is nil where the pattern is refused."
 (defun live-occur-test--kill (list)
   "Kill the program of LIST, and wait until that is known."
   (with-current-buffer list
-    (signal-process (live-occur--session-process live-occur--session) 'KILL)
+    (signal-process live-occur--process 'KILL)
     (with-timeout (10 (error "The end of the program is not known"))
       (while (not live-occur--fault)
         (accept-process-output nil 0.01)))))
@@ -893,7 +906,7 @@ It is nil where the pattern is refused."
           (should (equal (live-occur-test--restart list) rows)))
         (ert-info ("while changes are on their way")
           (with-current-buffer list
-            (signal-process (live-occur--session-process live-occur--session) 'STOP)
+            (signal-process live-occur--process 'STOP)
             (with-current-buffer a
               (goto-char (point-min))
               (insert "x\n"))
@@ -910,12 +923,12 @@ It is nil where the pattern is refused."
           (should (equal (live-occur-test--restart list) rows)))
         (ert-info ("while rows are edited")
           (with-current-buffer list
-            (live-occur-edit)
+            (live-occur-edit-mode)
             (live-occur-test--kill list)
             (goto-char (point-min))
             (search-forward "one")
             (insert "s")
-            (live-occur-end-edit))
+            (live-occur-edit-mode -1))
           (should (equal (live-occur-test--restart list)
                          "a:1:ones\na:2:two\nb:1:four\n")))))))
 
@@ -961,7 +974,7 @@ It is nil where the pattern is refused."
     (let ((list (live-occur "a")))
       (should (equal (live-occur-test--rows list) "a:1:a\n"))
       (with-current-buffer list
-        (let ((process (live-occur--session-process live-occur--session)))
+        (let ((process live-occur--process))
           (signal-process process 'STOP)
           (with-timeout (10)
             (while (eq (process-status process) 'run)
@@ -1034,11 +1047,10 @@ It is nil where the pattern is refused."
         (goto-char (point-min))
         (forward-line 1)
         (insert "c\nd\n")
-        (with-timeout (10 (error "Numbers are not corrected"))
-          (while (not (equal (with-current-buffer list (live-occur-test--text-shown))
-                             "a:1:a1\na:5:a2\na:6:a3\nb:1:a4\n"))
-            (accept-process-output nil 0.01)))
         (with-current-buffer list
+          (run-hook-with-args 'pre-redisplay-functions (get-buffer-window list))
+          (should (equal (live-occur-test--text-shown)
+                         "a:1:a1\na:5:a2\na:6:a3\nb:1:a4\n"))
           (should-not (live-occur-test--busy-p)))))))
 
 (ert-deftest live-occur-visits-lines-that-have-moved ()
@@ -1051,7 +1063,7 @@ It is nil where the pattern is refused."
         (goto-char (point-max))
         (insert "x\n")
         (with-current-buffer list
-          (live-occur--flush (car live-occur--sources) live-occur--session 0))
+          (live-occur--flush (car live-occur--sources) 0))
         (goto-char 100)
         (insert "\n\n\n")
         (goto-char (point-min))
@@ -1074,11 +1086,17 @@ It is nil where the pattern is refused."
           (run-hooks 'post-command-hook)
           (should (eq (current-buffer) list)))
         (should (= (line-number-at-pos (window-point (get-buffer-window a))) 3))
-        (with-current-buffer list
-          (live-occur-toggle-follow)
-          (live-occur-previous 2)
+        (save-window-excursion
+          (live-occur "x1"))
+        (with-selected-window (get-buffer-window list)
+          (live-occur-previous 1)
           (run-hooks 'post-command-hook))
-        (should (= (line-number-at-pos (window-point (get-buffer-window a))) 3))))))
+        (should (= (line-number-at-pos (window-point (get-buffer-window a))) 2))
+        (with-current-buffer list
+          (next-error-follow-minor-mode 'toggle)
+          (live-occur-previous 1)
+          (run-hooks 'post-command-hook))
+        (should (= (line-number-at-pos (window-point (get-buffer-window a))) 2))))))
 
 (ert-deftest live-occur-stays-at-its-row ()
   (live-occur-test--with '("x1\nx2\nx3\nx4\n")
@@ -1175,7 +1193,7 @@ It is nil where the pattern is refused."
         (should (equal (live-occur-test--rows list) "a:1:Xone\nb:1:abfour\n"))
         (with-current-buffer list
           (should buffer-read-only)
-          (should (eq (key-binding "e") #'live-occur-edit)))))))
+          (should (eq (key-binding "e") #'live-occur-edit-mode)))))))
 
 (defun live-occur-test--press (keys)
   "Press KEYS in the selected window."
@@ -1188,7 +1206,7 @@ It is nil where the pattern is refused."
     (let ((list (live-occur "o" buffers)) told)
       (should (equal (live-occur-test--rows list) "a:1:one\na:2:two\na:3:o3\nb:1:four\n"))
       (with-current-buffer list
-        (live-occur-edit)
+        (live-occur-edit-mode)
         (goto-char (point-max))
         (forward-char -3)
         (should (equal (should-error (insert "x") :type 'text-read-only)
@@ -1212,7 +1230,7 @@ It is nil where the pattern is refused."
             (setq buffer-read-only t))
           (insert "y")
           (should (equal told "Buffer a is read-only; the row alone is edited")))
-        (live-occur-end-edit))
+        (live-occur-edit-mode -1))
       (should (equal (live-occur-test--rows list) "a:1:one\na:2:o3x\nb:1:four\n")))))
 
 (ert-deftest live-occur-follows-lines-while-rows-are-edited ()
@@ -1222,7 +1240,7 @@ It is nil where the pattern is refused."
         (live-occur-test--rows list)
         (setq buffer-undo-list nil)
         (with-selected-window (get-buffer-window list)
-          (live-occur-edit)
+          (live-occur-edit-mode)
           (goto-char (point-min))
           (search-forward "tw")
           (insert "12"))
@@ -1231,13 +1249,13 @@ It is nil where the pattern is refused."
         (undo)
         (should (equal (buffer-string) "one\ntwo\n"))
         (with-current-buffer list
-          (live-occur--look)
+          (live-occur--look list)
           (should (equal (live-occur-test--text-shown) "a:1:one\na:2:two\n"))
           (search-backward "tw")
           (insert "3"))
         (should (equal (buffer-string) "one\n3two\n"))
         (with-current-buffer list
-          (live-occur-end-edit))
+          (live-occur-edit-mode -1))
         (should (equal (live-occur-test--rows list) "a:1:one\na:2:3two\n"))))))
 
 (ert-deftest live-occur-edits-rows-at-random ()
@@ -1247,7 +1265,7 @@ It is nil where the pattern is refused."
     (let ((list (live-occur "a" buffers)))
       (live-occur-test--rows list)
       (with-current-buffer list
-        (live-occur-edit)
+        (live-occur-edit-mode)
         (dotimes (_ 300)
           (live-occur--go-to-row (random (live-occur--total)))
           (let* ((start (next-single-property-change (point) 'live-occur-number))
@@ -1266,10 +1284,10 @@ It is nil where the pattern is refused."
              (should (equal (buffer-substring-no-properties
                              (next-single-property-change (point) 'live-occur-number)
                              (line-end-position))
-                            (live-occur--text-of-line hit)))
+                            (live-occur-test--line-of hit)))
              (forward-line 1))
            0 (live-occur--total)))
-        (live-occur-end-edit))
+        (live-occur-edit-mode -1))
       (should (equal (with-current-buffer a (count-lines 1 (point-max))) 6))
       (let ((folder (make-temp-file "live-occur" t)))
         (unwind-protect
@@ -1324,19 +1342,24 @@ It is nil where the pattern is refused."
             (insert (make-string (random 60) ?\n))))))
   (undo-boundary))
 
+(defun live-occur-test--add (text)
+  "Add the patterns in TEXT to this list."
+  (live-occur--put (append live-occur--patterns (split-string text "\n"))))
+
 (defun live-occur-test--change (list)
   "Change at random a flag, the syntax or the patterns of LIST."
   (with-current-buffer list
     (pcase (random 9)
       (8 (live-occur-set-context (random 3) (random 3)))
-      ((or 0 1 2 3) (live-occur--toggle (nth (random 3) live-occur--flag-letters)))
-      (4 (live-occur--choose-syntax (nth (random 3) '(basic extended fixed))))
-      (5 (live-occur--add (nth (random 6) '("a" "b$" "^" "a*b" "\\(a" "[ab]B"))))
+      ((or 0 1 2 3) (live-occur--toggle (nth (random 3) '(?i ?v ?x))))
+      (4 (let ((syntax (nth (random 3) '(basic extended fixed))))
+           (live-occur--set 'live-occur-syntax syntax (format "syntax %s" syntax))))
+      (5 (live-occur-test--add (nth (random 6) '("a" "b$" "^" "a*b" "\\(a" "[ab]B"))))
       (6 (when live-occur--patterns
-           (live-occur--drop (random (length live-occur--patterns)))))
-      (7 (live-occur--add (concat (live-occur-test--text 1) "\nb"))))
+           (live-occur-drop-pattern (random (length live-occur--patterns)))))
+      (7 (live-occur-test--add (concat (live-occur-test--text 1) "\nb"))))
     (unless live-occur--patterns
-      (live-occur--add "a"))))
+      (live-occur-test--add "a"))))
 
 (defun live-occur-test--searched (list folder &optional parts)
   "What grep writes for all that LIST has, with files in FOLDER.
@@ -1347,7 +1370,7 @@ With PARTS non-nil it is the matched parts."
           (coding-system-for-read 'utf-8-emacs-unix)
           names)
       (dolist (source live-occur--sources)
-        (with-current-buffer (live-occur--source-buffer source)
+        (with-current-buffer (live-occur--buffer source)
           (push (buffer-name) names)
           (save-restriction
             (widen)
@@ -1415,13 +1438,11 @@ The answer is how many they are."
        (lambda (hit)
          (let ((source (live-occur--hit-source hit))
                (line (live-occur--line-of hit)))
-           (unless (or (live-occur--source-lost source)
-                       (/= (live-occur--source-tick source)
-                           (buffer-chars-modified-tick (live-occur--source-buffer source)))
-                       (cl-loop for (at _ is) in (live-occur--source-edits source)
+           (unless (or (not (live-occur--known-p source))
+                       (cl-loop for (at _ is) in (live-occur--edits source)
                                 thereis (<= at line (+ at is))))
              (cl-incf checked)
-             (should (equal (live-occur--bytes (live-occur--text-of-line hit))
+             (should (equal (live-occur--bytes (live-occur-test--line-of hit))
                             (live-occur--hit-bytes hit))))))
        0 (live-occur--total))
       checked)))
@@ -1443,7 +1464,10 @@ The answer is how many they are."
           (progn
             (live-occur-test--rows list)
             (advice-add 'live-occur--lose :before
-                        (lambda (_) (cl-incf lost)) '((name . live-occur-test)))
+                        (lambda (source)
+                          (when (live-occur--tick source)
+                            (cl-incf lost)))
+                        '((name . live-occur-test)))
             (dotimes (_ live-occur-test--edits)
               (with-current-buffer (or (nth (random 5) buffers) indirect)
                 (pcase (random 60)
@@ -1515,7 +1539,7 @@ of the edits: of the command alone, and with the update."
               (live-occur--update)
               (while (live-occur-test--busy-p)
                 (accept-process-output
-                 (live-occur--session-process live-occur--session) 1)))
+                 live-occur--process 1)))
             (push (- (float-time) start) updates)))
         (with-current-buffer list
           (should (= (live-occur--total) (+ turns (/ (+ lines every -1) every)))))
@@ -1542,6 +1566,25 @@ of the edits: of the command alone, and with the update."
                              (* 1000 (live-occur-test--median edits))
                              (* 1000 (live-occur-test--median updates))
                              (* 1000 (apply #'max updates))))))
+
+;;;; Keys
+
+(ert-deftest live-occur-describes-its-keys-in-order-of-use ()
+  (with-temp-buffer
+    (insert (substitute-command-keys (documentation 'live-occur-mode)))
+    (goto-char (point-min))
+    (forward-line 1)
+    (pcase-dolist (`(,key ,command ,label . ,_) live-occur--commands)
+      (forward-line 1)
+      (should (commandp command))
+      (should (eq (lookup-key live-occur-mode-map (kbd key)) command))
+      (should (looking-at-p (concat "[^\t\n]+\t" (regexp-quote (substitute-command-keys label)) "$"))))
+    (forward-line 1)
+    (should (eobp))))
+
+(ert-deftest live-occur-has-a-menu ()
+  (dolist (entry live-occur--commands)
+    (should (where-is-internal (nth 1 entry) (list (list 'keymap live-occur-menu))))))
 
 ;;;; The file
 
