@@ -3,7 +3,7 @@
 tests/devices.py and tests/occur_devices.py, the inputs that are the output of tests/same_file.py,
 the processes of tests/processes.py, the live and long inputs of tests/live.py, the hostile texts of
 tests/hostile.py, the failing calls of tests/failed_calls.py, `make install` and `make dist` in
-tests/install.py, and the pages of the repository in tests/pages.py.
+tests/install.py, the pages of the repository in tests/pages.py, and the crates in tests/meters.py.
 
     tests/run.py GREP [OCCUR] [--only TEXT]
 
@@ -29,6 +29,7 @@ import failed_calls
 import hostile
 import install
 import live
+import meters
 import occur_devices
 import pages
 import processes
@@ -90,7 +91,7 @@ def all_cases() -> list[Case]:
     """The cases of all programs. No two have one name."""
     cases = [*row.cases(), *script.cases(), *devices.cases(), *live.cases(), *hostile.cases()]
     cases += [*same_file.cases(), *occur_devices.cases(), *processes.cases()]
-    cases += [*failed_calls.cases(), *install.cases(), *pages.cases()]
+    cases += [*failed_calls.cases(), *install.cases(), *pages.cases(), *meters.cases()]
     names = Counter(case.name for case in cases)
     if twice := [name for name, count in names.items() if count > 1]:
         raise row.BadRow(f"names that stand twice: {twice}")
