@@ -16,7 +16,7 @@ SEARCH = REPOSITORY / "crates" / "re_search" / "src"
 MAKES_METERS = "re_auto"
 """The crate whose function `fresh_meter` makes meters."""
 
-MAY_LIST = {"re_search", "grep_cmd", "grep", "occur", "examples"}
+MAY_LIST = {"re_search", "grep", "occur", "examples"}
 """The crates, beside those of tests, that may list it."""
 
 case = Cases("grep", "meters.py")
