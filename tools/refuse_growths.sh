@@ -1,7 +1,8 @@
 #!/usr/bin/env bash
 # Runs tests in which requests for memory between two marks are refused. In one of crates/re_tests none is made: folding
 # and stepping take no memory. In the others each request is refused in turn, one a run, until none is left to refuse: in
-# crates/re_tests of a matcher's searches, which go on without the cache; in crates/command_tests of lines, which are
+# crates/re_tests of a matcher that is made, which is out of memory or answers as ever, and of its searches, which go on
+# without the cache; in crates/command_tests of lines, which are
 # handed out whole by the next call, of words and of whole searches, which tell so, with the output up to there, and of
 # the edits of sessions: one that is refused for that leaves the session as it was, and made again answers as its row
 # says. Edits that need no memory, reports, messages and the status make no request.
@@ -60,6 +61,7 @@ try() {
 }
 
 try asks_for_none re_tests automata::memory::stepping_takes_no_memory "folding and stepping"
+try goes_on re_tests cache::matchers_without_memory "a matcher that is made"
 try goes_on re_tests cache::searches_without_memory "searches of a matcher"
 try goes_on command_tests long_lines::memory::lines_without_memory "lines"
 try goes_on command_tests memory::words_without_memory "words"

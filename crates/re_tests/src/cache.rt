@@ -4,6 +4,7 @@
 //! as commands. Without it each request is granted, and each row is searched once.
 use re_auto::{Meter, fresh_meter};
 use re_search::{LineMatch, Matcher, Syntax};
+use re_syntax::FaultKind;
 use std::alloc::{AllocError, Global};
 use std::process::Abort;
 use std::test::Fail;
@@ -260,4 +261,55 @@ fn searches_without_memory(rt: HostRuntime) -> Result<(), Fail> {
         assert_each_refused(&rt, rt.alloc(), row)?;
     }
     Ok(())
+}
+
+// Lines, and whether `(^a|b)c` matches them, which has an anchor in one of its branches.
+static ANCHORED: [(&[u8], bool); 4] = [
+    (b"ac", true),
+    (b"xbc", true),
+    (b"xac", false),
+    (b"", false),
+];
+
+fn anchored() -> &'static [(&'static [u8], bool)] {
+    &ANCHORED
+}
+
+// Makes the matcher of that pattern while the N-th request for memory is refused; whether one was.
+// There is room for it in the vector. A matcher that can't be made is out of memory.
+fn added_without(
+    rt: &impl Abort,
+    alloc: Global,
+    matchers: &mut Vec<Matcher>,
+    n: usize,
+) -> Result<bool, AllocError> {
+    ask(alloc, REFUSE.saturating_add(n))?;
+    match Matcher::new(alloc, b"(^a|b)c", Syntax::Extended, false, false, 256) {
+        Ok(matcher) => matchers.push(matcher)?,
+        Err(fault) => assert_eq!(rt; fault.kind, FaultKind::Memory),
+    }
+    Ok(ask(alloc, WAS_REFUSED).is_err())
+}
+
+// The same; a matcher that was made answers as ever.
+fn assert_made_without(rt: &impl Abort, alloc: Global, n: usize) -> Result<bool, Fail> {
+    let mut matchers = Vec::with_capacity(alloc, 1)?;
+    let refused = added_without(rt, alloc, &mut matchers, n)?;
+    for matcher in &mut matchers {
+        for (line, matched) in anchored() {
+            let mut meter = fresh_meter();
+            assert_eq!(rt; matcher.is_match(line, &mut meter), *matched, "{:?}", line);
+        }
+    }
+    Ok(refused)
+}
+
+#[test]
+fn matchers_without_memory(rt: HostRuntime) -> Result<(), Fail> {
+    'requests: for n in 1..=MOST {
+        if !assert_made_without(&rt, rt.alloc(), n)? {
+            return Ok(());
+        }
+    }
+    panic!(&rt; "a matcher that asks for memory without an end");
 }
