@@ -38,4 +38,4 @@ pub mod PairLemmas
 pub mod SetKeys
 pub mod RowLaws
 pub mod WalkLaws
-pub mod FlagLaws
+pub mod NibbleLanes

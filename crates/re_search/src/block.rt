@@ -163,7 +163,7 @@ pub fn line_end(block: &[u8], start: usize) -> Option<usize>
     ensures { MatchOption result (HasNoNewline (drop start block.now))
         (λ end. IsLineFrom block.now start end) }
 {
-    let length = first_newline(&block[start..])?;
+    let length = near_newline(&block[start..])?;
     Some(start + length)
 }
 
@@ -174,6 +174,30 @@ pub fn has_no_newline(bytes: &[u8]) -> bool
     match first_newline(bytes) {
         Some(_) => false,
         None => true,
+    }
+}
+
+// How many bytes are looked at one by one for the end of a line. Where lines are short that is
+// quicker than a call of `memchr`.
+const NEAR: usize = 8;
+
+// The place of the first newline, which may be near.
+#[inline(always)]
+fn near_newline(bytes: &[u8]) -> Option<usize>
+    ensures none { MatchOption result (HasNoNewline bytes.now)
+        (λ k. HasNoNewline (take k bytes.now)) }
+    ensures some { IfSome result (λ k. (k < length bytes.now)
+        × (bytes.now ≡ take k bytes.now ++ newline ∷ drop (k + 1) bytes.now)) }
+{
+    let near = NEAR.min(bytes.len());
+    'places: for place in 0..near {
+        if bytes[place] == b'\n' {
+            return Some(place);
+        }
+    }
+    match first_newline(&bytes[near..]) {
+        Some(further) => Some(near + further),
+        None => None,
     }
 }
 

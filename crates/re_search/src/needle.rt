@@ -6,9 +6,11 @@ ghost use Rattle.re_syntax.specs.Sets.{members};
 ghost use Rattle.re_search.specs.Working.Needles.{IsNeedleFor};
 ghost use Rattle.re_search.specs.Working.Outlines.{IsOutline, shown};
 
+mod alike;
 mod choice;
-mod cover;
+mod lanes;
 mod leading;
+mod nibbles;
 mod outline;
 mod probes;
 mod run_finder;

@@ -2,7 +2,7 @@
 use Rattle.std.proofs.Common.{◌≡◌, ℕ, ◌+◌, ◌<◌, ◌≤◌, Bool, true, false, List, [], ◌∷◌, ◌++◌, All, Some, None, length, map, take, drop, get_or, refl, sym, ap, ◌∙◌, subst, arith, append_assoc, append-nil, length-append, length-take, take-append-drop}
 use Rattle.std.specs.Prelude.{⊤}
 use Rattle.std.proofs.lemmas.List.{length_push}
-use Rattle.std.proofs.lemmas.List.Elements.{All-push, All-nil, All-cons, All-head}
+use Rattle.std.proofs.lemmas.List.Elements.{All-push, All-nil, All-cons}
 use Rattle.re_syntax.specs.Bytes.{Bytes, Text, only}
 use Rattle.re_syntax.specs.Expression.{Expression}
 use Rattle.re_syntax.specs.Holds.{Matches}
@@ -15,8 +15,6 @@ use Rattle.re_search.specs.Working.Filters.{AreNeeded}
 use Rattle.re_search.specs.Working.Literals.{Literals, any_literal}
 use Rattle.re_search.specs.Working.Needles.{IsNeeded, RunIsNeeded}
 use Rattle.re_search.specs.Working.Runs.{RunStandsAt, FindsRun, LacksRun}
-use Rattle.re_search.specs.Searching.{AllAnswer, SomeMatches}
-use Rattle.re_search.proofs.lemmas.SomeOfJoined.{Any-single}
 use Rattle.re_search.proofs.lemmas.RunLaws.{run_before, run_behind, text_run, finds_text}
 
 -- ---- where lines begin
@@ -151,17 +149,6 @@ unmatched_run e run line true needed lacks holds = let there = needed line 0 (le
 pub passes_unmatched_run : (e : Expression) (run : List Bytes) (whole : Bool) → RunIsNeeded run e → (block : Text) (count : ℕ) → PassesAll (LacksRun run) block count → PassesUnmatched e whole block count
 passes_unmatched_run e run whole needed block count (lines, rest, free, lack, is, counted) =
     (lines, rest, free, λ i d below. unmatched_run e run _ whole needed (lack i d below), is, counted)
-
--- one expression that does not match the line is all of them
-none_of_one : (es : List Expression) (e : Expression) (whole asked : Bool) (line : Text) → es ≡ e ∷ [] → whole ≡ asked → ¬ Matches e line whole → ¬ SomeMatches es line asked
-none_of_one es e whole asked line one same none h =
-    none (subst (Matches e line) (sym same) (Any-single (λ x. Matches x line asked) e (subst (λ xs. SomeMatches xs line asked) one h)))
-
--- of one matcher the lines that it does not match are passed
-pub passes_of_one : (es : List Expression) (wholes : List Bool) (e : Expression) (whole : Bool) → es ≡ e ∷ [] → wholes ≡ whole ∷ [] → (block : Text) (count : ℕ) → PassesUnmatched e whole block count → PassesUnmatchedByAll es wholes block count
-passes_of_one es wholes e whole one alike block count (lines, rest, free, none, is, counted) = λ asked all.
-    let same : whole ≡ asked = All-head (λ w. w ≡ asked) whole [] (subst (AllAnswer asked) alike all) in
-    (lines, rest, free, λ i d below. none_of_one es e whole asked (get_or lines i d) one same (none i d below), is, counted)
 
 -- a list of one
 pub only_one : {A B : Type 0} (f : A → B) (xs : List A) (x : A) → length xs ≡ 1 → get_or xs 0 x ≡ x → map f xs ≡ f x ∷ []

@@ -263,15 +263,6 @@ counts_of_one es wholes e whole one alike lines n h = λ asked all.
 
 -- ---- counts that may be unknown
 
-pub told_literal : (text : Text) (lines : List Text) (r : Option ℕ) → IfSome r (λ n. HoldsOfMany (StandsIn text) lines n) → IfSome r (λ n. CountsMatched (sequence (map byte text)) false lines n)
-told_literal text lines None h = h
-told_literal text lines (Some n) h = counts_literal text lines n h
-
 pub told_just : (e : Expression) (text : Text) (run : List Bytes) → run ≡ map only text → IsJustRun run e → (lines : List Text) (r : Option ℕ) → IfSome r (λ n. HoldsOfMany (StandsIn text) lines n) → IfSome r (λ n. CountsMatched e false lines n)
 told_just e text run is just lines None h = h
 told_just e text run is just lines (Some n) h = counts_just e text run is just lines n h
-
-pub told_of_one : (es : List Expression) (wholes : List Bool) (e : Expression) (whole : Bool) → es ≡ e ∷ [] → wholes ≡ whole ∷ [] → (lines : List Text) (r : Option ℕ) → IfSome r (λ n. CountsMatched e whole lines n)
-    → IfSome r (λ n. CountsMatchedByAll es wholes lines n)
-told_of_one es wholes e whole one alike lines None h = h
-told_of_one es wholes e whole one alike lines (Some n) h = counts_of_one es wholes e whole one alike lines n h

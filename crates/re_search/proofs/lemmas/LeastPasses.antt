@@ -7,7 +7,6 @@ use Rattle.re_syntax.specs.Bytes.{Text}
 use Rattle.re_syntax.specs.Expression.{Expression}
 use Rattle.re_syntax.specs.Holds.{Matches}
 use Rattle.re_syntax.specs.Lines.{newline, terminated, HasNoNewline, lines_of}
-use Rattle.re_syntax.proofs.lemmas.Decisions.{Any-none}
 use Rattle.re_syntax.proofs.lemmas.LinesLaws.{lines_of-line, lines_of-terminated, all_head, all_tail}
 use Rattle.re_search.specs.Working.Blocks.{IsBlock, PassesAll, PassesUnmatched, PassesUnmatchedByAll}
 use Rattle.re_search.specs.Searching.{SomeMatches}
@@ -72,11 +71,6 @@ passes_both P Q block n m (lines, rest, free, holds, is, counted) (fronts, more,
     )
 
 -- ---- one matcher more
-
--- no matcher matches a line where there is none
-pub passes_by_none : (wholes : List Bool) (block : Text) (count : ℕ) → PassesAll (λ _. ⊤) block count → PassesUnmatchedByAll [] wholes block count
-passes_by_none wholes block count (lines, rest, free, any, is, counted) = λ whole all.
-    (lines, rest, free, λ i d below some. Any-none (λ e. Matches e (get_or lines i d) whole) some, is, counted)
 
 -- lines that one matcher more passes are lines still
 pub passes_fewer : (e : Expression) (w : Bool) (block : Text) (n m : ℕ) → PassesUnmatched e w (take n block) m → PassesAll (λ _. ⊤) block m

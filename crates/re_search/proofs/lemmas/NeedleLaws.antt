@@ -1,5 +1,5 @@
 -- Needles, and what their places say of a line.
-use Rattle.std.proofs.Common.{◌≡◌, ℕ, ◌+◌, ◌-◌, ◌≤◌, inl, inr, Bool, true, false, IsTrue, List, [], ◌∷◌, ◌++◌, length, map, drop, Option, Some, None, refl, sym, subst, arith}
+use Rattle.std.proofs.Common.{◌≡◌, ℕ, ◌+◌, ◌-◌, ◌≤◌, inl, Bool, false, IsTrue, List, [], ◌∷◌, ◌++◌, length, map, drop, Option, Some, None, refl, sym, subst, arith}
 use Rattle.std.specs.Option.{is_some}
 use Rattle.std.proofs.lemmas.Bool.{false≢true}
 use Rattle.std.proofs.lemmas.List.{length-map}
@@ -11,7 +11,7 @@ use Rattle.re_syntax.specs.Parts.{IsFound, IsPart}
 use Rattle.re_syntax.proofs.lemmas.Decisions.{Any-first}
 use Rattle.re_search.specs.declared.needle.Needle.{Needle}
 use Rattle.re_search.specs.declared.needle.run_finder.RunFinder.{RunFinder}
-use Rattle.re_search.specs.Working.Runs.{FindsRun, BeginsWithout}
+use Rattle.re_search.specs.Working.Runs.{FindsRun}
 use Rattle.re_search.specs.Working.Needles.{IsNeeded, RunIsNeeded, IsNeedleOf, run_of}
 use Rattle.re_search.specs.Working.Outlines.{IsOutline}
 use Rattle.re_search.specs.Working.Stages.{IsSettled}
@@ -81,10 +81,3 @@ module _ (e : Expression) (needle : Needle) (of : IsNeedleOf e needle) (line : T
     pub settled_lacks : (found : Option ℕ) → FindsRun line (run_of needle.finder) found → is_some found ≡ false → IsSettled e whole line false
     settled_lacks (Some k) finds lacks = absurd (false≢true (sym lacks))
     settled_lacks None none lacks = inl (record { run = run_of needle.finder; needed = of.needed; absent = nowhere line (run_of needle.finder) none; no = refl })
-
-    pub settled_begins : IsTrue needle.is_first → whole ≡ true → (BeginsWithout (run_of needle.finder) line) → IsSettled e whole line false
-    settled_begins first all without = inr (inl (record { run = run_of needle.finder; begins = of.first first; all = all; absent = without; no = refl }))
-
-    pub settled_has : IsTrue needle.is_all → whole ≡ false → (found : Option ℕ) → FindsRun line (run_of needle.finder) found → is_some found ≡ true → IsSettled e whole line true
-    settled_has all any None none has = absurd (false≢true has)
-    settled_has all any (Some k) finds has = inr (inr (record { run = run_of needle.finder; is = of.all all; any = any; place = k; stands = finds.1; yes = refl }))

@@ -1,5 +1,5 @@
 -- Where a text is in a line, by a search for it.
-use Rattle.std.proofs.Common.{◌≡◌, ℕ, suc, ◌+◌, ◌-◌, ◌<◌, ◌≤◌, [], ◌∷◌, ◌++◌, length, drop, get_or, refl, sym, ap, ◌∙◌, arith, length-append, length-drop}
+use Rattle.std.proofs.Common.{◌≡◌, ℕ, suc, ◌+◌, ◌<◌, ◌≤◌, [], ◌∷◌, ◌++◌, length, drop, get_or, refl, sym, ap, ◌∙◌, arith, length-append, length-drop}
 use Rattle.std.proofs.lemmas.List.{get_or-drop, get_or_append_left}
 use Rattle.re_syntax.specs.Bytes.{Text}
 use Rattle.memchr.specs.Find.{OccursAt}
@@ -26,14 +26,4 @@ stands-occurs line text rest k h e =
     record {
       fits = omega (arith, length-drop k line, lengths);
       reads = λ j below. sym (get_or-drop k line j 0) ∙ ap (λ t. get_or t j 0) e ∙ get_or_append_left text rest 0 j below;
-    }
-
--- a text that occurs at a place occurs there in what is left from an earlier one on
-pub occurs_rest : (line text : Text) (from k : ℕ) → from ≤ k → OccursAt line text k → OccursAt (drop from line) text (k - from)
-occurs_rest line text from k h o =
-    let fits : k + length text ≤ length line = o.fits in record {
-      fits = omega (arith, length-drop from line);
-      reads = λ j below.
-          let place : from + (k - from + j) ≡ k + j = omega arith in
-          get_or-drop from line (k - from + j) 0 ∙ ap (λ n. get_or line n 0) place ∙ o.reads j below;
     }

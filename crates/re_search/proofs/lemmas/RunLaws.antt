@@ -1,6 +1,8 @@
 -- Where a run of sets is in a line, and what the tests of its probes say.
 use Rattle.std.proofs.Common.{◌≡◌, ℕ, ◌+◌, ◌-◌, ◌<◌, ◌≤◌, ◌↔◌, ◌⊎◌, inl, inr, Bool, IsTrue, List, ◌++◌, length, map, drop, get_or, slice_index, Option, None, Some, sym, ap, ◌∙◌, subst, arith, nat_eq, eq-eqb, length-append, length-drop}
+use Rattle.std.specs.Int.{bit_at}
 use Rattle.std.specs.List.{starts_with}
+use Rattle.std.proofs.lemmas.Nat.Bits.{bit_at-zero}
 use Rattle.std.proofs.lemmas.Bool.{eqb-true}
 use Rattle.std.proofs.lemmas.Bool.Decides.{Decides-eqb}
 use Rattle.std.proofs.lemmas.Slice.Eq.{starts_is}
@@ -8,7 +10,8 @@ use Rattle.std.proofs.lemmas.List.{get_or-drop, get_or-map, get_or_append_left, 
 use Rattle.re_syntax.specs.Bytes.{Bytes, Text, nothing, only}
 use Rattle.re_syntax.specs.Sets.{members}
 use Rattle.re_syntax.specs.declared.bytes.ByteSet.{ByteSet}
-use Rattle.memchr.specs.Find.{OccursAt, FindsNeedle}
+use Rattle.memchr.specs.Find.{OccursAt, FindsNeedle, Nowhere, NoneBefore}
+use Rattle.memchr.specs.Lanes.{Marks}
 use Rattle.re_search.specs.declared.needle.probes.Probe.{Probe}
 use Rattle.re_search.specs.declared.needle.probes.Probes.{Probes}
 use Rattle.re_search.specs.Working.Runs.{RunStandsAt, FindsRun, set_at, PassesAt, AllPass, HaveRoom, IsProbeOf, AreProbesOf}
@@ -109,35 +112,13 @@ takes_more run line place j has earlier k lt =
     either : (k j : ℕ) → k < j + 1 → (k < j) ⊎ (k ≡ j)
     either k j lt = search (arith, lt)
 
--- ---- a search from place to place
-
--- what is passed from one place to another
-pub passed_on : (run : List Bytes) (line : Text) (start at : ℕ) → ((k : ℕ) → k < start → ¬ RunStandsAt line run k) → ((k : ℕ) → start ≤ k → k < at → ¬ RunStandsAt line run k) → (k : ℕ) → k < at → ¬ RunStandsAt line run k
-passed_on run line start at before after k lt o = elim (early k start) [ inl e ↦ before k e o | inr l ↦ after k l lt o ]
-  where
-    early : (m n : ℕ) → (m < n) ⊎ (n ≤ m)
-    early m n = search arith
-
--- and one place more
-pub passed_over : (run : List Bytes) (line : Text) (at : ℕ) → ((k : ℕ) → k < at → ¬ RunStandsAt line run k) → ¬ RunStandsAt line run at → (k : ℕ) → k < at + 1 → ¬ RunStandsAt line run k
-passed_over run line at before none k lt o = elim (either k at lt) [ inl e ↦ before k e o | inr same ↦ none (subst (λ n. RunStandsAt line run n) same o) ]
-  where
-    either : (k j : ℕ) → k < j + 1 → (k < j) ⊎ (k ≡ j)
-    either k j lt = search (arith, lt)
-
--- a run that is not empty is nowhere from the line's end on
-pub none_left : (run : List Bytes) (line : Text) (start : ℕ) → 1 ≤ length run → length line ≤ start → ((k : ℕ) → k < start → ¬ RunStandsAt line run k) → (k : ℕ) → ¬ RunStandsAt line run k
-none_left run line start some end before k o = let fits : k + length run ≤ length line = o.fits in before k (omega (arith, some, end, fits)) o
-
--- the place at which a search ends
-pub found_at : (run : List Bytes) (line : Text) (at : ℕ) → at < length line → ((k : ℕ) → k < at → ¬ RunStandsAt line run k) → RunStandsAt line run at → FindsRun line run (Some at)
-found_at run line at within before stands = (record { low = omega arith; high = omega (arith, within); before = λ k low lt. before k lt }, stands)
-
 -- ---- by the tests of its probes
 
 -- where the run is, the test of a probe for it is passed
 passes : (run : List Bytes) (line : Text) (probe : Probe) (k : ℕ) → ((x : ℕ) → slice_index line x < 256) → IsProbeOf probe run → RunStandsAt line run k → PassesAt probe line k
-passes run line probe k small (within, covers) o = covers (slice_index line (k + probe.at)) (small (k + probe.at)) (o.takes probe.at within)
+passes run line probe k small (within, covers, alike) o =
+    let x = slice_index line (k + probe.at) in
+    (covers x (small (k + probe.at)) (o.takes probe.at within), alike x (small (k + probe.at)) (o.takes probe.at within))
 
 -- and those of all probes
 pub all_pass : (run : List Bytes) (line : Text) (probes : Probes) (k : ℕ) → ((x : ℕ) → slice_index line x < 256) → AreProbesOf probes run → RunStandsAt line run k → AllPass probes line k
@@ -160,3 +141,57 @@ have_room run line probes past are fits = record {
 -- a run is nowhere where it has no room
 pub no_room : (run : List Bytes) (line : Text) (k : ℕ) → length line + 1 ≤ k + length run → ¬ RunStandsAt line run k
 no_room run line k short o = let fits : k + length run ≤ length line = o.fits in absurd (omega (arith, short, fits))
+
+-- marks of the 32 places that the probes pass mark those where the run is
+pub marks_stand : (run : List Bytes) (line : Text) (probes : Probes) (place m : ℕ) → ((x : ℕ) → slice_index line x < 256) → AreProbesOf probes run
+    → ((k : ℕ) → k < 32 → AllPass probes line (place + k) → bit_at m k ≡ 1) → ((k : ℕ) → bit_at m k ≡ 1 → k < 32)
+    → Marks (RunStandsAt line run) place (place + 32) m
+marks_stand run line probes place m small are each within = record {
+  each = λ k lt o. each k (omega (arith, lt)) (all_pass run line probes (place + k) small are o);
+  within = λ k h. omega (arith, within k h);
+}
+
+-- what is nowhere before a place, nor from there up to another
+pub nowhere_on : (P : ℕ → Type 0) (start past : ℕ) → Nowhere P 0 start → Nowhere P start past → Nowhere P 0 past
+nowhere_on P start past before after k low lt o = elim (early k start) [ inl e ↦ before k low e o | inr l ↦ after k l lt o ]
+  where
+    early : (m n : ℕ) → (m < n) ⊎ (n ≤ m)
+    early m n = search arith
+
+-- a run that is nowhere before the place from which on it has no room is nowhere
+pub finds_none : (run : List Bytes) (line : Text) (end : ℕ) → length line + 1 ≤ end + length run → Nowhere (RunStandsAt line run) 0 end → FindsRun line run None
+finds_none run line end short none k low lt o = elim (early k end) [ inl e ↦ none k low e o | inr l ↦ no_room run line k (omega (arith, l, short)) o ]
+  where
+    early : (m n : ℕ) → (m < n) ⊎ (n ≤ m)
+    early m n = search arith
+
+-- nor at one place more
+pub nowhere_at : (P : ℕ → Type 0) (place : ℕ) → Nowhere P 0 place → ¬ P place → Nowhere P 0 (place + 1)
+nowhere_at P place before here k low lt o = elim (last k place lt) [ inl e ↦ before k low e o | inr same ↦ here (subst P same o) ]
+  where
+    last : (k n : ℕ) → k < n + 1 → (k < n) ⊎ (k ≡ n)
+    last k n lt = search (arith, lt)
+
+-- the first place from one on is the first of all if there is none before
+pub finds_some : (run : List Bytes) (line : Text) (start past at : ℕ) → past ≤ length line → Nowhere (RunStandsAt line run) 0 start
+    → NoneBefore (RunStandsAt line run) start past at × RunStandsAt line run at → FindsRun line run (Some at)
+finds_some run line start past at within before (first, stands) =
+    (record { low = omega arith; high = omega (arith, first.high, within); before = nowhere_on (RunStandsAt line run) start at before first.before }, stands)
+
+-- 32 places of which none is marked
+pub nowhere_marked : (P : ℕ → Type 0) (from at marks : ℕ) → Nowhere P from at → ((k : ℕ) → k < 32 → P (at + k) → bit_at marks k ≡ 1) → marks ≡ 0 → Nowhere P from (at + 32)
+nowhere_marked P from at marks before each none k low lt o = elim (early k at) [
+  | inl e ↦ before k low e o
+  | inr l ↦
+      let place : k ≡ at + (k - at) = omega (arith, l) in
+      let set : bit_at marks (k - at) ≡ 1 = each (k - at) (omega (arith, l, lt)) (subst P place o) in
+      absurd (omega (arith, set, ap (λ m. bit_at m (k - at)) none ∙ bit_at-zero (k - at)))
+]
+  where
+    early : (m n : ℕ) → (m < n) ⊎ (n ≤ m)
+    early m n = search arith
+
+-- where the probes pass nowhere, the run is nowhere
+pub nowhere_stands : (run : List Bytes) (line : Text) (probes : Probes) (from past : ℕ) → ((x : ℕ) → slice_index line x < 256) → AreProbesOf probes run
+    → Nowhere (AllPass probes line) from past → Nowhere (RunStandsAt line run) from past
+nowhere_stands run line probes from past small are none k low lt o = none k low lt (all_pass run line probes k small are o)

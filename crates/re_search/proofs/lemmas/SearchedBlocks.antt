@@ -14,7 +14,7 @@ use Rattle.re_syntax.proofs.lemmas.Decisions.{Any-first, Any-none}
 use Rattle.re_search.specs.declared.span.Span.{Span}
 use Rattle.re_search.specs.Searching.{AddsAtMost, AllAnswer, SomeMatches}
 use Rattle.re_search.specs.Working.Blocks.{IsBlock, PassesAll, PassesUnmatchedByAll, Lacks, StandsIn, HoldsOfMany, FindsMatched, IsLineFrom, IsNext, FindsNext, lines_cost}
-use Rattle.re_search.specs.Working.Sought.{Sought, IsSought, FindsSought, PassesUnsought}
+use Rattle.re_search.specs.Working.Sought.{IsSought, FindsSought, PassesUnsought}
 use Rattle.re_search.proofs.lemmas.SomeOfJoined.{Any-single}
 use Rattle.re_search.proofs.lemmas.CountedBlocks.{has_one, stands_literal, literal_stands}
 use Rattle.re_search.proofs.lemmas.LeastPasses.{lines_of-behind}
@@ -260,10 +260,6 @@ finds_literal text lines found h = finds_same (StandsIn text) (λ line. Matches 
 -- lines that lack a text are passed
 pub passed_without : (text block : Text) (start : ℕ) → PassesAll (Lacks text) block start → PassesAll (λ line. ¬ StandsIn text line) block start
 passed_without text block start (lines, rest, free, lack, is, counted) = (lines, rest, free, λ i d below stands. lack i d below stands.0 stands.1, is, counted)
-
--- expressions that are the same are searched for alike
-pub still_sought : {old new : List Expression} → new ≡ old → (whole : Bool) → ◌≡◌ {A = Sought} (record { expressions = new; whole = whole }) (record { expressions = old; whole = whole })
-still_sought same whole = ap (λ (es : List Expression). record { expressions = es; whole = whole }) same
 
 -- of one matcher the lines that it matches are found
 pub finds_of_one : (es : List Expression) (wholes : List Bool) (e : Expression) (whole asked : Bool) → es ≡ e ∷ [] → wholes ≡ whole ∷ [] → AllAnswer asked wholes → (lines : List Text) (found : Option Span) → FindsMatched e whole lines found

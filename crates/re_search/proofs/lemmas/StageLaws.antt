@@ -20,8 +20,8 @@ use Rattle.re_auto.proofs.lemmas.Chains.{not_at_end}
 use Rattle.re_auto.proofs.lemmas.SetsByWords.{stands_next, matched_by, nowhere_stays}
 use Rattle.re_search.specs.Searching.{AddsAtMost}
 use Rattle.re_search.specs.Working.Simulations.{EndsAt, NoneEndsBefore}
-use Rattle.re_search.specs.Working.Stages.{Cache, Stage, AreAlike, IsHeld, HoldsNoOther, IsPlain, GoesOver, Goes, Finishes, Searches, Lacks, IsReadied, IsSettled, AnswersLine, mode_for}
-use Rattle.re_search.proofs.lemmas.Passing.{no_step, none_at_first, matched_at, end_decides, whole_decides, nowhere_fails}
+use Rattle.re_search.specs.Working.Stages.{Cache, Stage, AreAlike, IsHeld, HoldsNoOther, IsPlain, GoesOver, Goes, Finishes, Searches, Lacks, IsReadied, IsSettled, mode_for}
+use Rattle.re_search.proofs.lemmas.Passing.{none_at_first, matched_at, end_decides, whole_decides, nowhere_fails}
 
 -- sets that are the same
 pub same_sym : (one other : StateSet) → IsSame one other → IsSame other one
@@ -41,9 +41,6 @@ pub accepting_same : (e : Expression) (mode : Mode) (set same : StateSet) (at_en
 unfolding IsAccepting
 accepting_same e mode set same at_end is accepts =
     subst (λ b. Accepts (part_of e 0) mode b at_end (Has same.words.items)) (sym is.1) (subst (λ words. Accepts (part_of e 0) mode set.at_begin at_end (Has words)) (sym is.0) accepts)
-
-pub plain_same : (e : Expression) (mode : Mode) (set same : StateSet) → IsSame same set → IsPlain e mode set → IsPlain e mode same
-plain_same e mode set same is plain search accepts = plain search (accepting_same e Search same set false (same_sym same set is) accepts)
 
 pub next_same : (e : Expression) (mode : Mode) (from into same : StateSet) (c : ℕ) → IsSame same into → IsNextSet e mode from c into → IsNextSet e mode from c same
 unfolding IsNextSet
@@ -264,13 +261,5 @@ module _ (e : Expression) (line : Text) where
   pub searches_readied : (mode : Mode) (old middle new : Cache) (before after : Steps) (answer : Bool) → IsReadied old middle → Searches e mode line middle new before after answer → Searches e mode line old new before after answer
   searches_readied mode old middle new before after answer ready s = record { first = s.first; stands = s.stands; cache = readied_twice old middle s.first.cache ready s.cache; steps = s.steps; finishes = s.finishes }
 
-  pub tells_told : (whole : Bool) (old new : Cache) (before after : Steps) (answer : Bool) → AnswersLine e whole line old new before after answer → IsTrue answer ↔ Matches e line whole
-  tells_told whole old new before after answer (inl at_once) = settled_told whole answer at_once.settled
-  tells_told whole old new before after answer (inr s) = searches_told whole old new before after answer s
-
   pub searches_steps : (mode : Mode) (old new : Cache) (before after : Steps) (answer : Bool) → Searches e mode line old new before after answer → AddsAtMost (length line + 1) before after
   searches_steps mode old new before after answer s = subst (λ b. AddsAtMost (length line + 1) b after) s.steps (finishes_steps e mode line s.first new after answer s.finishes)
-
-  pub tells_steps : (whole : Bool) (old new : Cache) (before after : Steps) (answer : Bool) → AnswersLine e whole line old new before after answer → AddsAtMost (length line + 1) before after
-  tells_steps whole old new before after answer (inl at_once) = rw at_once.steps (no_step (length line + 1) before)
-  tells_steps whole old new before after answer (inr s) = searches_steps (mode_for whole) old new before after answer s

@@ -1,9 +1,10 @@
 -- Runs of sets of bytes: where a run is in a line, and tests that its bytes pass.
-use Rattle.std.specs.Prelude.{◌≡◌, ℕ, ◌+◌, ◌-◌, ◌%◌, ◌<◌, ◌≤◌, ◌⊎◌, IsTrue, List, Option, length}
+use Rattle.std.specs.Prelude.{◌≡◌, ◌≢◌, ◌==◌, if◌then◌else◌, ℕ, ◌+◌, ◌/◌, ◌%◌, ◌<◌, ◌≤◌, IsTrue, List, Option, length}
 use Rattle.std.specs.Prelude.{bit_and, get_or, slice_index}
 use Rattle.re_syntax.specs.Bytes.{Bytes, Text, nothing}
 use Rattle.memchr.specs.Find.{IsFirst}
-use Rattle.re_search.specs.declared.needle.cover.Cover.{Cover}
+use Rattle.re_search.specs.declared.needle.alike.Alike.{Alike}
+use Rattle.re_search.specs.declared.needle.nibbles.Nibbles.{Nibbles}
 use Rattle.re_search.specs.declared.needle.probes.Probe.{Probe}
 use Rattle.re_search.specs.declared.needle.probes.Probes.{Probes}
 
@@ -28,25 +29,33 @@ LacksRun run line = (k : ℕ) → ¬ RunStandsAt line run k
 abbrev pub BeginsWithout : List Bytes → Text → Type 0
 BeginsWithout run line = ¬ RunStandsAt line run 0
 
--- the byte is in the range of the cover, which goes on from 255 to 0, or one of its two
-abbrev pub IsWithin : Cover → ℕ → Type 0
-IsWithin cover x = ((x + (256 - cover.low)) % 256 ≤ cover.width) ⊎ (x ≡ cover.one) ⊎ (x ≡ cover.other)
+-- the bits that both tables have for the byte
+abbrev pub bits_of : Nibbles → ℕ → ℕ
+bits_of nibbles x = bit_and (slice_index nibbles.low (x % 16)) (slice_index nibbles.high (x / 16))
 
--- the bits that the cover tests have their values
-abbrev pub HasBits : Cover → ℕ → Type 0
-HasBits cover x = bit_and x cover.asked ≡ cover.bits
+-- for all bytes of the set there are some
+abbrev pub Covers : Nibbles → Bytes → Type 0
+Covers nibbles set = (x : ℕ) → x < 256 → IsTrue (set x) → bits_of nibbles x ≢ 0
 
--- the byte passes both tests
-abbrev pub IsCovered : Cover → ℕ → Type 0
-IsCovered cover x = IsWithin cover x × HasBits cover x
+-- the bits that are asked for have their values
+abbrev pub HasBits : Alike → ℕ → Type 0
+HasBits alike x = bit_and x alike.asked ≡ alike.bits
 
--- all bytes of the set do
-abbrev pub Covers : Cover → Bytes → Type 0
-Covers cover set = (x : ℕ) → x < 256 → IsTrue (set x) → IsCovered cover x
+-- they do in all bytes of the set
+abbrev pub AreAlike : Alike → Bytes → Type 0
+AreAlike alike set = (x : ℕ) → x < 256 → IsTrue (set x) → HasBits alike x
 
--- the byte at the probe's distance after place k passes its test
+-- 255 if they do in the byte, and else 0
+abbrev pub mark_of : Alike → ℕ → ℕ
+mark_of alike x = if bit_and x alike.asked == alike.bits then 255 else 0
+
+-- the byte passes both tests of the probe
+abbrev pub IsPassedBy : Probe → ℕ → Type 0
+IsPassedBy probe x = (bits_of probe.nibbles x ≢ 0) × HasBits probe.alike x
+
+-- the byte at the probe's distance after place k does
 abbrev pub PassesAt : Probe → Text → ℕ → Type 0
-PassesAt probe line k = IsCovered probe.cover (slice_index line (k + probe.at))
+PassesAt probe line k = IsPassedBy probe (slice_index line (k + probe.at))
 
 -- all four do
 pub record AllPass (probes : Probes) (line : Text) (k : ℕ) : Type 0 where
@@ -64,7 +73,7 @@ pub record HaveRoom (probes : Probes) (line : Text) (past : ℕ) : Type 0 where
 
 -- the probe is for a set of the run
 abbrev pub IsProbeOf : Probe → List Bytes → Type 0
-IsProbeOf probe run = (probe.at < length run) × Covers probe.cover (set_at run probe.at)
+IsProbeOf probe run = (probe.at < length run) × Covers probe.nibbles (set_at run probe.at) × AreAlike probe.alike (set_at run probe.at)
 
 -- all four are
 pub record AreProbesOf (probes : Probes) (run : List Bytes) : Type 0 where

@@ -1,62 +1,60 @@
-//! Search for a place that is followed by a byte of each of four sets, by tests that are the same
-//! for all sets.
-ghost use Rattle.std.specs.Prelude.{◌≡◌, ◌+◌, ◌<◌, ◌≤◌, ℕ, false, MatchOption, length};
-ghost use Rattle.re_search.specs.Working.Runs.{AllPass, HaveRoom, PassesAt};
+//! Tests of the bytes after a place, for 32 places at once.
+ghost use Rattle.std.specs.Prelude.{◌≡◌, ◌+◌, ◌<◌, ◌≤◌, ℕ, length, slice_index};
+ghost use Rattle.std.specs.Int.{bit_at};
+ghost use Rattle.memchr.specs.Find.{Nowhere};
+ghost use Rattle.memchr.specs.Lanes.{HasLanes};
+ghost use Rattle.re_search.specs.Working.Runs.{AllPass, HaveRoom, bits_of, mark_of};
 
-use crate::needle::cover::Cover;
+use crate::needle::alike::Alike;
+use crate::needle::lanes::{both, lesser, nonzero};
+use crate::needle::nibbles::Nibbles;
+use std::simd::prelude::*;
 
-/// A test for the byte at this distance after a place.
+/// Two tests for the byte at this distance after a place.
 #[derive(Clone, Copy, Drop)]
 pub struct Probe {
     /// The distance.
     pub at: usize,
-    /// The test.
-    pub cover: Cover,
+    /// The test by look-ups.
+    pub nibbles: Nibbles,
+    /// The test of bits.
+    pub alike: Alike,
 }
 
 impl Probe {
-    // Whether the byte after the place is in the range, or one of the two.
+    // What is not 0 for those of 32 places after which the byte passes by look-ups.
     #[inline(always)]
-    fn passes_at(self, line: &[u8], place: usize) -> bool
-        requires { place + self.at < length line.now }
-        ensures { result ≡ false → ¬ PassesAt self line.now place }
+    fn looked_up(&self, line: &[u8], place: usize) -> u8x32
+        requires { place + 32 + self.now.at ≤ length line.now }
+        ensures { HasLanes result
+            (λ k. bits_of self.now.nibbles (slice_index line.now (place + k + self.now.at))) }
     {
-        self.cover.is_within(line[place + self.at])
+        self.nibbles.lanes(line, place + self.at)
     }
 
-    // Whether the byte after the place has the bits.
+    // The same by bits.
     #[inline(always)]
-    fn has_bits_at(self, line: &[u8], place: usize) -> bool
-        requires { place + self.at < length line.now }
-        ensures { result ≡ false → ¬ PassesAt self line.now place }
+    fn bit_tested(&self, line: &[u8], place: usize) -> u8x32
+        requires { place + 32 + self.now.at ≤ length line.now }
+        ensures { HasLanes result
+            (λ k. mark_of self.now.alike (slice_index line.now (place + k + self.now.at))) }
     {
-        self.cover.has_bits(line[place + self.at])
+        self.alike.lanes(line, place + self.at)
     }
 }
 
-// From this number of places on, all are tried at once before they are tried one by one.
-const MANY: usize = 32;
-
-// More places than this are all tried at once; if some may pass, they are tried again in pieces of
-// this size.
-const PIECE: usize = 64;
-
-/// Which of four tests are tried at many places at once, and how.
+/// Which tests are tried at 32 places at once.
 #[derive(Clone, Copy, Drop)]
 pub enum Tried {
-    /// The first two, by their bits.
+    /// The first two, by bits.
     TwoBits,
-    /// The first two, by their ranges.
+    /// The first two, by look-ups.
     Two,
-    /// The first three, by their ranges.
-    Three,
-    /// All, by their bits.
-    AllBits,
-    /// All, by their ranges.
+    /// All, by look-ups.
     All,
 }
 
-/// Four tests, of which some may be the same.
+/// Four probes, of which some may be the same.
 #[derive(Clone, Copy, Drop)]
 pub struct Probes {
     /// The first, which the fewest bytes pass.
@@ -67,181 +65,75 @@ pub struct Probes {
     pub third: Probe,
     /// The fourth.
     pub fourth: Probe,
-    /// Which of them are tried at many places at once.
+    /// Which of their tests are tried.
     pub tried: Tried,
 }
 
 impl Probes {
-    /// The first place from `from` on and before `past` where all tests are passed.
+    /// Goes on from `from` by 32 places until some of 32 are marked, or fewer than 32 are left
+    /// before `past`. Returns where these 32 begin, and their marks.
+    // The loop calls nothing, so the tables stay in registers.
+    #[inline(never)]
+    pub fn next_marks<const COUNT: usize, const BITS: bool>(
+        &self,
+        line: &[u8],
+        from: usize,
+        past: usize,
+    ) -> (usize, u64)
+        requires some { from + 32 ≤ past }
+        requires room { HaveRoom self.now line.now past }
+        ensures on { (from ≤ result.0) × (result.0 + 32 ≤ past) }
+        ensures passed { Nowhere (AllPass self.now line.now) from result.0 }
+        ensures each { (k : ℕ) → k < 32 → AllPass self.now line.now (result.0 + k)
+            → bit_at result.1 k ≡ 1 }
+        ensures within { (k : ℕ) → bit_at result.1 k ≡ 1 → k < 32 }
+    {
+        let mut at = from;
+        let mut marks = self.marks::<COUNT, BITS>(line, at);
+        'quiet: while marks == 0 && 64 <= past - at {
+            at += 32;
+            marks = self.marks::<COUNT, BITS>(line, at);
+        }
+        (at, marks)
+    }
+
+    // A mark for each of 32 places where the tests are passed: two tests or all, and two alone if
+    // they are tests of bits.
     #[inline(always)]
-    pub fn first_between(&self, line: &[u8], from: usize, past: usize) -> Option<usize>
-        requires ordered { from ≤ past }
-        requires room { HaveRoom self.now line.now past }
-        ensures { MatchOption result
-            ((k : ℕ) → from ≤ k → k < past → ¬ AllPass self.now line.now k)
-            (λ at. (from ≤ at) × (at < past) ×
-            ((k : ℕ) → from ≤ k → k < at → ¬ AllPass self.now line.now k)) }
+    fn marks<const COUNT: usize, const BITS: bool>(&self, line: &[u8], place: usize) -> u64
+        requires { HaveRoom self.now line.now (place + 32) }
+        ensures each { (k : ℕ) → k < 32 → AllPass self.now line.now (place + k)
+            → bit_at result k ≡ 1 }
+        ensures within { (k : ℕ) → bit_at result k ≡ 1 → k < 32 }
     {
-        if past - from > PIECE && !self.may_pass_between(line, from, past) {
-            return None;
+        if BITS {
+            return self.bit_marks(line, place);
         }
-        let mut start = from;
-        'pieces: while start < past {
-            let end = start + PIECE.min(past - start);
-            if let Some(place) = self.first_of_piece(line, start, end) {
-                return Some(place);
-            }
-            start = end;
+        let two = lesser(
+            self.first.looked_up(line, place),
+            self.second.looked_up(line, place),
+        );
+        if COUNT == 2 {
+            return nonzero(two);
         }
-        None
+        let others = lesser(
+            self.third.looked_up(line, place),
+            self.fourth.looked_up(line, place),
+        );
+        nonzero(lesser(two, others))
     }
 
-    // The same for few places: all are tried at once, and if some may pass, one by one.
+    // A mark for each of 32 places where the first two tests of bits are passed.
     #[inline(always)]
-    fn first_of_piece(&self, line: &[u8], from: usize, past: usize) -> Option<usize>
-        requires ordered { from ≤ past }
-        requires room { HaveRoom self.now line.now past }
-        ensures { MatchOption result
-            ((k : ℕ) → from ≤ k → k < past → ¬ AllPass self.now line.now k)
-            (λ at. (from ≤ at) × (at < past) ×
-            ((k : ℕ) → from ≤ k → k < at → ¬ AllPass self.now line.now k)) }
+    fn bit_marks(&self, line: &[u8], place: usize) -> u64
+        requires { HaveRoom self.now line.now (place + 32) }
+        ensures each { (k : ℕ) → k < 32 → AllPass self.now line.now (place + k)
+            → bit_at result k ≡ 1 }
+        ensures within { (k : ℕ) → bit_at result k ≡ 1 → k < 32 }
     {
-        if past - from >= MANY && !self.may_pass_between(line, from, past) {
-            return None;
-        }
-        'places: for place in from..past {
-            if self.pass_at(line, place) {
-                return Some(place);
-            }
-        }
-        None
-    }
-
-    // Whether all tests may be passed at some of the places.
-    #[inline(always)]
-    fn may_pass_between(&self, line: &[u8], from: usize, past: usize) -> bool
-        requires ordered { from ≤ past }
-        requires room { HaveRoom self.now line.now past }
-        ensures { result ≡ false → (k : ℕ) → from ≤ k → k < past → ¬ AllPass self.now line.now k }
-    {
-        match self.tried {
-            Tried::TwoBits => self.two_bits_between(line, from, past),
-            Tried::Two => self.two_pass_between(line, from, past),
-            Tried::Three => self.three_pass_between(line, from, past),
-            Tried::AllBits => self.all_bits_between(line, from, past),
-            Tried::All => self.all_pass_between(line, from, past),
-        }
-    }
-
-    // Whether the first two tests are passed by their bits at some place. There is no branch for
-    // each, so that many are tried at once.
-    #[inline(never)]
-    fn two_bits_between(&self, line: &[u8], from: usize, past: usize) -> bool
-        requires ordered { from ≤ past }
-        requires room { HaveRoom self.now line.now past }
-        ensures { result ≡ false → (k : ℕ) → from ≤ k → k < past → ¬ AllPass self.now line.now k }
-    {
-        let first = self.first;
-        let second = self.second;
-        let mut some = false;
-        'places: for place in from..past {
-            some |= first.has_bits_at(line, place) & second.has_bits_at(line, place);
-        }
-        some
-    }
-
-    // Whether all tests are passed by their bits at some place, in the same way.
-    #[inline(never)]
-    fn all_bits_between(&self, line: &[u8], from: usize, past: usize) -> bool
-        requires ordered { from ≤ past }
-        requires room { HaveRoom self.now line.now past }
-        ensures { result ≡ false → (k : ℕ) → from ≤ k → k < past → ¬ AllPass self.now line.now k }
-    {
-        let Probes {
-            first,
-            second,
-            third,
-            fourth,
-            tried: _,
-        } = *self;
-        let mut some = false;
-        'places: for place in from..past {
-            some |= first.has_bits_at(line, place)
-                & second.has_bits_at(line, place)
-                & third.has_bits_at(line, place)
-                & fourth.has_bits_at(line, place);
-        }
-        some
-    }
-
-    // Whether the first two tests are passed by their ranges at some place, in the same way.
-    #[inline(never)]
-    fn two_pass_between(&self, line: &[u8], from: usize, past: usize) -> bool
-        requires ordered { from ≤ past }
-        requires room { HaveRoom self.now line.now past }
-        ensures { result ≡ false → (k : ℕ) → from ≤ k → k < past → ¬ AllPass self.now line.now k }
-    {
-        let first = self.first;
-        let second = self.second;
-        let mut some = false;
-        'places: for place in from..past {
-            some |= first.passes_at(line, place) & second.passes_at(line, place);
-        }
-        some
-    }
-
-    // Whether the first three tests are passed at some place, in the same way.
-    #[inline(never)]
-    fn three_pass_between(&self, line: &[u8], from: usize, past: usize) -> bool
-        requires ordered { from ≤ past }
-        requires room { HaveRoom self.now line.now past }
-        ensures { result ≡ false → (k : ℕ) → from ≤ k → k < past → ¬ AllPass self.now line.now k }
-    {
-        let first = self.first;
-        let second = self.second;
-        let third = self.third;
-        let mut some = false;
-        'places: for place in from..past {
-            some |= first.passes_at(line, place)
-                & second.passes_at(line, place)
-                & third.passes_at(line, place);
-        }
-        some
-    }
-
-    // Whether all tests are passed at some place, in the same way.
-    #[inline(never)]
-    fn all_pass_between(&self, line: &[u8], from: usize, past: usize) -> bool
-        requires ordered { from ≤ past }
-        requires room { HaveRoom self.now line.now past }
-        ensures { result ≡ false → (k : ℕ) → from ≤ k → k < past → ¬ AllPass self.now line.now k }
-    {
-        let Probes {
-            first,
-            second,
-            third,
-            fourth,
-            tried: _,
-        } = *self;
-        let mut some = false;
-        'places: for place in from..past {
-            some |= first.passes_at(line, place)
-                & second.passes_at(line, place)
-                & third.passes_at(line, place)
-                & fourth.passes_at(line, place);
-        }
-        some
-    }
-
-    // Whether all tests are passed at the place.
-    #[inline(always)]
-    fn pass_at(&self, line: &[u8], place: usize) -> bool
-        requires { HaveRoom self.now line.now (place + 1) }
-        ensures { result ≡ false → ¬ AllPass self.now line.now place }
-    {
-        self.first.passes_at(line, place)
-            && self.second.passes_at(line, place)
-            && self.third.passes_at(line, place)
-            && self.fourth.passes_at(line, place)
+        nonzero(both(
+            self.first.bit_tested(line, place),
+            self.second.bit_tested(line, place),
+        ))
     }
 }

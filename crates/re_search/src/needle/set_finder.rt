@@ -1,31 +1,21 @@
 //! Search for a run of small sets of bytes.
-ghost use Rattle.std.specs.Prelude.{◌≡◌, ◌<◌, ◌≤◌, ◌↔◌, ℕ, IsTrue, IfSome, MatchOption, length};
-ghost use Rattle.std.specs.Prelude.{map};
+ghost use Rattle.std.specs.Prelude.{◌≡◌, ◌+◌, ◌<◌, ◌≤◌, ◌↔◌, IsTrue, IfSome, length, map};
+ghost use Rattle.memchr.specs.Find.{IsFirst};
+ghost use Rattle.memchr.specs.Lanes.{Marks};
 ghost use Rattle.re_syntax.specs.Sets.{members};
 ghost use Rattle.re_search.specs.Working.Runs.{FindsRun, IsProbeOf, RunStandsAt, set_at};
 
-use crate::needle::cover::Cover;
+use crate::needle::alike::Alike;
+use crate::needle::lanes::{lowest, without};
+use crate::needle::nibbles::Nibbles;
 use crate::needle::probes::{Probe, Probes, Tried};
-use crate::needle::survey::Survey;
+use crate::needle::survey::{Survey, share_with};
 use re_syntax::ByteSet;
 use std::marker::Model;
-
-// How many places are tried at a time at first, and after a place that the probes pass without the
-// run; so that near misses side by side cost little.
-const FIRST_PORTION: usize = 16;
-
-// The factor by which they grow.
-const GROWTH: usize = 4;
-
-// How many places are tried at a time at most.
-const PORTION: usize = 256;
 
 // Probes are passed rarely if they are passed at no more than about this number of places in 65,536
 // bytes of most texts.
 const MOST_STOPS: u64 = 256;
-
-// The same for three probes: then a fourth doesn't pay.
-const MOST_STOPS_OF_THREE: u64 = 1_024;
 
 // The place of no set.
 const NOWHERE: usize = usize::MAX;
@@ -66,7 +56,7 @@ impl SetFinder {
             Some(probe) => probe,
             None => third,
         };
-        let tried = tried_of(&sets, &first, &second, &third, &fourth);
+        let tried = tried_of(&sets, &first, &second);
         let probes = Probes {
             first,
             second,
@@ -107,17 +97,11 @@ impl SetFinder {
     pub fn find(&self, line: &[u8]) -> Option<usize>
         ensures { FindsRun line.now (map members self.now) result }
     {
-        let mut start = 0;
-        'places: while start < line.len() {
-            let Some(candidate) = self.candidate(line, start) else {
-                return None;
-            };
-            if stands_at(&self.sets, line, candidate) {
-                return Some(candidate);
-            }
-            start = candidate + 1;
+        match self.probes.tried {
+            Tried::TwoBits => self.find_by::<2, true>(line),
+            Tried::Two => self.find_by::<2, false>(line),
+            Tried::All => self.find_by::<4, false>(line),
         }
-        None
     }
 
     /// Whether the line begins with the run.
@@ -127,27 +111,47 @@ impl SetFinder {
         stands_at(&self.sets, line, 0)
     }
 
-    // The first place from `from` on where the run may be, by the probes.
-    fn candidate(&self, line: &[u8], from: usize) -> Option<usize>
-        requires { from < length line.now }
-        ensures { MatchOption result
-            ((k : ℕ) → from ≤ k → ¬ RunStandsAt line.now (map members self.now) k)
-            (λ at. (from ≤ at) × (at < length line.now) ×
-            ((k : ℕ) → from ≤ k → k < at → ¬ RunStandsAt line.now (map members self.now) k)) }
+    // The same by this number of tests, of bits or by look-ups: 32 places at once, and the last
+    // ones one by one.
+    #[inline(always)]
+    fn find_by<const COUNT: usize, const BITS: bool>(&self, line: &[u8]) -> Option<usize>
+        ensures { FindsRun line.now (map members self.now) result }
     {
         if line.len() < self.sets.len() {
             return None;
         }
         let end = line.len() - self.sets.len() + 1;
-        let mut start = from;
-        let mut portion = FIRST_PORTION;
-        'portions: while start < end {
-            let past = start + portion.min(end - start);
-            if let Some(place) = self.probes.first_between(line, start, past) {
+        let mut start = 0;
+        'runs: while 32 <= end - start {
+            let (at, marks) = self.probes.next_marks::<COUNT, BITS>(line, start, end);
+            if let Some(place) = self.first_marked(line, at, marks) {
                 return Some(place);
             }
-            start = past;
-            portion = portion.saturating_mul(GROWTH).min(PORTION);
+            start = at + 32;
+        }
+        'places: for place in start..end {
+            if stands_at(&self.sets, line, place) {
+                return Some(place);
+            }
+        }
+        None
+    }
+
+    // The first marked one of 32 places where the run is.
+    #[inline(always)]
+    fn first_marked(&self, line: &[u8], start: usize, marks: u64) -> Option<usize>
+        requires within { start + 32 ≤ length line.now }
+        requires marks { Marks (RunStandsAt line.now (map members self.now)) start (start + 32)
+            marks }
+        ensures { IsFirst (RunStandsAt line.now (map members self.now)) start (start + 32) result }
+    {
+        let mut left = marks;
+        'marks: while left != 0 {
+            let bit = lowest(left);
+            if stands_at(&self.sets, line, start + bit) {
+                return Some(start + bit);
+            }
+            left = without(left, bit);
         }
         None
     }
@@ -187,8 +191,9 @@ fn rarest_probe(sets: &[ByteSet], first: usize, second: usize, third: usize) -> 
     if at >= sets.len() {
         return None;
     }
-    let cover = Cover::of(&sets[at])?;
-    Some(Probe { at, cover })
+    let nibbles = Nibbles::of(&sets[at])?;
+    let alike = Alike::of(&sets[at])?;
+    Some(Probe { at, nibbles, alike })
 }
 
 // The place of the set that is rarest in most texts, of those that are not at one of these places.
@@ -256,36 +261,25 @@ fn share_at(sets: &[ByteSet], place: usize) -> u64 {
     }
 }
 
-// Which of the probes are tried at many places at once: enough of them that few places of most
-// texts pass.
-fn tried_of(
-    sets: &[ByteSet],
-    first: &Probe,
-    second: &Probe,
-    third: &Probe,
-    fourth: &Probe,
-) -> Tried {
-    let are_bits = are_told_by_bits(first, second);
-    let stops = stops_of(sets, first, second);
-    if stops <= MOST_STOPS || third.at == second.at {
-        return if are_bits { Tried::TwoBits } else { Tried::Two };
+// Which tests are tried at 32 places at once. Two tests of bits are the cheapest. They do for two
+// letters, and where few places of most texts pass. Two look-ups do where few pass them.
+fn tried_of(sets: &[ByteSet], first: &Probe, second: &Probe) -> Tried {
+    let are_letters = first.alike.are_nearly_all() && second.alike.are_nearly_all();
+    if are_letters || bit_stops(first, second) <= MOST_STOPS {
+        return Tried::TwoBits;
     }
-    if are_bits && are_told_by_bits(third, fourth) {
-        return Tried::AllBits;
-    }
-    let stops_of_three = stops.saturating_mul(share_at(sets, third.at)) >> 16;
-    if stops_of_three <= MOST_STOPS_OF_THREE || fourth.at == third.at {
-        return Tried::Three;
+    if stops_of(sets, first, second) <= MOST_STOPS {
+        return Tried::Two;
     }
     Tried::All
 }
 
-// Whether both probes test all bits but at most one.
-fn are_told_by_bits(one: &Probe, other: &Probe) -> bool {
-    one.cover.is_told_by_bits() && other.cover.is_told_by_bits()
+// At about how many places in 65,536 bytes of most texts two tests of bits are passed.
+fn bit_stops(one: &Probe, other: &Probe) -> u64 {
+    share_with(one.alike).saturating_mul(share_with(other.alike)) >> 16
 }
 
-// At about how many places in 65,536 bytes of most texts two probes are passed.
+// The same of two probes.
 fn stops_of(sets: &[ByteSet], one: &Probe, other: &Probe) -> u64 {
     share_at(sets, one.at).saturating_mul(share_at(sets, other.at)) >> 16
 }
