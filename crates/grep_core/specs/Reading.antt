@@ -3,7 +3,7 @@ use Rattle.std.specs.Prelude.{◌≡◌, ℕ, ◌-◌, ◌^◌, nat_le, Bool, tr
 use Rattle.std.specs.Prelude.{◌∷◌, ◌++◌, length, take, Option, Some, IfSome}
 use Rattle.std.specs.Io.KnownBytes.{Consumes}
 use Rattle.re_syntax.specs.Bytes.{Text}
-use Rattle.re_syntax.specs.Lines.{lines_of, ended_lines_of}
+use Rattle.re_syntax.specs.Lines.{lines_of, ended_lines_of, HasNoNewline}
 use Rattle.grep_core.specs.Files.{File, Ending, whole, missing, broken}
 
 -- a source by its name; whether it can be opened and which bytes it has, where that is known
@@ -65,3 +65,16 @@ AreLeft source (ends_after bytes) left = (rest : Option Text) × (left ≡ rest 
 -- one reader was returned, which had this left
 abbrev pub OneLeft : Option Text → List (Option Text) → Type 0
 OneLeft rest left = left ≡ rest ∷ []
+
+-- but for the last 65,536 bytes, the bytes are the beginning of one line
+abbrev pub IsOneLineAndFew : Text → Type 0
+IsOneLineAndFew bytes = HasNoNewline (take (length bytes - 65536) bytes)
+
+-- the reader of the source, which has `rest` left, gave these lines, and after them no more than is
+-- held of one line and one buffer
+pub record HasRead (source : Source) (rest : Option Text) (lines : List Text) : Type 0 where
+  pub given : Text
+  pub are_given : lines_of given ≡ lines
+  pub held : Text
+  pub few_held : IsOneLineAndFew held
+  pub read : Consumes source.bytes rest (given ++ held)

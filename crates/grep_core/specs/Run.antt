@@ -17,6 +17,8 @@ use Rattle.grep_core.specs.Files.{File, whole, missing, HasSelected, AreMeant}
 use Rattle.grep_core.specs.Output.{Form, parts, lines, around, form, OutAs, Out, are_many, written}
 use Rattle.grep_core.specs.Messages.{FaultMet, Messages, StatusOf}
 use Rattle.grep_core.specs.Reading.{Source, Reading, IsReadingOf, file_of, failures_of, AreLeft}
+use Rattle.grep_core.specs.Reading.{HasRead}
+use Rattle.grep_core.specs.Sources.{source_at}
 use Rattle.grep_core.specs.Cost.{SearchesFiles}
 
 -- ---- devices
@@ -57,6 +59,13 @@ pub record TakesFront (old new : Writer) (text : List Text) : Type 0 where
   pub rest : Text
   pub cut : written [] text ≡ front ++ rest
   pub written_front : Appends old.contents new.contents front
+
+-- all of the first lines were written, and a beginning of those after them in the text
+pub record TakesPast (old new : Writer) (first text : List Text) : Type 0 where
+  pub front : Text
+  pub rest : Text
+  pub cut : written [] text ≡ (written [] first ++ front) ++ rest
+  pub written_past : Appends old.contents new.contents (written [] first ++ front)
 
 -- ---- sources
 
@@ -133,28 +142,35 @@ module _ (es : List Expression) (options : Options) (sources : List Source)
     pub gave_back : given left
     pub steps : SearchesFiles es options (length es) (files_of sources readings) old.steps new.steps
 
-  -- a run that a failed write ended: beginnings of the output and of the messages were written
+  -- a run that a failed write ended in source `at`: what is written of the sources before it was
+  -- written, and a beginning of what follows; no source after it was opened
   pub record BreaksOff : Type 0 where
     pub readings : List Reading
     pub are_readings : AreReadings sources readings
+    pub at : ℕ
+    pub in_sources : at < length sources
+    pub output_before : List Text
+    pub is_before : OutAs es options (are_many (files_of sources readings)) (form options)
+        (take at (files_of sources readings)) output_before
     pub output : List Text
     pub is_output : Out es options (files_of sources readings) output
+    pub wrote : TakesPast old.out new.out output_before output
+    pub messages_before : List Text
+    pub are_before : Messages es options (take at (files_of sources readings)) messages_before
     pub messages : List Text
     pub are_messages : Messages es options (files_of sources readings) messages
-    pub wrote : TakesFront old.out new.out output
-    pub told : TakesFront old.messages new.messages messages
-    -- how often the devices of the sources that were met failed
-    pub met : ℕ
+    pub told : TakesPast old.messages new.messages messages_before messages
     pub failures : ℕ
-    pub are_failures : FailuresMet es options (take met sources) readings failures
+    pub are_failures : FailuresMet es options (take (suc at) sources) readings failures
     pub counted : new.source_failures ≡ count_more old.source_failures failures
     pub left : List (Option Text)
-    pub are_left : LeftMet es options (take met sources) readings left
+    pub are_left : LeftMet es options (take (suc at) sources) readings left
     pub gave_back : given left
     pub steps : SearchesFiles es options (length es) (files_of sources readings) old.steps new.steps
 
-  -- a run that ran out of memory after the first n lines of source k: the output is that of the
-  -- sources before it and of a source of these lines, the messages those of the sources before it
+  -- a run that ran out of memory after the first n lines of source k, whatever is written of them:
+  -- the output is that of the sources before it and of a source of these lines, the messages those
+  -- of the sources before it
   pub record StopsBehind (k n : ℕ) : Type 0 where
     pub readings : List Reading
     pub are_readings : AreReadings sources readings
@@ -175,6 +191,8 @@ module _ (es : List Expression) (options : Options) (sources : List Source)
     pub rest : Option Text
     pub are_left : LeftMet es options (take k sources) readings left
     pub gave_back : given (left ++ rest ∷ [])
+    pub read : HasRead (source_at sources k) rest
+        (take n (file_at (files_of sources readings) k).lines)
     pub steps : SearchesFiles es options (length es) (files_of sources readings) old.steps new.steps
 
   -- what a run returns: a fault of a write exactly where a write failed

@@ -27,7 +27,6 @@ pub use output::rows::{write_decimal, write_line, write_line_behind, write_row, 
 pub use output::summary::{status_of, tell_fault, write_summary};
 pub use output::wanted::Wanted;
 pub use search::file::{FileEnd, FileFound, count_found};
-pub use search::matching::next_part;
 pub use search::run::{search_all, search_filtered};
 pub use search::sending::send_before_read;
 pub use search::serving::serves_for_others;

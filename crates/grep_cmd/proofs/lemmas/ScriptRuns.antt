@@ -12,7 +12,7 @@ use Rattle.grep_core.specs.Reading.{file_of, most_lines}
 use Rattle.grep_core.specs.Written.{GoesOut, StopsWithin}
 use Rattle.grep_core.specs.Working.Numbered.{Numbered, HasHanded, StandsAs}
 use Rattle.grep_core.specs.Working.Handed.{AreHanded}
-use Rattle.grep_core.specs.Working.Held.{IsOneLineAndFew}
+use Rattle.grep_core.specs.Reading.{IsOneLineAndFew}
 use Rattle.grep_core.specs.declared.input.lines.Stage.{Stage}
 use Rattle.grep_core.specs.declared.input.lines.Stage.TheVariants.{Open, Ended, Failed}
 use Rattle.grep_core.proofs.lemmas.CostLaws.{adds_none}

@@ -8,7 +8,7 @@ use Rattle.grep_core.specs.Meters.{Steps as StepCounts}
 use Rattle.grep_core.specs.Output.{written}
 use Rattle.grep_core.specs.Searching.{AddsAtMost}
 use Rattle.grep_core.specs.Written.{GoesOut, StopsWithin}
-use Rattle.grep_core.specs.Working.Held.{IsOneLineAndFew}
+use Rattle.grep_core.specs.Reading.{IsOneLineAndFew}
 use Rattle.grep_core.specs.Working.Numbered.{Numbered, HasHanded, StandsAs}
 use Rattle.grep_session.specs.declared.fault.EditFault.{EditFault}
 use Rattle.grep_cmd.specs.declared.script.ScriptFault.{ScriptFault}

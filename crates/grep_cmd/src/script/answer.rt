@@ -1,7 +1,7 @@
 //! How a command is done and answered.
 ghost use Rattle.std.specs.Prelude.{◌≡◌, ◌≢◌, List, [], ◌∷◌, Some, IfOk, IfErr, map};
 ghost use Rattle.re_syntax.specs.Bytes.{Text};
-ghost use Rattle.grep_core.specs.Working.Held.{IsOneLineAndFew};
+ghost use Rattle.grep_core.specs.Reading.{IsOneLineAndFew};
 ghost use Rattle.grep_core.specs.Working.Numbered.{HasHanded};
 ghost use Rattle.grep_session.specs.declared.fault.EditFault.TheVariants.{Memory};
 ghost use Rattle.grep_session.specs.Edits.{EditGives};

@@ -3,7 +3,7 @@ ghost use Rattle.std.specs.Prelude.{◌≡◌, [], ◌∷◌, ◌++◌, List, If
 ghost use Rattle.std.specs.Result.{result_map_both};
 ghost use Rattle.re_syntax.specs.Bytes.{Text};
 ghost use Rattle.re_syntax.specs.Lines.{joined, newline};
-ghost use Rattle.grep_core.specs.Working.Held.{IsOneLineAndFew};
+ghost use Rattle.grep_core.specs.Reading.{IsOneLineAndFew};
 ghost use Rattle.grep_core.specs.Working.Numbered.{HasHanded};
 ghost use Rattle.grep_cmd.specs.Working.Answered.{ReadsNext, TakesLines, Flushes};
 

@@ -14,7 +14,7 @@ use Rattle.grep_core.specs.Counted.{one_more}
 use Rattle.grep_core.specs.Choose.{EachGives}
 use Rattle.grep_core.specs.Files.{whole, broken, Selected}
 use Rattle.grep_core.specs.Output.{around, form, GroupsOf, SelectedLines}
-use Rattle.grep_core.specs.Reading.{open_source, most_lines, OneLeft}
+use Rattle.grep_core.specs.Reading.{open_source, most_lines, OneLeft, IsOneLineAndFew, HasRead}
 use Rattle.grep_core.specs.Run.{Writer, TakesAll, TakesFront}
 use Rattle.grep_core.specs.Cost.{SearchesLines}
 use Rattle.grep_core.specs.Working.Handed.{file_so_far}
@@ -28,7 +28,7 @@ use Rattle.grep_core.proofs.lemmas.CostLaws.{searched_no_line, searched_more_lin
 use Rattle.grep_core.proofs.lemmas.ChooseLaws.{EachGives-one}
 use Rattle.grep_core.proofs.lemmas.FileOutput.{file_is, chosen_line, chosen_count}
 use Rattle.grep_core.proofs.lemmas.BlockLines.{last_of-many}
-use Rattle.grep_core.proofs.lemmas.HandedLemmas.{begins_with}
+use Rattle.grep_core.proofs.lemmas.HandedLemmas.{begins_with, has_read}
 use Rattle.grep_core.proofs.lemmas.LinesLemmas.{early_form, WrittenOf, WritesLines, searches_whole, searches_broken, stops_among, stops_behind, breaks_in, chosen_on}
 use Rattle.grep_core.proofs.lemmas.MoreLines.{file_with}
 use Rattle.grep_core.proofs.lemmas.NumberedLemmas.{has_handed_none}
@@ -164,9 +164,6 @@ module _ {R : Type 0} (remaining : R → Option Text) (failures : R → ℕ) (es
     writes : WritesLines es options many shown name s.lines old mid selected
     writes = record { rows = s.rows; of = written_tracked p s.lines s.rows s.tracks; wrote = s.wrote; chosen = s.chosen; are_chosen = s.are_chosen; counted = s.counted }
 
-    pub followed_few : p.waiting ≤ p.context.before
-    followed_few = s.tracks.few
-
     pub same_before : p.context.before ≡ context.before
     same_before = ap (λ (c : Context). c.before) s.tracks.same_context
 
@@ -187,18 +184,19 @@ module _ {R : Type 0} (remaining : R → Option Text) (failures : R → ℕ) (es
     followed_broken stands = searches_broken es options many shown name (remaining reader) (remaining now.lines.reader) old mid began amid (failures reader) (failures now.lines.reader) s.lines selected writes s.steps (stands name) never_early
 
     -- out of memory
-    pub followed_out : HasHanded remaining failures reader now s.lines → (count : ℕ) → now.number ≡ count
+    pub followed_out : HasHanded remaining failures reader now s.lines → IsOneLineAndFew now.lines.ahead → (count : ℕ) → now.number ≡ count
         → StopsSource es options many shown (open_source name (remaining reader)) (OneLeft (remaining now.lines.reader)) count (failures reader) (failures now.lines.reader) old mid began amid
-    followed_out handed count is_count =
+    followed_out handed few count is_count =
         stops_behind es options many shown name (remaining reader) (remaining now.lines.reader) old mid began amid s.lines selected count writes s.steps
-        (begins_with remaining failures name reader now.lines s.lines handed.hands handed.few) (handed.counted ∙ is_count) (failures reader) (failures now.lines.reader) handed.hands.none_failed
+        (begins_with remaining failures name reader now.lines s.lines handed.hands handed.few) (handed.counted ∙ is_count) (has_read remaining failures name reader now.lines s.lines handed.hands few) (failures reader) (failures now.lines.reader) handed.hands.none_failed
 
     -- lines that were searched could not be kept
-    pub followed_unkept : (all : List Text) (ended : Steps) → HasHanded remaining failures reader now (s.lines ++ all) → SearchesLines es options (length es) all amid ended → (count : ℕ) → before.number ≡ count
+    pub followed_unkept : now.lines.reader ≡ before.lines.reader → IsOneLineAndFew before.lines.ahead → (all : List Text) (ended : Steps) → HasHanded remaining failures reader now (s.lines ++ all) → SearchesLines es options (length es) all amid ended → (count : ℕ) → before.number ≡ count
         → StopsSource es options many shown (open_source name (remaining reader)) (OneLeft (remaining now.lines.reader)) count (failures reader) (failures now.lines.reader) old mid began ended
-    followed_unkept all ended h spent count is_count =
+    followed_unkept same few all ended h spent count is_count =
         stops_among es options many shown name (remaining reader) (remaining now.lines.reader) old mid began ended s.lines all selected count writes (searched_more_lines es options (length es) s.lines all began amid ended s.steps spent)
-        (begins_with remaining failures name reader now.lines (s.lines ++ all) h.hands h.few) (s.handed.counted ∙ is_count) (failures reader) (failures now.lines.reader) h.hands.none_failed
+        (begins_with remaining failures name reader now.lines (s.lines ++ all) h.hands h.few) (s.handed.counted ∙ is_count)
+        (subst (λ r. HasRead (open_source name (remaining reader)) (remaining r) s.lines) (sym same) (has_read remaining failures name reader before.lines s.lines s.handed.hands few)) (failures reader) (failures now.lines.reader) h.hands.none_failed
 
     -- one more line was handed out or passed
     module _ (line : Text) (next : HasHanded remaining failures reader now (s.lines ++ line ∷ [])) where
@@ -262,9 +260,9 @@ module _ {R : Type 0} (remaining : R → Option Text) (failures : R → ℕ) (es
               spent (begins_with remaining failures name reader now.lines (s.lines ++ line ∷ []) next.hands next.few)
 
           -- the line could not be kept
-          pub followed_refused : (new : Writer) → TakesAll mid new (rows_at options many name found (next_shown p found) behind count line)
+          pub followed_refused : IsOneLineAndFew now.lines.ahead → (new : Writer) → TakesAll mid new (rows_at options many name found (next_shown p found) behind count line)
               → StopsSource es options many shown (open_source name (remaining reader)) (OneLeft (remaining now.lines.reader)) count (failures reader) (failures now.lines.reader) old new began ended
-          followed_refused new took =
+          followed_refused few_held new took =
               let chosen = s.chosen ++ picked found (length s.lines + 1, line) in
               stops_behind es options many shown name (remaining reader) (remaining now.lines.reader) old new began ended (s.lines ++ line ∷ []) (length chosen) count
               (record {
@@ -276,4 +274,4 @@ module _ {R : Type 0} (remaining : R → Option Text) (failures : R → ℕ) (es
                 counted = refl;
               })
               spent (begins_with remaining failures name reader now.lines (s.lines ++ line ∷ []) next.hands next.few)
-              (next.counted ∙ sym is_number) (failures reader) (failures now.lines.reader) next.hands.none_failed
+              (next.counted ∙ sym is_number) (has_read remaining failures name reader now.lines (s.lines ++ line ∷ []) next.hands few_held) (failures reader) (failures now.lines.reader) next.hands.none_failed

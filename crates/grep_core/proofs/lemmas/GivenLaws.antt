@@ -34,13 +34,18 @@ module _ (es : List Expression) (options : Options) (sources : List Source) (giv
   BreaksOff-given b = record {
     readings = b.readings;
     are_readings = b.are_readings;
+    at = b.at;
+    in_sources = b.in_sources;
+    output_before = b.output_before;
+    is_before = b.is_before;
     output = b.output;
     is_output = b.is_output;
+    messages_before = b.messages_before;
+    are_before = b.are_before;
     messages = b.messages;
     are_messages = b.are_messages;
     wrote = b.wrote;
     told = b.told;
-    met = b.met;
     failures = b.failures;
     are_failures = b.are_failures;
     counted = b.counted;
@@ -69,6 +74,7 @@ module _ (es : List Expression) (options : Options) (sources : List Source) (giv
     rest = s.rest;
     are_left = s.are_left;
     gave_back = more (s.left ++ s.rest ∷ []) s.gave_back;
+    read = s.read;
     steps = s.steps;
   }
 

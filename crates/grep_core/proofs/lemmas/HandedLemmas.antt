@@ -13,7 +13,7 @@ use Rattle.grep_core.specs.Working.LineReader.{LineReader, to_come, IsLineOf, Ha
 use Rattle.grep_core.specs.declared.input.lines.Stage.{Stage}
 use Rattle.grep_core.specs.declared.input.lines.Stage.TheVariants.{Open, Ended, Failed}
 use Rattle.grep_core.specs.Files.{File, whole, broken}
-use Rattle.grep_core.specs.Reading.{fails_after, ends_after, most_lines, up_to_limit, file_of}
+use Rattle.grep_core.specs.Reading.{fails_after, ends_after, most_lines, up_to_limit, file_of, open_source, IsOneLineAndFew, HasRead}
 use Rattle.grep_core.proofs.lemmas.FileLaws.{lines_of-behind, up_to_limit-few, up_to_limit-over, up_to_limit-behind}
 use Rattle.grep_core.specs.Working.Handed.{AreHanded, HandsLines, StandsFor, BeginsWith}
 
@@ -60,6 +60,17 @@ lines_given : (stage : Stage) (given : Text) (handed : List Text) → AreHanded 
 lines_given Open given handed h = ap lines_of h.0 ∙ lines_of-terminated handed h.1
 lines_given Ended given handed h = h
 lines_given Failed given handed h = absurd h
+
+-- what a reader of lines has handed out was given by its source, and the rest of it is held
+pub has_read : {R : Type 0} (remaining : R → Option Text) (failures : R → ℕ) (name : Text) (reader : R) (now : LineReader R) (handed : List Text) → HandsLines remaining failures reader now handed → IsOneLineAndFew now.ahead
+    → HasRead (open_source name (remaining reader)) (remaining now.reader) handed
+has_read remaining failures name reader now handed h few = record {
+  given = h.given;
+  are_given = lines_given now.stage h.given handed h.are_handed;
+  held = now.ahead;
+  few_held = few;
+  read = Consumes-trans (remaining reader) (to_come remaining failures now) (remaining now.reader) h.given now.ahead h.gave (Consumes-front (remaining now.reader) now.ahead);
+}
 
 -- a reader of lines that is not at its end is still open
 pub still_open : (stage : Stage) (given : Text) (handed : List Text) → AreHanded stage given handed → stage ≢ Ended → stage ≡ Open

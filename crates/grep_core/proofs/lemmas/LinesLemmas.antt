@@ -17,7 +17,7 @@ use Rattle.grep_core.specs.Working.Numbered.{Numbered, HasHanded, StandsAs}
 use Rattle.grep_core.specs.Files.{File, whole, broken, Selected, HasSelected}
 use Rattle.grep_core.specs.Output.{Form, nothing, names, counts, form, SelectedLines}
 use Rattle.grep_core.specs.Messages.{FaultMet}
-use Rattle.grep_core.specs.Reading.{open_source, file_of, failures_of, most_lines, OneLeft}
+use Rattle.grep_core.specs.Reading.{open_source, file_of, failures_of, most_lines, OneLeft, IsOneLineAndFew, HasRead}
 use Rattle.grep_core.specs.Run.{Writer, TakesAll, TakesFront, first_lines}
 use Rattle.grep_core.specs.Working.Groups.{GroupedAs, behind_rows}
 use Rattle.grep_core.specs.Working.Handed.{StandsFor, BeginsWith, file_so_far}
@@ -37,7 +37,7 @@ use Rattle.grep_core.proofs.lemmas.StretchLemmas.{found_within}
 use Rattle.grep_core.proofs.lemmas.OneFile.{whole-failures}
 use Rattle.grep_core.proofs.lemmas.FileLaws.{FaultMet-left}
 use Rattle.grep_core.proofs.lemmas.MoreLines.{SelectedLines-passed}
-use Rattle.grep_core.proofs.lemmas.HandedLemmas.{begins_with}
+use Rattle.grep_core.proofs.lemmas.HandedLemmas.{begins_with, has_read}
 use Rattle.grep_core.proofs.lemmas.NumberedLemmas.{has_handed_none}
 use Rattle.grep_core.proofs.lemmas.FileOutput.{positive, chosen_tells, rows_line, chosen_line, chosen_count, output_all, output_left, output_front, rows_begun, plain_rows}
 
@@ -243,9 +243,9 @@ module _ (es : List Expression) (options : Options) (many shown : Bool) (name : 
           }
 
     -- out of memory after the lines; more lines were searched
-    pub stops_among : (lines later : List Text) (selected count : ℕ) → WritesLines lines old new selected → SearchesLines es options (length es) (lines ++ later) began ended → BeginsWith name known (lines ++ later) → length lines ≡ count
+    pub stops_among : (lines later : List Text) (selected count : ℕ) → WritesLines lines old new selected → SearchesLines es options (length es) (lines ++ later) began ended → BeginsWith name known (lines ++ later) → length lines ≡ count → HasRead (open_source name known) rest lines
         → (failed_before failed : ℕ) → failed ≡ failed_before → StopsSource es options many shown (open_source name known) (OneLeft rest) count failed_before failed old new began ended
-    stops_among lines later selected count w spent b counted failed_before failed none_failed =
+    stops_among lines later selected count w spent b counted read failed_before failed none_failed =
         let file = file_of name b.reading in
         let has : file.lines ≡ lines ++ (later ++ b.more) = b.has_lines ∙ append_assoc lines later b.more in
         let first : take count file.lines ≡ lines = ap (take count) has ∙ ap (λ k. take k (lines ++ (later ++ b.more))) (sym counted) ∙ take-append_seam lines (later ++ b.more) in
@@ -257,6 +257,7 @@ module _ (es : List Expression) (options : Options) (many shown : Bool) (name : 
           rest = rest;
           gave_back = refl;
           in_file = omega (arith, counted, length-append lines (later ++ b.more), ap length has);
+          read = subst (HasRead (open_source name known) rest) (sym first) read;
           rows = w.of.groups;
           are_rows = rows_begun es options many (form options) count file w.of.groups (subst (λ f. LineRowsOf es options many (form options) f w.of.groups) same w.of.are_groups);
           wrote = subst (TakesAll old new) w.of.are_rows w.wrote;
@@ -264,7 +265,7 @@ module _ (es : List Expression) (options : Options) (many shown : Bool) (name : 
         }
 
     -- no more lines were searched
-    pub stops_behind : (lines : List Text) (selected count : ℕ) → WritesLines lines old new selected → SearchesLines es options (length es) lines began ended → BeginsWith name known lines → length lines ≡ count
+    pub stops_behind : (lines : List Text) (selected count : ℕ) → WritesLines lines old new selected → SearchesLines es options (length es) lines began ended → BeginsWith name known lines → length lines ≡ count → HasRead (open_source name known) rest lines
         → (failed_before failed : ℕ) → failed ≡ failed_before → StopsSource es options many shown (open_source name known) (OneLeft rest) count failed_before failed old new began ended
     stops_behind lines selected count w spent b =
         stops_among lines [] selected count w (subst (λ ls. SearchesLines es options (length es) ls began ended) (sym (append-nil lines)) spent) (subst (BeginsWith name known) (sym (append-nil lines)) b)
@@ -520,8 +521,8 @@ module _ {R : Type 0} (remaining : R → Option Text) (failures : R → ℕ) (es
     ends_broken stands = searches_broken es options many shown name (remaining reader) (remaining now.lines.reader) old new began ended (failures reader) (failures now.lines.reader) s.lines selected s.wrote s.steps (stands name) s.none_early
 
     -- out of memory
-    pub runs_out : HasHanded remaining failures reader now s.lines → (count : ℕ) → now.number ≡ count
+    pub runs_out : HasHanded remaining failures reader now s.lines → IsOneLineAndFew now.lines.ahead → (count : ℕ) → now.number ≡ count
         → StopsSource es options many shown (open_source name (remaining reader)) (OneLeft (remaining now.lines.reader)) count (failures reader) (failures now.lines.reader) old new began ended
-    runs_out handed count is_count =
-        stops_behind es options many shown name (remaining reader) (remaining now.lines.reader) old new began ended s.lines selected count s.wrote s.steps (begins now s.lines handed) (handed.counted ∙ is_count)
+    runs_out handed few count is_count =
+        stops_behind es options many shown name (remaining reader) (remaining now.lines.reader) old new began ended s.lines selected count s.wrote s.steps (begins now s.lines handed) (handed.counted ∙ is_count) (has_read remaining failures name reader now.lines s.lines handed.hands few)
         (failures reader) (failures now.lines.reader) handed.hands.none_failed

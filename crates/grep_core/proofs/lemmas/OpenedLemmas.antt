@@ -1,9 +1,12 @@
 -- A search of a source that was opened, by the search of its reader.
-use Rattle.std.proofs.Common.{◌≡◌, ℕ, zero, suc, ◌≤◌, ◌⊎◌, Bool, true, false, List, [], ◌∷◌, length, Option, Result, Ok, Err, IfSome, IfOk, refl, sym, ap, subst, ◌∙◌, inl, inr, arith}
+use Rattle.std.proofs.Common.{◌≡◌, ℕ, zero, suc, ◌≤◌, ◌⊎◌, Bool, true, false, List, [], ◌∷◌, length, take, Option, Result, Ok, Err, IfSome, IfOk, refl, sym, ap, subst, ◌∙◌, inl, inr, arith}
 use Rattle.std.proofs.lemmas.Bool.{false≢true}
+use Rattle.std.proofs.KnownBytes.{Consumes-nil}
+use Rattle.std.specs.Io.KnownBytes.{Consumes}
 use Rattle.re_syntax.specs.Bytes.{Text}
 use Rattle.re_syntax.specs.Expression.{Expression}
 use Rattle.re_syntax.proofs.lemmas.Decisions.{Any-none}
+use Rattle.re_syntax.proofs.lemmas.LinesLaws.{all_none, lines_of-terminated}
 use Rattle.re_search.specs.Meters.{Steps}
 use Rattle.grep_core.specs.declared.options.Options.{Options}
 use Rattle.grep_core.specs.declared.search.file.FileEnd.{FileEnd}
@@ -15,7 +18,7 @@ use Rattle.grep_core.specs.Choose.{Chosen}
 use Rattle.grep_core.specs.Working.LineReader.{LineReader}
 use Rattle.grep_core.specs.Files.{File, Selected}
 use Rattle.grep_core.specs.Output.{Form, nothing, names, counts, parts, lines, around, form, shown_name, shown_number, numbered}
-use Rattle.grep_core.specs.Reading.{Source, Reading, not_opened, fails_after, ends_after, open_source, IsReadingOf, file_of, failures_of, AreLeft, OneLeft}
+use Rattle.grep_core.specs.Reading.{Source, Reading, not_opened, fails_after, ends_after, open_source, IsReadingOf, file_of, failures_of, AreLeft, OneLeft, HasRead}
 use Rattle.grep_core.specs.Run.{Writer, TakesAll, TakesFront, first_lines, count_more}
 use Rattle.grep_core.specs.Working.Groups.{behind_rows}
 use Rattle.grep_core.specs.Working.OneLine.{IsPlain, LineRowsOf}
@@ -23,6 +26,7 @@ use Rattle.grep_core.specs.Working.Searched.{CountsSource, BreaksSource, StopsSo
 use Rattle.grep_core.proofs.lemmas.Verdicts.{decided_yes, decided_no}
 use Rattle.grep_core.proofs.lemmas.CostLaws.{searched_no_line, searched_first_lines}
 use Rattle.grep_core.proofs.lemmas.WriterLaws.{TakesAll-nothing}
+use Rattle.grep_core.proofs.lemmas.WindowLemmas.{none_in_nothing}
 use Rattle.grep_core.proofs.lemmas.Readings.{IsReadingOf-exists}
 use Rattle.grep_core.proofs.lemmas.FileOutput.{rows_none, output_all, rows_begun, plain_rows, behind_rows-none}
 
@@ -54,6 +58,10 @@ left_of : (source : Source) (r : Reading) (left : List (Option Text)) → AreLef
 left_of source not_opened left h = h
 left_of source (fails_after bytes) left h = h
 left_of source (ends_after bytes) left h = h
+
+-- what was read of the open source was read of the source
+read_of : (source : Source) (rest : Option Text) (text : List Text) → HasRead (open_source source.name source.bytes) rest text → HasRead source rest text
+read_of source rest text h = record { given = h.given; are_given = h.are_given; held = h.held; few_held = h.few_held; read = h.read }
 
 module _ (es : List Expression) (options : Options) (many shown : Bool) (source : Source) (given : List (Option Text) → Type 0) (rest : Option Text) (gives : given (rest ∷ []))
     (before after failed : ℕ) (counted : after ≡ count_more before failed) where
@@ -109,6 +117,7 @@ module _ (es : List Expression) (options : Options) (many shown : Bool) (source 
     rest = s.rest;
     gave_back = subst given (sym s.gave_back) gives;
     in_file = s.in_file;
+    read = read_of source s.rest _ s.read;
     rows = s.rows;
     are_rows = s.are_rows;
     wrote = s.wrote;
@@ -117,8 +126,8 @@ module _ (es : List Expression) (options : Options) (many shown : Bool) (source 
 
 module _ (es : List Expression) (options : Options) (many shown : Bool) (source : Source) (given : List (Option Text) → Type 0) (w : Writer) (steps : Steps) where
   -- out of memory before a source was read
-  pub source_unread : (before after : ℕ) → after ≡ before → (rest : Option Text) → given (rest ∷ []) → StopsSource es options many shown source given 0 before after w w steps steps
-  source_unread before after same rest gives =
+  pub source_unread : (before after : ℕ) → after ≡ before → (rest : Option Text) → rest ≡ source.bytes → given (rest ∷ []) → StopsSource es options many shown source given 0 before after w w steps steps
+  source_unread before after same rest none_read gives =
       let some = IsReadingOf-exists source in
       record {
         reading = some.0;
@@ -127,12 +136,17 @@ module _ (es : List Expression) (options : Options) (many shown : Bool) (source 
         rest = rest;
         gave_back = gives;
         in_file = omega arith;
+        read = record { given = []; are_given = lines_of-terminated [] all_none ∙ no_lines (file_of source.name some.0).lines; held = []; few_held = none_in_nothing; read = subst (λ r. Consumes source.bytes r []) (sym none_read) (Consumes-nil source.bytes) };
         rows = [];
         are_rows = rows_begun es options many (form options) 0 (file_of source.name some.0) [] (no_rows (form options) (first_lines 0 (file_of source.name some.0)) refl);
         wrote = subst (TakesAll w w) (sym (behind_rows-none (form options) shown)) (TakesAll-nothing w);
         steps = searched_first_lines es options (length es) [] (file_of source.name some.0).lines steps steps (searched_no_line es options (length es) steps);
       }
     where
+      no_lines : (text : List Text) → [] ≡ take 0 text
+      no_lines [] = refl
+      no_lines (line ∷ text) = refl
+
       no_rows : (shape : Form) (file : File) → file.lines ≡ [] → LineRowsOf es options many shape file []
       no_rows nothing file e = refl
       no_rows names file e = refl
@@ -205,6 +219,7 @@ module _ (es : List Expression) (options : Options) (many : Bool) (plain : IsPla
       rest = s.rest;
       gave_back = s.gave_back;
       in_file = s.in_file;
+      read = s.read;
       rows = s.rows;
       are_rows = s.are_rows;
       wrote = subst (TakesAll old new) (same_rows s.rows) s.wrote;

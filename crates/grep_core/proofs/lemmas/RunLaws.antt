@@ -17,8 +17,8 @@ use Rattle.grep_core.specs.Choose.{IfHolds}
 use Rattle.grep_core.specs.Files.{File, missing, HasSelected}
 use Rattle.grep_core.specs.Output.{Form, nothing, names, counts, parts, lines, around, form, OutAs, Out, are_many}
 use Rattle.grep_core.specs.Messages.{FaultMet, Stops, Told, Messages, AnySelected, StatusOf}
-use Rattle.grep_core.specs.Reading.{Source, Reading, IsReadingOf, file_of, failures_of, AreLeft}
-use Rattle.grep_core.specs.Run.{Writer, Devices, TakesAll, TakesFront, files_of, AreReadings, FailuresMet, LeftMet, begun, file_at, count_more, Finishes, BreaksOff, StopsBehind, RunGives}
+use Rattle.grep_core.specs.Reading.{Source, Reading, IsReadingOf, file_of, failures_of, AreLeft, HasRead}
+use Rattle.grep_core.specs.Run.{Writer, Devices, TakesAll, TakesFront, TakesPast, files_of, AreReadings, FailuresMet, LeftMet, begun, file_at, count_more, Finishes, BreaksOff, StopsBehind, RunGives}
 use Rattle.grep_core.specs.Sources.{source_at}
 use Rattle.grep_core.specs.Cost.{SearchesLines, SearchesFiles}
 use Rattle.grep_core.specs.Working.Groups.{GroupedAs, behind_rows}
@@ -34,7 +34,7 @@ use Rattle.grep_core.proofs.lemmas.PassLemmas.{or_tells}
 use Rattle.grep_core.proofs.lemmas.Readings.{AreReadings-exist}
 use Rattle.grep_core.proofs.lemmas.SourceLaws.{AreReadings-append, files_of-append, length-files_of, count_more-add, FailuresMet-append, FailuresMet-stopped, FailuresMet-one, FailuresMet-longer, LeftMet-append, LeftMet-stopped, LeftMet-one, LeftMet-longer}
 use Rattle.grep_core.proofs.lemmas.StatusLaws.{StatusOf-stopped, StatusOf-error, StatusOf-selected, StatusOf-none}
-use Rattle.grep_core.proofs.lemmas.WriterLaws.{TakesAll-nothing, TakesAll-more, TakesFront-all, TakesFront-more, TakesFront-longer}
+use Rattle.grep_core.proofs.lemmas.WriterLaws.{TakesAll-nothing, TakesAll-more, TakesFront-all, TakesFront-longer, TakesPast-all, TakesPast-more}
 
 -- ---- verdicts
 
@@ -192,6 +192,35 @@ module _ (es : List Expression) (options : Options) (many : Bool) where
       spent : (new : Devices) → SearchesLines es options (length es) file.lines mid.steps new.steps → SearchesFiles es options (length es) (files_of all_sources readings) old.steps new.steps
       spent new steps = subst (λ fs. SearchesFiles es options (length es) fs old.steps new.steps) (sym all_files) (searched_up_to es options (length es) first file behind old.steps mid.steps new.steps s.steps steps)
 
+      -- the first sources and this one
+      up_to_here : take (suc (length before)) all_sources ≡ before ++ source ∷ []
+      up_to_here =
+          let these = before ++ source ∷ [] in
+          let count : suc (length before) ≡ length these = omega (arith, length-append before (source ∷ [])) in
+          ap (λ n. take n all_sources) count ∙ ap (take (length these)) (sym (append_assoc before (source ∷ []) after)) ∙ take-append_seam these after
+
+      within : length before < length all_sources
+      within = omega (arith, length-append before (source ∷ after))
+
+      listed_here : source_at all_sources (length before) ≡ source
+      listed_here = get_or-append_seam before source after (record { name = []; opens = None; bytes = None })
+
+      -- the first files are those of the first sources
+      as_many : length first ≡ length before
+      as_many = length-files_of before s.readings s.are_readings
+
+      front : take (length before) (files_of all_sources readings) ≡ first
+      front = ap (λ k. take k (files_of all_sources readings)) (sym as_many) ∙ ap (take (length first)) all_files ∙ take-append_seam first (file ∷ behind)
+
+      -- what was written and reported of them
+      out_before : OutAs es options (are_many (files_of all_sources readings)) (form options) (take (length before) (files_of all_sources readings)) (behind_rows (form options) false s.output)
+      out_before =
+          subst (λ m. OutAs es options m (form options) (take (length before) (files_of all_sources readings)) (behind_rows (form options) false s.output)) all_many
+          (subst (λ fs. OutAs es options many (form options) fs (behind_rows (form options) false s.output)) (sym front) (grouped_out es options many (form options) first s.output s.is_output))
+
+      told_before : Messages es options (take (length before) (files_of all_sources readings)) s.messages
+      told_before = subst (λ fs. Messages es options fs s.messages) (sym front) (Messages-reached es options first first s.messages (Reached-all es options first s.goes_on) s.are_told)
+
       -- how often the devices failed in the first sources
       met_before : FailuresMet es options (take (length before) all_sources) readings s.failures
       met_before =
@@ -199,12 +228,12 @@ module _ (es : List Expression) (options : Options) (many : Bool) where
           (FailuresMet-longer es options before s.readings (r ∷ rest.0) s.failures s.are_readings s.are_failures)
 
       -- and in this one
-      met_here : (own : ℕ) → IfHolds (FaultMet es options file) (own ≡ failures_of r) (own ≡ 0) → FailuresMet es options (take (length (before ++ source ∷ [])) all_sources) readings (s.failures + own)
+      met_here : (own : ℕ) → IfHolds (FaultMet es options file) (own ≡ failures_of r) (own ≡ 0) → FailuresMet es options (take (suc (length before)) all_sources) readings (s.failures + own)
       met_here own are_own =
           let these = before ++ source ∷ [] in
           let here = FailuresMet-append es options before (source ∷ []) s.readings (r ∷ []) s.failures own s.are_readings s.goes_on s.are_failures (FailuresMet-one es options source r own are_own) in
           let are = AreReadings-append before (source ∷ []) s.readings (r ∷ []) s.are_readings (is_reading, tt) in
-          let first_sources : take (length these) all_sources ≡ these = ap (take (length these)) (sym (append_assoc before (source ∷ []) after)) ∙ take-append_seam these after in
+          let first_sources : take (suc (length before)) all_sources ≡ these = up_to_here in
           subst (λ xs. FailuresMet es options xs readings (s.failures + own)) (sym first_sources)
           (subst (λ rs. FailuresMet es options these rs (s.failures + own)) (append_assoc s.readings (r ∷ []) rest.0) (FailuresMet-longer es options these (s.readings ++ r ∷ []) rest.0 (s.failures + own) are here))
 
@@ -215,12 +244,12 @@ module _ (es : List Expression) (options : Options) (many : Bool) where
           (LeftMet-longer es options before s.readings (r ∷ rest.0) s.left s.are_readings s.are_left)
 
       -- and that of this one
-      left_here : (own : List (Option Text)) → AreLeft source r own → LeftMet es options (take (length (before ++ source ∷ [])) all_sources) readings (s.left ++ own)
+      left_here : (own : List (Option Text)) → AreLeft source r own → LeftMet es options (take (suc (length before)) all_sources) readings (s.left ++ own)
       left_here own is_left =
           let these = before ++ source ∷ [] in
           let here = LeftMet-append es options before (source ∷ []) s.readings (r ∷ []) s.left own s.are_readings s.goes_on s.are_left (LeftMet-one es options source r own is_left) in
           let are = AreReadings-append before (source ∷ []) s.readings (r ∷ []) s.are_readings (is_reading, tt) in
-          let first_sources : take (length these) all_sources ≡ these = ap (take (length these)) (sym (append_assoc before (source ∷ []) after)) ∙ take-append_seam these after in
+          let first_sources : take (suc (length before)) all_sources ≡ these = up_to_here in
           subst (λ xs. LeftMet es options xs readings (s.left ++ own)) (sym first_sources)
           (subst (λ rs. LeftMet es options these rs (s.left ++ own)) (append_assoc s.readings (r ∷ []) rest.0) (LeftMet-longer es options these (s.readings ++ r ∷ []) rest.0 (s.left ++ own) are here))
 
@@ -228,37 +257,43 @@ module _ (es : List Expression) (options : Options) (many : Bool) where
       counted_here new own counted = counted ∙ ap (λ n. count_more n own) s.counted ∙ sym (count_more-add old.source_failures s.failures own)
 
       -- the output for the first sources and this one is a beginning of the output
-      out_front : (rows : List Text) → GroupedAs es options many (form options) (file ∷ []) rows → (more : List Text) × Out es options (files_of all_sources readings) (behind_rows (form options) false (s.output ++ rows) ++ more)
+      out_front : (rows : List Text) → GroupedAs es options many (form options) (file ∷ []) rows → (more : List Text) × Out es options (files_of all_sources readings) (behind_rows (form options) false s.output ++ (behind_rows (form options) some rows ++ more))
       out_front rows is =
           let both = GroupedAs-append es options many (form options) first (file ∷ []) s.output rows s.is_output is in
           let more = GroupedAs-front es options many (form options) (first ++ file ∷ []) behind (s.output ++ rows) both in
           let all = grouped_out es options many (form options) ((first ++ file ∷ []) ++ behind) ((s.output ++ rows) ++ more.0) more.1 in
           let longer = behind_longer (form options) false (s.output ++ rows) more.0 in
-          let regroup : (first ++ file ∷ []) ++ behind ≡ first ++ file ∷ behind = append_assoc first (file ∷ []) behind in (
+          let regroup : (first ++ file ∷ []) ++ behind ≡ first ++ file ∷ behind = append_assoc first (file ∷ []) behind in
+          let parted : behind_rows (form options) false (s.output ++ rows) ++ longer.0 ≡ behind_rows (form options) false s.output ++ (behind_rows (form options) some rows ++ longer.0) =
+          ap (λ l. l ++ longer.0) (wrote_both rows) ∙ append_assoc (behind_rows (form options) false s.output) (behind_rows (form options) some rows) longer.0 in (
             longer.0,
-            subst (λ m. OutAs es options m (form options) (files_of all_sources readings) (behind_rows (form options) false (s.output ++ rows) ++ longer.0)) all_many
-                (subst (λ fs. OutAs es options many (form options) fs (behind_rows (form options) false (s.output ++ rows) ++ longer.0)) (regroup ∙ sym all_files)
-                (subst (OutAs es options many (form options) ((first ++ file ∷ []) ++ behind)) longer.1 all)),
+            subst (λ m. OutAs es options m (form options) (files_of all_sources readings) (behind_rows (form options) false s.output ++ (behind_rows (form options) some rows ++ longer.0))) all_many
+                (subst (λ fs. OutAs es options many (form options) fs (behind_rows (form options) false s.output ++ (behind_rows (form options) some rows ++ longer.0))) (regroup ∙ sym all_files)
+                (subst (OutAs es options many (form options) ((first ++ file ∷ []) ++ behind)) (longer.1 ∙ parted) all)),
           )
 
       -- a write failed within the output for this source
       breaks_out : (new : Devices) (rows : List Text) → GroupedAs es options many (form options) (file ∷ []) rows → TakesFront mid.out new.out (behind_rows (form options) some rows) → new.messages ≡ mid.messages
           → CountsSource es options many some source own_given r mid.source_failures new.source_failures → SearchesLines es options (length es) file.lines mid.steps new.steps
           → BreaksOff es options all_sources all_given old new
-      breaks_out new rows is front same failed steps =
+      breaks_out new rows is front_here same failed steps =
           let out = out_front rows is in
           let told = Messages-front es options first (file ∷ behind) s.messages s.goes_on s.are_told in
           record {
             readings = readings;
             are_readings = are_all;
-            output = behind_rows (form options) false (s.output ++ rows) ++ out.0;
+            at = length before;
+            in_sources = within;
+            output_before = behind_rows (form options) false s.output;
+            is_before = out_before;
+            output = behind_rows (form options) false s.output ++ (behind_rows (form options) some rows ++ out.0);
             is_output = out.1;
+            wrote = TakesPast-more old.out mid.out new.out (behind_rows (form options) false s.output) (behind_rows (form options) some rows ++ out.0) s.wrote (TakesFront-longer mid.out new.out (behind_rows (form options) some rows) out.0 front_here);
+            messages_before = s.messages;
+            are_before = told_before;
             messages = s.messages ++ told.0;
             are_messages = subst (λ fs. Messages es options fs (s.messages ++ told.0)) (sym all_files) told.1;
-            wrote = TakesFront-longer old.out new.out (behind_rows (form options) false (s.output ++ rows)) out.0
-                (subst (TakesFront old.out new.out) (sym (wrote_both rows)) (TakesFront-more old.out mid.out new.out (behind_rows (form options) false s.output) (behind_rows (form options) some rows) s.wrote front));
-            told = subst (λ w. TakesFront old.messages w (s.messages ++ told.0)) (sym same) (TakesFront-all old.messages mid.messages s.messages told.0 s.told);
-            met = length (before ++ source ∷ []);
+            told = subst (λ w. TakesPast old.messages w s.messages (s.messages ++ told.0)) (sym same) (TakesPast-all old.messages mid.messages s.messages told.0 s.told);
             failures = s.failures + failed.own;
             are_failures = met_here failed.own failed.are_own;
             counted = counted_here new failed.own failed.counted;
@@ -288,19 +323,24 @@ module _ (es : List Expression) (options : Options) (many : Bool) where
       breaks_told : (new : Devices) (rows messages : List Text) → GroupedAs es options many (form options) (file ∷ []) rows → TakesAll mid.out new.out (behind_rows (form options) some rows)
           → Told es options (file ∷ []) messages → TakesFront mid.messages new.messages messages
           → CountsSource es options many some source own_given r mid.source_failures new.source_failures → SearchesLines es options (length es) file.lines mid.steps new.steps → BreaksOff es options all_sources all_given old new
-      breaks_told new rows messages is took tells front failed steps =
+      breaks_told new rows messages is took tells front_here failed steps =
           let out = out_front rows is in
           let told = told_front messages tells in
           record {
             readings = readings;
             are_readings = are_all;
-            output = behind_rows (form options) false (s.output ++ rows) ++ out.0;
+            at = length before;
+            in_sources = within;
+            output_before = behind_rows (form options) false s.output;
+            is_before = out_before;
+            output = behind_rows (form options) false s.output ++ (behind_rows (form options) some rows ++ out.0);
             is_output = out.1;
-            messages = (s.messages ++ messages) ++ told.0;
-            are_messages = told.1;
-            wrote = TakesFront-all old.out new.out (behind_rows (form options) false (s.output ++ rows)) out.0 (takes_both new.out rows took);
-            told = TakesFront-longer old.messages new.messages (s.messages ++ messages) told.0 (TakesFront-more old.messages mid.messages new.messages s.messages messages s.told front);
-            met = length (before ++ source ∷ []);
+            wrote = TakesPast-more old.out mid.out new.out (behind_rows (form options) false s.output) (behind_rows (form options) some rows ++ out.0) s.wrote (TakesFront-all mid.out new.out (behind_rows (form options) some rows) out.0 took);
+            messages_before = s.messages;
+            are_before = told_before;
+            messages = s.messages ++ (messages ++ told.0);
+            are_messages = subst (Messages es options (files_of all_sources readings)) (append_assoc s.messages messages told.0) told.1;
+            told = TakesPast-more old.messages mid.messages new.messages s.messages (messages ++ told.0) s.told (TakesFront-longer mid.messages new.messages messages told.0 front_here);
             failures = s.failures + failed.own;
             are_failures = met_here failed.own failed.are_own;
             counted = counted_here new failed.own failed.counted;
@@ -311,27 +351,24 @@ module _ (es : List Expression) (options : Options) (many : Bool) where
           }
 
       -- out of memory after n of its lines
-      stops : (new : Devices) (n : ℕ) (rows : List Text) → n ≤ length file.lines → GroupedAs es options many (form options) (begun (form options) n file) rows → TakesAll mid.out new.out (behind_rows (form options) some rows) → new.messages ≡ mid.messages
-          → new.source_failures ≡ mid.source_failures → (last : Option Text) → own_given (last ∷ []) → SearchesLines es options (length es) file.lines mid.steps new.steps → StopsBehind es options all_sources all_given old new (length before) n
-      stops new n rows within are took same none_failed last gives steps =
-          let place : length first ≡ length before = length-files_of before s.readings s.are_readings in
-          let front : take (length before) (files_of all_sources readings) ≡ first =
-          ap (λ k. take k (files_of all_sources readings)) (sym place) ∙ ap (take (length first)) all_files ∙ take-append_seam first (file ∷ behind) in
+      stops : (new : Devices) (n : ℕ) (rows : List Text) (last : Option Text) → n ≤ length file.lines → HasRead source last (take n file.lines) → GroupedAs es options many (form options) (begun (form options) n file) rows → TakesAll mid.out new.out (behind_rows (form options) some rows) → new.messages ≡ mid.messages
+          → new.source_failures ≡ mid.source_failures → own_given (last ∷ []) → SearchesLines es options (length es) file.lines mid.steps new.steps → StopsBehind es options all_sources all_given old new (length before) n
+      stops new n rows last inside read are took same none_failed gives steps =
           let first_rows = GroupedAs-append es options many (form options) first (begun (form options) n file) s.output rows s.is_output are in
           let here : file_at (files_of all_sources readings) (length before) ≡ file =
-          ap (file_at (files_of all_sources readings)) (sym place) ∙ ap (λ fs. file_at fs (length first)) all_files ∙ get_or-append_seam first file behind (record { name = []; lines = []; ending = missing }) in
+          ap (file_at (files_of all_sources readings)) (sym as_many) ∙ ap (λ fs. file_at fs (length first)) all_files ∙ get_or-append_seam first file behind (record { name = []; lines = []; ending = missing }) in
           record {
             readings = readings;
             are_readings = are_all;
-            in_sources = omega (arith, length-append before (source ∷ after));
-            in_file = subst (λ f. n ≤ length f.lines) (sym here) within;
+            in_sources = within;
+            in_file = subst (λ f. n ≤ length f.lines) (sym here) inside;
             output = behind_rows (form options) false (s.output ++ rows);
             is_output = subst (λ m. OutAs es options m (form options) (take (length before) (files_of all_sources readings) ++ begun (form options) n (file_at (files_of all_sources readings) (length before))) (behind_rows (form options) false (s.output ++ rows))) all_many
                 (subst (λ fs. OutAs es options many (form options) (fs ++ begun (form options) n (file_at (files_of all_sources readings) (length before))) (behind_rows (form options) false (s.output ++ rows))) (sym front)
                 (subst (λ f. OutAs es options many (form options) (first ++ begun (form options) n f) (behind_rows (form options) false (s.output ++ rows))) (sym here)
                 (grouped_out es options many (form options) (first ++ begun (form options) n file) (s.output ++ rows) first_rows)));
             messages = s.messages;
-            are_messages = subst (λ fs. Messages es options fs s.messages) (sym front) (Messages-reached es options first first s.messages (Reached-all es options first s.goes_on) s.are_told);
+            are_messages = told_before;
             wrote = takes_both new.out rows took;
             told = subst (λ w. TakesAll old.messages w s.messages) (sym same) s.told;
             failures = s.failures;
@@ -341,6 +378,7 @@ module _ (es : List Expression) (options : Options) (many : Bool) where
             rest = last;
             are_left = left_before;
             gave_back = join s.left (last ∷ []) s.gave_back gives;
+            read = subst (λ src. HasRead src last (take n (file_at (files_of all_sources readings) (length before)).lines)) (sym listed_here) (subst (λ f. HasRead source last (take n f.lines)) (sym here) read);
             steps = spent new steps;
           }
 
@@ -399,7 +437,7 @@ module _ (es : List Expression) (options : Options) (many : Bool) where
       pub run_out_of_memory : (k n : ℕ) → k ≡ length before → StopsSource es options many some source own_given n mid.source_failures new.source_failures mid.out new.out mid.steps new.steps → new.messages ≡ mid.messages → StopsBehind es options sources all_given old new k n
       run_out_of_memory k n place b same =
           subst (λ j. StopsBehind es options sources all_given old new j n) (sym place)
-          (subst (λ l. StopsBehind es options l all_given old new (length before) n) (sym cut) (stops after many_here b.reading b.is_reading new n b.rows b.in_file b.are_rows b.wrote same b.none_failed b.rest b.gave_back b.steps))
+          (subst (λ l. StopsBehind es options l all_given old new (length before) n) (sym cut) (stops after many_here b.reading b.is_reading new n b.rows b.rest b.in_file b.read b.are_rows b.wrote same b.none_failed b.gave_back b.steps))
 
       pub run_stopped : (end : FileEnd) (found : ℕ) → FinishesSource es options many some source own_given mid new end found → (options.quiet && nat_lt 0 found) ≡ true → Finishes es options sources all_given old new selected
       run_stopped end found f both =

@@ -264,18 +264,23 @@ module _ (options : Options) where
       BreaksOff-same b = record {
         readings = b.readings;
         are_readings = b.are_readings;
+        at = b.at;
+        in_sources = b.in_sources;
+        output_before = b.output_before;
+        is_before = OutAs-same _ (form options) _ b.output_before b.is_before;
         output = b.output;
         is_output = OutAs-same _ (form options) _ b.output b.is_output;
+        messages_before = b.messages_before;
+        are_before = Messages-same _ b.messages_before b.are_before;
         messages = b.messages;
         are_messages = Messages-same _ b.messages b.are_messages;
         wrote = b.wrote;
         told = b.told;
-        met = b.met;
         failures = b.failures;
-        are_failures = FailuresMet-same (take b.met sources) b.readings b.failures b.are_failures;
+        are_failures = FailuresMet-same (take (suc b.at) sources) b.readings b.failures b.are_failures;
         counted = b.counted;
         left = b.left;
-        are_left = LeftMet-same (take b.met sources) b.readings b.left b.are_left;
+        are_left = LeftMet-same (take (suc b.at) sources) b.readings b.left b.are_left;
         gave_back = b.gave_back;
         steps = SearchesFiles-same (length ds) (length es) fewer _ old.steps new.steps b.steps;
       }
@@ -299,6 +304,7 @@ module _ (options : Options) where
         rest = s.rest;
         are_left = LeftMet-same (take k sources) s.readings s.left s.are_left;
         gave_back = s.gave_back;
+        read = s.read;
         steps = SearchesFiles-same (length ds) (length es) fewer _ old.steps new.steps s.steps;
       }
 

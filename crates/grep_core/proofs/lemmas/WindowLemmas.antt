@@ -1,10 +1,12 @@
 -- The ranges of a buffer before and after a newline.
-use Rattle.std.proofs.Common.{◌≡◌, ◌≢◌, ℕ, ◌+◌, ◌-◌, ◌<◌, ◌≤◌, [], ◌∷◌, ◌++◌, Option, Some, None, Result, Ok, Err, OnErr, MatchOption, IfSome, is_some, length, take, drop, slice_range, refl, sym, ap, ◌∙◌, arith, append_assoc, subst}
+use Rattle.std.proofs.Common.{◌≡◌, ◌≢◌, ℕ, ◌+◌, ◌-◌, ◌<◌, ◌≤◌, inl, inr, [], ◌∷◌, ◌++◌, Result, Ok, Err, OnErr, length, take, drop, slice_range, sym, ap, ◌∙◌, arith, append_assoc, subst}
+use Rattle.std.proofs.Math.Seq.{take-append-add}
+use Rattle.std.proofs.lemmas.Bool.{cases_lt}
 use Rattle.std.proofs.lemmas.List.{length-append, take-append-le, length-take, take-take, drop-take, drop-drop}
-use Rattle.std.proofs.lemmas.List.Elements.{All-append, All-take, All-head, All-tail}
+use Rattle.std.proofs.lemmas.List.Elements.{All-append, All-take, All-tail}
 use Rattle.re_syntax.specs.Bytes.{Text}
 use Rattle.re_syntax.specs.Lines.{newline, HasNoNewline}
-use Rattle.grep_core.specs.Working.Held.{IsOneLineAndFew, HasWholeLine}
+use Rattle.grep_core.specs.Reading.{IsOneLineAndFew}
 
 -- the first k bytes of a range are a range
 front_of_range : (buffer : Text) (start end k : ℕ) → start + k ≤ end → take k (slice_range buffer start end) ≡ slice_range buffer start (start + k)
@@ -53,18 +55,27 @@ one_line_and_few line more none few =
 pub one_line : (line : Text) → HasNoNewline line → IsOneLineAndFew line
 one_line line none = All-take (λ b. b ≢ newline) (length line - 65536) line none
 
-line_ends : (before after : Text) → HasNoNewline (before ++ newline ∷ after) → ⊥
-line_ends [] after h = All-head (λ b. b ≢ newline) newline after h refl
-line_ends (b ∷ before) after h = line_ends before after (All-tail (λ c. c ≢ newline) b (before ++ newline ∷ after) h)
+-- no newline is in nothing
+pub none_in_nothing : HasNoNewline []
+none_in_nothing i d below = absurd (omega arith)
 
--- where no newline is in what waits and in a range, no line is whole; where one is in the range,
--- one is
-pub has_whole_line : (before part : Text) (found : Option ℕ) → HasNoNewline before → MatchOption found (HasNoNewline part) (λ k. HasNoNewline (take k part))
-    → IfSome found (λ k. (k < length part) × (part ≡ take k part ++ newline ∷ drop (k + 1) part)) → HasWholeLine (before ++ part) (is_some found)
-has_whole_line before part None h none some = All-append (λ b. b ≢ newline) before part h none
-has_whole_line before part (Some k) h none some =
-    λ all. line_ends (before ++ take k part) (drop (k + 1) part)
-    (subst HasNoNewline (ap (λ l. before ++ l) some.1 ∙ sym (append_assoc before (take k part) (newline ∷ drop (k + 1) part))) all)
+-- no newline is in what follows
+none_behind : (first more : Text) → HasNoNewline (first ++ more) → HasNoNewline more
+none_behind [] more h = h
+none_behind (b ∷ first) more h = none_behind first more (All-tail (λ c. c ≢ newline) b (first ++ more) h)
+
+-- what follows the first bytes of such
+pub few_behind : (first more : Text) → IsOneLineAndFew (first ++ more) → IsOneLineAndFew more
+few_behind first more h = elim (cases_lt (length more) 65536) [
+  | inr long ↦ none_behind first (take (length more - 65536) more) (subst HasNoNewline (all_before long) h)
+  | inl short ↦ subst HasNoNewline (sym (ap (λ n. take n more) (none_before short))) none_in_nothing
+]
+  where
+    all_before : 65536 ≤ length more → take (length (first ++ more) - 65536) (first ++ more) ≡ first ++ take (length more - 65536) more
+    all_before long = ap (λ n. take n (first ++ more)) (omega (arith, long, length-append first more)) ∙ take-append-add first more (length more - 65536)
+
+    none_before : length more < 65536 → length more - 65536 ≡ 0
+    none_before short = omega (arith, short)
 
 -- what holds anyway holds at a failure
 pub at_failure : {T E : Type 0} (result : Result T E) (P : Type 0) → P → OnErr result P

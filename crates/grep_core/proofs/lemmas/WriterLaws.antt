@@ -4,7 +4,7 @@ use Rattle.std.proofs.lemmas.Grind.{flat_map-append}
 use Rattle.std.proofs.KnownBytes.{Appends-nil, Appends-trans}
 use Rattle.re_syntax.specs.Bytes.{Text}
 use Rattle.grep_core.specs.Output.{written}
-use Rattle.grep_core.specs.Run.{Writer, TakesAll, TakesFront}
+use Rattle.grep_core.specs.Run.{Writer, TakesAll, TakesFront, TakesPast}
 
 -- the bytes of some lines and of others after them
 pub written-append : (margin : Text) (xs ys : List Text) → written margin (xs ++ ys) ≡ written margin xs ++ written margin ys
@@ -42,3 +42,16 @@ TakesFront-longer a b xs ys h = record {
   cut = written-append [] xs ys ∙ ap (λ t. t ++ written [] ys) h.cut ∙ append_assoc h.front h.rest (written [] ys);
   written_front = h.written_front;
 }
+
+-- the first lines were written, and a beginning of those after them
+pub TakesPast-more : (a b c : Writer) (first xs : List Text) → TakesAll a b first → TakesFront b c xs → TakesPast a c first (first ++ xs)
+TakesPast-more a b c first xs h k = record {
+  front = k.front;
+  rest = k.rest;
+  cut = written-append [] first xs ∙ ap (λ t. written [] first ++ t) k.cut ∙ sym (append_assoc (written [] first) k.front k.rest);
+  written_past = Appends-trans a.contents b.contents c.contents (written [] first) k.front h.written_all k.written_front;
+}
+
+-- nothing was written after the first lines
+pub TakesPast-all : (a b : Writer) (first xs : List Text) → TakesAll a b first → TakesPast a b first (first ++ xs)
+TakesPast-all a b first xs h = TakesPast-more a b b first xs h (record { front = []; rest = written [] xs; cut = refl; written_front = Appends-nil b.contents })

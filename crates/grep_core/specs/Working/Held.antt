@@ -1,5 +1,5 @@
 -- The bytes that are held between two calls, and the line that was handed out.
-use Rattle.std.specs.Prelude.{◌≡◌, ℕ, ◌-◌, ◌<◌, ◌≤◌, Bool, true, false, [], length, get_or, take}
+use Rattle.std.specs.Prelude.{◌≡◌, ℕ, ◌-◌, ◌<◌, ◌≤◌, Bool, true, false, [], length, get_or}
 use Rattle.std.specs.Prelude.{slice_range, ⊤}
 use Rattle.re_syntax.specs.Bytes.{Text}
 use Rattle.re_syntax.specs.Lines.{newline, HasNoNewline}
@@ -10,10 +10,6 @@ use Rattle.grep_core.specs.declared.input.window.Shown.TheVariants.{Nothing, Sho
 pub record Held : Type 0 where
   pub ahead : Text
   pub line : Text
-
--- but for the last 65,536 bytes, the bytes are the beginning of one line
-abbrev pub IsOneLineAndFew : Text → Type 0
-IsOneLineAndFew bytes = HasNoNewline (take (length bytes - 65536) bytes)
 
 -- whether a line ends in the bytes
 abbrev pub HasWholeLine : Text → Bool → Type 0

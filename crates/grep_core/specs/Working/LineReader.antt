@@ -4,7 +4,7 @@ use Rattle.std.specs.Io.KnownBytes.{prepend_known, Keeps, Consumes, IsAtEnd}
 use Rattle.re_syntax.specs.Bytes.{Text}
 use Rattle.re_syntax.specs.Lines.{newline, HasNoNewline}
 use Rattle.grep_core.specs.Counted.{one_more}
-use Rattle.grep_core.specs.Working.Held.{IsOneLineAndFew}
+use Rattle.grep_core.specs.Reading.{IsOneLineAndFew}
 use Rattle.grep_core.specs.declared.input.lines.Stage.{Stage}
 use Rattle.grep_core.specs.declared.input.lines.Stage.TheVariants.{Open, Ended, Failed}
 

@@ -1,6 +1,6 @@
 -- What a search of one source does.
 use Rattle.std.specs.Prelude.{◌≡◌, ℕ, nat_lt, ◌≤◌, Bool, true, false, ◌||◌, IsTrue, ◌↔◌, List, []}
-use Rattle.std.specs.Prelude.{◌∷◌, ◌++◌, length, Option, Result, Ok, Err, if◌then◌else◌}
+use Rattle.std.specs.Prelude.{◌∷◌, ◌++◌, length, take, Option, Result, Ok, Err, if◌then◌else◌}
 use Rattle.std.specs.Fmt.{decimal}
 use Rattle.re_syntax.specs.Bytes.{Text}
 use Rattle.re_syntax.specs.Expression.{Expression}
@@ -20,6 +20,7 @@ use Rattle.grep_core.specs.Files.{Ending, whole, missing, broken, HasSelected}
 use Rattle.grep_core.specs.Output.{Form, names, counts, form}
 use Rattle.grep_core.specs.Messages.{message, FaultMet, Told}
 use Rattle.grep_core.specs.Reading.{Source, Reading, IsReadingOf, file_of, failures_of, AreLeft}
+use Rattle.grep_core.specs.Reading.{HasRead}
 use Rattle.grep_core.specs.Run.{Writer, Devices, TakesAll, TakesFront, begun, count_more}
 use Rattle.grep_core.specs.Working.Groups.{GroupedAs, behind_rows}
 use Rattle.grep_core.specs.Working.Wanted.{name_shown}
@@ -105,6 +106,7 @@ module _ (es : List Expression) (options : Options) (many shown : Bool) (source 
     pub rest : Option Text
     pub gave_back : given (rest ∷ [])
     pub in_file : n ≤ length (file_of source.name reading).lines
+    pub read : HasRead source rest (take n (file_of source.name reading).lines)
     pub rows : List Text
     pub are_rows : GroupedAs es options many (form options)
         (begun (form options) n (file_of source.name reading)) rows

@@ -4,7 +4,8 @@ ghost use Rattle.re_syntax.specs.Bytes.{Text};
 ghost use Rattle.re_syntax.specs.Lines.{lines_of};
 ghost use Rattle.re_search.specs.Working.Blocks.{IsBlock};
 ghost use Rattle.grep_core.specs.declared.input.lines.Stage.{Stage};
-ghost use Rattle.grep_core.specs.Working.Held.{HasWholeLine, IsOneLineAndFew};
+ghost use Rattle.grep_core.specs.Reading.{IsOneLineAndFew};
+ghost use Rattle.grep_core.specs.Working.Held.{HasWholeLine};
 ghost use Rattle.grep_core.specs.Reading.{most_lines};
 ghost use Rattle.grep_core.specs.Working.Numbered.{AreAhead, HandsNext, PassesNext};
 
@@ -102,6 +103,8 @@ impl<R: CountedRead> NumberedLines<R> {
         requires { (block : Text) × (bytes ≡ length block) × AreAhead self.old block count }
         ensures passed { PassesNext R.remaining R.failures self.old self.new
             (lines_of (take bytes self.old.lines.ahead)) }
+        ensures ahead { self.old.lines.ahead ≡
+            take bytes self.old.lines.ahead ++ self.new.lines.ahead }
         ensures same_loan { R.loan self.new.lines.reader ≡ R.loan self.old.lines.reader }
     {
         self.number += count;

@@ -7,7 +7,8 @@ ghost use Rattle.re_syntax.specs.Lines.{newline, HasNoNewline};
 ghost use Rattle.re_search.specs.Working.Blocks.{IsBlock, PassesAll};
 ghost use Rattle.grep_core.specs.Counted.{PullConsumes, Counts};
 ghost use Rattle.grep_core.specs.Working.Refilled.{Refilled};
-ghost use Rattle.grep_core.specs.Working.Held.{IsOneLineAndFew, HasWholeLine, waiting, shown_line};
+ghost use Rattle.grep_core.specs.Reading.{IsOneLineAndFew};
+ghost use Rattle.grep_core.specs.Working.Held.{HasWholeLine, waiting, shown_line};
 ghost use Rattle.grep_core.specs.Working.Held.{ShownFits};
 
 use crate::devices::counted::CountedRead;

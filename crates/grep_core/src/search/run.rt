@@ -106,10 +106,12 @@ fn search_source<S: Sources, M: LineMatch, W: CountedWrite, N: CountedWrite>(
 /// What a buffering writer holds is sent before a read, which may wait, and before a message; what
 /// it holds at the end is left to the caller.
 ///
-/// Returns `RunFault::Write` or `RunFault::MessageWrite` if a write fails; beginnings of the output
-/// and of the messages are written then. Returns `RunFault::Memory` if a growth is refused; the
-/// output and the messages for the sources before that one are written then, and the rows of its
-/// first lines. No failed read, open or write is tried again.
+/// Returns `RunFault::Write` or `RunFault::MessageWrite` if a write fails; what is due for the
+/// sources before is written then, and a beginning of what follows, and no further source is
+/// opened. Returns `RunFault::Memory` if a growth is refused; the output and the messages for the
+/// sources before that one are written then, and the rows of its first lines. These are the lines
+/// that were done, and no more than a buffer or a line was read after them. No failed read, open or
+/// write is tried again.
 pub fn search_all<S: Sources, M: LineMatch, W: CountedWrite, N: CountedWrite>(
     alloc: Global,
     sources: &mut S,

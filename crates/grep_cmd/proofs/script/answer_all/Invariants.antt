@@ -1,5 +1,5 @@
 use Rattle.std.proofs.Common.{◌≡◌, ◌-◌, ◌^◌}
-use Rattle.grep_core.specs.Working.Held.{IsOneLineAndFew}
+use Rattle.grep_core.specs.Reading.{IsOneLineAndFew}
 use Rattle.grep_cmd.specs.Working.Answered.{AnsweredSoFar}
 use Rattle.grep_cmd.proofs.script.answer_all.Given as goal
 

@@ -1,7 +1,7 @@
 use Rattle.std.proofs.Common.{◌≡◌, ◌≤◌, ◌-◌, length, List, [], ◌++◌, map}
 use Rattle.re_syntax.specs.Bytes.{Text}
 use Rattle.grep_core.specs.Written.{GoesOut}
-use Rattle.grep_core.specs.Working.Held.{IsOneLineAndFew}
+use Rattle.grep_core.specs.Reading.{IsOneLineAndFew}
 use Rattle.grep_core.specs.Working.Numbered.{HasHanded}
 use Rattle.grep_cmd.proofs.script.counted.take_lines.Given as goal
 

@@ -1,4 +1,4 @@
-use Rattle.std.proofs.Common.{◌≡◌, ◌*◌, ◌+◌, ◌≤◌, ◌∙◌, [], ◌∷◌, ◌++◌, Bool, true, Result, Err, length, length-append, append_assoc, map, refl, sym, ap, subst, arith, if◌then◌else◌}
+use Rattle.std.proofs.Common.{◌≡◌, ◌*◌, ◌+◌, ◌≤◌, ◌∙◌, [], ◌∷◌, ◌++◌, Bool, true, Result, Err, length, length-append, append_assoc, map, take, refl, sym, ap, subst, arith, if◌then◌else◌}
 use Rattle.re_syntax.specs.Lines.{terminated}
 use Rattle.re_search.proofs.lemmas.KeptMatchers.{unasked, asked_over, same_sought}
 use Rattle.grep_core.specs.declared.input.lines.ReadFault.{ReadFault}
@@ -6,6 +6,8 @@ use Rattle.std.specs.Result.{IsErrAnd}
 use Rattle.grep_core.specs.declared.search.file.SearchFault.{SearchFault}
 use Rattle.grep_core.specs.declared.search.file.SearchFault.TheVariants.{Write, Memory}
 use Rattle.grep_core.specs.Cost.{SearchesLines}
+use Rattle.grep_core.specs.Reading.{IsOneLineAndFew}
+use Rattle.grep_core.proofs.lemmas.WindowLemmas.{none_in_nothing, few_behind}
 use Rattle.grep_core.specs.Working.LastLines.{LastLines}
 use Rattle.grep_core.specs.Working.Passed.{Waits}
 use Rattle.grep_core.proofs.lemmas.WaitingRows.{if_kept}
@@ -32,6 +34,7 @@ lines-init g c =
     record {
       so_far = rw c.new-progress.ensures (followed_none g.R.CountedRead.remaining g.R.CountedRead.failures es w.options w.many c.args.shown w.name.now reader c.args.context c.requires.is_asked c.args.lines.now _ _ c.args.behind.now.lines refl c.requires.none_ahead c.requires.still_open c.requires.none_numbered (ap (λ (h : LastLines). h.lines) c.requires.none_behind));
       limit = ap (λ (h : LastLines). h.limit) c.requires.none_behind;
+      few_held = subst IsOneLineAndFew (sym c.requires.none_ahead) none_in_nothing;
       same = unasked;
     }
 
@@ -63,7 +66,7 @@ returns-then-is_err-clause-memory g c = λ count is.
     let (before, all, d, n) = held.divided in
     let spent = searched_bytes es w.options (length es) all c.lines.meter c.next_held-stretch.new.meter (stretch_spent es _ _ _ i.same.same_matchers.same_expressions d held.steps) in
     let now = passed_state c.lines.lines all n d.free in
-    followed_unkept g.R.CountedRead.remaining g.R.CountedRead.failures es w.options w.many c.args.shown w.name.now reader c.args.context c.requires.is_asked c.lines.lines now _ _ _ c.lines.meter c.lines.selected c.lines.progress c.lines.behind.lines i.so_far all c.next_held-stretch.new.meter (handed_with c.lines.lines all n d.free g.R.CountedRead.remaining g.R.CountedRead.failures reader i.so_far.lines i.so_far.handed) spent count (sym c.number.ensures ∙ same)
+    followed_unkept g.R.CountedRead.remaining g.R.CountedRead.failures es w.options w.many c.args.shown w.name.now reader c.args.context c.requires.is_asked c.lines.lines now _ _ _ c.lines.meter c.lines.selected c.lines.progress c.lines.behind.lines i.so_far refl i.few_held all c.next_held-stretch.new.meter (handed_with c.lines.lines all n d.free g.R.CountedRead.remaining g.R.CountedRead.failures reader i.so_far.lines i.so_far.handed) spent count (sym c.number.ensures ∙ same)
 
 pub show_line-requires : goal.show_line-requires
 show_line-requires g c =
@@ -149,7 +152,7 @@ returns-in_err-show_line-clause-memory g c = λ lines_done is_memory.
     let next = subst (λ ls. HasHanded g.R.CountedRead.remaining g.R.CountedRead.failures reader now ls) same (handed_with c.lines.lines all n d.free g.R.CountedRead.remaining g.R.CountedRead.failures reader i.so_far.lines i.so_far.handed) in
     let is_number : c.number-in-Some.result + count ≡ now.number = omega (arith, c.number-in-Some.ensures, d.counted) in
     let (done, went) = c.show_line.ensures.memory lines_done (c.in_err-show_line.was ∙ ap Err (handed_fault c.from_residual.result c.in_err-show_line.field-0.0 (Memory lines_done) c.from_residual.ensures.1 is_memory)) in
-    rw (← done) (followed_refused g.R.CountedRead.remaining g.R.CountedRead.failures es w.options w.many c.args.shown w.name.now reader c.args.context c.requires.is_asked mid now _ _ _ c.lines.meter c.lines.selected c.wait.new.progress c.wait.new.behind.lines s line next (c.number-in-Some.result + count) is_number true told c.next_held-stretch.new.meter all_spent _ went)
+    rw (← done) (followed_refused g.R.CountedRead.remaining g.R.CountedRead.failures es w.options w.many c.args.shown w.name.now reader c.args.context c.requires.is_asked mid now _ _ _ c.lines.meter c.lines.selected c.wait.new.progress c.wait.new.behind.lines s line next (c.number-in-Some.result + count) is_number true told c.next_held-stretch.new.meter all_spent (few_behind (terminated all) n.rest (subst IsOneLineAndFew n.ahead i.few_held)) _ went)
 
 pub lines-preserved-in-Some : goal.lines-preserved-in-Some
 lines-preserved-in-Some g c =
@@ -181,6 +184,7 @@ lines-preserved-in-Some g c =
     record {
       so_far = rw shown.goes_on (followed_line g.R.CountedRead.remaining g.R.CountedRead.failures es w.options w.many c.args.shown w.name.now reader c.args.context c.requires.is_asked mid now _ _ _ c.lines.meter c.lines.selected c.wait.new.progress c.wait.new.behind.lines s line next (c.number-in-Some.result + count) is_number true told c.next_held-stretch.new.meter all_spent _ c.count_found-selected.result c.show_line.new.behind.lines shown.wrote c.count_found-selected.ensures (shown.holds ∙ ap (λ n. if (next_shown c.wait.new.progress true).itself then [] else last_of n (c.wait.new.behind.lines ++ line ∷ [])) (waiting_limit g.R.CountedRead.remaining g.R.CountedRead.failures es w.options w.many c.args.shown w.name.now reader c.args.context c.requires.is_asked before c.lines.progress c.wait.new.progress c.lines.behind c.wait.new.behind waits i.limit)));
       limit = shown.same_limit ∙ waiting_limit g.R.CountedRead.remaining g.R.CountedRead.failures es w.options w.many c.args.shown w.name.now reader c.args.context c.requires.is_asked before c.lines.progress c.wait.new.progress c.lines.behind c.wait.new.behind waits i.limit;
+      few_held = few_behind (take c.next_held-stretch.result.bytes c.lines.lines.lines.ahead) now.lines.ahead (subst IsOneLineAndFew c.pass.ensures.ahead i.few_held);
       same = asked_over held.same i.same;
     }
 
@@ -346,7 +350,7 @@ returns-in_err-show_line-in-Ok-true-clause-memory g c = λ lines_done is_memory.
     let once = searched_once es w.options line (length es) _ _ (rw same at c.is_selected-found.ensures.steps) in
     let all_spent = searched_one_line es w.options (length es) s.lines line _ _ _ s.steps once in
     let (done, went) = c.show_line-in-Ok-true.ensures.memory lines_done (c.in_err-show_line-in-Ok-true.was ∙ ap Err (handed_fault c.from_residual-in_err-show_line-in-Ok-true.result c.in_err-show_line-in-Ok-true.field-0.0 (Memory lines_done) c.from_residual-in_err-show_line-in-Ok-true.ensures.1 is_memory)) in
-    rw (← done) (followed_refused g.R.CountedRead.remaining g.R.CountedRead.failures es w.options w.many c.args.shown w.name.now reader c.args.context c.requires.is_asked now c.next_line.new.self _ _ _ _ c.lines.selected c.wait.new.progress c.wait.new.behind.lines s line next c.number-number.result c.number-number.ensures c.is_selected-found.result told c.is_selected-found.new.meter all_spent _ went)
+    rw (← done) (followed_refused g.R.CountedRead.remaining g.R.CountedRead.failures es w.options w.many c.args.shown w.name.now reader c.args.context c.requires.is_asked now c.next_line.new.self _ _ _ _ c.lines.selected c.wait.new.progress c.wait.new.behind.lines s line next c.number-number.result c.number-number.ensures c.is_selected-found.result told c.is_selected-found.new.meter all_spent c.in-Ok-true.ensures.held _ went)
 
 pub count_found-selected-requires-in-Ok-true : goal.count_found-selected-requires-in-Ok-true
 count_found-selected-requires-in-Ok-true g c =
@@ -427,6 +431,7 @@ lines-preserved g c =
     record {
       so_far = rw shown.goes_on (followed_line g.R.CountedRead.remaining g.R.CountedRead.failures es w.options w.many c.args.shown w.name.now reader c.args.context c.requires.is_asked now c.next_line.new.self _ _ _ _ c.lines.selected c.wait.new.progress c.wait.new.behind.lines s line next c.number-number.result c.number-number.ensures c.is_selected-found.result told c.is_selected-found.new.meter all_spent _ c.count_found-selected-in-Ok-true.result c.show_line-in-Ok-true.new.behind.lines shown.wrote c.count_found-selected-in-Ok-true.ensures (shown.holds ∙ ap (λ n. if (next_shown c.wait.new.progress c.is_selected-found.result).itself then [] else last_of n (c.wait.new.behind.lines ++ line ∷ [])) limit));
       limit = shown.same_limit ∙ limit;
+      few_held = c.in-Ok-true.ensures.held;
       same = asked_over c.is_selected-found.ensures.same (asked_over held.same i.same);
     }
 
@@ -495,4 +500,4 @@ returns-in-Err-Memory-clause-memory g c = λ lines_done is_memory.
     let (p, are) = followed_waiting g.R.CountedRead.remaining g.R.CountedRead.failures es w.options w.many c.args.shown w.name.now reader c.args.context c.requires.is_asked c.lines.lines now _ _ _ c.lines.meter c.next_held-stretch.new.meter c.lines.selected c.lines.progress c.wait.new.progress c.lines.behind c.wait.new.behind i.limit i.so_far before passed unselected waits (subst (λ ls. SearchesLines es w.options (length es) ls c.lines.meter c.next_held-stretch.new.meter) is spent) in
     let s = followed_sent g.R.CountedRead.remaining g.R.CountedRead.failures es w.options w.many c.args.shown w.name.now reader c.args.context c.requires.is_asked now _ _ _ _ _ c.lines.selected c.wait.new.progress c.wait.new.behind.lines p (TakesAll-written g.W.CountedWrite.contents g.W.CountedWrite.failures c.lines.out c.send_before_read.new.out [] c.in_ok-send_before_read.ensures) in
     let end = subst (λ (r : Result Bool ReadFault). NextIs g.R.CountedRead.remaining g.R.CountedRead.failures reader s.lines c.next_line.new.self r) (ap Err c.in-Err-Memory.field-0-is) (c.in-Err-Memory.ensures.next reader s.lines s.handed) in
-    followed_out g.R.CountedRead.remaining g.R.CountedRead.failures es w.options w.many c.args.shown w.name.now reader c.args.context c.requires.is_asked now c.next_line.new.self _ _ _ _ c.lines.selected c.wait.new.progress c.wait.new.behind.lines s end lines_done done
+    followed_out g.R.CountedRead.remaining g.R.CountedRead.failures es w.options w.many c.args.shown w.name.now reader c.args.context c.requires.is_asked now c.next_line.new.self _ _ _ _ c.lines.selected c.wait.new.progress c.wait.new.behind.lines s end c.in-Err-Memory.ensures.held lines_done done

@@ -1,5 +1,6 @@
 use Rattle.std.proofs.Common.{◌≡◌, ◌-◌, ◌^◌, map}
 use Rattle.re_search.specs.Working.Asking.{SameSearchers}
+use Rattle.grep_core.specs.Reading.{IsOneLineAndFew}
 use Rattle.grep_core.specs.Run.{writer}
 use Rattle.grep_core.proofs.lemmas.AroundSearch.{FollowedSoFar}
 use Rattle.grep_core.proofs.search.around.search_around.Given as goal
@@ -10,6 +11,7 @@ invariant-lines g l = record {
   so_far : FollowedSoFar g.R.CountedRead.remaining g.R.CountedRead.failures (map g.M.LineMatch.expression l.fn.searchers.matchers.now) l.wanted.options l.wanted.many l.shown l.wanted.name.now
       l.fn.lines.lines.reader l.fn.context l.lines (writer g.W.CountedWrite.contents g.W.CountedWrite.failures l.fn.out) (writer g.W.CountedWrite.contents g.W.CountedWrite.failures l.out) l.fn.meter l.meter l.selected l.progress l.behind.lines;
   limit : l.behind.limit ≡ l.fn.context.before;
+  few_held : IsOneLineAndFew l.lines.lines.ahead;
   same : SameSearchers g.M.LineMatch.expression g.M.LineMatch.whole l.fn.searchers l.searchers;
 }
 

@@ -116,7 +116,7 @@ returns-in-Err-Memory-clause-memory g c = λ count is.
     let s = searched_sent g.R.CountedRead.remaining g.R.CountedRead.failures es w.options w.many false w.name.now c.args.lines.now.lines.reader c.pass_counted-selected.new.lines _ _ _ _ _ c.pass_counted-selected.result p (TakesAll-written g.W.CountedWrite.contents g.W.CountedWrite.failures c.loop-lines.out c.send_before_read.new.out [] c.in_ok-send_before_read.ensures) in
     let reader = c.args.lines.now.lines.reader in
     let next = subst (λ (r : Result Bool ReadFault). NextIs g.R.CountedRead.remaining g.R.CountedRead.failures reader s.lines c.next_line.new.self r) (ap Err c.in-Err-Memory.field-0-is) (c.in-Err-Memory.ensures.next reader s.lines s.handed) in
-    runs_out g.R.CountedRead.remaining g.R.CountedRead.failures es w.options w.many false w.name.now c.args.lines.now.lines.reader c.pass_counted-selected.new.lines c.next_line.new.self _ _ _ _ c.pass_counted-selected.result s next count same
+    runs_out g.R.CountedRead.remaining g.R.CountedRead.failures es w.options w.many false w.name.now c.args.lines.now.lines.reader c.pass_counted-selected.new.lines c.next_line.new.self _ _ _ _ c.pass_counted-selected.result s next c.in-Err-Memory.ensures.held count same
 
 pub pass_counted-selected-requires : goal.pass_counted-selected-requires
 pass_counted-selected-requires g c = record { whole = c.loop-lines.invariant.same.same_whole ∙ c.requires.whole }

@@ -20,7 +20,7 @@ returns-in-Err-clause-memory g c = λ count is.
     let same : 0 ≡ count = cc in
     let opened = c.in-Some.ensures.given in
     let counted = c.close.ensures.counted ∙ (λ i. count_more (opened.3 i) (g.S.Reader.CountedRead.failures (c.in-Err.ensures.err i))) ∙ ap (count_more (g.S.Sources.failures c.args.sources.now)) opened.2 in
-    rw (← same) (source_unread es c.args.setting.now.asked.options c.args.setting.now.many c.args.setting.now.shown source _ (writer g.W.CountedWrite.contents g.W.CountedWrite.failures c.args.out.now) c.args.meter.now (g.S.Sources.failures c.args.sources.now) _ counted _ (gives_both g.S.Sources.given_back c.args.sources.now c.open.new.self c.close.new.self [] _ c.open.ensures.none_back c.close.ensures.back))
+    rw (← same) (source_unread es c.args.setting.now.asked.options c.args.setting.now.many c.args.setting.now.shown source _ (writer g.W.CountedWrite.contents g.W.CountedWrite.failures c.args.out.now) c.args.meter.now (g.S.Sources.failures c.args.sources.now) _ counted _ (ap g.S.Reader.CountedRead.remaining c.in-Err.ensures.err ∙ opened.1) (gives_both g.S.Sources.given_back c.args.sources.now c.open.new.self c.close.new.self [] _ c.open.ensures.none_back c.close.ensures.back))
 
 pub returns-clause-ok : goal.returns-clause-ok
 returns-clause-ok g c =

@@ -304,4 +304,4 @@ returns-in-Err-Memory-clause-memory g c = λ count is.
     let p = searched_among g.R.CountedRead.remaining g.R.CountedRead.failures es w.options w.many false w.name.now reader c.lines.lines c.pass.new.self _ _ _ _ c.lines.selected i.so_far all next _ _ c.requires.plain spent c.in_ok-found.found c.saturating_add-selected.result took c.saturating_add-selected.ensures none in
     let s = searched_sent g.R.CountedRead.remaining g.R.CountedRead.failures es w.options w.many false w.name.now reader c.pass.new.self _ _ _ _ _ c.saturating_add-selected.result p (TakesAll-written g.W.CountedWrite.contents g.W.CountedWrite.failures _ c.send_before_read.new.out [] c.in_ok-send_before_read.ensures) in
     let end = subst (λ (r : Result Bool ReadFault). NextIs g.R.CountedRead.remaining g.R.CountedRead.failures reader s.lines c.next_line.new.self r) (ap Err c.in-Err-Memory.field-0-is) (c.in-Err-Memory.ensures.next reader s.lines s.handed) in
-    runs_out g.R.CountedRead.remaining g.R.CountedRead.failures es w.options w.many false w.name.now reader c.pass.new.self c.next_line.new.self _ _ _ _ c.saturating_add-selected.result s end count same
+    runs_out g.R.CountedRead.remaining g.R.CountedRead.failures es w.options w.many false w.name.now reader c.pass.new.self c.next_line.new.self _ _ _ _ c.saturating_add-selected.result s end c.in-Err-Memory.ensures.held count same

@@ -1,8 +1,7 @@
 use Rattle.std.proofs.Common.{◌≡◌, ◌≢◌, ◌<◌, [], Err, ap, arith}
 use Rattle.grep_core.specs.declared.input.lines.Stage.TheVariants.{Ended}
 use Rattle.grep_core.specs.Reading.{most_lines}
-use Rattle.re_syntax.specs.Lines.{HasNoNewline}
-use Rattle.grep_core.proofs.lemmas.WindowLemmas.{one_line, one_line_and_few}
+use Rattle.grep_core.proofs.lemmas.WindowLemmas.{none_in_nothing, one_line, one_line_and_few}
 use Rattle.grep_core.proofs.lemmas.NumberedLemmas.{next_is_line, next_is_end, next_is_cut, next_is_past, next_is_refused}
 use Rattle.grep_core.proofs.input.numbered.NumberedLines.next_line.Goals as goal
 
@@ -34,9 +33,6 @@ returns-in-Err-Memory-clause-next g c =
     let refused = c.in-Err-Memory.ensures.memory (ap Err c.in-Err-Memory.field-0-is) in
     let not_over : c.self.inside.lines.stage ≢ Ended = λ e. let no = c.in-Err-Memory.ensures.over e in cc in
     rw (← c.self.view_is) (λ reader handed s. next_is_refused g.R.CountedRead.remaining g.R.CountedRead.failures reader c.self.inside.lines c.next_line.new.self c.self.inside.number handed s not_over refused)
-
-none_in_nothing : HasNoNewline []
-none_in_nothing i d below = absurd (omega arith)
 
 pub returns-in-Ok-true-clause-held : goal.returns-in-Ok-true-clause-held
 returns-in-Ok-true-clause-held g c =

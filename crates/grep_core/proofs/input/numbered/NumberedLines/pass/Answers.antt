@@ -15,3 +15,6 @@ returns-clause-passed g c =
     rw (← c.self.view_is)
     (passes_block g.R.CountedRead.remaining g.R.CountedRead.failures (record { lines = a.lines; number = a.number }) (record { lines = c.pass.new.self; number = a.number + c.args.count }) c.requires.0 c.args.bytes c.args.count c.requires.1 ready
     c.pass.ensures.ended c.pass.ensures.ahead c.pass.ensures.reader c.pass.ensures.stage refl)
+
+pub returns-clause-ahead : goal.returns-clause-ahead
+returns-clause-ahead g c = rw (← c.self.view_is) c.pass.ensures.ahead

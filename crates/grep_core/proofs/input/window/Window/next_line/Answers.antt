@@ -2,7 +2,8 @@ use Rattle.std.proofs.Common.{◌≡◌, ◌+◌, ◌-◌, ◌<◌, ◌≤◌, �
 use Rattle.re_syntax.specs.Bytes.{Text}
 use Rattle.re_syntax.specs.Lines.{newline}
 use Rattle.re_syntax.proofs.lemmas.LinesLaws.{none_in_empty}
-use Rattle.grep_core.specs.Working.Held.{Held, IsOneLineAndFew, waiting}
+use Rattle.grep_core.specs.Reading.{IsOneLineAndFew}
+use Rattle.grep_core.specs.Working.Held.{Held, waiting}
 use Rattle.grep_core.proofs.lemmas.WindowBlocks.{at_range, byte_at, newline_before}
 use Rattle.grep_core.proofs.lemmas.WindowLemmas.{at_failure, one_line_and_few, ahead_at_newline, line_has_no_newline, below_range}
 use Rattle.grep_core.proofs.input.window.Window.next_line.Goals as goal

@@ -1,7 +1,8 @@
 use Rattle.std.proofs.Common.{◌≡◌, ◌-◌, ◌<◌, ◌≤◌, ◌++◌, length, get_or, take, drop, slice_range, refl, sym, ap, ◌∙◌, length-take, subst, rules, arith}
 use Rattle.re_syntax.specs.Bytes.{Text}
 use Rattle.re_syntax.specs.Lines.{newline, HasNoNewline}
-use Rattle.grep_core.specs.Working.Held.{Held, IsOneLineAndFew}
+use Rattle.grep_core.specs.Reading.{IsOneLineAndFew}
+use Rattle.grep_core.specs.Working.Held.{Held}
 use Rattle.grep_core.proofs.lemmas.WindowLemmas.{one_line, at_failure}
 use Rattle.grep_core.proofs.lemmas.WindowBlocks.{fresh_ended, fresh_cut_off}
 use Rattle.grep_core.proofs.input.window.Window.refill.Goals as goal
