@@ -22,3 +22,4 @@ pub mod LookingLemmas
 pub mod AroundKept
 pub mod KeptOutput
 pub mod HeadlineLaws
+pub mod RoomLemmas

@@ -11,3 +11,4 @@ pub mod Dropping
 pub mod Report
 pub mod Looking
 pub mod Changed
+pub mod Rooms

@@ -4,8 +4,9 @@ ghost use Rattle.std.specs.Prelude.{◌≡◌, ℕ, ◌≤◌, ◌++◌, List, [
 ghost use Rattle.std.specs.Prelude.{All, IfSome, OnErr, nat_eq, nat_lt, vec_capacity};
 ghost use Rattle.std.specs.List.{AllZip, list_any};
 ghost use Rattle.re_syntax.specs.Expression.{Expression};
-ghost use Rattle.re_search.specs.Working.Matchers.{matched_expression, wants_whole};
-ghost use Rattle.re_search.specs.Searching.{AllAnswer, AddsAtMost, SameMatchers};
+ghost use Rattle.re_search.specs.Working.Matchers.{matched_expression, wants_whole, room_of};
+ghost use Rattle.re_search.specs.Searching.{AllAnswer, AddsAtMost};
+ghost use Rattle.grep_session.specs.Working.Rooms.{SameBounded};
 ghost use Rattle.grep_session.specs.declared.change.Change.TheVariants.{Added, Dropped};
 ghost use Rattle.grep_session.specs.Working.Changed.{HasChanged, IsWithin, ChangeCost};
 ghost use Rattle.grep_session.specs.Working.Changed.{SearchesEach, SearchesOne};
@@ -17,6 +18,7 @@ ghost use Rattle.grep_session.specs.Working.Kept.{line_text};
 ghost use Rattle.grep_session.specs.Touched.{PartsCostOf};
 
 use crate::adding::add_later;
+use crate::bounded::Bounded;
 use crate::change::Change;
 use crate::columns::push_found;
 use crate::finding::find_with_parts;
@@ -25,7 +27,7 @@ use crate::found::put_columns;
 use crate::kept::{KeptFile, KeptLine};
 use crate::numbers::drop_number;
 use grep_core::Options;
-use re_search::{LineMatch, Matcher, Meter};
+use re_search::{Matcher, Meter};
 use std::alloc::{AllocError, Global};
 
 /// Whether a number is among others.
@@ -44,7 +46,7 @@ fn has_grown(old: &[usize], new: &[usize]) -> bool
 
 /// What is found in a line that the matchers of these numbers match. Its parts are searched anew if
 /// `anew` is set; otherwise the kept ones stay.
-fn find_again<M: LineMatch>(
+fn find_again<M: Bounded>(
     alloc: Global,
     matchers: &mut [M],
     options: &Options,
@@ -56,7 +58,7 @@ fn find_again<M: LineMatch>(
     requires whole { AllAnswer options.now.line_regexp (map M.whole matchers.old) }
     ensures ok { IfOk result
         (IsFoundAgain anew (map M.expression matchers.old) options.now line.now numbers.items) }
-    ensures same_matchers { SameMatchers M.expression M.whole matchers.old matchers.new }
+    ensures same_matchers { SameBounded M.expression M.whole M.room matchers.old matchers.new }
     ensures steps { (own : ℕ) ×
         MatchBool anew
         (PartsCostOf (map M.expression matchers.old) options.now line.now.text.items own)
@@ -70,7 +72,7 @@ fn find_again<M: LineMatch>(
 }
 
 /// What is found in a line after pattern `p` was removed.
-fn find_without<M: LineMatch>(
+fn find_without<M: Bounded>(
     alloc: Global,
     matchers: &mut [M],
     options: &Options,
@@ -79,7 +81,7 @@ fn find_without<M: LineMatch>(
     meter: &mut Meter,
 ) -> Result<Findings, AllocError>
     requires whole { AllAnswer options.now.line_regexp (map M.whole matchers.old) }
-    ensures same_matchers { SameMatchers M.expression M.whole matchers.old matchers.new }
+    ensures same_matchers { SameBounded M.expression M.whole M.room matchers.old matchers.new }
     ensures ok { IfOk result
         (λ found. (before changed : List Expression) →
         HasChanged (Dropped p) (map M.expression matchers.old) before changed →
@@ -98,7 +100,7 @@ fn find_without<M: LineMatch>(
 }
 
 /// What is found in a line after the patterns from `first` on were added.
-fn find_with<M: LineMatch>(
+fn find_with<M: Bounded>(
     alloc: Global,
     matchers: &mut [M],
     options: &Options,
@@ -109,7 +111,7 @@ fn find_with<M: LineMatch>(
     requires whole { AllAnswer options.now.line_regexp (map M.whole matchers.old) }
     requires few { length matchers.old ≤ most_patterns }
     requires within { first ≤ length matchers.old }
-    ensures same_matchers { SameMatchers M.expression M.whole matchers.old matchers.new }
+    ensures same_matchers { SameBounded M.expression M.whole M.room matchers.old matchers.new }
     ensures ok { IfOk result
         (λ found. (before changed : List Expression) →
         HasChanged (Added first) (map M.expression matchers.old) before changed →
@@ -128,7 +130,7 @@ fn find_with<M: LineMatch>(
 }
 
 /// What is found in a line after a change of the patterns.
-fn find_changed<M: LineMatch>(
+fn find_changed<M: Bounded>(
     alloc: Global,
     matchers: &mut [M],
     options: &Options,
@@ -139,7 +141,7 @@ fn find_changed<M: LineMatch>(
     requires whole { AllAnswer options.now.line_regexp (map M.whole matchers.old) }
     requires few { length matchers.old ≤ most_patterns }
     requires within { IsWithin change (length matchers.old) }
-    ensures same_matchers { SameMatchers M.expression M.whole matchers.old matchers.new }
+    ensures same_matchers { SameBounded M.expression M.whole M.room matchers.old matchers.new }
     ensures ok { IfOk result
         (λ found. (before changed : List Expression) →
         HasChanged change (map M.expression matchers.old) before changed →
@@ -158,7 +160,7 @@ fn find_changed<M: LineMatch>(
 }
 
 /// Adds what is found in lines after a change of the patterns.
-fn change_lines<M: LineMatch>(
+fn change_lines<M: Bounded>(
     alloc: Global,
     matchers: &mut [M],
     options: &Options,
@@ -170,7 +172,7 @@ fn change_lines<M: LineMatch>(
     requires whole { AllAnswer options.now.line_regexp (map M.whole matchers.old) }
     requires few { length matchers.old ≤ most_patterns }
     requires within { IsWithin change (length matchers.old) }
-    ensures same_matchers { SameMatchers M.expression M.whole matchers.old matchers.new }
+    ensures same_matchers { SameBounded M.expression M.whole M.room matchers.old matchers.new }
     ensures ok { IfOk result
         (λ _. (before changed : List Expression) →
         HasChanged change (map M.expression matchers.old) before changed →
@@ -191,7 +193,7 @@ fn change_lines<M: LineMatch>(
 }
 
 /// Adds what is found in the lines of a file after a change of the patterns.
-fn change_file<M: LineMatch>(
+fn change_file<M: Bounded>(
     alloc: Global,
     matchers: &mut [M],
     options: &Options,
@@ -203,7 +205,7 @@ fn change_file<M: LineMatch>(
     requires whole { AllAnswer options.now.line_regexp (map M.whole matchers.old) }
     requires few { length matchers.old ≤ most_patterns }
     requires within { IsWithin change (length matchers.old) }
-    ensures same_matchers { SameMatchers M.expression M.whole matchers.old matchers.new }
+    ensures same_matchers { SameBounded M.expression M.whole M.room matchers.old matchers.new }
     ensures ok { IfOk result
         (λ _. (before changed : List Expression) →
         HasChanged change (map M.expression matchers.old) before changed →
@@ -223,7 +225,7 @@ fn change_file<M: LineMatch>(
 }
 
 /// What is found in the lines of all files, in order, after a change of the patterns.
-fn change_files<M: LineMatch>(
+fn change_files<M: Bounded>(
     alloc: Global,
     matchers: &mut [M],
     options: &Options,
@@ -234,7 +236,7 @@ fn change_files<M: LineMatch>(
     requires whole { AllAnswer options.now.line_regexp (map M.whole matchers.old) }
     requires few { length matchers.old ≤ most_patterns }
     requires within { IsWithin change (length matchers.old) }
-    ensures same_matchers { SameMatchers M.expression M.whole matchers.old matchers.new }
+    ensures same_matchers { SameBounded M.expression M.whole M.room matchers.old matchers.new }
     ensures ok { IfOk result
         (λ found. (before changed : List Expression) →
         HasChanged change (map M.expression matchers.old) before changed →
@@ -267,7 +269,7 @@ pub fn change_columns(
     requires whole { AllAnswer options.now.line_regexp (map wants_whole matchers.old.items) }
     requires few { length matchers.old.items ≤ most_patterns }
     requires within { IsWithin change (length matchers.old.items) }
-    ensures same_matchers { SameMatchers matched_expression wants_whole matchers.old.items
+    ensures same_matchers { SameBounded matched_expression wants_whole room_of matchers.old.items
         matchers.new.items }
     ensures room { vec_capacity matchers.new ≡ vec_capacity matchers.old }
     ensures same { map kept_file files.new.items ≡ map kept_file files.old.items }

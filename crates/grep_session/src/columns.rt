@@ -2,23 +2,25 @@
 ghost use Rattle.std.specs.Prelude.{◌≡◌, ◌≤◌, ◌++◌, List, [], length, map, false, ◌∷◌, IfOk, All};
 ghost use Rattle.std.specs.Prelude.{IfSome, if◌then◌else◌, OnErr};
 ghost use Rattle.std.specs.List.{AllZip};
-ghost use Rattle.re_search.specs.Working.Matchers.{matched_expression, wants_whole};
-ghost use Rattle.re_search.specs.Searching.{AllAnswer, SameMatchers};
+ghost use Rattle.re_search.specs.Working.Matchers.{matched_expression, wants_whole, room_of};
+ghost use Rattle.re_search.specs.Searching.{AllAnswer};
+ghost use Rattle.grep_session.specs.Working.Rooms.{SameBounded};
 ghost use Rattle.re_syntax.specs.Profile.{most_patterns};
 ghost use Rattle.grep_session.specs.Working.Found.{IsRight, IsReady, AddsRight, lines_of_files};
 ghost use Rattle.grep_session.specs.Working.Kept.{SearchesKept, SearchesAllKept, kept_file};
 ghost use Rattle.grep_session.specs.Working.Kept.{kept_lines, line_text, IsFileKept};
 
+use crate::bounded::Bounded;
 use crate::finding::{find_anew, find_with_parts};
 use crate::findings::Findings;
 use crate::found::put_columns;
 use crate::kept::{KeptFile, KeptLine};
 use grep_core::Options;
-use re_search::{LineMatch, Matcher, Meter};
+use re_search::{Matcher, Meter};
 use std::alloc::{AllocError, Global};
 
 /// The parts that the matchers find in a line. It is known which of them match it.
-fn find_parts<M: LineMatch>(
+fn find_parts<M: Bounded>(
     alloc: Global,
     matchers: &mut [M],
     options: &Options,
@@ -29,7 +31,7 @@ fn find_parts<M: LineMatch>(
     requires ready { IsReady false (map M.expression matchers.old) options.now line.now }
     ensures ok { IfOk result
         (IsRight (map M.expression matchers.old) options.now line.now.text.items) }
-    ensures same_matchers { SameMatchers M.expression M.whole matchers.old matchers.new }
+    ensures same_matchers { SameBounded M.expression M.whole M.room matchers.old matchers.new }
     ensures steps { SearchesKept (map M.expression matchers.old) options.now 0 line.now.text.items
         meter.old meter.new }
 {
@@ -38,7 +40,7 @@ fn find_parts<M: LineMatch>(
 }
 
 /// What the matchers find in a line: all anew, or its parts alone.
-fn find_line<M: LineMatch>(
+fn find_line<M: Bounded>(
     alloc: Global,
     matchers: &mut [M],
     options: &Options,
@@ -51,7 +53,7 @@ fn find_line<M: LineMatch>(
     requires ready { IsReady anew (map M.expression matchers.old) options.now line.now }
     ensures ok { IfOk result
         (IsRight (map M.expression matchers.old) options.now line.now.text.items) }
-    ensures same_matchers { SameMatchers M.expression M.whole matchers.old matchers.new }
+    ensures same_matchers { SameBounded M.expression M.whole M.room matchers.old matchers.new }
     ensures steps { SearchesKept (map M.expression matchers.old) options.now
         (if anew then length matchers.old else 0) line.now.text.items meter.old meter.new }
 {
@@ -70,7 +72,7 @@ pub fn push_found(found: &mut Vec<Findings>, one: Findings) -> Result<(), AllocE
 }
 
 /// Adds what the matchers find in lines.
-fn find_lines<M: LineMatch>(
+fn find_lines<M: Bounded>(
     alloc: Global,
     matchers: &mut [M],
     options: &Options,
@@ -86,7 +88,7 @@ fn find_lines<M: LineMatch>(
         (λ _.
         AddsRight (map M.expression matchers.old) options.now (map line_text lines.now)
         found.old.items found.new.items) }
-    ensures same_matchers { SameMatchers M.expression M.whole matchers.old matchers.new }
+    ensures same_matchers { SameBounded M.expression M.whole M.room matchers.old matchers.new }
     ensures steps { SearchesAllKept (map M.expression matchers.old) options.now
         (if anew then length matchers.old else 0) (map line_text lines.now) meter.old meter.new }
 {
@@ -98,7 +100,7 @@ fn find_lines<M: LineMatch>(
 }
 
 /// Adds what the matchers find in the lines of a file.
-fn find_in_file<M: LineMatch>(
+fn find_in_file<M: Bounded>(
     alloc: Global,
     matchers: &mut [M],
     options: &Options,
@@ -115,7 +117,7 @@ fn find_in_file<M: LineMatch>(
         (λ _.
         AddsRight (map M.expression matchers.old) options.now (kept_file file.now).lines
         found.old.items found.new.items) }
-    ensures same_matchers { SameMatchers M.expression M.whole matchers.old matchers.new }
+    ensures same_matchers { SameBounded M.expression M.whole M.room matchers.old matchers.new }
     ensures steps { SearchesAllKept (map M.expression matchers.old) options.now
         (if anew then length matchers.old else 0) (kept_file file.now).lines meter.old meter.new }
 {
@@ -126,7 +128,7 @@ fn find_in_file<M: LineMatch>(
 }
 
 /// What the matchers find in the lines of all files, in order: all anew, or the parts alone.
-pub fn find_all<M: LineMatch>(
+pub fn find_all<M: Bounded>(
     alloc: Global,
     matchers: &mut [M],
     options: &Options,
@@ -144,7 +146,7 @@ pub fn find_all<M: LineMatch>(
         (λ found.
         AllZip (IsRight (map M.expression matchers.old) options.now)
         (lines_of_files (map kept_file files.now)) found.items) }
-    ensures same_matchers { SameMatchers M.expression M.whole matchers.old matchers.new }
+    ensures same_matchers { SameBounded M.expression M.whole M.room matchers.old matchers.new }
     ensures steps { SearchesAllKept (map M.expression matchers.old) options.now
         (if anew then length matchers.old else 0) (lines_of_files (map kept_file files.now))
         meter.old meter.new }
@@ -178,7 +180,7 @@ pub fn find_columns(
         (λ _.
         All (IsFileKept (map matched_expression matchers.new.items) options.now) files.new.items) }
     ensures err { OnErr result (files.new.items ≡ files.old.items) }
-    ensures same_matchers { SameMatchers matched_expression wants_whole matchers.old.items
+    ensures same_matchers { SameBounded matched_expression wants_whole room_of matchers.old.items
         matchers.new.items }
     ensures steps { SearchesAllKept (map matched_expression matchers.old.items) options.now
         (if anew then length matchers.old.items else 0)

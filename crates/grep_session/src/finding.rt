@@ -1,8 +1,9 @@
 //! What is found in lines, and kept.
 ghost use Rattle.std.specs.Prelude.{◌≡◌, ℕ, List, ◌+◌, ◌*◌, ◌≤◌, ◌<◌, ◌++◌, length, map, IfOk};
 ghost use Rattle.std.specs.Prelude.{IfErr, IfSome, true, [], ◌∷◌, All};
-ghost use Rattle.re_search.specs.Working.Matchers.{matched_expression, wants_whole};
-ghost use Rattle.re_search.specs.Searching.{AllAnswer, AddsAtMost, FindsPart, SameMatchers};
+ghost use Rattle.re_search.specs.Working.Matchers.{matched_expression, wants_whole, room_of};
+ghost use Rattle.re_search.specs.Searching.{AllAnswer, AddsAtMost, FindsPart};
+ghost use Rattle.grep_session.specs.Working.Rooms.{SameBounded};
 ghost use Rattle.re_syntax.specs.Parts.{AreParts};
 ghost use Rattle.grep_core.specs.Cost.{search_cost};
 ghost use Rattle.re_syntax.specs.Profile.{most_patterns};
@@ -12,14 +13,15 @@ ghost use Rattle.grep_session.specs.Working.Kept.{SearchesAllKept, span_places, 
 ghost use Rattle.grep_session.specs.Working.Kept.{ArePartsKept};
 ghost use Rattle.grep_session.specs.Touched.{PartsCostOf};
 
+use crate::bounded::{Bounded, next_part};
 use crate::findings::Findings;
 use crate::kept::KeptLine;
-use grep_core::{Options, next_part};
-use re_search::{LineMatch, Matcher, Meter, Span};
+use grep_core::Options;
+use re_search::{Matcher, Meter, Span};
 use std::alloc::{AllocError, Global};
 
 /// Adds the matcher's number if it matches the line.
-fn note_matching<M: LineMatch>(
+fn note_matching<M: Bounded>(
     matcher: &mut M,
     number: usize,
     options: &Options,
@@ -34,9 +36,10 @@ fn note_matching<M: LineMatch>(
         numbers.old.items numbers.new.items) }
     ensures same_expression { M.expression matcher.new ≡ M.expression matcher.old }
     ensures same_whole { M.whole matcher.new ≡ M.whole matcher.old }
+    ensures same_room { M.room matcher.new ≡ M.room matcher.old }
     ensures steps { AddsAtMost (length line.now + 1) meter.old meter.new }
 {
-    if !matcher.is_match(line, meter) {
+    if !matcher.matches(line, meter) {
         return Ok(());
     }
     numbers.push(number)?;
@@ -45,7 +48,7 @@ fn note_matching<M: LineMatch>(
 
 /// Adds the numbers of the matchers that match the line, the first of which has the number
 /// `first`.
-pub fn add_matching<M: LineMatch>(
+pub fn add_matching<M: Bounded>(
     matchers: &mut [M],
     first: usize,
     options: &Options,
@@ -59,7 +62,7 @@ pub fn add_matching<M: LineMatch>(
         (λ _.
         AddsMatching line.now options.now.line_regexp first (map M.expression matchers.old)
         numbers.old.items numbers.new.items) }
-    ensures same_matchers { SameMatchers M.expression M.whole matchers.old matchers.new }
+    ensures same_matchers { SameBounded M.expression M.whole M.room matchers.old matchers.new }
     ensures steps { AddsAtMost (search_cost (length matchers.old) line.now) meter.old meter.new }
 {
     let mut number = first;
@@ -71,7 +74,7 @@ pub fn add_matching<M: LineMatch>(
 }
 
 /// Adds the parts of the line.
-fn add_parts<M: LineMatch>(
+fn add_parts<M: Bounded>(
     matchers: &mut [M],
     options: &Options,
     line: &[u8],
@@ -85,7 +88,7 @@ fn add_parts<M: LineMatch>(
         (λ _.
         AreParts (map M.expression matchers.old) line.now options.now.line_regexp
         (map span_places spans.new.items)) }
-    ensures same_matchers { SameMatchers M.expression M.whole matchers.old matchers.new }
+    ensures same_matchers { SameBounded M.expression M.whole M.room matchers.old matchers.new }
     ensures steps { (own : ℕ) ×
         PartsCostOf (map M.expression matchers.old) options.now line.now own ×
         AddsAtMost own meter.old meter.new }
@@ -99,7 +102,7 @@ fn add_parts<M: LineMatch>(
 }
 
 /// The parts of the line under `-o`, otherwise none.
-fn parts_of<M: LineMatch>(
+fn parts_of<M: Bounded>(
     alloc: Global,
     matchers: &mut [M],
     options: &Options,
@@ -109,7 +112,7 @@ fn parts_of<M: LineMatch>(
     requires whole { AllAnswer options.now.line_regexp (map M.whole matchers.old) }
     ensures ok { IfOk result
         (λ spans. ArePartsKept (map M.expression matchers.old) options.now line.now spans.items) }
-    ensures same_matchers { SameMatchers M.expression M.whole matchers.old matchers.new }
+    ensures same_matchers { SameBounded M.expression M.whole M.room matchers.old matchers.new }
     ensures steps { (own : ℕ) ×
         PartsCostOf (map M.expression matchers.old) options.now line.now own ×
         AddsAtMost own meter.old meter.new }
@@ -123,7 +126,7 @@ fn parts_of<M: LineMatch>(
 
 /// What is found in the line that the matchers of these numbers match. Under `-o` its parts are
 /// searched if there is a number.
-pub fn find_with_parts<M: LineMatch>(
+pub fn find_with_parts<M: Bounded>(
     alloc: Global,
     matchers: &mut [M],
     options: &Options,
@@ -136,7 +139,7 @@ pub fn find_with_parts<M: LineMatch>(
         (λ found.
         AreMatching line.now options.now.line_regexp 0 (map M.expression matchers.old) numbers.items
         → IsRight (map M.expression matchers.old) options.now line.now found) }
-    ensures same_matchers { SameMatchers M.expression M.whole matchers.old matchers.new }
+    ensures same_matchers { SameBounded M.expression M.whole M.room matchers.old matchers.new }
     ensures steps { (own : ℕ) ×
         PartsCostOf (map M.expression matchers.old) options.now line.now own ×
         AddsAtMost own meter.old meter.new }
@@ -149,7 +152,7 @@ pub fn find_with_parts<M: LineMatch>(
 }
 
 /// All that the matchers find in the line.
-pub fn find_anew<M: LineMatch>(
+pub fn find_anew<M: Bounded>(
     alloc: Global,
     matchers: &mut [M],
     options: &Options,
@@ -159,7 +162,7 @@ pub fn find_anew<M: LineMatch>(
     requires whole { AllAnswer options.now.line_regexp (map M.whole matchers.old) }
     requires few { length matchers.old ≤ most_patterns }
     ensures ok { IfOk result (IsRight (map M.expression matchers.old) options.now line.now) }
-    ensures same_matchers { SameMatchers M.expression M.whole matchers.old matchers.new }
+    ensures same_matchers { SameBounded M.expression M.whole M.room matchers.old matchers.new }
     ensures steps { SearchesKept (map M.expression matchers.old) options.now (length matchers.old)
         line.now meter.old meter.new }
 {
@@ -169,7 +172,7 @@ pub fn find_anew<M: LineMatch>(
 }
 
 /// The line with all that the matchers find in it.
-pub fn search_line<M: LineMatch>(
+pub fn search_line<M: Bounded>(
     alloc: Global,
     matchers: &mut [M],
     options: &Options,
@@ -180,7 +183,7 @@ pub fn search_line<M: LineMatch>(
     requires few { length matchers.old ≤ most_patterns }
     ensures ok { IfOk result (IsKept (map M.expression matchers.old) options.now) }
     ensures text { IfOk result (λ line. line.text.items ≡ text.items) }
-    ensures same_matchers { SameMatchers M.expression M.whole matchers.old matchers.new }
+    ensures same_matchers { SameBounded M.expression M.whole M.room matchers.old matchers.new }
     ensures steps { SearchesKept (map M.expression matchers.old) options.now (length matchers.old)
         text.items meter.old meter.new }
 {
@@ -197,7 +200,7 @@ fn push_line(lines: &mut Vec<KeptLine>, line: KeptLine) -> Result<(), AllocError
 }
 
 /// The lines with all that the matchers find in them.
-pub fn search_lines<M: LineMatch>(
+pub fn search_lines<M: Bounded>(
     alloc: Global,
     matchers: &mut [M],
     options: &Options,
@@ -210,7 +213,7 @@ pub fn search_lines<M: LineMatch>(
         (λ lines. All (IsKept (map M.expression matchers.old) options.now) lines.items) }
     ensures texts { IfOk result
         (λ lines. map line_text lines.items ≡ map (λ text. text.items) texts.items) }
-    ensures same_matchers { SameMatchers M.expression M.whole matchers.old matchers.new }
+    ensures same_matchers { SameBounded M.expression M.whole M.room matchers.old matchers.new }
     ensures memory { texts.items ≡ [] → IfErr result (λ _. ⊥) }
     ensures steps { SearchesAllKept (map M.expression matchers.old) options.now
         (length matchers.old) (map (λ text. text.items) texts.items) meter.old meter.new }
@@ -238,7 +241,7 @@ pub fn search_new(
         All (IsKept (map matched_expression matchers.old.items) options.now) lines.items) }
     ensures texts { IfOk result
         (λ lines. map line_text lines.items ≡ map (λ text. text.items) texts.items) }
-    ensures same_matchers { SameMatchers matched_expression wants_whole matchers.old.items
+    ensures same_matchers { SameBounded matched_expression wants_whole room_of matchers.old.items
         matchers.new.items }
     ensures memory { texts.items ≡ [] → IfErr result (λ _. ⊥) }
     ensures steps { SearchesAllKept (map matched_expression matchers.old.items) options.now

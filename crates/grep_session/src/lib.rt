@@ -4,6 +4,8 @@
 
 mod adding;
 mod around;
+mod bounded;
+mod caches;
 mod change;
 mod changing;
 mod choosing;
@@ -25,6 +27,7 @@ mod session;
 mod splicing;
 mod verdicts;
 
+pub use caches::Caches;
 pub use fault::EditFault;
 pub use hit::Hit;
 pub use laws::{accepted_edits_decide, edits_are_determined};

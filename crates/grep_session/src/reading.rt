@@ -3,6 +3,7 @@ ghost use Rattle.std.specs.Prelude.{◌≡◌, ◌≤◌, ◌⊎◌, ◌++◌, �
 ghost use Rattle.re_syntax.specs.Profile.{most_states};
 ghost use Rattle.grep_core.specs.Working.MatcherLists.{AreMatchers};
 ghost use Rattle.grep_session.specs.Working.Reading.{RefusesFirst, told_at};
+ghost use Rattle.grep_session.specs.Working.Rooms.{KeepAtMost};
 
 use crate::fault::EditFault;
 use grep_core::Options;
@@ -46,6 +47,7 @@ pub fn read_matchers(
     ensures ok { IfOk result
         (λ matchers.
         AreMatchers syntax options.now (map (λ text. text.items) texts.now) matchers.items) }
+    ensures rooms { IfOk result (λ matchers. KeepAtMost states matchers.items) }
     ensures err { IfErr result
         (RefusesFirst syntax options.now.ignore_case (map (λ text. text.items) texts.now)) }
 {

@@ -6,6 +6,7 @@ use Rattle.grep_session.specs.declared.session.Session.TheInside.{Inside}
 use Rattle.re_syntax.specs.Profile.{most_patterns, most_states}
 use Rattle.grep_session.specs.Working.Kept.{IsFileKept, kept_file}
 use Rattle.grep_core.specs.Working.MatcherLists.{AreMatchers}
+use Rattle.grep_session.specs.Working.Rooms.{KeepAtMost}
 
 abbrev pub inputs_of : Inside → Inputs
 inputs_of s =
@@ -17,11 +18,13 @@ inputs_of s =
       files = map kept_file s.files.items;
     }
 
--- the matchers are those of the patterns, and what is kept of each line is what they find in it
+-- the matchers are those of the patterns, what is kept of each line is what they find in it, and
+-- they keep no more states than were asked for
 pub record IsSession (s : Inside) : Type 0 where
   pub matchers : AreMatchers s.syntax s.options (map (λ text. text.items) s.texts.items)
       s.matchers.items
   pub few : length s.matchers.items ≤ most_patterns
   pub kept : All (IsFileKept (map matched_expression s.matchers.items) s.options) s.files.items
+  pub rooms : KeepAtMost s.states s.matchers.items
   pub some_states : 1 ≤ s.states
   pub few_states : s.states ≤ most_states

@@ -1,14 +1,17 @@
-//! What a session holds: its files and their lines, and which lines an editor lists. No line is
+//! What a session holds: its files and their lines, which lines an editor lists, and how many
+//! states are kept. No line is
 //! searched and no memory is asked for.
-ghost use Rattle.std.specs.Prelude.{◌≡◌, ◌<◌, List, [], length, map, get_or, MatchBool};
+ghost use Rattle.std.specs.Prelude.{◌≡◌, ◌<◌, ◌≤◌, ◌*◌, List, [], length, map, get_or, MatchBool};
 ghost use Rattle.std.specs.Prelude.{MatchOption};
 ghost use Rattle.re_syntax.specs.Expression.{Expression};
+ghost use Rattle.re_syntax.specs.Profile.{most_states};
 ghost use Rattle.grep_core.specs.Files.{AreMeant, Selected};
 ghost use Rattle.grep_core.specs.Run.{file_at};
 ghost use Rattle.grep_session.specs.Edits.{option_of};
 ghost use Rattle.grep_session.specs.Working.Kept.{span_places};
 ghost use Rattle.grep_session.specs.Listed.{ListedParts};
 
+use crate::caches::{Caches, kept_by};
 use crate::choosing::{is_same, option_of};
 use crate::hit::Hit;
 use crate::session::Session;
@@ -63,5 +66,17 @@ impl Session {
         ensures { MatchBool result (syntax ≡ self.now.syntax) (syntax ≡ self.now.syntax → ⊥) }
     {
         is_same(syntax, self.syntax)
+    }
+
+    /// How many states the matchers of the patterns keep together, and how many each may keep: the
+    /// number that the session was made with.
+    pub fn cached(&self) -> Caches
+        ensures within { result.kept ≤ length self.now.patterns * result.each }
+        ensures few { result.each ≤ most_states }
+    {
+        Caches {
+            kept: kept_by(&self.matchers, self.states),
+            each: self.states,
+        }
     }
 }

@@ -20,4 +20,5 @@ returns-clause-same_matchers g c =
     record {
       same_expressions = map_back g.M.LineMatch.expression old now c.args.first later same.same_expressions;
       same_wholes = map_back g.M.LineMatch.whole old now c.args.first later same.same_wholes;
+      same_rooms = map_back g.M.Bounded.room old now c.args.first later same.same_rooms;
     }

@@ -1,7 +1,7 @@
 use Rattle.std.proofs.Common.{map, take, All, List}
 use Rattle.std.specs.List.{AllZip}
 use Rattle.re_syntax.specs.Expression.{Expression}
-use Rattle.re_search.specs.Searching.{SameMatchers}
+use Rattle.grep_session.specs.Working.Rooms.{SameBounded}
 use Rattle.grep_session.specs.Working.Changed.{HasChanged, ChangeCost, SearchesEach}
 use Rattle.grep_session.specs.Working.Found.{IsRight, lines_of_files}
 use Rattle.grep_session.specs.Working.Kept.{IsFileKept, kept_file}
@@ -12,7 +12,7 @@ abbrev pub invariant-loop-file : goal.invariant-loop-file
 invariant-loop-file g l = record {
   found : (before changed : List Expression) → HasChanged l.change (map g.M.LineMatch.expression l.fn.matchers) before changed → All (IsFileKept before l.options) l.files
       → AllZip (IsRight (map g.M.LineMatch.expression l.fn.matchers) l.options) (lines_of_files (map kept_file (take l.file-index l.files))) l.found.items;
-  same_matchers : SameMatchers g.M.LineMatch.expression g.M.LineMatch.whole l.fn.matchers l.matchers;
+  same_matchers : SameBounded g.M.LineMatch.expression g.M.LineMatch.whole g.M.Bounded.room l.fn.matchers l.matchers;
   steps : (before changed : List Expression) → HasChanged l.change (map g.M.LineMatch.expression l.fn.matchers) before changed → All (IsFileKept before l.options) l.files
       → SearchesEach (ChangeCost l.change changed (map g.M.LineMatch.expression l.fn.matchers) l.options) (lines_of_files (map kept_file (take l.file-index l.files))) l.fn.meter l.meter;
 }

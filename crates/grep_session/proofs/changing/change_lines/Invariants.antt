@@ -1,6 +1,6 @@
 use Rattle.std.proofs.Common.{map, take, All, List}
 use Rattle.re_syntax.specs.Expression.{Expression}
-use Rattle.re_search.specs.Searching.{SameMatchers}
+use Rattle.grep_session.specs.Working.Rooms.{SameBounded}
 use Rattle.grep_session.specs.Working.Changed.{HasChanged, ChangeCost, SearchesEach}
 use Rattle.grep_session.specs.Working.Found.{AddsRight}
 use Rattle.grep_session.specs.Working.Kept.{IsKept, line_text}
@@ -11,7 +11,7 @@ abbrev pub invariant-loop-line : goal.invariant-loop-line
 invariant-loop-line g l = record {
   found : (before changed : List Expression) → HasChanged l.change (map g.M.LineMatch.expression l.fn.matchers) before changed → All (IsKept before l.options) l.lines
       → AddsRight (map g.M.LineMatch.expression l.fn.matchers) l.options (map line_text (take l.line-index l.lines)) l.fn.found.items l.found.items;
-  same_matchers : SameMatchers g.M.LineMatch.expression g.M.LineMatch.whole l.fn.matchers l.matchers;
+  same_matchers : SameBounded g.M.LineMatch.expression g.M.LineMatch.whole g.M.Bounded.room l.fn.matchers l.matchers;
   steps : (before changed : List Expression) → HasChanged l.change (map g.M.LineMatch.expression l.fn.matchers) before changed → All (IsKept before l.options) l.lines
       → SearchesEach (ChangeCost l.change changed (map g.M.LineMatch.expression l.fn.matchers) l.options) (map line_text (take l.line-index l.lines)) l.fn.meter l.meter;
 }

@@ -1,5 +1,5 @@
 use Rattle.std.proofs.Common.{◌≡◌, ◌≤◌, [], All, IfSome, length, map, take, take_all, refl, sym, subst, if◌then◌else◌, arith}
-use Rattle.re_search.proofs.lemmas.KeptMatchers.{none_asked, same_over}
+use Rattle.grep_session.proofs.lemmas.RoomLemmas.{none_asked, same_over}
 use Rattle.std.specs.List.{AllZip}
 use Rattle.re_search.specs.Searching.{AllAnswer}
 use Rattle.re_syntax.specs.Profile.{most_patterns}

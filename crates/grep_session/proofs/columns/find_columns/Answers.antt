@@ -1,7 +1,7 @@
 use Rattle.std.proofs.Common.{All, map, sym, subst}
 use Rattle.std.specs.List.{AllZip}
-use Rattle.re_search.specs.Searching.{SameMatchers}
-use Rattle.re_search.specs.Working.Matchers.{matched_expression, wants_whole}
+use Rattle.grep_session.specs.Working.Rooms.{SameBounded}
+use Rattle.re_search.specs.Working.Matchers.{matched_expression, wants_whole, room_of}
 use Rattle.grep_core.proofs.lemmas.CostLaws.{same_length}
 use Rattle.grep_session.specs.Working.Found.{IsRight, lines_of_files}
 use Rattle.grep_session.specs.Working.Kept.{IsFileKept, kept_file}
@@ -11,12 +11,12 @@ use Rattle.grep_session.proofs.columns.find_columns.Goals as goal
 pub returns-in_err-found-clause-same_matchers : goal.returns-in_err-found-clause-same_matchers
 returns-in_err-found-clause-same_matchers c =
     let same = rw c.deref_mut.ensures.value at c.find_all.ensures.same_matchers in
-    subst (SameMatchers matched_expression wants_whole c.args.matchers.now.items) (sym (all_back c.args.matchers.now.len c.args.matchers.now.items c.find_all.new.matchers c.args.matchers.now.ok.0 (same_length matched_expression _ _ same.same_expressions))) same
+    subst (SameBounded matched_expression wants_whole room_of c.args.matchers.now.items) (sym (all_back c.args.matchers.now.len c.args.matchers.now.items c.find_all.new.matchers c.args.matchers.now.ok.0 (same_length matched_expression _ _ same.same_expressions))) same
 
 pub returns-clause-same_matchers : goal.returns-clause-same_matchers
 returns-clause-same_matchers c =
     let same = rw c.deref_mut.ensures.value at c.find_all.ensures.same_matchers in
-    subst (SameMatchers matched_expression wants_whole c.args.matchers.now.items) (sym (all_back c.args.matchers.now.len c.args.matchers.now.items c.find_all.new.matchers c.args.matchers.now.ok.0 (same_length matched_expression _ _ same.same_expressions))) same
+    subst (SameBounded matched_expression wants_whole room_of c.args.matchers.now.items) (sym (all_back c.args.matchers.now.len c.args.matchers.now.items c.find_all.new.matchers c.args.matchers.now.ok.0 (same_length matched_expression _ _ same.same_expressions))) same
 
 pub returns-clause-ok : goal.returns-clause-ok
 returns-clause-ok c =

@@ -1,7 +1,7 @@
 use Rattle.std.proofs.Common.{◌≡◌, ◌+◌, ◌≤◌, length, map, take, arith, sym, ◌∙◌, take_all, length-take}
 use Rattle.std.proofs.lemmas.List.{length-map}
 use Rattle.re_search.proofs.lemmas.OneMatcherMore.{one_more, value_at, within, steps_more}
-use Rattle.re_search.proofs.lemmas.KeptMatchers.{none_asked, one_asked}
+use Rattle.grep_session.proofs.lemmas.RoomLemmas.{none_asked, one_asked}
 use Rattle.grep_core.proofs.lemmas.CostLaws.{adds_none, adds_for_more}
 use Rattle.grep_session.proofs.lemmas.FindingLemmas.{adds_none_matching, adds_more_matching}
 use Rattle.grep_session.proofs.finding.add_matching.Goals as goal
@@ -41,12 +41,12 @@ loop-matcher-preserved g c =
     record {
       found = adds_more_matching _ _ _ _ _ _ _ _ _ _ place (one_more expression old now es i d h) c.loop-matcher.invariant.found c.in_ok-note_matching.ensures.ok;
       number = omega (arith, c.loop-matcher.invariant.number);
-      same_matchers = one_asked same i d _ c.note_matching.ensures.same_expression c.note_matching.ensures.same_whole;
+      same_matchers = one_asked same i d _ c.note_matching.ensures.same_expression c.note_matching.ensures.same_whole c.note_matching.ensures.same_room;
       steps = steps_more i _ _ _ _ c.loop-matcher.invariant.steps c.note_matching.ensures.steps;
     }
 
 pub returns-in_err-note_matching-clause-same_matchers : goal.returns-in_err-note_matching-clause-same_matchers
-returns-in_err-note_matching-clause-same_matchers g c = one_asked c.loop-matcher.invariant.same_matchers _ c.matcher-item.result _ c.note_matching.ensures.same_expression c.note_matching.ensures.same_whole
+returns-in_err-note_matching-clause-same_matchers g c = one_asked c.loop-matcher.invariant.same_matchers _ c.matcher-item.result _ c.note_matching.ensures.same_expression c.note_matching.ensures.same_whole c.note_matching.ensures.same_room
 
 pub returns-in_err-note_matching-clause-steps : goal.returns-in_err-note_matching-clause-steps
 returns-in_err-note_matching-clause-steps g c =

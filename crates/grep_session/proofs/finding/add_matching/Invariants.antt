@@ -1,5 +1,6 @@
 use Rattle.std.proofs.Common.{◌≡◌, ◌+◌, ◌*◌, length, map, take}
-use Rattle.re_search.specs.Searching.{AddsAtMost, SameMatchers}
+use Rattle.re_search.specs.Searching.{AddsAtMost}
+use Rattle.grep_session.specs.Working.Rooms.{SameBounded}
 use Rattle.grep_session.specs.Working.Kept.{AddsMatching}
 use Rattle.grep_session.proofs.finding.add_matching.Given as goal
 
@@ -8,6 +9,6 @@ abbrev pub invariant-loop-matcher : goal.invariant-loop-matcher
 invariant-loop-matcher g l = record {
   found : AddsMatching l.line l.options.line_regexp l.first (take l.matcher-index (map g.M.LineMatch.expression l.fn.matchers)) l.fn.numbers.items l.numbers.items;
   number : l.number ≡ l.first + l.matcher-index;
-  same_matchers : SameMatchers g.M.LineMatch.expression g.M.LineMatch.whole l.fn.matchers l.matchers;
+  same_matchers : SameBounded g.M.LineMatch.expression g.M.LineMatch.whole g.M.Bounded.room l.fn.matchers l.matchers;
   steps : AddsAtMost (l.matcher-index * (length l.line + 1)) l.fn.meter l.meter;
 }

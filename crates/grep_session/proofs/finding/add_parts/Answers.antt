@@ -1,7 +1,7 @@
 use Rattle.std.proofs.Common.{◌≡◌, ◌*◌, length, map, arith, sym, subst}
 use Rattle.std.proofs.lemmas.List.{length-map}
 use Rattle.re_search.specs.Searching.{AddsAtMost}
-use Rattle.re_search.proofs.lemmas.KeptMatchers.{none_asked, same_over}
+use Rattle.grep_session.proofs.lemmas.RoomLemmas.{none_asked, same_over}
 use Rattle.grep_core.specs.Cost.{search_cost}
 use Rattle.grep_core.proofs.lemmas.CostLaws.{adds_none, same_length}
 use Rattle.grep_session.proofs.lemmas.FindingLemmas.{SpansSoFar, spans_none, spans_next, spans_done, spans_cost, spans_more_cost}

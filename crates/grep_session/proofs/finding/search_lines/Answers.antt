@@ -2,7 +2,7 @@ use Rattle.std.proofs.Common.{◌≡◌, ◌≤◌, append-nil, arith, length, m
 use Rattle.std.proofs.lemmas.List.Elements.{All-push}
 use Rattle.std.proofs.lemmas.List.{map-append}
 use Rattle.std.specs.Vec.Iter.{into_iter_items}
-use Rattle.re_search.proofs.lemmas.KeptMatchers.{none_asked, same_over}
+use Rattle.grep_session.proofs.lemmas.RoomLemmas.{none_asked, same_over}
 use Rattle.re_search.specs.Searching.{AllAnswer}
 use Rattle.re_syntax.specs.Profile.{most_patterns}
 use Rattle.grep_session.specs.Working.Kept.{IsKept, SearchesAllKept, line_text}

@@ -1,6 +1,6 @@
 use Rattle.std.proofs.Common.{◌≡◌, ◌++◌, All, length, map}
 use Rattle.std.specs.Vec.Iter.{into_iter_items}
-use Rattle.re_search.specs.Searching.{SameMatchers}
+use Rattle.grep_session.specs.Working.Rooms.{SameBounded}
 use Rattle.grep_session.specs.Working.Kept.{IsKept, SearchesAllKept, line_text}
 use Rattle.grep_session.proofs.finding.search_lines.Given as goal
 
@@ -11,6 +11,6 @@ invariant-loop-text g l =
     × record {
       left : map line_text l.lines.items ++ map (λ t. t.items) (into_iter_items l.text-iterator) ≡ map (λ t. t.items) l.fn.texts.items;
       kept : All (IsKept (map g.M.LineMatch.expression l.fn.matchers) l.options) l.lines.items;
-      same_matchers : SameMatchers g.M.LineMatch.expression g.M.LineMatch.whole l.fn.matchers l.matchers;
+      same_matchers : SameBounded g.M.LineMatch.expression g.M.LineMatch.whole g.M.Bounded.room l.fn.matchers l.matchers;
       steps : SearchesAllKept (map g.M.LineMatch.expression l.fn.matchers) l.options (length l.fn.matchers) (map line_text l.lines.items) l.fn.meter l.meter;
     }

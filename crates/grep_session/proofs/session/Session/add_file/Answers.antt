@@ -9,6 +9,7 @@ use Rattle.grep_session.specs.Working.Kept.{IsFileKept, kept_file}
 use Rattle.grep_session.specs.Working.Sessions.{inputs_of}
 use Rattle.grep_session.proofs.lemmas.EditLemmas.{AreMatchers-same, takes_lines, newline_not_memory}
 use Rattle.grep_session.proofs.lemmas.AllPatternsRead.{takes_none}
+use Rattle.grep_session.proofs.lemmas.RoomLemmas.{keep_same}
 use Rattle.grep_session.proofs.session.Session.add_file.Goals as goal
 
 pub returns-in-Err-clause-steps : goal.returns-in-Err-clause-steps
@@ -43,6 +44,7 @@ invariant_of-self c =
       matchers = AreMatchers-same s.syntax s.options _ s.matchers.items _ c.self.invariant.matchers same.same_expressions same.same_wholes;
       few = subst (λ n. n ≤ most_patterns) (sym (same_length matched_expression _ _ same.same_expressions)) c.self.invariant.few;
       kept = subst (λ es. All (IsFileKept es s.options) s.files.items) (sym same.same_expressions) c.self.invariant.kept;
+      rooms = keep_same s.states s.matchers.items _ same.same_rooms c.self.invariant.rooms;
       some_states = c.self.invariant.some_states;
       few_states = c.self.invariant.few_states;
     }
@@ -55,6 +57,7 @@ invariant_of-self-in-Err-push_file c =
       matchers = AreMatchers-same s.syntax s.options _ s.matchers.items _ c.self.invariant.matchers same.same_expressions same.same_wholes;
       few = subst (λ n. n ≤ most_patterns) (sym (same_length matched_expression _ _ same.same_expressions)) c.self.invariant.few;
       kept = subst (λ es. All (IsFileKept es s.options) c.push_file.new.files.items) (sym same.same_expressions) (subst (All (IsFileKept (map matched_expression s.matchers.items) s.options)) (sym c.in-Err-push_file.ensures.err) c.self.invariant.kept);
+      rooms = keep_same s.states s.matchers.items _ same.same_rooms c.self.invariant.rooms;
       some_states = c.self.invariant.some_states;
       few_states = c.self.invariant.few_states;
     }
@@ -67,6 +70,7 @@ invariant_of-self-2 c =
       matchers = AreMatchers-same s.syntax s.options _ s.matchers.items _ c.self.invariant.matchers same.same_expressions same.same_wholes;
       few = subst (λ n. n ≤ most_patterns) (sym (same_length matched_expression _ _ same.same_expressions)) c.self.invariant.few;
       kept = subst (λ es. All (IsFileKept es s.options) c.push_file.new.files.items) (sym same.same_expressions) (subst (All (IsFileKept (map matched_expression s.matchers.items) s.options)) (sym c.in-Ok-push_file.ensures.ok) (All-push (IsFileKept (map matched_expression s.matchers.items) s.options) s.files.items _ c.self.invariant.kept c.in-Ok.ensures.ok));
+      rooms = keep_same s.states s.matchers.items _ same.same_rooms c.self.invariant.rooms;
       some_states = c.self.invariant.some_states;
       few_states = c.self.invariant.few_states;
     }

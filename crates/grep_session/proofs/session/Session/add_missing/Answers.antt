@@ -11,6 +11,7 @@ invariant_of-self c =
       matchers = c.self.invariant.matchers;
       few = c.self.invariant.few;
       kept = subst (All (IsFileKept (map matched_expression s.matchers.items) s.options)) (sym c.in-Err.ensures.err) c.self.invariant.kept;
+      rooms = c.self.invariant.rooms;
       some_states = c.self.invariant.some_states;
       few_states = c.self.invariant.few_states;
     }
@@ -23,6 +24,7 @@ invariant_of-self-2 c =
       matchers = c.self.invariant.matchers;
       few = c.self.invariant.few;
       kept = subst (All Kept) (sym c.in-Ok.ensures.ok) (All-push Kept s.files.items _ c.self.invariant.kept tt);
+      rooms = c.self.invariant.rooms;
       some_states = c.self.invariant.some_states;
       few_states = c.self.invariant.few_states;
     }

@@ -3,7 +3,7 @@ use Rattle.std.proofs.lemmas.List.{length-map, length-append, map-append}
 use Rattle.re_syntax.specs.Lines.{list_of}
 use Rattle.re_search.specs.Reading.{IsReadable}
 use Rattle.re_search.specs.declared.matcher.Matcher.{Matcher}
-use Rattle.re_search.specs.Working.Matchers.{matched_expression, wants_whole}
+use Rattle.re_search.specs.Working.Matchers.{matched_expression, wants_whole, room_of}
 use Rattle.grep_core.specs.Files.{AreMeant}
 use Rattle.grep_core.proofs.lemmas.CostLaws.{same_length}
 use Rattle.grep_session.specs.declared.change.Change.TheVariants.{Added}
@@ -13,10 +13,12 @@ use Rattle.re_syntax.specs.Profile.{most_patterns}
 use Rattle.grep_session.specs.Working.Kept.{IsFileKept}
 use Rattle.grep_core.specs.Working.MatcherLists.{AreMatchers}
 use Rattle.grep_session.specs.Working.Reading.{RefusesFirst}
+use Rattle.grep_session.specs.Working.Rooms.{KeepAtMost}
 use Rattle.grep_session.specs.Working.Sessions.{inputs_of}
 use Rattle.grep_session.proofs.lemmas.EditLemmas.{AreMatchers-same}
 use Rattle.grep_session.proofs.lemmas.AllPatternsRead.{takes_none}
 use Rattle.grep_session.proofs.lemmas.NewPatternLemmas.{were_there, have_come, taken_off, AreMatchers-append, refuses_new, takes_new}
+use Rattle.grep_session.proofs.lemmas.RoomLemmas.{keep_same, keep_both}
 use Rattle.grep_session.proofs.session.Session.add_patterns.Goals as goal
 
 pub returns-in-Err-read_matchers-clause-gives : goal.returns-in-Err-read_matchers-clause-gives
@@ -46,10 +48,12 @@ invariant_of-self-in-Err-change_columns c =
     let now = c.change_columns.new.matchers.items in
     let expressions = taken_off matched_expression s.matchers.items more all c.len-first.result both at now c.truncate.new.self.items c.change_columns.ensures.same_matchers.same_expressions c.truncate.ensures.items in
     let wholes = taken_off wants_whole s.matchers.items more all c.len-first.result both at now c.truncate.new.self.items c.change_columns.ensures.same_matchers.same_wholes c.truncate.ensures.items in
+    let rooms = taken_off room_of s.matchers.items more all c.len-first.result both at now c.truncate.new.self.items c.change_columns.ensures.same_matchers.same_rooms c.truncate.ensures.items in
     record {
       matchers = subst (λ ts. AreMatchers s.syntax s.options (map (λ text. text.items) ts) c.truncate.new.self.items) (sym c.reserve_texts.ensures.items) (AreMatchers-same s.syntax s.options _ s.matchers.items _ c.self.invariant.matchers expressions wholes);
       few = subst (λ n. n ≤ most_patterns) (sym (same_length matched_expression _ _ expressions)) c.self.invariant.few;
       kept = subst (All (IsFileKept (map matched_expression c.truncate.new.self.items) s.options)) (sym c.in-Err-change_columns.ensures.err) (subst (λ es. All (IsFileKept es s.options) s.files.items) (sym expressions) c.self.invariant.kept);
+      rooms = keep_same s.states s.matchers.items _ rooms c.self.invariant.rooms;
       some_states = c.self.invariant.some_states;
       few_states = c.self.invariant.few_states;
     }
@@ -134,6 +138,7 @@ invariant_of-self-2 c =
       matchers = AreMatchers-same s.syntax s.options _ all now (subst (λ ts. AreMatchers s.syntax s.options ts all) (sym all_texts) joined) same c.change_columns.ensures.same_matchers.same_wholes;
       few = (let less : length now ≤ most_patterns = omega (arith, as_many, sum, came, bound) in less);
       kept = c.in-Ok-change_columns.ensures.ok before (map matched_expression more) changed c.self.invariant.kept;
+      rooms = keep_same s.states all now c.change_columns.ensures.same_matchers.same_rooms (keep_both s.states s.matchers.items more all both c.self.invariant.rooms c.in-Ok-read_matchers.ensures.rooms);
       some_states = c.self.invariant.some_states;
       few_states = c.self.invariant.few_states;
     }
@@ -227,6 +232,7 @@ invariant_of-self c =
       matchers = subst (λ ts. AreMatchers s.syntax s.options (map (λ text. text.items) ts) s.matchers.items) (sym c.reserve_texts.ensures.items) c.self.invariant.matchers;
       few = c.self.invariant.few;
       kept = c.self.invariant.kept;
+      rooms = c.self.invariant.rooms;
       some_states = c.self.invariant.some_states;
       few_states = c.self.invariant.few_states;
     }
@@ -238,6 +244,7 @@ invariant_of-self-in-Err-add_matchers c =
       matchers = subst (λ ms. AreMatchers s.syntax s.options (map (λ text. text.items) c.reserve_texts.new.texts.items) ms) (sym c.in-Err-add_matchers.ensures.err) (subst (λ ts. AreMatchers s.syntax s.options (map (λ text. text.items) ts) s.matchers.items) (sym c.reserve_texts.ensures.items) c.self.invariant.matchers);
       few = subst (λ (ms : List Matcher). length ms ≤ most_patterns) (sym c.in-Err-add_matchers.ensures.err) c.self.invariant.few;
       kept = subst (λ ms. All (IsFileKept (map matched_expression ms) s.options) s.files.items) (sym c.in-Err-add_matchers.ensures.err) c.self.invariant.kept;
+      rooms = subst (KeepAtMost s.states) (sym c.in-Err-add_matchers.ensures.err) c.self.invariant.rooms;
       some_states = c.self.invariant.some_states;
       few_states = c.self.invariant.few_states;
     }

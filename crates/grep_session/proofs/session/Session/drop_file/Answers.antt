@@ -22,6 +22,7 @@ invariant_of-self c =
       matchers = c.self.invariant.matchers;
       few = c.self.invariant.few;
       kept = subst (All Kept) (sym c.remove.ensures.items) (All-remove Kept s.files.items c.args.k c.self.invariant.kept);
+      rooms = c.self.invariant.rooms;
       some_states = c.self.invariant.some_states;
       few_states = c.self.invariant.few_states;
     }

@@ -1,6 +1,6 @@
 use Rattle.std.proofs.Common.{◌≡◌, ◌+◌, ◌≤◌, ◌<◌, [], ◌∷◌, Ok, length, map, inl, refl, sym, ap, subst, ◌∙◌, arith, All, get_or}
 use Rattle.std.proofs.lemmas.List.{length-map, get_or-map}
-use Rattle.re_search.specs.Working.Matchers.{matched_expression, wants_whole}
+use Rattle.re_search.specs.Working.Matchers.{matched_expression, wants_whole, room_of}
 use Rattle.re_search.specs.Searching.{AllAnswer}
 use Rattle.grep_core.specs.Files.{Inputs}
 use Rattle.grep_core.proofs.lemmas.CostLaws.{same_length}
@@ -13,6 +13,7 @@ use Rattle.grep_session.proofs.lemmas.EditLemmas.{AreMatchers-same}
 use Rattle.grep_session.proofs.lemmas.SessionLemmas.{map-remove}
 use Rattle.grep_session.proofs.lemmas.DroppingLemmas.{AreMatchers-remove, All-remove}
 use Rattle.grep_session.proofs.lemmas.PatternLemmas.{takes_drop, put_back_same}
+use Rattle.grep_session.proofs.lemmas.RoomLemmas.{keep_same, keep_without}
 use Rattle.grep_session.proofs.session.Session.drop_parted.Goals as goal
 
 pub change_columns-requires-clause-whole : goal.change_columns-requires-clause-whole
@@ -33,10 +34,13 @@ invariant_of-self c =
     (c.change_columns.ensures.same_matchers.same_expressions ∙ map-remove matched_expression s.matchers.items left p c.remove-gone.ensures.items) c.put_back.ensures in
     let wholes = put_back_same wants_whole s.matchers.items now c.put_back.new.matchers.items p c.remove-gone.result within c.remove-gone.ensures.value
     (c.change_columns.ensures.same_matchers.same_wholes ∙ map-remove wants_whole s.matchers.items left p c.remove-gone.ensures.items) c.put_back.ensures in
+    let rooms = put_back_same room_of s.matchers.items now c.put_back.new.matchers.items p c.remove-gone.result within c.remove-gone.ensures.value
+    (c.change_columns.ensures.same_matchers.same_rooms ∙ map-remove room_of s.matchers.items left p c.remove-gone.ensures.items) c.put_back.ensures in
     record {
       matchers = AreMatchers-same s.syntax s.options _ s.matchers.items _ c.self.invariant.matchers expressions wholes;
       few = subst (λ n. n ≤ most_patterns) (sym (same_length matched_expression _ _ expressions)) c.self.invariant.few;
       kept = subst (All (IsFileKept (map matched_expression c.put_back.new.matchers.items) s.options)) (sym c.in-Err.ensures.err) (subst (λ es. All (IsFileKept es s.options) s.files.items) (sym expressions) c.self.invariant.kept);
+      rooms = keep_same s.states s.matchers.items _ rooms c.self.invariant.rooms;
       some_states = c.self.invariant.some_states;
       few_states = c.self.invariant.few_states;
     }
@@ -96,6 +100,7 @@ invariant_of-self-2 c =
       matchers = AreMatchers-same s.syntax s.options _ left.items now.items rest same c.change_columns.ensures.same_matchers.same_wholes;
       few = (let less : length now.items ≤ most_patterns = omega (arith, fewer_now, fewer, c.self.invariant.few) in less);
       kept = c.in-Ok.ensures.ok before (matched_expression gone ∷ []) changed c.self.invariant.kept;
+      rooms = keep_same s.states left.items now.items c.change_columns.ensures.same_matchers.same_rooms (keep_without s.states s.matchers.items left.items p c.remove-gone.ensures.items c.self.invariant.rooms);
       some_states = c.self.invariant.some_states;
       few_states = c.self.invariant.few_states;
     }

@@ -6,6 +6,7 @@ use Rattle.re_syntax.specs.Profile.{most_patterns}
 use Rattle.grep_session.specs.Working.Kept.{IsFileKept}
 use Rattle.grep_session.proofs.lemmas.SessionLemmas.{map-remove}
 use Rattle.grep_session.proofs.lemmas.DroppingLemmas.{AreMatchers-remove}
+use Rattle.grep_session.proofs.lemmas.RoomLemmas.{keep_without}
 use Rattle.grep_session.proofs.session.Session.drop_plain.Goals as goal
 
 pub invariant_of-self : goal.invariant_of-self
@@ -27,6 +28,7 @@ invariant_of-self c =
       matchers = AreMatchers-remove s.syntax s.options _ _ s.matchers.items left.items p (map-remove (λ text. text.items) s.texts.items texts.items p c.remove-4.ensures.items) c.remove.ensures.items many c.self.invariant.matchers;
       few = (let less : length left.items ≤ most_patterns = omega (arith, fewer, c.self.invariant.few) in less);
       kept = subst (λ fs. All (IsFileKept fs s.options) c.drop_column.new.files.items) (sym (map-remove matched_expression s.matchers.items left.items p c.remove.ensures.items)) kept;
+      rooms = keep_without s.states s.matchers.items left.items p c.remove.ensures.items c.self.invariant.rooms;
       some_states = c.self.invariant.some_states;
       few_states = c.self.invariant.few_states;
     }

@@ -9,6 +9,7 @@ use Rattle.grep_session.specs.Working.Kept.{IsFileKept}
 use Rattle.grep_session.specs.Working.Sessions.{inputs_of}
 use Rattle.grep_session.proofs.lemmas.EditLemmas.{AreMatchers-same}
 use Rattle.grep_session.proofs.lemmas.AllPatternsRead.{takes_parts, ready_files, AreMatchers-options}
+use Rattle.grep_session.proofs.lemmas.RoomLemmas.{keep_same}
 use Rattle.grep_session.proofs.session.Session.part_again.Goals as goal
 
 pub find_columns-requires-clause-whole : goal.find_columns-requires-clause-whole
@@ -52,6 +53,7 @@ invariant_of-self-2 c =
       matchers = AreMatchers-same s.syntax c.args.options _ s.matchers.items _ made same c.find_columns.ensures.same_matchers.same_wholes;
       few = subst (λ n. n ≤ most_patterns) (sym (same_length matched_expression _ _ same)) c.self.invariant.few;
       kept = c.in-Ok.ensures.ok;
+      rooms = keep_same s.states s.matchers.items _ c.find_columns.ensures.same_matchers.same_rooms c.self.invariant.rooms;
       some_states = c.self.invariant.some_states;
       few_states = c.self.invariant.few_states;
     }
@@ -72,6 +74,7 @@ invariant_of-self c =
       matchers = AreMatchers-same s.syntax s.options _ s.matchers.items _ c.self.invariant.matchers same c.find_columns.ensures.same_matchers.same_wholes;
       few = subst (λ n. n ≤ most_patterns) (sym (same_length matched_expression _ _ same)) c.self.invariant.few;
       kept = subst (All (IsFileKept (map matched_expression c.find_columns.new.matchers.items) s.options)) (sym c.in-Err.ensures.err) (subst (λ es. All (IsFileKept es s.options) s.files.items) (sym same) c.self.invariant.kept);
+      rooms = keep_same s.states s.matchers.items _ c.find_columns.ensures.same_matchers.same_rooms c.self.invariant.rooms;
       some_states = c.self.invariant.some_states;
       few_states = c.self.invariant.few_states;
     }

@@ -14,6 +14,7 @@ invariant_of-self c =
       matchers = AreMatchers-options s.syntax s.options c.args.options _ s.matchers.items whole case c.self.invariant.matchers;
       few = c.self.invariant.few;
       kept = kept_files (map matched_expression s.matchers.items) s.options c.args.options whole less s.files.items c.self.invariant.kept;
+      rooms = c.self.invariant.rooms;
       some_states = c.self.invariant.some_states;
       few_states = c.self.invariant.few_states;
     }

@@ -7,6 +7,7 @@ use Rattle.grep_session.specs.Working.Kept.{IsFileKept}
 use Rattle.grep_session.specs.Working.Sessions.{inputs_of}
 use Rattle.grep_session.proofs.lemmas.EditLemmas.{AreMatchers-same}
 use Rattle.grep_session.proofs.lemmas.AllPatternsRead.{takes_all, refuses_again}
+use Rattle.grep_session.proofs.lemmas.RoomLemmas.{keep_same}
 use Rattle.grep_session.proofs.session.Session.read_again.Goals as goal
 
 pub returns-in-Err-clause-gives : goal.returns-in-Err-clause-gives
@@ -36,6 +37,7 @@ invariant_of-self-2 c =
       matchers = AreMatchers-same c.args.syntax c.args.options _ c.in-Ok.matchers.items _ made same c.find_columns.ensures.same_matchers.same_wholes;
       few = subst (λ n. n ≤ most_patterns) (sym many) c.self.invariant.few;
       kept = c.in-Ok-find_columns.ensures.ok;
+      rooms = keep_same s.states c.in-Ok.matchers.items _ c.find_columns.ensures.same_matchers.same_rooms c.in-Ok.ensures.rooms;
       some_states = c.self.invariant.some_states;
       few_states = c.self.invariant.few_states;
     }
@@ -53,6 +55,7 @@ invariant_of-self c =
       matchers = c.self.invariant.matchers;
       few = c.self.invariant.few;
       kept = subst (All (IsFileKept (map matched_expression s.matchers.items) s.options)) (sym c.in-Err-find_columns.ensures.err) c.self.invariant.kept;
+      rooms = c.self.invariant.rooms;
       some_states = c.self.invariant.some_states;
       few_states = c.self.invariant.few_states;
     }

@@ -7,6 +7,7 @@ use Rattle.re_syntax.specs.Profile.{most_patterns}
 use Rattle.grep_session.specs.Working.Kept.{IsKept, IsFileKept, kept_lines, line_text}
 use Rattle.grep_session.specs.Working.Sessions.{inputs_of}
 use Rattle.grep_session.proofs.lemmas.EditLemmas.{AreMatchers-same, takes_lines, applies_splice, in_kept, put, kept_put, files_put, files_same, files_kept, refuses_splice, needs_for_lines, newline_not_memory, empty_map}
+use Rattle.grep_session.proofs.lemmas.RoomLemmas.{keep_same}
 use Rattle.grep_session.proofs.session.Session.splice.Goals as goal
 
 pub returns-in-Err-search_new-clause-steps : goal.returns-in-Err-search_new-clause-steps
@@ -59,6 +60,7 @@ invariant_of-self-2 c =
       matchers = AreMatchers-same s.syntax s.options _ s.matchers.items _ c.self.invariant.matchers same c.search_new.ensures.same_matchers.same_wholes;
       few = subst (λ n. n ≤ most_patterns) (sym (same_length matched_expression _ _ same)) c.self.invariant.few;
       kept = subst (λ es. All (IsFileKept es s.options) (slice_set s.files.items c.args.k c.put_in.new.file)) (sym same) kept;
+      rooms = keep_same s.states s.matchers.items _ c.search_new.ensures.same_matchers.same_rooms c.self.invariant.rooms;
       some_states = c.self.invariant.some_states;
       few_states = c.self.invariant.few_states;
     }
@@ -119,6 +121,7 @@ invariant_of-self c =
       matchers = AreMatchers-same s.syntax s.options _ s.matchers.items _ c.self.invariant.matchers same c.search_new.ensures.same_matchers.same_wholes;
       few = subst (λ n. n ≤ most_patterns) (sym (same_length matched_expression _ _ same)) c.self.invariant.few;
       kept = subst (λ es. All (IsFileKept es s.options) s.files.items) (sym same) c.self.invariant.kept;
+      rooms = keep_same s.states s.matchers.items _ c.search_new.ensures.same_matchers.same_rooms c.self.invariant.rooms;
       some_states = c.self.invariant.some_states;
       few_states = c.self.invariant.few_states;
     }
@@ -138,6 +141,7 @@ invariant_of-self-in-Err-put_in c =
       matchers = AreMatchers-same s.syntax s.options _ s.matchers.items _ c.self.invariant.matchers same c.search_new.ensures.same_matchers.same_wholes;
       few = subst (λ n. n ≤ most_patterns) (sym (same_length matched_expression _ _ same)) c.self.invariant.few;
       kept = subst (λ es. All (IsFileKept es s.options) (slice_set s.files.items c.args.k c.put_in.new.file)) (sym same) kept;
+      rooms = keep_same s.states s.matchers.items _ c.search_new.ensures.same_matchers.same_rooms c.self.invariant.rooms;
       some_states = c.self.invariant.some_states;
       few_states = c.self.invariant.few_states;
     }

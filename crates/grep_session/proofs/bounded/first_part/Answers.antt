@@ -1,0 +1,30 @@
+use Rattle.std.proofs.Common.{◌≡◌, map, take, arith, take_all}
+use Rattle.std.proofs.lemmas.List.{length-map}
+use Rattle.re_search.proofs.lemmas.OneMatcherMore.{one_more, value_at, within, part_more, steps_more}
+use Rattle.grep_session.proofs.lemmas.RoomLemmas.{one_asked}
+use Rattle.grep_session.proofs.bounded.first_part.Goals as goal
+
+pub loop-matcher-preserved : goal.loop-matcher-preserved
+loop-matcher-preserved g c =
+    let expression = g.M.LineMatch.expression in
+    let whole = g.M.LineMatch.whole in
+    let old = c.args.matchers.now in
+    let now = c.loop-matcher.matchers in
+    let i = c.loop-matcher.matcher-index in
+    let d = c.matcher-item.result in
+    let same = c.loop-matcher.invariant.same_matchers in
+    let es = same.same_expressions in
+    let ws = same.same_wholes in
+    let h = c.loop-matcher-test.true in
+    record {
+      told = part_more _ _ _ i _ _ (within whole old now ws i d h).1 (value_at whole old now ws i d h _) _ _ _ _ (one_more expression old now es i d h) c.better-best.ensures
+          c.loop-matcher.invariant.told c.part-found.ensures.told;
+      same_matchers = one_asked same i d _ c.part-found.ensures.same_expression c.part-found.ensures.same_whole c.part-found.ensures.same_room;
+      steps = steps_more i _ _ _ _ c.loop-matcher.invariant.steps c.part-found.ensures.steps;
+    }
+
+pub returns-clause-told : goal.returns-clause-told
+returns-clause-told g c =
+    let es = map g.M.LineMatch.expression c.args.matchers.now in
+    let all : take c.loop-matcher.matcher-index es ≡ es = take_all _ _ (omega (arith, length-map c.args.matchers.now g.M.LineMatch.expression)) in
+    rw all at (c.loop-matcher.invariant.told)
