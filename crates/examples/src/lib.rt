@@ -1,4 +1,5 @@
-//! The code that the pages show: nothing but examples, each with a test.
+//! The code that the pages show, and calls of the worked commands: nothing but examples, each with a
+//! test.
 #![tactic(auto)]
 
 #[cfg(test)]
@@ -17,3 +18,5 @@ mod trees;
 mod utility;
 #[cfg(test)]
 mod watched;
+#[cfg(test)]
+mod worked;

@@ -9,3 +9,8 @@ pub mod TellingLemmas
 pub mod CommandLemmas
 pub mod CountLemmas
 pub mod ServingLemmas
+pub mod KnownLemmas
+pub mod FullLemmas
+pub mod WorkedLemmas
+pub mod MemoryLemmas
+pub mod BrokenLemmas

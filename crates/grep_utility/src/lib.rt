@@ -3,6 +3,7 @@
 
 mod command;
 mod files;
+mod laws;
 mod matchers;
 mod memory;
 mod number;
@@ -15,9 +16,11 @@ mod telling;
 mod texts;
 mod usage;
 mod words;
+mod worked;
 
 pub use command::run_grep;
 pub use files::Files;
+pub use laws::{broken_follows, failures_tell, row_follows, words_tell};
 pub use matchers::matchers_of;
 pub use memory::{Content, MemoryFile, MemoryFiles, MemoryReader};
 pub use number::read_number;
@@ -27,3 +30,4 @@ pub use usage::write_usage_fault;
 pub use words::around::Side;
 pub use words::pieces::{Argument, Meaning, meaning_of_option};
 pub use words::{PatternSource, Request, UsageFault, read_words};
+pub use worked::{run_broken, run_row};

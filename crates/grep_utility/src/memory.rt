@@ -1,14 +1,55 @@
 //! Files in memory, for tests of searches and of whole commands.
-ghost use Rattle.std.specs.Prelude.{◌≡◌, MatchOption, option_map, option_copied, find, bytes_eq};
+ghost use Rattle.std.specs.Prelude.{◌≡◌, length, MatchOption, option_map, option_copied, find, bytes_eq};
 ghost use Rattle.grep_core.specs.Counted.{one_more};
 ghost use Rattle.grep_core.specs.Run.{count_more};
-ghost use Rattle.grep_utility.specs.Working.Memory.{content_named, fresh_reader};
+ghost use Rattle.grep_utility.specs.Working.Memory.{content_named, fresh_reader, next_count};
+ghost use Rattle.grep_utility.specs.Working.Memory.{IsSameHistory};
 
 use crate::files::Files;
-use grep_core::{CountedRead, Limited, Sources, Tally};
+use grep_core::{CountedRead, Sources};
 
-/// What reads bytes in memory.
-pub type MemoryReader<'a> = Tally<Limited<&'a [u8]>>;
+/// What reads bytes in memory. Each read fails once as many bytes were read as the content allows,
+/// and none before that.
+#[derive(Drop)]
+pub struct MemoryReader<'a> {
+    rest: &'a [u8],
+    step: usize,
+    left: usize,
+    failures: u64,
+}
+
+impl MemoryReader<'_> {
+    /// How many bytes the next read moves, with room for this many.
+    fn next_count(&self, room: usize) -> usize
+        ensures { result ≡ next_count room self.now.step self.now.left (length self.now.rest.now) }
+    {
+        room.min(self.step).min(self.left).min(self.rest.len())
+    }
+}
+
+impl CountedRead for MemoryReader<'_> {
+    ghost use Rattle.grep_utility.specs.Working.Memory.{bytes_left};
+
+    ghost remaining = { bytes_left };
+
+    ghost failures = { λ r. r.failures };
+
+    fn pull(&mut self, into: &mut [u8]) -> Option<usize> {
+        if self.left == 0 || self.failures > 0 {
+            self.failures = self.failures.saturating_add(1);
+            return None;
+        }
+        let n = self.next_count(into.len());
+        into[..n].copy_from_slice(&self.rest[..n]);
+        self.rest = &self.rest[n..];
+        self.left -= n;
+        Some(n)
+    }
+
+    fn failures(&self) -> u64 {
+        self.failures
+    }
+}
 
 /// Bytes in memory, and how far they are read.
 #[derive(Clone, Copy, Debug, Drop)]
@@ -36,7 +77,12 @@ impl<'a> Content<'a> {
     fn reader(self) -> MemoryReader<'a>
         ensures { result ≡ fresh_reader self.entry }
     {
-        Tally::new(Limited::new(self.bytes, self.step, self.left))
+        MemoryReader {
+            rest: self.bytes,
+            step: self.step,
+            left: self.left,
+            failures: 0,
+        }
     }
 }
 
@@ -58,17 +104,29 @@ pub struct MemoryFiles<'f, 'a> {
     pub input: Content<'a>,
     /// How many attempts to open a file, and reads of returned readers, have failed.
     pub failed: u64,
+    /// How many readers were returned.
+    pub returned: u64,
+    /// How many reads of returned readers have failed.
+    pub broken: u64,
 }
 
 impl<'f, 'a> MemoryFiles<'f, 'a> {
     /// These files, and this standard input, of which nothing was used.
     pub fn new(files: &'f [MemoryFile<'a>], input: Content<'a>) -> MemoryFiles<'f, 'a>
-        ensures { result ≡ record { files = files.entry; input = input.entry; failed = 0 } }
+        ensures { result ≡ record {
+          files = files.entry;
+          input = input.entry;
+          failed = 0;
+          returned = 0;
+          broken = 0;
+        } }
     {
         MemoryFiles {
             files,
             input,
             failed: 0,
+            returned: 0,
+            broken: 0,
         }
     }
 
@@ -76,6 +134,7 @@ impl<'f, 'a> MemoryFiles<'f, 'a> {
     fn open_content(&mut self, content: Option<Content<'a>>) -> Option<MemoryReader<'a>>
         ensures files { self.new.files ≡ self.old.files }
         ensures input { self.new.input ≡ self.old.input }
+        ensures none_back { IsSameHistory self.old self.new }
         ensures counted { MatchOption content.entry (self.new.failed ≡ one_more self.old.failed)
             (λ _. self.new.failed ≡ self.old.failed) }
         ensures opened { result ≡ option_map fresh_reader content.entry }
@@ -86,14 +145,19 @@ impl<'f, 'a> MemoryFiles<'f, 'a> {
         Some(content?.reader())
     }
 
-    /// Counts the failures of a reader that is returned.
+    /// Counts a reader that is returned, and its failures.
     #[tactic(auto, using(crate::proofs::lemmas::CountLemmas::many_counted))]
     fn count_failures(&mut self, reader: MemoryReader<'a>)
         ensures files { self.new.files ≡ self.old.files }
         ensures input { self.new.input ≡ self.old.input }
-        ensures counted { self.new.failed ≡ count_more self.old.failed reader.entry.failed }
+        ensures returned { self.new.returned ≡ one_more self.old.returned }
+        ensures broken { self.new.broken ≡ count_more self.old.broken reader.entry.failures }
+        ensures counted { self.new.failed ≡ count_more self.old.failed reader.entry.failures }
     {
-        self.failed = self.failed.saturating_add(reader.failures());
+        let failures = reader.failures();
+        self.returned = self.returned.saturating_add(1);
+        self.broken = self.broken.saturating_add(failures);
+        self.failed = self.failed.saturating_add(failures);
     }
 }
 
@@ -115,7 +179,7 @@ fn content_named<'a>(files: &[MemoryFile<'a>], name: &str) -> Option<Content<'a>
 }
 
 impl<'a> Files for MemoryFiles<'_, 'a> {
-    ghost use Rattle.grep_utility.specs.Working.Memory.{folder_of};
+    ghost use Rattle.grep_utility.specs.Working.Memory.{folder_of, returned_by};
 
     type Reader = MemoryReader<'a>;
 
@@ -123,12 +187,16 @@ impl<'a> Files for MemoryFiles<'_, 'a> {
 
     ghost failures = { λ m. m.failed };
 
+    ghost given_back = { returned_by };
+
+    #[tactic(auto, using(crate::proofs::lemmas::MemoryLemmas::same_history))]
     fn standard(&mut self) -> MemoryReader<'a> {
         let reader = self.input.reader();
         self.input = Content::new(b"");
         reader
     }
 
+    #[tactic(auto, using(crate::proofs::lemmas::MemoryLemmas::same_history))]
     fn open(&mut self, name: &str) -> Option<MemoryReader<'a>> {
         let content = content_named(self.files, name);
         self.open_content(content)
@@ -145,13 +213,15 @@ impl<'a> Files for MemoryFiles<'_, 'a> {
 
 impl<'a> Sources for MemoryFiles<'_, 'a> {
     ghost use Rattle.std.specs.Prelude.{map};
-    ghost use Rattle.grep_utility.specs.Working.Memory.{source_of};
+    ghost use Rattle.grep_utility.specs.Working.Memory.{source_of, returned_by};
 
     type Reader = MemoryReader<'a>;
 
     ghost listed = { λ m. map source_of m.files.now };
 
     ghost failures = { λ m. m.failed };
+
+    ghost given_back = { returned_by };
 
     fn count(&self) -> usize {
         self.files.len()
@@ -161,6 +231,7 @@ impl<'a> Sources for MemoryFiles<'_, 'a> {
         self.files[k].name.as_bytes()
     }
 
+    #[tactic(auto, using(crate::proofs::lemmas::MemoryLemmas::same_history))]
     fn open(&mut self, k: usize) -> Option<MemoryReader<'a>> {
         let content = self.files[k].content;
         self.open_content(content)

@@ -1,5 +1,5 @@
 //! The matchers of a search: one for all strings together, or one for each pattern.
-ghost use Rattle.std.specs.Prelude.{◌≡◌, ◌⊎◌, [], ◌∷◌, nat_lt, All, IsTrue, IfOk, IfErr};
+ghost use Rattle.std.specs.Prelude.{◌≡◌, ◌+◌, ◌^◌, ◌≤◌, ◌⊎◌, [], ◌∷◌, nat_lt, All, IsTrue, IfOk, IfErr};
 ghost use Rattle.std.specs.Prelude.{length, map};
 ghost use Rattle.std.specs.Option.{ForSome};
 ghost use Rattle.re_syntax.specs.Lines.{lines_of};
@@ -8,6 +8,7 @@ ghost use Rattle.re_search.specs.Working.Filters.{AreNeeded};
 ghost use Rattle.re_search.specs.Reading.{IsOutOfMemory};
 ghost use Rattle.re_search.specs.Working.Matchers.{matched_expression};
 ghost use Rattle.grep_core.specs.Matchers.{IsFirstRefused};
+ghost use Rattle.grep_core.specs.Working.MatcherLists.{AreMatchers};
 ghost use Rattle.grep_utility.specs.Working.Serving.{ServeFor, IsJoined, IsStringFor};
 
 use crate::matchers::matchers_of;
@@ -18,6 +19,10 @@ use std::alloc::{AllocError, Global};
 
 /// How many patterns may be looked for one after another; one pass for more of them is quicker.
 const FEW: usize = 7;
+
+/// How many bytes the patterns may have that one pass looks for. They have at most one beginning
+/// more than bytes, and the pass numbers its beginnings in 32 bits.
+const MOST_BYTES: usize = 4_294_967_294;
 
 /// What a search asks of each line.
 #[derive(Drop)]
@@ -30,7 +35,8 @@ pub struct Searchers {
 }
 
 /// The matchers of a search for the patterns, which are the lines of `texts`: one for all of them
-/// together, where they are many and each is a string, and else one for each.
+/// together, where they are many, each is a string, and `texts` has less than 2^32 - 1 bytes; else
+/// one for each.
 ///
 /// # Errors
 ///
@@ -43,13 +49,18 @@ pub fn searchers_of(
 ) -> Result<Searchers, (usize, PatternFault)>
     ensures ok { IfOk result
         (λ s. ServeFor syntax options.now (lines_of texts.now) s.matchers.items) }
+    ensures separate { 2 ^ 32 ≤ length texts.now + 1 → IfOk result
+        (λ s. AreMatchers syntax options.now (lines_of texts.now) s.matchers.items) }
     ensures needed { IfOk result
         (λ s.
         ForSome s.needed (λ strings. AreNeeded strings (map matched_expression s.matchers.items))) }
     ensures err { IfErr result (λ refused. IsOutOfMemory refused.1
         ⊎ IsFirstRefused syntax options.now.ignore_case (lines_of texts.now) refused.0 refused.1) }
 {
-    if has_more_than(FEW, texts) && are_strings(alloc, texts, syntax, options.ignore_case) {
+    if has_more_than(FEW, texts)
+        && texts.len() <= MOST_BYTES
+        && are_strings(alloc, texts, syntax, options.ignore_case)
+    {
         let Ok(matchers) = joined(alloc, texts, options) else {
             let kind = FaultKind::Memory;
             return Err((0, PatternFault { kind, at: 0 }));

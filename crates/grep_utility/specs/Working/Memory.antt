@@ -1,26 +1,33 @@
 -- Files in memory.
-use Rattle.std.specs.Prelude.{List, find, Option, Some, is_some, option_and_then, bytes_eq}
-use Rattle.std.specs.Borrow.{Bor}
+use Rattle.std.specs.Prelude.{◌≡◌, ℕ, min, nat_eq, List, [], find, Option, Some, is_some}
+use Rattle.std.specs.Prelude.{option_and_then, bytes_eq, if◌then◌else◌}
 use Rattle.re_syntax.specs.Bytes.{Text}
-use Rattle.grep_core.specs.Counted.{Tallied}
 use Rattle.grep_core.specs.Working.Limited.{limited}
-use Rattle.grep_core.specs.declared.devices.limited.Limited.{Limited}
 use Rattle.grep_core.specs.Reading.{Source}
 use Rattle.grep_utility.specs.declared.memory.Content.{Content}
 use Rattle.grep_utility.specs.declared.memory.MemoryFile.{MemoryFile}
+use Rattle.grep_utility.specs.declared.memory.MemoryFiles.{MemoryFiles}
+use Rattle.grep_utility.specs.declared.memory.MemoryReader.{MemoryReader}
 use Rattle.grep_utility.specs.Folder.{Folder}
+use Rattle.grep_utility.specs.Working.Returned.{HasReturned}
 
 -- the bytes that reads of the content give
 abbrev pub bytes_of : Content → Option Text
 bytes_of content = limited content.step content.left (Some content.bytes.now)
 
 -- a reader of the content, of which no read has failed
-abbrev pub fresh_reader : Content → Tallied (Limited (Bor Text))
+abbrev pub fresh_reader : Content → MemoryReader
 fresh_reader content =
-    record {
-      device = record { inner = content.bytes; step = content.step; left = content.left };
-      failed = 0;
-    }
+    record { rest = content.bytes; step = content.step; left = content.left; failures = 0 }
+
+-- the bytes that reads of it will give: none once a read failed
+abbrev pub bytes_left : MemoryReader → Option Text
+bytes_left r =
+    if nat_eq r.failures 0 then limited r.step r.left (Some r.rest.now) else Some []
+
+-- how many bytes a read moves
+abbrev pub next_count : ℕ → ℕ → ℕ → ℕ → ℕ
+next_count room step left there = min (min (min room step) left) there
 
 -- a file of this content, if it has any
 abbrev pub source_with : Text → Option Content → Source
@@ -42,3 +49,11 @@ folder_of files input = record {
   bytes = λ name. option_and_then bytes_of (content_named files name);
   input = bytes_of input;
 }
+
+-- what the returned readers had left, as the counts of the files say it
+abbrev pub returned_by : MemoryFiles → List (Option Text) → Type 0
+returned_by m left = HasReturned m.returned m.broken left
+
+-- no reader was returned between the two
+abbrev pub IsSameHistory : MemoryFiles → MemoryFiles → Type 0
+IsSameHistory old new = (new.returned ≡ old.returned) × (new.broken ≡ old.broken)

@@ -1,0 +1,155 @@
+-- A command that searches known sources, of which the count of failures says that no read failed.
+use Rattle.std.proofs.Common.{◌≡◌, ℕ, zero, suc, ◌+◌, ◌^◌, ◌-◌, ◌<◌, min, nat_lt, false, List, [], ◌∷◌, ◌++◌, length, Option, Ok, Err, All, MatchBool, MatchResult, Result, refl, sym, ap, ◌∙◌, subst, arith, append-nil, ◌⊎◌, inl, inr}
+use Rattle.std.specs.Bool.{⊤}
+use Rattle.std.proofs.lemmas.List.Elements.{All-get_or}
+use Rattle.std.proofs.lemmas.Bool.{le-ltb}
+use Rattle.std.proofs.KnownBytes.{Appends-nil}
+use Rattle.re_syntax.specs.declared.syntax.Syntax.{Syntax}
+use Rattle.re_syntax.specs.Bytes.{Text}
+use Rattle.re_syntax.specs.Expression.{Expression}
+use Rattle.re_syntax.specs.Lines.{list_of}
+use Rattle.re_syntax.specs.Profile.{most_patterns}
+use Rattle.re_search.specs.Reading.{IsReadable}
+use Rattle.grep_core.specs.declared.options.Options.{Options}
+use Rattle.grep_core.specs.declared.status.Status.{Status}
+use Rattle.grep_core.specs.declared.status.RunFault.{RunFault}
+use Rattle.grep_core.specs.declared.status.RunFault.TheVariants.{Write, MessageWrite, Memory}
+use Rattle.grep_core.specs.Counted.{one_more}
+use Rattle.grep_core.specs.Files.{AreMeant}
+use Rattle.grep_core.specs.Matchers.{IsFirstRefused}
+use Rattle.grep_core.specs.Output.{Out}
+use Rattle.grep_core.specs.Messages.{Messages, StatusOf}
+use Rattle.grep_core.specs.Reading.{Source, Reading}
+use Rattle.grep_core.specs.Run.{Writer, Devices, TakesAll, files_of, count_more, RunGives, Finishes}
+use Rattle.grep_core.proofs.lemmas.WriterLaws.{TakesAll-more}
+use Rattle.grep_core.proofs.lemmas.LawsHold.{means_one}
+use Rattle.grep_core.proofs.lemmas.Determined.{Out-determined, Messages-determined, StatusOf-determined}
+use Rattle.grep_utility.specs.Command.{status_number, TellsLines, GivesUp, EndsAfter, SearchEnds, SearchesNamed, RefusesPattern, DoesForPatterns, DoesForRequest, CommandGives}
+use Rattle.grep_utility.specs.Folder.{Folder, sources_named, searched}
+use Rattle.grep_utility.specs.Working.Known.{IsKnown, in_full, unopened, TellsMemory, Wrote, Foretells, FailuresAre, WordsTell}
+use Rattle.grep_utility.specs.Patterns.{Unread, FirstUnread}
+use Rattle.grep_utility.specs.Texts.{out_of_memory, too_many_patterns, usage_texts}
+use Rattle.grep_utility.specs.Words.{Asked, PatternsFrom, list, read}
+use Rattle.grep_utility.proofs.lemmas.KnownLemmas.{all_in_full}
+
+-- a count that begins at 0 is the number of failures, where it is less than the greatest
+pub few_counted : (n m : ℕ) → m ≡ count_more 0 n → m < 2 ^ 64 - 1 → n ≡ m
+few_counted zero m is few = sym is
+few_counted (suc n) m is few =
+    let one : m ≡ min (count_more 0 n + 1) (2 ^ 64 - 1) = is in
+    let before : n ≡ count_more 0 n = few_counted n (count_more 0 n) refl (omega (arith, one, few)) in
+    omega (arith, one, few, before)
+
+-- a failure that was counted is no 0
+some_failed : (n m : ℕ) → m ≡ one_more n → m ≡ 0 → ⊥
+some_failed n m is none = let one : m ≡ min (n + 1) (2 ^ 64 - 1) = is in omega (arith, one, none)
+
+-- the message was told, since no write failed
+tells_memory : (old between new : Writer) (told : List Text) → TakesAll old between told → TellsLines between new (out_of_memory ∷ []) → new.failures ≡ 0 → TellsMemory old new
+tells_memory old between new told before (inl all) none = (told, TakesAll-more old between new told (out_of_memory ∷ []) before all)
+tells_memory old between new told before (inr front) none = absurd (some_failed between.failures new.failures front.1 none)
+
+nothing_told : (w : Writer) → TakesAll w w []
+nothing_told w = record { written_all = Appends-nil w.contents; none_failed = refl }
+
+-- known sources of which no more failures are counted than there are sources that cannot be opened
+-- were read in full
+full_readings : (options : Options) → options.quiet ≡ false → options.files_with_matches ≡ false → (es : List Expression) (sources : List Source) → All IsKnown sources → (given : List (Option Text) → Type 0) (old new between : Devices)
+    → old.source_failures ≡ 0 → new.source_failures ≡ unopened sources → unopened sources < 2 ^ 64 - 1 → (s : Status) (h : Finishes es options sources given old between s) → new ≡ between → h.readings ≡ in_full sources
+full_readings options loud plain es sources known given old new between from_none counted few s h same =
+    let n_is : h.failures ≡ unopened sources =
+    few_counted h.failures (unopened sources) (sym counted ∙ ap (λ (d : Devices). d.source_failures) same ∙ h.counted ∙ ap (λ n. count_more n h.failures) from_none) few in
+    all_in_full es options loud plain sources h.readings h.failures known h.are_readings h.are_failures (omega (arith, n_is))
+
+-- what the search gives where its counts tell how the sources were read
+module _ (options : Options) (es : List Expression) (sources : List Source) (readings : List Reading) (output messages : List Text) (found : Status)
+    (is_output : Out es options (files_of sources readings) output) (are_messages : Messages es options (files_of sources readings) messages) (is_status : StatusOf es options (files_of sources readings) found)
+    (given : List (Option Text) → Type 0) (old new : Devices) (status : ℕ) (determined : (between : Devices) (s : Status) (h : Finishes es options sources given old between s) → new ≡ between → h.readings ≡ readings)
+    (out_kept : new.out.failures ≡ 0) (messages_kept : new.messages.failures ≡ 0) where
+  finishes : (between : Devices) (s : Status) → Finishes es options sources given old between s → (status ≡ status_number s) → new ≡ between → Wrote output messages found old new status
+  finishes between s h is same =
+      let full : h.readings ≡ readings = determined between s h same in
+      let output_is : h.output ≡ output = Out-determined es options (files_of sources readings) h.output output (subst (λ rs. Out es options (files_of sources rs) h.output) full h.is_output) is_output in
+      let messages_are : h.messages ≡ messages = Messages-determined es options (files_of sources readings) h.messages messages (subst (λ rs. Messages es options (files_of sources rs) h.messages) full h.are_messages) are_messages in
+      let found_is : s ≡ found = StatusOf-determined es options (files_of sources readings) s found (subst (λ rs. StatusOf es options (files_of sources rs) s) full h.is_status) is_status in
+      record {
+        wrote = subst (λ (d : Devices). TakesAll old.out d.out output) (sym same) (subst (λ o. TakesAll old.out between.out o) output_is h.wrote);
+        told = subst (λ (d : Devices). TakesAll old.messages d.messages messages) (sym same) (subst (λ o. TakesAll old.messages between.messages o) messages_are h.told);
+        is_status = is ∙ ap status_number found_is;
+      }
+
+  run_ends : (between : Devices) (result : Result Status RunFault) → RunGives es options sources given old between result → EndsAfter result between new status → Wrote output messages found old new status ⊎ TellsMemory old.messages new.messages
+  run_ends between (Ok s) h e = inl (finishes between s h e.0 e.1)
+  run_ends between (Err Write) h e = absurd (some_failed old.out.failures between.out.failures h.1 (sym (ap (λ (w : Writer). w.failures) e.none_written) ∙ out_kept))
+  run_ends between (Err MessageWrite) h e = absurd (some_failed old.messages.failures between.messages.failures h.2 (sym (ap (λ (d : Devices). d.messages.failures) e.1) ∙ messages_kept))
+  run_ends between (Err (Memory k n)) h e = inr (tells_memory old.messages between.messages new.messages h.messages h.told e.told messages_kept)
+
+  pub search_ends : SearchEnds es options sources given old new status → Wrote output messages found old new status ⊎ TellsMemory old.messages new.messages
+  search_ends h = run_ends h.between h.found h.runs h.ends
+
+-- what the command gives where its pattern list is known, and its counts tell how the files were
+-- read
+module _ (syntax : Syntax) (options : Options) (text : Text) (files : List Text) (few_patterns : nat_lt most_patterns (length (list_of text)) ≡ false)
+    (readable : All (IsReadable syntax options.ignore_case) (list_of text)) (es : List Expression) (are_meant : AreMeant syntax options (list_of text) es)
+    (folder : Folder) (readings : List Reading) (output messages : List Text) (found : Status) (is_output : Out es options (files_of (sources_named folder (searched files)) readings) output)
+    (are_messages : Messages es options (files_of (sources_named folder (searched files)) readings) messages) (is_status : StatusOf es options (files_of (sources_named folder (searched files)) readings) found)
+    (given : List (Option Text) → Type 0) (old new : Devices) (status : ℕ)
+    (determined : (before : List (Option Text)) (between : Devices) (s : Status) (h : Finishes es options (sources_named folder (searched files)) (λ left. given (before ++ left)) old between s) → new ≡ between → h.readings ≡ readings)
+    (out_kept : new.out.failures ≡ 0) (messages_kept : new.messages.failures ≡ 0) where
+  abbrev asked_for : Asked
+  asked_for = record { syntax = syntax; options = options; sources = list text ∷ []; files = files }
+
+  abbrev Gives : Type 0
+  Gives = Wrote output messages found old new status ⊎ TellsMemory old.messages new.messages
+
+  out_of : GivesUp old new (out_of_memory ∷ []) 0 status → Gives
+  out_of h = inr (tells_memory old.messages old.messages new.messages [] (nothing_told old.messages) h.told messages_kept)
+
+  none_refused : (place : ℕ) (fault : _) → IsFirstRefused syntax options.ignore_case (list_of text) place fault → ⊥
+  none_refused place fault first = first.unreadable (All-get_or (IsReadable syntax options.ignore_case) (list_of text) place [] first.in_texts readable)
+
+  named : (before : List (Option Text)) → SearchesNamed asked_for folder (list_of text) (λ left. given (before ++ left)) old new status → Gives
+  named before h =
+      let same : h.es ≡ es = means_one syntax options (list_of text) h.es es h.are_meant are_meant in
+      search_ends options es (sources_named folder (searched files)) readings output messages found is_output are_messages is_status (λ left. given (before ++ left)) old new status (determined before) out_kept messages_kept
+      (subst (λ ds. SearchEnds ds options (sources_named folder (searched files)) (λ left. given (before ++ left)) old new status) same h.ends)
+
+  for_patterns : (before : List (Option Text)) → DoesForPatterns asked_for folder (list_of text) (λ left. given (before ++ left)) old new status → Gives
+  for_patterns before h = chosen (subst (λ b. MatchBool b (GivesUp old new (too_many_patterns ∷ []) 0 status) (RefusesPattern asked_for folder (list_of text) (λ left. given (before ++ left)) old new status ⊎ SearchesNamed asked_for folder (list_of text) (λ left. given (before ++ left)) old new status)) few_patterns h)
+    where
+      chosen : RefusesPattern asked_for folder (list_of text) (λ left. given (before ++ left)) old new status ⊎ SearchesNamed asked_for folder (list_of text) (λ left. given (before ++ left)) old new status → Gives
+      chosen (inl refused) = absurd (none_refused refused.place refused.fault refused.is_first)
+      chosen (inr h) = named before h
+
+  for_request : DoesForRequest folder given old new status asked_for → Gives
+  for_request (inl h) = none_unread h.0 h.1
+    where
+      none_unread : (unread : Unread) → FirstUnread folder (list text ∷ []) unread → Gives
+      none_unread unread (inl is) = let no : ⊥ = cc is in absurd no
+      none_unread unread (inr h) = absurd h.2
+  for_request (inr h) =
+      let first : h.2.0 ≡ list_of text = cc h.2.2 in
+      let texts_are : h.0 ≡ list_of text = h.2.4 ∙ ap (λ ts. ts ++ h.2.1) first ∙ ap (λ ts. list_of text ++ ts) h.2.3 ∙ append-nil (list_of text) in
+      for_patterns h.1 (subst (λ ts. DoesForPatterns asked_for folder ts (λ left. given (h.1 ++ left)) old new status) texts_are h.3)
+
+  -- all is written as for files that are read in full, unless memory runs out
+  pub command_gives : (words : List Text) → read words ≡ Ok asked_for → CommandGives folder given old new status words → Gives
+  command_gives words is (inr h) = out_of h
+  command_gives words is (inl h) = for_request (subst (λ r. MatchResult r (DoesForRequest folder given old new status) (λ fault. GivesUp old new (usage_texts fault) 0 status)) is h)
+
+-- what is foretold is given
+pub foretold : (folder : Folder) (words output messages : List Text) (missing : ℕ) (found : Status) → Foretells folder words missing output messages found → (given : List (Option Text) → Type 0) (old new : Devices) (status : ℕ)
+    → CommandGives folder given old new status words → FailuresAre missing old new → Wrote output messages found old new status ⊎ TellsMemory old.messages new.messages
+foretold folder words output messages missing found f given old new status h n =
+    let a = f.asked in
+    let least = f.few_patterns in
+    let sum = f.are_missing in
+    let few = n.few in
+    let sources = sources_named folder (searched a.files) in
+    command_gives a.syntax a.options f.text a.files (le-ltb most_patterns (length (list_of f.text)) least) f.readable f.es f.are_meant folder (in_full sources) output messages found f.is_output f.are_messages f.is_status given old new status
+    (λ before between s run same. full_readings a.options f.loud f.all_lines f.es sources f.known (λ left. given (before ++ left)) old new between n.from_none (n.counted ∙ sym sum) (omega (arith, sum, few)) s run same)
+    n.output_kept n.messages_kept words (f.is_read ∙ ap (λ (s : List PatternsFrom). Ok (record a { sources = s })) f.one_list) h
+
+-- the words tell all that is written
+pub words_tell : WordsTell
+words_tell folder words output messages missing found f old new status h n = foretold folder words output messages missing found f (λ left. ⊤) old new status h n

@@ -1,0 +1,139 @@
+-- Known sources, of which the number of failures says that no read failed.
+use Rattle.std.proofs.Common.{◌≡◌, ℕ, ◌+◌, ◌-◌, ◌^◌, ◌≤◌, min, Bool, true, false, ◌||◌, if◌then◌else◌, IsTrue, List, [], ◌∷◌, ◌++◌, length, Option, None, Some, IfSome, All, Any, append-nil, refl, sym, ap, ◌∙◌, subst, arith, inl, inr}
+use Rattle.std.proofs.lemmas.Bool.{false≢true}
+use Rattle.std.specs.Io.KnownBytes.{Consumes}
+use Rattle.std.proofs.lemmas.List.{length-append}
+use Rattle.std.proofs.lemmas.List.Elements.{All-head, All-tail}
+use Rattle.re_syntax.specs.Bytes.{Text}
+use Rattle.re_syntax.specs.Expression.{Expression}
+use Rattle.re_search.proofs.lemmas.SomeOfJoined.{Any-single}
+use Rattle.grep_core.specs.declared.options.Options.{Options}
+use Rattle.grep_core.specs.Choose.{IfHolds}
+use Rattle.grep_core.specs.Files.{File, Ending, broken, HasSelected}
+use Rattle.grep_core.specs.Messages.{FaultMet, FaultMetBy}
+use Rattle.grep_core.specs.Reading.{Source, Reading, not_opened, fails_after, ends_after, IsReadingOf, file_of, failures_of}
+use Rattle.grep_core.specs.Run.{AreReadings, FailuresMet, LeftMet}
+use Rattle.grep_utility.specs.Working.Returned.{HasReturned}
+use Rattle.grep_utility.specs.Working.Known.{AllIsKnown, IsKnown, full_reading, in_full, unopened_by, unopened, CountTells}
+
+no_length : {A : Type 0} (xs : List A) → length xs ≡ 0 → xs ≡ []
+no_length [] h = refl
+no_length (x ∷ xs) h = let no : ⊥ = omega (arith, h) in absurd no
+
+-- where it holds, the first case is
+by_yes : {P A B : Type 0} → IfHolds P A B → P → A
+by_yes (inl h) p = h.1
+by_yes (inr h) p = absurd (h.0 p)
+
+by_no : {P A B : Type 0} → IfHolds P A B → (P → ⊥) → B
+by_no (inl h) p = absurd (p h.0)
+by_no (inr h) p = h.1
+
+module _ (es : List Expression) (options : Options) (loud : options.quiet ≡ false) (full : options.files_with_matches ≡ false) where
+  -- a failed read is met in every file
+  broken_met : (file : File) → file.ending ≡ broken → FaultMet es options file
+  broken_met file is = subst (λ (ending : Ending). FaultMetBy es options ending file) (sym is)
+      (λ left. absurd (false≢true (sym (ap (λ quiet. quiet || options.files_with_matches) loud ∙ full) ∙ left)))
+
+  -- no run stops before its end
+  goes_on : (file : File) → IsTrue options.quiet × HasSelected es options file → ⊥
+  goes_on file h = false≢true (sym loud ∙ h.0)
+
+  either_broken : (b : Bool) (file other : File) → file.ending ≡ broken → other.ending ≡ broken → (if b then file else other).ending ≡ broken
+  either_broken true file other p q = p
+  either_broken false file other p q = q
+
+  -- each failure of a source is met
+  all_met : (name : Text) (r : Reading) (own : ℕ) → IfHolds (FaultMet es options (file_of name r)) (own ≡ failures_of r) (own ≡ 0) → own ≡ failures_of r
+  all_met name not_opened own h = by_yes h tt
+  all_met name (fails_after bytes) own h = by_yes h (broken_met (file_of name (fails_after bytes)) (either_broken _ _ _ refl refl))
+  all_met name (ends_after bytes) own (inl h) = h.1
+  all_met name (ends_after bytes) own (inr h) = h.1
+
+  -- a source that cannot be opened fails
+  fails_least : (name : Text) (opens : Option Bool) (bytes : Option Text) → AllIsKnown opens bytes → (r : Reading) → IsReadingOf (record { name = name; opens = opens; bytes = bytes }) r → unopened_by opens ≤ failures_of r
+  fails_least name None bytes k r h = absurd k
+  fails_least name (Some true) bytes k r h = omega arith
+  fails_least name (Some false) bytes k not_opened h = omega arith
+  fails_least name (Some false) bytes k (fails_after front) h = absurd (false≢true h.0)
+  fails_least name (Some false) bytes k (ends_after all) h = absurd (false≢true h.0)
+
+  -- a source that fails no more was read in full
+  reads_full : (name : Text) (opens : Option Bool) (bytes : Option Text) → AllIsKnown opens bytes → (r : Reading) → IsReadingOf (record { name = name; opens = opens; bytes = bytes }) r → failures_of r ≤ unopened_by opens → r ≡ full_reading opens bytes
+  reads_full name None bytes k r h few = absurd k
+  reads_full name (Some true) None k r h few = absurd k
+  reads_full name (Some true) (Some all) k not_opened h few = absurd (false≢true (sym h))
+  reads_full name (Some true) (Some all) k (fails_after front) h few = let no : ⊥ = omega (arith, few) in absurd no
+  reads_full name (Some true) (Some all) k (ends_after bytes) h few = ap ends_after (sym h.1)
+  reads_full name (Some false) bytes k not_opened h few = refl
+  reads_full name (Some false) bytes k (fails_after front) h few = absurd (false≢true h.0)
+  reads_full name (Some false) bytes k (ends_after all) h few = absurd (false≢true h.0)
+
+  -- there are at least as many failures as sources that cannot be opened
+  least_met : (sources : List Source) (readings : List Reading) (n : ℕ) → All IsKnown sources → AreReadings sources readings → FailuresMet es options sources readings n → unopened sources ≤ n
+  least_met [] readings n k a h = omega arith
+  least_met (source ∷ sources) [] n k a h = absurd a
+  least_met (source ∷ sources) (r ∷ readings) n k a h =
+      let own = all_met source.name r h.0 h.2 in
+      let here = fails_least source.name source.opens source.bytes (All-head IsKnown source sources k) r a.0 in
+      let rest = least_met sources readings h.1 (All-tail IsKnown source sources k) a.1 (by_no h.3 (goes_on (file_of source.name r))) in
+      let sum = h.4 in
+      omega (arith, own, here, rest, sum)
+
+  -- where there are no more, all were read in full
+  pub all_in_full : (sources : List Source) (readings : List Reading) (n : ℕ) → All IsKnown sources → AreReadings sources readings → FailuresMet es options sources readings n → n ≤ unopened sources → readings ≡ in_full sources
+  all_in_full [] [] n k a h few = refl
+  all_in_full [] (r ∷ readings) n k a h few = absurd a
+  all_in_full (source ∷ sources) [] n k a h few = absurd a
+  all_in_full (source ∷ sources) (r ∷ readings) n k a h few =
+      let own = all_met source.name r h.0 h.2 in
+      let here = fails_least source.name source.opens source.bytes (All-head IsKnown source sources k) r a.0 in
+      let behind = by_no h.3 (goes_on (file_of source.name r)) in
+      let least = least_met sources readings h.1 (All-tail IsKnown source sources k) a.1 behind in
+      let sum = h.4 in
+      let first : r ≡ full_reading source.opens source.bytes = reads_full source.name source.opens source.bytes (All-head IsKnown source sources k) r a.0 (omega (arith, own, here, least, sum, few)) in
+      let rest : readings ≡ in_full sources = all_in_full sources readings h.1 (All-tail IsKnown source sources k) a.1 behind (omega (arith, own, here, least, sum, few)) in
+      λ i. first i ∷ rest i
+
+  -- one source, of which a read failed once its reader had given all its bytes
+  module _ (source : Source) (all : Text) (opens : source.opens ≡ Some true) (bytes : source.bytes ≡ Some all) (n : ℕ) (once : n ≡ 1) (before left : List (Option Text)) (back : HasReturned 1 1 (before ++ left)) where
+    gave_all : (given : Text) → AreReadings (source ∷ []) (fails_after given ∷ []) → LeftMet es options (source ∷ []) (fails_after given ∷ []) left → given ≡ all
+    gave_all given a l = sym (append-nil given) ∙ sym (subst (λ rest. Consumes (Some all) rest given) x_is (subst (λ known. Consumes known x given) bytes l.2.2))
+      where
+        x : Option Text
+        x = l.2.0
+
+        left_is : left ≡ x ∷ []
+        left_is =
+            let none : l.1 ≡ [] = by_no l.3 (goes_on (file_of source.name (fails_after given))) in
+            l.4 ∙ ap (λ t. l.0 ++ t) none ∙ append-nil l.0 ∙ l.2.1
+
+        whole : HasReturned 1 1 (before ++ x ∷ [])
+        whole = subst (λ t. HasReturned 1 1 (before ++ t)) left_is back
+
+        none_before : before ≡ []
+        none_before =
+            let len : length (before ++ x ∷ []) ≡ length before + 1 = length-append before (x ∷ []) in
+            let one : 1 ≡ min (length (before ++ x ∷ [])) (2 ^ 64 - 1) = whole.0 in
+            no_length before (omega (arith, len, one))
+
+        x_is : x ≡ Some []
+        x_is = elim whole.1 [
+          | inl none ↦ let no : ⊥ = omega (arith, none) in absurd no
+          | inr some ↦ Any-single (λ rest. rest ≡ Some []) x (subst (λ t. Any (λ rest. rest ≡ Some []) (t ++ x ∷ [])) none_before some)
+        ]
+
+    pub one_broken : (readings : List Reading) → AreReadings (source ∷ []) readings → FailuresMet es options (source ∷ []) readings n → LeftMet es options (source ∷ []) readings left → readings ≡ fails_after all ∷ []
+    one_broken [] a h l = absurd a
+    one_broken (r ∷ s ∷ rs) a h l = absurd a.1
+    one_broken (not_opened ∷ []) a h l = absurd (false≢true (sym (subst (λ o. IfSome o (λ b. b ≡ false)) opens a.0)))
+    one_broken (ends_after given ∷ []) a h l =
+        let own = all_met source.name (ends_after given) h.0 h.2 in
+        let rest = by_no h.3 (goes_on (file_of source.name (ends_after given))) in
+        let sum = h.4 in
+        let no : ⊥ = omega (arith, own, rest, sum, once) in absurd no
+    one_broken (fails_after given ∷ []) a h l = ap (λ t. fails_after t ∷ []) (gave_all given a l)
+
+-- the count of failures tells that all sources were read in full
+pub count_tells : (options : Options) → CountTells options
+count_tells options es sources readings loud full known are met = all_in_full es options loud full sources readings (unopened sources) known are met (omega arith)

@@ -1,0 +1,28 @@
+//! Laws of the definitions, each the contract of a function that does nothing.
+ghost use Rattle.grep_utility.specs.Working.Known.{CountTells, WordsTell};
+ghost use Rattle.grep_utility.specs.Working.Worked.{RowFollows, BrokenFollows};
+
+use grep_core::Options;
+
+/// Without `-q` and `-l`, known sources of which no more failures are met than there are sources
+/// that cannot be opened were all read to their ends.
+pub fn failures_tell(_options: Options)
+    ensures { CountTells _options }
+{}
+
+/// Words that name known files, without `-q`, `-l` and `-f`, tell all that is written and the
+/// status, where as many failures of files are counted as there are files that cannot be opened.
+pub fn words_tell()
+    ensures { WordsTell }
+{}
+
+/// `grep -n -B 2 a h missing`, worked by hand: what it writes for a file `h` of three lines, where
+/// there is no file `missing`.
+pub fn row_follows()
+    ensures { RowFollows }
+{}
+
+/// `grep -n a f`, worked by hand: what it writes for a file `f` of which reads fail after five bytes.
+pub fn broken_follows()
+    ensures { BrokenFollows }
+{}
