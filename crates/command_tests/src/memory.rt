@@ -170,6 +170,53 @@ fn searches_without_memory(rt: HostRuntime) -> Result<(), Fail> {
     Ok(())
 }
 
+/// A search of a file whose second line needs memory, and how many lines may be done where it is
+/// out of memory: none where the buffer is refused, and else those before the line that is refused.
+static DONE: [(&str, &[u64]); 5] = [
+    ("-c b h", &[0, 1]),
+    ("-vc b h", &[0, 1]),
+    ("-q c h", &[0, 1]),
+    ("-l c h", &[0, 1]),
+    ("-B 1 c h", &[0, 1, 2]),
+];
+
+/// Refuses each request of a search in turn; how many lines were done never falls.
+fn assert_lines_done(
+    rt: &impl Abort,
+    alloc: Global,
+    files: &[MemoryFile],
+    line: &str,
+    done: &[u64],
+) -> Result<(), Fail> {
+    let mut before = 0;
+    for n in 1..=MOST {
+        let devices = Devices::roomy(alloc)?;
+        let input = Content::new(b"");
+        let (search, refused) = searched_without(alloc, line, files, input, devices, n)?;
+        if !refused {
+            return Ok(());
+        }
+        let Err(RunFault::Memory { source, lines }) = search.answer else {
+            continue;
+        };
+        assert_eq!(rt; source, 0, "{line}, {n}");
+        assert!(rt; done.contains(&lines) && lines >= before, "{line}, {n}: {lines}");
+        assert!(rt; lines > 0 || n == 1, "{line}, {n}: {lines}");
+        before = lines;
+    }
+    Err(Fail::from("a search asks for memory again and again"))
+}
+
+#[test]
+fn lines_done_without_memory(rt: HostRuntime) -> Result<(), Fail> {
+    let text = long_file(rt.alloc())?;
+    let folder = [file("h", &text)];
+    for (line, done) in &DONE {
+        assert_lines_done(&rt, rt.alloc(), folder.as_slice(), line, done)?;
+    }
+    Ok(())
+}
+
 /// Words with many patterns, pattern files and files.
 fn many_words(alloc: Global) -> Result<Vec<String>, AllocError> {
     let mut line = String::from_str(alloc, "-n f")?;
