@@ -200,7 +200,10 @@ fn assert_lines_done(
             continue;
         };
         assert_eq!(rt; source, 0, "{line}, {n}");
-        assert!(rt; done.contains(&lines) && lines >= before, "{line}, {n}: {lines}");
+        assert!(rt;
+            done.contains(&lines) && lines >= before,
+            "{line}, {n}: {lines}"
+        );
         assert!(rt; lines > 0 || n == 1, "{line}, {n}: {lines}");
         before = lines;
     }
