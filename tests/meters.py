@@ -1,6 +1,6 @@
-"""Cases of which crates can make a meter: `grep_core`, `grep_session`, `grep_live` and `grep_utility` count
-all their steps on the meter that they are lent, since they can name nothing that makes another. They run
-no program.
+"""Cases of which crates can make a meter, or search without one: `grep_core`, `grep_session`, `grep_live` and
+`grep_utility` count all their steps on the meter that they are lent, since they can name nothing that makes
+another or searches uncounted. They run no program.
 """
 
 from __future__ import annotations
@@ -11,13 +11,23 @@ from pathlib import Path
 from program import Answer, Bench, Cases, Verdict, all_of
 
 REPOSITORY = Path(__file__).resolve().parent.parent
-SEARCH = REPOSITORY / "crates" / "re_search" / "src"
+CRATES = REPOSITORY / "crates"
 
 MAKES_METERS = "re_auto"
 """The crate whose function `fresh_meter` makes meters."""
 
-MAY_LIST = {"re_search", "grep", "occur", "examples"}
-"""The crates, beside those of tests, that may list it."""
+UNCOUNTED = {"re_needle", "re_strings", "re_steps", "re_match"}
+"""The crates with functions that search bytes and count no step."""
+
+SEARCH = {*UNCOUNTED, "re_search"}
+"""The crates that search, and count the steps of their callers."""
+
+MAY_LIST = {MAKES_METERS: SEARCH | {"grep", "occur", "examples"}, **{name: SEARCH for name in UNCOUNTED}}
+"""For each of these crates those that may list it, beside the crates of tests."""
+
+MATCHERS = {"Cached", "Fixed", "FixedSet", "LineMatch", "Matcher", "Simulated"}
+"""What `re_search` may pass on of the crates that count no step: each of its public searches takes a meter, or
+an `Uncounted`, which can't be named above."""
 
 case = Cases("grep", "meters.py")
 cases = all_of(case)
@@ -36,35 +46,44 @@ def listed(text: str) -> dict[str, list[str]]:
     return {head.split()[0]: names.split() for head, _, names in parted}
 
 
-def makers(text: str) -> list[str]:
-    """The crates of a crates.txt that can make a meter and may not."""
-    return [name for name, names in listed(text).items()
-            if MAKES_METERS in names and name not in MAY_LIST and not name.endswith("_tests")]
+def misplaced(text: str) -> list[str]:
+    """What crates of a crates.txt list and may not."""
+    return [f"{name} lists {below}" for name, names in listed(text).items() if not name.endswith("_tests")
+            for below in names if name not in MAY_LIST.get(below, {name})]
 
 
 def passed_on(text: str) -> list[str]:
     """What the head of a crate shows of that with which bytes are searched uncounted."""
     shown = re.findall(r"^\s*pub (?:use|mod|fn|type|const|struct) [^;{]*(?:\{[^}]*\})?", text, re.MULTILINE)
-    names = {name for item in shown for name in re.findall(r"\w+|\*", item)}
-    whole = any(re.search(rf"\b{MAKES_METERS}(?: as \w+)?\s*$", item) for item in shown)
-    return sorted(names & {"fresh_meter", "Uncounted", "looks", "meter", "*"}) + [MAKES_METERS] * whole
+    names = {name for item in shown for name in re.findall(r"\w+|\*", item)} & {"fresh_meter", "Uncounted", "meter", "*"}
+    for crate in sorted(UNCOUNTED | {MAKES_METERS}):
+        for item in shown:
+            found = re.search(rf"\b{crate}(?: as \w+)?\s*$|\b{crate}::(.*)", item, re.DOTALL)
+            if found and crate in UNCOUNTED:
+                names |= set(re.findall(r"\w+|\*", found[1] or crate)) - MATCHERS
+            elif found and not found[1]:
+                names.add(crate)
+    return sorted(names)
 
 
-@case("No crate from grep_core to grep_utility lists the one that makes meters.")
-def crates_without_it(bench: Bench) -> Verdict:
+@case("No crate above re_search lists one that makes meters or searches without one.")
+def crates_without_them(bench: Bench) -> Verdict:
     text = (REPOSITORY / "crates.txt").read_text(encoding="utf-8")
-    unlisted = [] if "re_search" in listed(text) else ["crates.txt has no re_search"]
-    return judged(unlisted + [f"{name} lists {MAKES_METERS}" for name in makers(text)])
+    unlisted = [f"crates.txt has no {name}" for name in sorted(SEARCH - set(listed(text)))]
+    return judged(unlisted + misplaced(text))
 
 
 @case("re_search passes on nothing that makes a meter, or that searches without one.")
 def head_of_search(bench: Bench) -> Verdict:
-    shown = passed_on((SEARCH / "lib.rt").read_text(encoding="utf-8"))
+    shown = passed_on((CRATES / "re_search" / "src" / "lib.rt").read_text(encoding="utf-8"))
     return judged([f"lib.rt passes on {name}" for name in shown])
 
 
-@case("re_search makes no meter.")
+@case("The crates that search make no meter.")
 def sources_of_search(bench: Bench) -> Verdict:
-    files = sorted(SEARCH.glob("**/*.rt"))
-    named = [file for file in files if "fresh_meter" in file.read_text(encoding="utf-8")]
-    return judged([f"{file.name} names fresh_meter" for file in named] if files else ["there is no source"])
+    faults = []
+    for crate in sorted(SEARCH):
+        files = sorted((CRATES / crate / "src").glob("**/*.rt"))
+        named = [file for file in files if "fresh_meter" in file.read_text(encoding="utf-8")]
+        faults += [f"{crate}/{file.name} names fresh_meter" for file in named] if files else [f"{crate} has no source"]
+    return judged(faults)

@@ -7,8 +7,10 @@ use Rattle.re_syntax.specs.Holds.{Holds}
 use Rattle.re_auto.specs.declared.mode.Mode.{Mode}
 use Rattle.re_auto.specs.Working.Positions.{is_end, PartHolds, part_of}
 use Rattle.re_auto.specs.Working.Stepping.{IsAfter}
-use Rattle.re_auto.specs.Working.Starts.{Least, StartsAfter, IsNextStarts, Told, IsMatched, IsBest}
-use Rattle.re_auto.specs.Working.Starts.{better, IsSpent}
+use Rattle.re_syntax.specs.Working.BestStretches.{Least, IsBest}
+use Rattle.re_auto.specs.Working.Starts.{StartsAfter, IsNextStarts, Told, IsMatched}
+use Rattle.re_syntax.specs.Working.BestStretches.{better}
+use Rattle.re_auto.specs.Working.Starts.{IsSpent}
 
 -- An expression holds on a stretch exactly where a chain of its positions reads the stretch's
 -- bytes, or where the stretch is empty and the expression may be.

@@ -1,7 +1,7 @@
--- the parts of the crates below that these specifications cite
+-- what the crates above cite of the crates below
 pub use Rattle.re_auto.specs.Meters
--- what the contract of the whole command, or of the session, depends on
-pub mod Searching
-pub mod Reading
--- the other terms of contracts: of this crate as a library, and of its private functions
+pub use Rattle.re_auto.specs.Searching
+pub use Rattle.re_match.specs.Reading
+pub use Rattle.re_match.specs.declared.matcher.Matcher
+-- the terms of contracts: of this crate as a library, and of its private functions
 pub mod Working

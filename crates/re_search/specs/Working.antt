@@ -1,18 +1,7 @@
-pub mod Literals
-pub mod Runs
-pub mod Outlines
-pub mod Needles
+-- what the crates above cite of the crate below
+pub use Rattle.re_match.specs.Working.Literals
+pub use Rattle.re_match.specs.Working.Matchers
 pub mod Blocks
-pub mod Simulated
-pub mod Simulations
-pub mod FixedSets
-pub mod Branches
 pub mod Filters
-pub mod Pairs
-pub mod Rows
-pub mod Stages
-pub mod Walks
-pub mod CachedMatchers
-pub mod Matchers
 pub mod Sought
 pub mod Asking

@@ -5,20 +5,17 @@ ghost use Rattle.std.specs.Option.{ForSome};
 ghost use Rattle.re_syntax.specs.Expression.{Expression};
 ghost use Rattle.re_syntax.specs.Holds.{Matches};
 ghost use Rattle.re_syntax.specs.Lines.{lines_of, newline, HasNoNewline};
-ghost use Rattle.re_search.specs.Searching.{AddsAtMost, AllAnswer, SameMatchers, TellsMatchOfAll};
-ghost use Rattle.re_search.specs.Working.Blocks.{IsBlock, PassesUnmatched};
+ghost use Rattle.re_auto.specs.Searching.{AddsAtMost, AllAnswer, SameMatchers, TellsMatchOfAll};
+ghost use Rattle.re_needle.specs.Working.Blocks.{IsBlock, PassesUnmatched};
 ghost use Rattle.re_search.specs.Working.Filters.{AreNeeded, NeedsOneOf};
-ghost use Rattle.re_search.specs.Working.Literals.{Literals, any_literal};
-ghost use Rattle.re_search.specs.Working.Needles.{IsNeeded};
-ghost use Rattle.re_search.specs.Working.Matchers.{matched_expression};
+ghost use Rattle.re_match.specs.Working.Literals.{Literals, any_literal};
+ghost use Rattle.re_needle.specs.Working.Needles.{IsNeeded};
+ghost use Rattle.re_match.specs.Working.Matchers.{matched_expression};
 
-use crate::cost::LookCost;
-use crate::fixed_set::FixedSet;
-use crate::line_match::LineMatch;
-use crate::looks::Looks;
-use crate::matcher::Matcher;
 use memchr::memchr;
 use re_auto::Meter;
+use re_match::{FixedSet, LineMatch, Looks, Matcher, Uncounted};
+use re_needle::LookCost;
 use std::alloc::{AllocError, Global};
 use std::cell::Cell;
 use std::marker::Model;
@@ -37,7 +34,7 @@ pub struct Filter {
 
 impl Model for Filter {
     ghost use Rattle.std.specs.Prelude.{Option};
-    ghost use Rattle.re_search.specs.Working.Literals.{Literals};
+    ghost use Rattle.re_match.specs.Working.Literals.{Literals};
 
     ghost Value = { Option Literals };
 
@@ -85,7 +82,7 @@ impl Filter {
         let Some(strings) = &self.strings else {
             return false;
         };
-        if strings.stands_in(line) {
+        if strings.stands_in(line, Uncounted) {
             return false;
         }
         meter.add_built(line.len() as u64 + 1);
@@ -100,7 +97,7 @@ impl Filter {
             × PassesUnmatched (any_literal strings) false block.now place) }
     {
         match &self.strings {
-            Some(strings) => Some(strings.first_line(block)),
+            Some(strings) => Some(strings.first_line(block, Uncounted)),
             None => None,
         }
     }

@@ -3,8 +3,8 @@ ghost use Rattle.std.specs.Prelude.{◌≡◌, ◌<◌, ℕ, IsTrue, Some, map, 
 ghost use Rattle.re_syntax.specs.Expression.{byte, expression_of, sequence};
 ghost use Rattle.re_syntax.specs.Spelled.{IsSpelled};
 
-use crate::matcher::spelled_tree;
-use crate::needle::one_byte;
+use re_match::spelled_tree;
+use re_needle::one_byte;
 use re_syntax::{Syntax, Tree};
 use std::alloc::Global;
 

@@ -1,13 +1,13 @@
 //! Matchers that are asked together.
 ghost use Rattle.std.specs.Prelude.{map};
 ghost use Rattle.std.specs.Option.{ForSome};
-ghost use Rattle.re_search.specs.Searching.{AllAnswer};
+ghost use Rattle.re_auto.specs.Searching.{AllAnswer};
 ghost use Rattle.re_search.specs.Working.Filters.{AreNeeded};
 
 mod asking;
 
 use crate::filter::Filter;
-use crate::line_match::LineMatch;
+use re_match::LineMatch;
 
 /// Matchers that are asked together, with a filter that is asked before them. They are lent: their
 /// owner has them again afterwards, the same but for what they keep of their searches.

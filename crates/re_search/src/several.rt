@@ -4,15 +4,15 @@ ghost use Rattle.std.specs.Prelude.{ℕ, Bool, List, ◌≡◌, ◌+◌, ◌-◌
 ghost use Rattle.std.specs.Prelude.{map, ⊤};
 ghost use Rattle.re_syntax.specs.Bytes.{Text};
 ghost use Rattle.re_syntax.specs.Expression.{Expression};
-ghost use Rattle.re_search.specs.Searching.{FindsPart, FindsPartOfAll, TellsMatchOfAll, AllAnswer};
-ghost use Rattle.re_search.specs.Searching.{AddsAtMost, SameMatchers};
-ghost use Rattle.re_search.specs.Working.Blocks.{IsBlock, PassesAll, PassesUnmatchedByAll};
+ghost use Rattle.re_auto.specs.Searching.{FindsPart, FindsPartOfAll, TellsMatchOfAll, AllAnswer};
+ghost use Rattle.re_auto.specs.Searching.{AddsAtMost, SameMatchers};
+ghost use Rattle.re_needle.specs.Working.Blocks.{IsBlock, PassesAll};
+ghost use Rattle.re_search.specs.Working.Blocks.{PassesUnmatchedByAll};
 
-use crate::block::line_start;
-use crate::line_match::LineMatch;
-use crate::looks::Uncounted;
-use crate::span::Span;
 use re_auto::Meter;
+use re_match::{LineMatch, Uncounted};
+use re_needle::line_start;
+use re_syntax::Span;
 
 // How far several matchers look ahead in a block, in bytes. Their answers are not kept, so each is
 // asked about the same lines again after the line of the least answer.

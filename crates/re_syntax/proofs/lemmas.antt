@@ -9,6 +9,8 @@ pub mod SplittingLaws
 pub mod SpelledUnique
 pub mod PiecesLaws
 pub mod Decisions
+pub mod SomeOfJoined
+pub mod BestStretches
 pub mod HoldsDecided
 pub mod PartsExist
 pub mod ClassNames

@@ -5,6 +5,7 @@ pub mod IntervalSteps
 pub mod BracketSteps
 pub mod EscapeSteps
 pub mod Counted
+pub mod BestStretches
 pub mod PieceSteps
 pub mod DuplicationSteps
 pub mod BasicSteps

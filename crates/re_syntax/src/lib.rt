@@ -17,6 +17,7 @@ mod laws;
 mod pieces;
 mod positions;
 mod profile;
+mod span;
 mod split;
 mod syntax;
 mod tree;
@@ -34,6 +35,7 @@ pub use laws::{
 };
 pub use positions::{basic_positions, extended_positions};
 pub use profile::{MOST_PATTERNS, MOST_POSITIONS};
+pub use span::Span;
 pub use split::{FilePatterns, Patterns, split_file, split_list};
 pub use syntax::Syntax;
 pub use tree::Tree;

@@ -1,13 +1,15 @@
 -- Least starts are what the chains say, and are enough for the earliest and then longest stretch.
-use Rattle.std.proofs.Common.{◌≡◌, ℕ, zero, suc, ◌<◌, ◌≤◌, Bool, true, false, ◌⊎◌, inl, inr, ◌++◌, length, slice_index, Option, Some, None, refl, sym, subst, arith, nat_le, if◌then◌else◌, leb-true, leb-false, eq-or-lt_of_le}
+use Rattle.std.proofs.Common.{◌≡◌, ℕ, zero, suc, ◌<◌, ◌≤◌, inl, inr, ◌++◌, length, slice_index, Option, Some, None, refl, sym, subst, arith}
 use Rattle.re_syntax.specs.Bytes.{Text}
 use Rattle.re_auto.specs.declared.mode.Mode.{Mode}
 use Rattle.re_auto.specs.Working.Positions.{Part, is_begin, is_end, Reaches, PartHolds, part_of}
 use Rattle.re_auto.specs.Working.Stepping.{MayBegin}
-use Rattle.re_auto.specs.Working.Starts.{Least, IsLeast, StartsAfter, Brought, IsNextStarts, Told, IsMatched, IsBest, better}
+use Rattle.re_syntax.specs.Working.BestStretches.{Least, IsLeast}
+use Rattle.re_auto.specs.Working.Starts.{StartsAfter, Brought, IsNextStarts, Told, IsMatched}
 use Rattle.re_auto.specs.Laws.{PassBegins, StartsStay, StartsTell, OnePassIsEnough, SpentIsOver}
 use Rattle.re_auto.proofs.lemmas.Chains.{reaches_bounds, reaches_on, reaches_back}
 use Rattle.re_auto.proofs.lemmas.PositionsTell.{positions_tell}
+use Rattle.re_syntax.proofs.lemmas.BestStretches.{next_or_before, best_so_far}
 
 -- a number of P is no less than the least one
 at_least : (P : ℕ → Type 0) (o : Option ℕ) → Least P o → (k : ℕ) → P k → (m : ℕ) × (o ≡ Some m) × (m ≤ k) × P m
@@ -72,45 +74,6 @@ starts_tell e n mode from line j least told after is =
 
     back : (k : ℕ) → IsMatched e mode from line k j → (m : ℕ) × (m ≤ k) × Told (part_of e n) (is_end line j) least m
     back k (le, lt, b, h) = chain k (le, lt, b) ((positions_tell e n line k j).0 h)
-
--- a place up to the next one is the next one, or it is up to this one
-next_or_before : (l to : ℕ) → l ≤ suc to → (l ≡ suc to) ⊎ (l ≤ to)
-next_or_before l to le = elim (eq-or-lt_of_le le) [ inl e ↦ inl e | inr h ↦ inr (omega arith) ]
-
--- for the stretches of any relation, the least start at the next end is enough for the best
-best_so_far : (R : ℕ → ℕ → Type 0) (to : ℕ) (best : Option (ℕ × ℕ)) (told : Option ℕ) → IsBest R to best
-    → Least (λ i. R i (suc to)) told → IsBest R (suc to) (better best (suc to) told)
-best_so_far R to None None none told = λ i j le r.
-    elim (next_or_before j to le) [ inl e ↦ told i (subst (R i) e r) | inr le ↦ none i j le r ]
-best_so_far R to (Some (i, j)) None (r, le, early, long) told = (
-  r,
-  omega (arith, le),
-  (λ k l m s. elim (next_or_before l to m) [ inl e ↦ absurd (told k (subst (R k) e s)) | inr m ↦ early k l m s ]),
-  (λ l m s. elim (next_or_before l to m) [ inl e ↦ absurd (told i (subst (R i) e s)) | inr m ↦ long l m s ]),
-)
-best_so_far R to None (Some k) none (r, least) = (
-  r,
-  omega arith,
-  (λ i l m s. elim (next_or_before l to m) [ inl e ↦ least i (subst (R i) e s) | inr m ↦ absurd (none i l m s) ]),
-  (λ l m s. m),
-)
-best_so_far R to (Some (i, j)) (Some k) (r, le, early, long) (t, least) = go (nat_le k i) refl
-  where
-    go : (b : Bool) → nat_le k i ≡ b → IsBest R (suc to) (if b then Some (k, suc to) else Some (i, j))
-    go true is =
-        let small = leb-true k i is in (
-          t,
-          omega arith,
-          (λ h l m s. elim (next_or_before l to m) [ inl e ↦ least h (subst (R h) e s) | inr m ↦ omega (arith, small, early h l m s) ]),
-          (λ l m s. m),
-        )
-    go false is =
-        let large = leb-false k i is in (
-          r,
-          omega (arith, le),
-          (λ h l m s. elim (next_or_before l to m) [ inl e ↦ omega (arith, large, least h (subst (R h) e s)) | inr m ↦ early h l m s ]),
-          (λ l m s. elim (next_or_before l to m) [ inl e ↦ absurd (omega (arith, large, least i (subst (R i) e s))) | inr m ↦ long l m s ]),
-        )
 
 -- so it is enough for the matched stretches
 pub one_pass_is_enough : OnePassIsEnough

@@ -10,7 +10,8 @@ use Rattle.re_auto.specs.declared.mode.Mode.{Mode}
 use Rattle.re_auto.specs.declared.step.starts.Starts.{Starts}
 use Rattle.re_auto.specs.Working.Bits.{Has}
 use Rattle.re_auto.specs.Working.Positions.{part_of, is_begin, is_end}
-use Rattle.re_auto.specs.Working.Starts.{Least, Brought, IsNextStarts, Told, IsMatched, IsSpent}
+use Rattle.re_syntax.specs.Working.BestStretches.{Least}
+use Rattle.re_auto.specs.Working.Starts.{Brought, IsNextStarts, Told, IsMatched, IsSpent}
 use Rattle.re_auto.specs.Working.StartSets.{least_of, Carries, Brings, AtMost, StartsAt, AreNext}
 use Rattle.re_auto.specs.Working.Stepping.{MayBegin}
 use Rattle.re_auto.proofs.lemmas.LeastStarts.{pass_begins, starts_stay, starts_tell, spent_is_over}

@@ -1,36 +1,27 @@
 -- Strings that several expressions need.
-use Rattle.std.proofs.Common.{◌≡◌, ℕ, ◌+◌, ◌<◌, ◌≤◌, ◌⊎◌, inl, inr, Bool, true, false, List, [], ◌∷◌, ◌++◌, Any, All, length, take, drop, get_or, refl, sym, ap, subst, ◌∙◌, arith, append_assoc}
+use Rattle.std.proofs.Common.{◌≡◌, ℕ, ◌+◌, ◌<◌, ◌≤◌, inl, inr, Bool, true, false, List, [], ◌∷◌, ◌++◌, Any, All, length, take, drop, get_or, refl, sym, ap, subst, ◌∙◌, arith}
+use Rattle.std.proofs.lemmas.Bool.{cases_lt}
 use Rattle.std.proofs.lemmas.List.{get_or_default, drop-drop}
 use Rattle.re_syntax.specs.Bytes.{Text}
 use Rattle.re_syntax.specs.Expression.{Expression}
 use Rattle.re_syntax.specs.Holds.{Holds, Matches}
-use Rattle.re_syntax.specs.Lines.{newline, terminated}
 use Rattle.re_syntax.proofs.lemmas.Decisions.{Any-first}
-use Rattle.re_search.specs.declared.matcher.Matcher.{Matcher}
+use Rattle.re_match.specs.declared.matcher.Matcher.{Matcher}
 use Rattle.re_search.specs.Working.Filters.{AreNeeded, NeedsOneOf}
-use Rattle.re_search.specs.Working.Literals.{any_literal}
-use Rattle.re_search.specs.Working.Needles.{IsNeeded, StandsBetween}
-use Rattle.re_search.specs.Working.Matchers.{matched_expression}
-use Rattle.re_search.specs.Searching.{SomeMatches}
-use Rattle.re_search.proofs.lemmas.SomeOfJoined.{Any-left, Any-right}
-use Rattle.re_search.proofs.lemmas.Occurrences.{occurs-stands}
-use Rattle.re_search.proofs.lemmas.SetMatches.{text_between, stands_choice}
-
--- a number is below another, or not
-before : (m n : ℕ) → (m < n) ⊎ (n ≤ m)
-before m n = search arith
-
--- a line more
-pub terminated-push : (ts : List Text) (t : Text) → terminated ts ++ (t ++ newline ∷ []) ≡ terminated (ts ++ t ∷ [])
-terminated-push [] t = refl
-terminated-push (u ∷ ts) t = append_assoc u (newline ∷ terminated ts) (t ++ newline ∷ []) ∙ ap (λ l. u ++ newline ∷ l) (terminated-push ts t)
+use Rattle.re_match.specs.Working.Literals.{any_literal}
+use Rattle.re_needle.specs.Working.Needles.{IsNeeded, StandsBetween}
+use Rattle.re_match.specs.Working.Matchers.{matched_expression}
+use Rattle.re_auto.specs.Searching.{SomeMatches}
+use Rattle.re_syntax.proofs.lemmas.SomeOfJoined.{Any-left, Any-right}
+use Rattle.re_needle.proofs.lemmas.Occurrences.{occurs-stands}
+use Rattle.re_match.proofs.lemmas.SetMatches.{text_between, stands_choice}
 
 -- one matcher more has its string
 pub needed_more : (strings : List Text) (t : Text) (matchers : List Matcher) (place : ℕ) (m : Matcher) → place < length matchers → m ≡ get_or matchers place m → IsNeeded t (matched_expression m)
     → ((k : ℕ) (d : Matcher) → k < place → NeedsOneOf strings (matched_expression (get_or matchers k d)))
     → (k : ℕ) (d : Matcher) → k < place + 1 → NeedsOneOf (strings ++ t ∷ []) (matched_expression (get_or matchers k d))
 needed_more strings t matchers place m lt at needed before_it k d k_lt =
-    elim (before k place) [
+    elim (cases_lt k place) [
       | inl early ↦ Any-left (λ s. IsNeeded s (matched_expression (get_or matchers k d))) strings (t ∷ []) (before_it k d early)
       | inr late ↦
           let here : k ≡ place = omega (arith, late, k_lt) in

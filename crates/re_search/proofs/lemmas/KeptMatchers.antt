@@ -3,7 +3,7 @@ use Rattle.std.proofs.Common.{◌≡◌, ℕ, Bool, List, get_or, refl, ◌∙�
 use Rattle.std.proofs.Math.ListN.{set}
 use Rattle.re_syntax.specs.Expression.{Expression}
 use Rattle.re_search.specs.declared.searchers.Searchers.{Searchers}
-use Rattle.re_search.specs.Searching.{SameMatchers}
+use Rattle.re_auto.specs.Searching.{SameMatchers}
 use Rattle.re_search.specs.Working.Asking.{SameSearchers, sought_by}
 use Rattle.re_search.proofs.lemmas.OneMatcherMore.{same_after}
 

@@ -1,23 +1,21 @@
 -- Lines that several matchers pass, each asked only about those that the ones before it pass.
-use Rattle.std.proofs.Common.{◌≡◌, ℕ, ◌<◌, ◌≤◌, Bool, inl, inr, List, [], ◌∷◌, ◌++◌, All, length, take, drop, get_or, refl, sym, ap, ◌∙◌, subst, arith, append_assoc, append-nil, length-append, take-append-drop}
+use Rattle.std.proofs.Common.{ℕ, Bool, false, List, get_or, ◌≡◌, ◌<◌, inl, inr, [], ◌∷◌, ◌++◌, All, length, take, drop, sym, ap, ◌∙◌, subst, append_assoc, take-append-drop}
+use Rattle.re_syntax.specs.Bytes.{Text}
+use Rattle.re_syntax.specs.Expression.{Expression}
+use Rattle.re_needle.specs.Working.Blocks.{PassesUnmatched, IsBlock, PassesAll}
+use Rattle.re_search.specs.Working.Blocks.{PassesUnmatchedByAll}
+use Rattle.re_search.specs.Working.Filters.{AreNeeded}
+use Rattle.re_match.specs.Working.Literals.{Literals, any_literal}
 use Rattle.std.specs.Prelude.{⊤}
 use Rattle.std.proofs.Math.Seq.{take-append_seam}
 use Rattle.std.proofs.lemmas.List.Elements.{All-take}
-use Rattle.re_syntax.specs.Bytes.{Text}
-use Rattle.re_syntax.specs.Expression.{Expression}
 use Rattle.re_syntax.specs.Holds.{Matches}
-use Rattle.re_syntax.specs.Lines.{newline, terminated, HasNoNewline, lines_of}
-use Rattle.re_syntax.proofs.lemmas.LinesLaws.{lines_of-line, lines_of-terminated, all_head, all_tail}
-use Rattle.re_search.specs.Working.Blocks.{IsBlock, PassesAll, PassesUnmatched, PassesUnmatchedByAll}
-use Rattle.re_search.specs.Searching.{SomeMatches}
-use Rattle.re_search.proofs.lemmas.SomeOfJoined.{Any-append-cases, Any-single}
+use Rattle.re_syntax.specs.Lines.{terminated, HasNoNewline, lines_of}
+use Rattle.re_syntax.proofs.lemmas.LinesLaws.{lines_of-terminated}
+use Rattle.re_auto.specs.Searching.{SomeMatches}
+use Rattle.re_syntax.proofs.lemmas.SomeOfJoined.{Any-append-cases, Any-single}
 use Rattle.re_search.proofs.lemmas.OneMatcherMore.{answer_of}
-
--- ---- the first lines of a block
-
--- the whole block is made of lines
-pub passes_block : (block : Text) → IsBlock block → PassesAll (λ _. ⊤) block (length block)
-passes_block block (lines, free, is) = (lines, [], free, λ i d h. tt, is ∙ sym (append-nil (terminated lines)), ap length is)
+use Rattle.re_needle.proofs.lemmas.NextLines.{lines_of-behind}
 
 -- so are lines at the front of it that are passed in a part of it
 pub passes_longer : (block : Text) (at count : ℕ) → PassesAll (λ _. ⊤) (take at block) count → PassesAll (λ _. ⊤) block count
@@ -30,10 +28,6 @@ passes_longer block at count (lines, rest, free, any, is, counted) = (
   counted,
 )
 
--- lines that are passed end within the block
-pub passed_within : (Holds : Text → Type 0) (block : Text) (count : ℕ) → PassesAll Holds block count → count ≤ length block
-passed_within Holds block count (lines, rest, free, any, is, counted) = omega (arith, counted, ap length is, length-append (terminated lines) rest)
-
 -- the bytes of lines that are passed are those lines
 passed_bytes : (block : Text) (count : ℕ) (lines : List Text) (rest : Text) → block ≡ terminated lines ++ rest → count ≡ length (terminated lines) → take count block ≡ terminated lines
 passed_bytes block count lines rest is counted =
@@ -42,14 +36,6 @@ passed_bytes block count lines rest is counted =
 -- and a block of their own
 pub passed_block : (Holds : Text → Type 0) (block : Text) (count : ℕ) → PassesAll Holds block count → IsBlock (take count block)
 passed_block Holds block count (lines, rest, free, any, is, counted) = (lines, free, passed_bytes block count lines rest is counted)
-
--- ---- lines that are passed twice
-
--- the lines of a text that begins with some, each ended by a newline, begin with these
-pub lines_of-behind : (ts : List Text) (rest : Text) → All HasNoNewline ts → lines_of (terminated ts ++ rest) ≡ ts ++ lines_of rest
-lines_of-behind [] rest h = refl
-lines_of-behind (t ∷ ts) rest h =
-    ap lines_of (append_assoc t (newline ∷ terminated ts) rest) ∙ lines_of-line t (terminated ts ++ rest) (all_head t ts h) ∙ ap (λ us. t ∷ us) (lines_of-behind ts rest (all_tail t ts h))
 
 -- what holds of lines holds of those at the front of their bytes
 holds_at_front : (P : Text → Type 0) (lines fronts : List Text) (rest : Text) → All HasNoNewline lines → All HasNoNewline fronts → terminated lines ≡ terminated fronts ++ rest → All P lines → All P fronts
@@ -93,3 +79,8 @@ least_more es more wholes i e w below at is block n m told passes whole all =
     let (lines, rest, free, both, cut, counted) : PassesAll (λ line. (¬ SomeMatches es line whole) × (¬ Matches e line whole)) block m =
     passes_both (λ line. ¬ SomeMatches es line whole) (λ line. ¬ Matches e line whole) block n m (told whole all) asked in
     (lines, rest, free, λ k d h. none_of_more es more e whole (get_or lines k d) is (both k d h).0 (both k d h).1, cut, counted)
+
+-- where each line that is matched has one of the strings of a filter, lines without any are passed
+pub passes_by_filter : (strings : Literals) (es : List Expression) (wholes : List Bool) (block : Text) (count : ℕ) → AreNeeded strings es → PassesUnmatched (any_literal strings) false block count → PassesUnmatchedByAll es wholes block count
+passes_by_filter strings es wholes block count needed (lines, rest, free, none, is, counted) = λ whole all.
+    (lines, rest, free, λ i d below some. needed (get_or lines i d) whole (none i d below) some, is, counted)

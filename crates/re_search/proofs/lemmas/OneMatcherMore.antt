@@ -8,9 +8,9 @@ use Rattle.re_syntax.specs.Bytes.{Text}
 use Rattle.re_syntax.specs.Expression.{Expression}
 use Rattle.re_syntax.specs.Holds.{Matches}
 use Rattle.re_auto.specs.Meters.{Steps}
-use Rattle.re_search.specs.Searching.{FindsPart, FindsPartOfAll, SomeMatches, TellsMatchOfAll, AllAnswer, AddsAtMost}
-use Rattle.re_search.specs.declared.span.Span.{Span}
-use Rattle.re_search.proofs.lemmas.SomeOfJoined.{Any-append-cases, Any-single}
+use Rattle.re_auto.specs.Searching.{FindsPart, FindsPartOfAll, SomeMatches, TellsMatchOfAll, AllAnswer, AddsAtMost}
+use Rattle.re_syntax.specs.declared.span.Span.{Span}
+use Rattle.re_syntax.proofs.lemmas.SomeOfJoined.{Any-append-cases, Any-single}
 
 -- two lists whose elements look the same to f one by one, and the element of the second at place i
 module _ {A B : Type 0} (f : A → B) (old now : List A) (same : map f now ≡ map f old) (i : ℕ) (d : A) where

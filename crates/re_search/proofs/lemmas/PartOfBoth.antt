@@ -4,9 +4,9 @@ use Rattle.re_syntax.specs.Bytes.{Text}
 use Rattle.re_syntax.specs.Expression.{Expression}
 use Rattle.re_syntax.specs.Holds.{Holds}
 use Rattle.re_syntax.specs.Parts.{IsFound, IsPart}
-use Rattle.re_search.specs.Searching.{FindsPart}
-use Rattle.re_search.specs.declared.span.Span.{Span}
-use Rattle.re_search.proofs.lemmas.SomeOfJoined.{Any-left, Any-right, Any-append-cases}
+use Rattle.re_auto.specs.Searching.{FindsPart}
+use Rattle.re_syntax.specs.declared.span.Span.{Span}
+use Rattle.re_syntax.proofs.lemmas.SomeOfJoined.{Any-left, Any-right, Any-append-cases}
 
 -- the stretch from i to j begins before that from k to l, or with it and ends no earlier
 pub record Leads (i j k l : ℕ) : Type 0 where

@@ -8,8 +8,8 @@ use Rattle.re_syntax.specs.Bytes.{Text}
 use Rattle.re_syntax.specs.Expression.{Expression}
 use Rattle.re_syntax.specs.Holds.{Matches}
 use Rattle.re_auto.specs.Meters.{Steps}
-use Rattle.re_search.specs.Searching.{AddsAtMost, AllAnswer, SameMatchers, SomeMatches, TellsMatchOfAll}
-use Rattle.re_search.proofs.lemmas.SomeOfJoined.{Any-left, Any-right, Any-append-cases}
+use Rattle.re_auto.specs.Searching.{AddsAtMost, AllAnswer, SameMatchers, SomeMatches, TellsMatchOfAll}
+use Rattle.re_syntax.proofs.lemmas.SomeOfJoined.{Any-left, Any-right, Any-append-cases}
 
 -- those of the first part give the answer that all give
 pub front_answers : (w : Bool) (us vs : List Bool) → AllAnswer w (us ++ vs) → AllAnswer w us

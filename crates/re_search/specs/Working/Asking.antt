@@ -2,7 +2,7 @@
 use Rattle.std.specs.Prelude.{◌≡◌, Bool, List, map}
 use Rattle.re_syntax.specs.Expression.{Expression}
 use Rattle.re_search.specs.declared.searchers.Searchers.{Searchers}
-use Rattle.re_search.specs.Searching.{SameMatchers}
+use Rattle.re_auto.specs.Searching.{SameMatchers}
 use Rattle.re_search.specs.Working.Sought.{Sought}
 
 module _ {M : Type 0} {g : _} where

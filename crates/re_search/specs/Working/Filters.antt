@@ -3,9 +3,9 @@ use Rattle.std.specs.Prelude.{Bool, false, List, Any}
 use Rattle.re_syntax.specs.Bytes.{Text}
 use Rattle.re_syntax.specs.Expression.{Expression}
 use Rattle.re_syntax.specs.Holds.{Matches}
-use Rattle.re_search.specs.Working.Literals.{Literals, any_literal}
-use Rattle.re_search.specs.Working.Needles.{IsNeeded}
-use Rattle.re_search.specs.Searching.{SomeMatches}
+use Rattle.re_match.specs.Working.Literals.{Literals, any_literal}
+use Rattle.re_needle.specs.Working.Needles.{IsNeeded}
+use Rattle.re_auto.specs.Searching.{SomeMatches}
 
 -- a line that has none of the strings is matched by none of the expressions
 abbrev pub AreNeeded : Literals → List Expression → Type 0

@@ -2,20 +2,21 @@
 ghost use Rattle.std.specs.Prelude.{◌≡◌, ◌+◌, ◌-◌, ◌*◌, ◌<◌, ◌≤◌, ◌↔◌, IsTrue, IfSome, length, map};
 ghost use Rattle.std.specs.Option.{ForSome};
 ghost use Rattle.re_syntax.specs.Lines.{lines_of};
-ghost use Rattle.re_search.specs.Searching.{AddsAtMost, AllAnswer, FindsPart, SameMatchers};
+ghost use Rattle.re_auto.specs.Searching.{AddsAtMost, AllAnswer, FindsPart, SameMatchers};
 ghost use Rattle.re_search.specs.Working.Asking.{SameSearchers, asks_whole, expressions_by};
 ghost use Rattle.re_search.specs.Working.Asking.{sought_by};
-ghost use Rattle.re_search.specs.Working.Blocks.{IsBlock, PassesUnmatchedByAll, next_cost};
+ghost use Rattle.re_needle.specs.Working.Blocks.{IsBlock, next_cost};
+ghost use Rattle.re_search.specs.Working.Blocks.{PassesUnmatchedByAll};
 ghost use Rattle.re_search.specs.Working.Sought.{IsSought, FindsSought, CountsSought};
 ghost use Rattle.re_search.specs.Working.Filters.{AreNeeded};
 
-use crate::block::line_end;
 use crate::filter::Filter;
-use crate::line_match::LineMatch;
 use crate::searchers::Searchers;
 use crate::several::{is_matched, least_candidate, parts};
-use crate::span::Span;
 use re_auto::Meter;
+use re_match::LineMatch;
+use re_needle::line_end;
+use re_syntax::Span;
 
 impl<'a, 'f, M: LineMatch> Searchers<'a, 'f, M> {
     /// These matchers, of which all give this answer to whether the whole line has to be matched. A

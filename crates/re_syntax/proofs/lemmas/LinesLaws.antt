@@ -51,6 +51,11 @@ unfolding lines_of
 lines_of-last b [] h = cond-false _ _ _ (first_differs b [] h)
 lines_of-last b (c ∷ t) h = cond-false _ _ _ (first_differs b (c ∷ t) h) ∙ ap (put_before b) (lines_of-last c t (rest_has_none b (c ∷ t) h))
 
+-- the bytes of lines are those of the first ones and then those of the others
+pub terminated-append : (ts us : List Text) → terminated (ts ++ us) ≡ terminated ts ++ terminated us
+terminated-append [] us = refl
+terminated-append (t ∷ ts) us = ap (λ l. t ++ newline ∷ l) (terminated-append ts us) ∙ sym (append_assoc t (newline ∷ terminated ts) (terminated us))
+
 -- the lines of texts that are each followed by a newline are those texts
 pub lines_of-terminated : (ts : List Text) → All HasNoNewline ts → lines_of (terminated ts) ≡ ts
 unfolding lines_of

@@ -1,5 +1,5 @@
 -- What the parts of an expression that were read say, in basic and in extended expressions.
-use Rattle.std.specs.Prelude.{◌≡◌, ℕ, ◌+◌, ◌-◌, ◌^◌, max, min, List, [], ◌∷◌, ◌++◌, map, nat_eq}
+use Rattle.std.specs.Prelude.{◌≡◌, ℕ, ◌+◌, max, List, [], ◌∷◌, ◌++◌, map, nat_eq}
 use Rattle.std.specs.Prelude.{if◌then◌else◌, Option, None, MatchOption, Vec}
 use Rattle.std.specs.Global.{Global}
 use Rattle.re_syntax.specs.declared.pieces.Piece.{Piece}

@@ -7,7 +7,8 @@ ghost use Rattle.re_auto.specs.declared.build.BuildFault.TheVariants.{Memory};
 ghost use Rattle.re_auto.specs.declared.mode.Mode.{Mode};
 ghost use Rattle.re_auto.specs.Meters.{many_built};
 ghost use Rattle.re_auto.specs.Working.Positions.{is_end};
-ghost use Rattle.re_auto.specs.Working.Starts.{Least, IsMatched, IsSpent};
+ghost use Rattle.re_syntax.specs.Working.BestStretches.{Least};
+ghost use Rattle.re_auto.specs.Working.Starts.{IsMatched, IsSpent};
 ghost use Rattle.re_auto.specs.Working.StartSets.{place_of, least_of, IsMadeForStarts};
 ghost use Rattle.re_auto.specs.Working.StartSets.{AreOfOneSize, AreSame, StartsAt, AreNext};
 

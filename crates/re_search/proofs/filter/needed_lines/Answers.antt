@@ -1,17 +1,17 @@
 use Rattle.std.proofs.Common.{◌≡◌, arith, map, ◌++◌, [], ◌∷◌, sym, ap, ◌∙◌, subst, All}
 use Rattle.std.proofs.lemmas.List.Elements.{All-push, All-map}
 use Rattle.re_syntax.specs.Lines.{HasNoNewline, lines_of}
-use Rattle.re_syntax.proofs.lemmas.LinesLaws.{lines_of-terminated}
+use Rattle.re_syntax.proofs.lemmas.LinesLaws.{lines_of-terminated, terminated-append}
 use Rattle.re_search.specs.Working.Filters.{NeedsOneOf}
-use Rattle.re_search.specs.Working.Matchers.{matched_expression}
-use Rattle.re_search.proofs.lemmas.FilterLaws.{terminated-push, needed_more}
+use Rattle.re_match.specs.Working.Matchers.{matched_expression}
+use Rattle.re_search.proofs.lemmas.FilterLaws.{needed_more}
 use Rattle.re_search.proofs.filter.needed_lines.Goals as goal
 
 pub matchers-preserved : goal.matchers-preserved
 matchers-preserved c =
     let strings = c.matchers.invariant.0 in (
       strings ++ c.in-Some.text.now ∷ [],
-      c.in_ok-add_line.ensures ∙ ap (λ bytes. bytes ++ (c.in-Some.text.now ++ 10 ∷ [])) c.matchers.invariant.1 ∙ terminated-push strings c.in-Some.text.now,
+      c.in_ok-add_line.ensures ∙ ap (λ bytes. bytes ++ (c.in-Some.text.now ++ 10 ∷ [])) c.matchers.invariant.1 ∙ sym (terminated-append strings (c.in-Some.text.now ∷ [])),
       All-push HasNoNewline strings c.in-Some.text.now c.matchers.invariant.2 c.in-Some.ensures.1,
       needed_more strings c.in-Some.text.now c.args.matchers.now c.matchers.place c.index-matchers-place.result c.matchers-test.true c.index-matchers-place.is c.in-Some.ensures.0 c.matchers.invariant.3,
     )

@@ -1,5 +1,6 @@
 use Rattle.std.proofs.Common.{arith, length-take}
-use Rattle.re_search.proofs.lemmas.LeastPasses.{passes_block, passes_longer}
+use Rattle.re_needle.proofs.lemmas.BlockLemmas.{passes_block}
+use Rattle.re_search.proofs.lemmas.LeastPasses.{passes_longer}
 use Rattle.re_search.proofs.several.first_lines.Goals as goal
 
 pub returns-then-block-le-LOOK_AHEAD : goal.returns-then-block-le-LOOK_AHEAD

@@ -1,9 +1,10 @@
 use Rattle.std.proofs.Common.{◌≡◌, ◌+◌, ◌++◌, ◌∷◌, [], ◌∙◌, map, take, get_or, arith, refl, ap, rules, take_all}
 use Rattle.std.specs.Prelude.{⊤}
 use Rattle.std.proofs.lemmas.List.{length-map}
-use Rattle.re_search.specs.Working.Blocks.{PassesAll}
+use Rattle.re_needle.specs.Working.Blocks.{PassesAll}
 use Rattle.re_search.proofs.lemmas.OneMatcherMore.{one_more, value_at, within}
-use Rattle.re_search.proofs.lemmas.LeastPasses.{least_more, passes_fewer, passed_within, passed_block}
+use Rattle.re_search.proofs.lemmas.LeastPasses.{least_more, passes_fewer, passed_block}
+use Rattle.re_needle.proofs.lemmas.BlockLemmas.{passed_within}
 use Rattle.re_search.proofs.several.least_candidate.Goals as goal
 
 pub loop-matcher-preserved : goal.loop-matcher-preserved

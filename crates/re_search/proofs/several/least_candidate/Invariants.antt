@@ -1,5 +1,6 @@
 use Rattle.std.proofs.Common.{◌≤◌, length, map, take}
-use Rattle.re_search.specs.Working.Blocks.{IsBlock, PassesUnmatchedByAll}
+use Rattle.re_needle.specs.Working.Blocks.{IsBlock}
+use Rattle.re_search.specs.Working.Blocks.{PassesUnmatchedByAll}
 use Rattle.re_search.proofs.several.least_candidate.Given as goal
 
 abbrev pub invariant-loop-matcher : goal.invariant-loop-matcher

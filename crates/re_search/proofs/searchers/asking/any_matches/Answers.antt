@@ -1,7 +1,7 @@
 use Rattle.std.proofs.Common.{◌+◌, ◌*◌, ◌≤◌, length, refl, arith, rules}
 use Rattle.std.proofs.Math.Nat.{mul-le-mul_right}
 use Rattle.std.proofs.lemmas.Bool.{false≢true}
-use Rattle.re_search.proofs.lemmas.SearchedBlocks.{adds_within}
+use Rattle.re_match.proofs.lemmas.StepSums.{adds_within}
 use Rattle.re_search.proofs.searchers.asking.any_matches.Goals as goal
 
 pub returns-then-rules_out-clause-told : goal.returns-then-rules_out-clause-told

@@ -1,5 +1,5 @@
 use Rattle.std.proofs.Common.{map}
-use Rattle.re_search.proofs.lemmas.BlockLemmas.{passes_by_filter}
+use Rattle.re_search.proofs.lemmas.LeastPasses.{passes_by_filter}
 use Rattle.re_search.proofs.searchers.asking.candidate.Goals as goal
 
 pub returns-in-Some : goal.returns-in-Some

@@ -2,7 +2,8 @@ use Rattle.std.proofs.Common.{◌+◌, length, map, drop, arith, length-drop}
 use Rattle.std.proofs.lemmas.List.{take_rest}
 use Rattle.re_search.specs.Working.Sought.{Sought, IsSought}
 use Rattle.re_search.proofs.lemmas.KeptMatchers.{same_over}
-use Rattle.re_search.proofs.lemmas.SearchedBlocks.{CountsTo, counts_next, counts_all, adds_on_by, same_length}
+use Rattle.re_needle.proofs.lemmas.NextLines.{CountsTo, counts_next, counts_all}
+use Rattle.re_search.proofs.lemmas.SearchedBlocks.{adds_on_by, same_length}
 use Rattle.re_search.proofs.searchers.asking.count_of_all.Goals as goal
 
 pub next_of-requires-clause-needed : goal.next_of-requires-clause-needed

@@ -1,7 +1,7 @@
 use Rattle.std.proofs.Common.{◌*◌, ◌-◌, length, map}
-use Rattle.re_search.specs.Searching.{AddsAtMost, SameMatchers}
+use Rattle.re_auto.specs.Searching.{AddsAtMost, SameMatchers}
 use Rattle.re_search.specs.Working.Sought.{IsSought}
-use Rattle.re_search.proofs.lemmas.SearchedBlocks.{CountsTo}
+use Rattle.re_needle.proofs.lemmas.NextLines.{CountsTo}
 use Rattle.re_search.proofs.searchers.asking.count_of_all.Given as goal
 
 -- the lines before the rest were counted

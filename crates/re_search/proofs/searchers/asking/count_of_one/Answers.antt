@@ -1,8 +1,8 @@
 use Rattle.std.proofs.Common.{◌≡◌, map, get_or, arith}
 use Rattle.std.proofs.lemmas.List.{get_or_default}
 use Rattle.re_syntax.specs.Lines.{lines_of}
-use Rattle.re_search.proofs.lemmas.BlockLemmas.{only_one}
-use Rattle.re_search.proofs.lemmas.CountedBlocks.{counts_of_one}
+use Rattle.re_search.proofs.lemmas.OneMatcher.{only_one}
+use Rattle.re_search.proofs.lemmas.OneMatcher.{counts_of_one}
 use Rattle.re_search.proofs.searchers.asking.count_of_one.Goals as goal
 
 pub returns-clause-told : goal.returns-clause-told

@@ -4,9 +4,11 @@ use Rattle.std.proofs.lemmas.List.{take_rest}
 use Rattle.re_syntax.specs.Bytes.{Text}
 use Rattle.re_search.specs.Working.Sought.{Sought, IsSought, PassesUnsought}
 use Rattle.std.proofs.Math.Nat.{mul-le-mul_left}
-use Rattle.re_search.proofs.lemmas.LeastPasses.{passed_within}
+use Rattle.re_needle.proofs.lemmas.BlockLemmas.{passed_within}
 use Rattle.re_search.proofs.lemmas.KeptMatchers.{same_over}
-use Rattle.re_search.proofs.lemmas.SearchedBlocks.{block_after, passed_on, none_next, next_from, passed_from, long, adds_line_by, adds_sweep_by, adds_within, swept_by, same_length}
+use Rattle.re_needle.proofs.lemmas.NextLines.{block_after, passed_on, none_next, next_from, passed_from, long}
+use Rattle.re_search.proofs.lemmas.SearchedBlocks.{adds_line_by, adds_sweep_by, swept_by, same_length}
+use Rattle.re_match.proofs.lemmas.StepSums.{adds_within}
 use Rattle.re_search.proofs.searchers.asking.next_of_all.Goals as goal
 
 pub sweep-requires-clause-block : goal.sweep-requires-clause-block

@@ -1,5 +1,5 @@
 use Rattle.std.proofs.Common.{◌*◌, ◌-◌, ◌≤◌, length, map}
-use Rattle.re_search.specs.Searching.{AddsAtMost, SameMatchers}
+use Rattle.re_auto.specs.Searching.{AddsAtMost, SameMatchers}
 use Rattle.re_search.specs.Working.Sought.{PassesUnsought}
 use Rattle.re_search.proofs.searchers.asking.next_of_all.Given as goal
 

@@ -1,4 +1,4 @@
-use Rattle.std.proofs.Common.{◌≡◌, length, arith, sym, ◌∙◌}
+use Rattle.std.proofs.Common.{◌≡◌, arith, sym, ◌∙◌}
 use Rattle.re_syntax.specs.Expression.{expression_of}
 use Rattle.re_syntax.specs.Holds.{positions}
 use Rattle.re_auto.specs.Working.Tables.{AreTablesOf, words_for}

@@ -1,0 +1,46 @@
+-- What a search of a line finds, and how many steps it takes.
+use Rattle.std.specs.Prelude.{◌≡◌, ℕ, ◌+◌, ◌-◌, ◌^◌, ◌≤◌, ◌↔◌, Bool, List, min, Option, MatchOption, All, Any, IsTrue, map}
+use Rattle.re_syntax.specs.Bytes.{Text}
+use Rattle.re_syntax.specs.Expression.{Expression}
+use Rattle.re_syntax.specs.Holds.{Matches}
+use Rattle.re_syntax.specs.Parts.{IsFound, IsPart}
+use Rattle.re_auto.specs.Meters.{Steps}
+use Rattle.re_syntax.specs.declared.span.Span.{Span}
+
+-- the span is the next part of the line for these expressions (XBD 9.1); None says that there is
+-- none
+abbrev pub FindsPart : List Expression → Text → Bool → ℕ → Option Span → Type 0
+FindsPart es line whole from found =
+    MatchOption found ((i j : ℕ) → ¬ IsFound es line whole from i j)
+    (λ span. IsPart es line whole from span.start span.end)
+
+-- some expression matches the line, which is then selected (XCU grep)
+abbrev pub SomeMatches : List Expression → Text → Bool → Type 0
+SomeMatches es line whole = Any (λ e. Matches e line whole) es
+
+-- each matcher gives this answer to whether the whole line has to be matched (XCU grep, option -x)
+abbrev pub AllAnswer : Bool → List Bool → Type 0
+AllAnswer whole wholes = All (λ w. w ≡ whole) wholes
+
+-- the span is the next part for these expressions, by the answer that all matchers give
+abbrev pub FindsPartOfAll : List Expression → List Bool → Text → ℕ → Option Span → Type 0
+FindsPartOfAll es wholes line from found =
+    (whole : Bool) → AllAnswer whole wholes → FindsPart es line whole from found
+
+-- the verdict says whether some expression matches the line, by the answer that all matchers give
+abbrev pub TellsMatchOfAll : List Expression → List Bool → Text → Bool → Type 0
+TellsMatchOfAll es wholes line verdict =
+    (whole : Bool) → AllAnswer whole wholes → IsTrue verdict ↔ SomeMatches es line whole
+
+-- the same matchers in the same order: each has its expression as before, and asks for whole lines
+-- or not as before
+pub record SameMatchers {M : Type 0} (expression : M → Expression) (whole : M → Bool)
+    (old new : List M) : Type 0 where
+  pub same_expressions : map expression new ≡ map expression old
+  pub same_wholes : map whole new ≡ map whole old
+
+-- at most `most` steps were counted, and no count fell; each count stops at the greatest u64
+pub record AddsAtMost (most : ℕ) (old new : Steps) : Type 0 where
+  pub built : min old.built (2 ^ 64 - 1) ≤ new.built
+  pub reused : min old.reused (2 ^ 64 - 1) ≤ new.reused
+  pub sum : new.built + new.reused ≤ old.built + old.reused + most

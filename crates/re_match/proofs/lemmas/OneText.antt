@@ -1,0 +1,108 @@
+-- What is matched of a line by one text, by where a search for the text finds it.
+use Rattle.std.proofs.Common.{◌≡◌, ℕ, ◌+◌, ◌-◌, ◌<◌, ◌≤◌, true, false, IsTrue, [], ◌∷◌, ◌++◌, length, map, drop, Option, None, Some, ◌↔◌, refl, sym, ap, ◌∙◌, arith, zero-add, length-append, length-drop}
+use Rattle.std.specs.Bool.{Decides}
+use Rattle.std.specs.Option.{is_some}
+use Rattle.std.specs.Str.{bytes_eq}
+use Rattle.std.proofs.lemmas.Bool.{false≢true}
+use Rattle.std.proofs.lemmas.Slice.Eq.{bytes_eq-Decides}
+use Rattle.std.proofs.Math.Decide.{dec_le}
+use Rattle.std.proofs.Math.Seq.{drop-length}
+use Rattle.std.proofs.lemmas.List.{drop-drop, append-nil}
+use Rattle.re_syntax.specs.Bytes.{Text}
+use Rattle.re_syntax.specs.Expression.{byte, sequence}
+use Rattle.re_syntax.specs.Holds.{Holds, Matches}
+use Rattle.re_syntax.specs.Parts.{IsFound, IsPart}
+use Rattle.re_syntax.proofs.lemmas.Decisions.{Any-first}
+use Rattle.re_syntax.proofs.lemmas.FixedStrings.{stands-holds, holds-stands, stands-matches, matches-stands}
+use Rattle.memchr.specs.Find.{OccursAt, FindsNeedle}
+use Rattle.re_syntax.proofs.lemmas.SomeOfJoined.{Any-single}
+use Rattle.re_needle.proofs.lemmas.Occurrences.{occurs-stands, stands-occurs}
+
+-- the place after a text at a place
+place_behind : (line text : Text) (i j : ℕ) → i < j → j ≤ length line → drop i line ≡ text ++ drop j line → j ≡ i + length text
+place_behind line text i j h on_line e =
+    let lengths : length (drop i line) ≡ length text + length (drop j line) = ap length e ∙ length-append text (drop j line) in
+    omega (arith, length-drop i line, length-drop j line, lengths)
+
+module _ (text line : Text) where
+  -- a stretch found from a place on is an occurrence in what is left from there
+  found-occurs : (from i j : ℕ) → IsFound (sequence (map byte text) ∷ []) line false from i j → OccursAt (drop from line) text (i - from) × (j ≡ i + length text)
+  found-occurs from i j f =
+      let a : from ≤ i = f.begins in
+      let b : i < j = f.not_empty in
+      let c : j ≤ length line = f.on_line in
+      let holds : Holds line (sequence (map byte text)) i j = Any-single (λ e. Holds line e i j) _ f.holds in
+      let stands : drop i line ≡ text ++ drop j line = holds-stands line text i j holds in
+      let same_place : from + (i - from) ≡ i = omega arith in
+      let left : drop (i - from) (drop from line) ≡ text ++ drop j line = drop-drop (i - from) from line ∙ ap (λ n. drop n line) same_place ∙ stands in
+      let near : i - from ≤ length (drop from line) = omega (arith, length-drop from line) in
+      (stands-occurs (drop from line) text (drop j line) (i - from) near left, place_behind line text i j b c stands)
+
+  -- an occurrence of a text that is not empty, in what is left from a place on, is a stretch found
+  occurs-found : (from k : ℕ) → 0 < length text → OccursAt (drop from line) text k → IsFound (sequence (map byte text) ∷ []) line false from (from + k) (from + k + length text)
+  occurs-found from k h o =
+      let fits : k + length text ≤ length (drop from line) = o.fits in
+      let stands : drop (from + k) line ≡ text ++ drop (length text) (drop k (drop from line)) = sym (drop-drop k from line) ∙ occurs-stands (drop from line) text k o in
+      let holds : Holds line (sequence (map byte text)) (from + k) (from + k + length text) = stands-holds line text (from + k) _ stands in
+      record {
+        begins = omega arith;
+        not_empty = omega arith;
+        on_line = omega (arith, length-drop from line);
+        is_whole = tt;
+        holds = Any-first (λ e. Holds line e (from + k) (from + k + length text)) _ [] holds;
+      }
+
+  -- where a search from a place on finds no occurrence of the text, there is no part
+  pub no_part : (from : ℕ) → FindsNeedle (drop from line) text 0 None → (i j : ℕ) → IsFound (sequence (map byte text) ∷ []) line false from i j → ⊥
+  no_part from none i j f =
+      let o = found-occurs from i j f in
+      let fits : i - from + length text ≤ length (drop from line) = o.0.fits in
+      none (i - from) (omega arith) (omega arith) o.0
+
+  -- the first occurrence from a place on of a text that is not empty is the part
+  pub first_part : (from k : ℕ) → 0 < length text → FindsNeedle (drop from line) text 0 (Some k) → IsPart (sequence (map byte text) ∷ []) line false from (from + k) (from + k + length text)
+  first_part from k h finds =
+      record {
+        found = occurs-found from k h finds.1;
+        earliest = λ i j f. not_before i j f;
+        longest = λ j f. let o = found-occurs from (from + k) j f in omega (arith, o.1);
+      }
+    where
+      not_before : (i j : ℕ) → IsFound (sequence (map byte text) ∷ []) line false from i j → from + k ≤ i
+      not_before i j f =
+          let begins : from ≤ i = f.begins in
+          elim (dec_le k (i - from)) [
+            | yes e ↦ omega arith
+            | no e ↦ absurd (finds.0.before (i - from) (omega arith) (omega arith) (found-occurs from i j f).0)
+          ]
+
+  -- a text matches the line where a search for it finds it
+  pub finds-decides : (r : Option ℕ) → FindsNeedle line text 0 r → IsTrue (is_some r) ↔ Matches (sequence (map byte text)) line false
+  finds-decides None none = (λ h. absurd (false≢true h), λ m. absurd (nowhere none m))
+    where
+      nowhere : FindsNeedle line text 0 None → Matches (sequence (map byte text)) line false → ⊥
+      nowhere none m =
+          let stands = matches-stands line text m in
+          let k : ℕ = stands.0 in
+          let near : k ≤ length line = stands.1 in
+          none k (omega arith) (omega arith) (stands-occurs line text stands.2 k near stands.3)
+  finds-decides (Some k) finds = (λ _. matched finds.1, λ _. refl)
+    where
+      matched : OccursAt line text k → Matches (sequence (map byte text)) line false
+      matched o = let fits : k + length text ≤ length line = o.fits in stands-matches line text k _ (omega arith) (occurs-stands line text k o)
+
+  -- it matches the line as a whole where it is the line
+  pub equals-decides : IsTrue (bytes_eq line text) ↔ Matches (sequence (map byte text)) line true
+  equals-decides = (λ h. matched (tells.0 h), λ m. tells.1 (same m))
+    where
+      tells : Decides (bytes_eq line text) (line ≡ text)
+      tells = bytes_eq-Decides line text
+
+      matched : line ≡ text → Matches (sequence (map byte text)) line true
+      matched e =
+          let stands : drop 0 line ≡ text ++ [] = e ∙ sym (append-nil text) in
+          let end : 0 + length text ≡ length line = zero-add (length text) ∙ sym (ap length e) in
+          rw end at (stands-holds line text 0 [] stands)
+
+      same : Matches (sequence (map byte text)) line true → line ≡ text
+      same m = holds-stands line text 0 (length line) m ∙ ap (λ rest. text ++ rest) (drop-length line) ∙ append-nil text

@@ -1,0 +1,114 @@
+-- Lines of a block that have none of many strings.
+use Rattle.std.proofs.Common.{ℕ, Bool, true, false, length, get_or, arith, ◌≡◌, suc, ◌+◌, ◌≤◌, List, [], ◌∷◌, ◌++◌, map, take, drop, Some, None, sym, ap, ◌∙◌, subst, length-append}
+use Rattle.re_syntax.specs.Bytes.{Text}
+use Rattle.re_syntax.specs.Expression.{Expression}
+use Rattle.re_needle.specs.Working.Blocks.{PassesUnmatched, IsBlock, PassesAll}
+use Rattle.std.specs.Prelude.{⊤}
+use Rattle.std.proofs.lemmas.Bool.{false≢true}
+use Rattle.std.proofs.lemmas.List.{length-map, map-append, take-append-le}
+use Rattle.re_syntax.specs.Holds.{Matches}
+use Rattle.re_syntax.specs.declared.span.Span.{Span}
+use Rattle.re_strings.specs.Working.FixedSets.{IsString, Occurs, IsBestOccurrence}
+use Rattle.re_match.specs.Working.Literals.{Literals, any_literal}
+use Rattle.re_strings.specs.Working.Keys.{key, keys}
+use Rattle.re_needle.proofs.lemmas.BlockLemmas.{passes_free_block, passes_free_front}
+use Rattle.re_match.proofs.lemmas.SetMatches.{occurs_decides}
+
+-- ---- parts of longer texts
+
+pub piece_before : (line after : Text) (i j : ℕ) → j ≤ length line → drop i (take j (line ++ after)) ≡ drop i (take j line)
+piece_before line after i j within = ap (drop i) (take-append-le j line after within)
+
+pub piece_behind : (front line : Text) (i j : ℕ) → drop (length front + i) (take (length front + j) (front ++ line)) ≡ drop i (take j line)
+piece_behind [] line i j =
+    let from : 0 + i ≡ i = omega arith in
+    let to : 0 + j ≡ j = omega arith in
+    ap (λ n. drop n (take (0 + j) line)) from ∙ ap (λ n. drop i (take n line)) to
+piece_behind (x ∷ front) line i j =
+    let from : suc (length front) + i ≡ suc (length front + i) = omega arith in
+    let to : suc (length front) + j ≡ suc (length front + j) = omega arith in
+    ap (λ n. drop n (take (suc (length front) + j) (x ∷ (front ++ line)))) from
+    ∙ ap (λ n. drop (suc (length front + i)) (take n (x ∷ (front ++ line)))) to ∙ piece_behind front line i j
+
+-- ---- where a string begins
+
+module _ (strings : List Text) (fold : Bool) where
+  abbrev pub StringBegins : Text → ℕ → Type 0
+  StringBegins bytes k = (j : ℕ) × Occurs strings 0 (keys fold bytes) k j
+
+  size : (bytes : Text) → length (keys fold bytes) ≡ length bytes
+  size bytes = length-map bytes (key fold)
+
+  pub begins_within : (line : Text) (k : ℕ) → StringBegins line k → k ≤ length line
+  begins_within line k (j, (low, some, within, is)) = omega (arith, some, within, size line)
+
+  pub begins_before : (line after : Text) (k : ℕ) → StringBegins line k → StringBegins (line ++ after) k
+  begins_before line after k (j, (low, some, within, is)) =
+      let joined : keys fold (line ++ after) ≡ keys fold line ++ keys fold after = map-append (key fold) line after in (
+        j,
+        (
+          low,
+          some,
+          omega (arith, within, ap length joined, length-append (keys fold line) (keys fold after)),
+          subst (IsString strings) (sym (ap (λ l. drop k (take j l)) joined ∙ piece_before (keys fold line) (keys fold after) k j within)) is,
+        ),
+      )
+
+  pub begins_behind : (front line : Text) (k : ℕ) → StringBegins line k → StringBegins (front ++ line) (length front + k)
+  begins_behind front line k (j, (low, some, within, is)) =
+      let joined : keys fold (front ++ line) ≡ keys fold front ++ keys fold line = map-append (key fold) front line in
+      let from : length front + k ≡ length (keys fold front) + k = ap (λ n. n + k) (sym (size front)) in
+      let to : length front + j ≡ length (keys fold front) + j = ap (λ n. n + j) (sym (size front)) in
+      let piece : drop (length front + k) (take (length front + j) (keys fold (front ++ line))) ≡ drop k (take j (keys fold line)) =
+      ap (λ l. drop (length front + k) (take (length front + j) l)) joined
+      ∙ ap (λ n. drop n (take (length front + j) (keys fold front ++ keys fold line))) from
+      ∙ ap (λ n. drop (length (keys fold front) + k) (take n (keys fold front ++ keys fold line))) to
+      ∙ piece_behind (keys fold front) (keys fold line) k j in (
+        length front + j,
+        (
+          omega arith,
+          omega (arith, some),
+          omega (arith, within, ap length joined, length-append (keys fold front) (keys fold line), size front),
+          subst (IsString strings) (sym piece) is,
+        ),
+      )
+
+-- ---- lines that are passed
+
+module _ (l : Literals) (none_empty : IsString (map (keys l.fold) l.texts) [] → ⊥) where
+  abbrev strings : List Text
+  strings = map (keys l.fold) l.texts
+
+  -- a line in which none begins is not matched
+  unmatched : (line : Text) → ((k : ℕ) → ¬ StringBegins strings l.fold line k) → ¬ Matches (any_literal l) line false
+  unmatched line free m =
+      false≢true ((occurs_decides l line false none_empty ((λ h. absurd (false≢true h)), (λ (i, j, o). absurd (free i (j, o))))).1 m)
+
+  -- where none is in the block, it is passed as a whole
+  pub passes_set_block : (block : Text) → IsBlock block → IsBestOccurrence strings 0 (keys l.fold block) (length block) None → PassesUnmatched (any_literal l) false block (length block)
+  unfolding IsBestOccurrence
+  passes_set_block block whole none =
+      let (lines, rest, free, all, is, counted) =
+      passes_free_block (StringBegins strings l.fold) (begins_within strings l.fold) (begins_before strings l.fold) (begins_behind strings l.fold) block whole
+      (λ k below (j, o). none k j (let inside = o.2 in omega (arith, inside, length-map block (key l.fold))) o) in
+      (lines, rest, free, λ i d below. unmatched _ (all i d below), is, counted)
+
+  -- where one is, the lines before the one in which the first begins are passed
+  pub passes_set_front : (block : Text) (span : Span) (count : ℕ) → IsBestOccurrence strings 0 (keys l.fold block) (length block) (Some span)
+      → (span.start ≤ length block) × (PassesAll (λ _. ⊤) (take span.start block) count → PassesUnmatched (any_literal l) false block count)
+  unfolding IsBestOccurrence
+  passes_set_front block span count (o, inside, early, long) =
+      let start : span.start ≤ length block = let some = o.1 in omega (arith, some, inside) in (
+        start,
+        λ front.
+            let (lines, rest, free, all, is, counted) =
+            passes_free_front (StringBegins strings l.fold) (begins_within strings l.fold) (begins_before strings l.fold) (begins_behind strings l.fold) block span.start count start
+            (λ k below (j, p). let first = early k j (let within = p.2 in omega (arith, within, length-map block (key l.fold))) p in omega (arith, first, below)) front in
+            (lines, rest, free, λ i d below. unmatched _ (all i d below), is, counted),
+      )
+
+-- lines of which no part is matched aren't matched as a whole
+pub passes_whole_too : (e : Expression) (whole : Bool) (block : Text) (count : ℕ) → PassesUnmatched e false block count → PassesUnmatched e whole block count
+passes_whole_too e false block count passes = passes
+passes_whole_too e true block count (lines, rest, free, none, is, counted) =
+    (lines, rest, free, λ i d below holds. none i d below (0, length (get_or lines i d), omega arith, holds), is, counted)

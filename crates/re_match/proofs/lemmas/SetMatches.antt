@@ -1,0 +1,133 @@
+-- What a choice of fixed strings matches: the lines that have one of them, as strings are compared.
+use Rattle.std.proofs.Common.{◌≡◌, ◌↔◌, ℕ, ◌+◌, ◌-◌, ◌≤◌, inl, inr, Bool, true, false, IsTrue, List, [], ◌∷◌, ◌++◌, length, map, take, drop, Option, Some, None, refl, sym, ap, subst, ◌∙◌, arith, length-append, length-drop}
+use Rattle.std.proofs.lemmas.List.{drop-append-le, take-append-drop, length-take-le, length-map}
+use Rattle.std.proofs.Math.ListN.{drop_of_length-le}
+use Rattle.std.proofs.lemmas.Bool.{cases_lt}
+use Rattle.re_syntax.specs.Bytes.{Text}
+use Rattle.re_syntax.specs.Expression.{alt, byte, sequence}
+use Rattle.re_syntax.specs.Holds.{Holds, Matches}
+use Rattle.re_syntax.specs.Parts.{IsFound}
+use Rattle.re_syntax.proofs.lemmas.Decisions.{Any-first, Any-later, Any-cases, Any-none}
+use Rattle.re_syntax.proofs.lemmas.FixedStrings.{stands-holds, holds-stands}
+use Rattle.re_syntax.proofs.lemmas.HoldsDecided.{Holds-le}
+use Rattle.re_syntax.specs.declared.span.Span.{Span}
+use Rattle.re_strings.specs.Working.FixedSets.{IsString, Occurs, IsBestOccurrence}
+use Rattle.re_match.specs.Working.Literals.{Literals, any_literal}
+use Rattle.re_strings.specs.Working.Keys.{key, keys}
+use Rattle.re_auto.specs.Searching.{FindsPart}
+use Rattle.re_syntax.proofs.lemmas.SomeOfJoined.{Any-single}
+use Rattle.re_strings.proofs.lemmas.SetBranches.{begins_take}
+use Rattle.re_match.proofs.lemmas.SetFolded.{choice_keys}
+use Rattle.re_strings.proofs.lemmas.SetSearch.{all_read}
+
+-- the bytes between two places are what follows the first, up to what follows the second
+stretch : (line : Text) (i j : ℕ) → i ≤ j → j ≤ length line → drop i line ≡ drop i (take j line) ++ drop j line
+stretch line i j le within =
+    let read : length (take j line) ≡ j = length-take-le j line within in
+    ap (drop i) (sym (take-append-drop j line)) ∙ drop-append-le i (take j line) (drop j line) (omega (arith, read, le))
+
+stretch_length : (line : Text) (i j : ℕ) → j ≤ length line → length (drop i (take j line)) ≡ j - i
+stretch_length line i j within = length-drop i (take j line) ∙ ap (λ n. n - i) (length-take-le j line within)
+
+-- a text from i to j is the bytes between them
+pub text_between : (line t : Text) (i j : ℕ) → i ≤ j → j ≤ length line → drop i line ≡ t ++ drop j line → t ≡ drop i (take j line)
+text_between line t i j le within e =
+    let lengths : length (drop i line) ≡ length t + length (drop j line) = ap length e ∙ length-append t (drop j line) in
+    let size : length t ≡ length (drop i (take j line)) = omega (arith, lengths, length-drop i line, length-drop j line, stretch_length line i j within, le, within) in
+    sym (begins_take t (drop j line)) ∙ ap (take (length t)) (sym e ∙ stretch line i j le within) ∙ ap (λ n. take n (drop i (take j line) ++ drop j line)) size ∙ begins_take (drop i (take j line)) (drop j line)
+
+module _ (line : Text) (i j : ℕ) where
+  -- where the choice holds there is a string
+  pub choice_stands : (texts : List Text) → i ≤ j → j ≤ length line → Holds line (alt (map (λ text. sequence (map byte text)) texts)) i j → IsString texts (drop i (take j line))
+  choice_stands [] le within h = absurd h
+  choice_stands (t ∷ texts) le within (inl h) = Any-first (λ s. s ≡ drop i (take j line)) t texts (text_between line t i j le within (holds-stands line t i j h))
+  choice_stands (t ∷ texts) le within (inr h) = Any-later (λ s. s ≡ drop i (take j line)) t texts (choice_stands texts le within h)
+
+  -- and where there is a string it holds
+  pub stands_choice : (texts : List Text) → i ≤ j → j ≤ length line → IsString texts (drop i (take j line)) → Holds line (alt (map (λ text. sequence (map byte text)) texts)) i j
+  stands_choice [] le within s = absurd (Any-none (λ s. s ≡ drop i (take j line)) s)
+  stands_choice (t ∷ texts) le within s =
+      let later = stands_choice texts le within in
+      elim (Any-cases (λ s. s ≡ drop i (take j line)) t texts s) [
+        | inl here ↦
+            let end : i + length t ≡ j = omega (arith, ap length here, stretch_length line i j within, le) in
+            inl (subst (Holds line (sequence (map byte t)) i) end (stands-holds line t i (drop j line) (stretch line i j le within ∙ ap (λ s. s ++ drop j line) (sym here))))
+        | inr rest ↦ inr (later rest)
+      ]
+
+-- there is nothing between a place and itself
+nothing_between : (line : Text) (i j : ℕ) → j ≤ i → j ≤ length line → drop i (take j line) ≡ []
+nothing_between line i j le within = drop_of_length-le (take j line) (let r = length-take-le j line within in omega (arith, r, le))
+
+module _ (l : Literals) (line : Text) where
+  -- the line is as long as it is compared
+  size : length (keys l.fold line) ≡ length line
+  size = length-map line (key l.fold)
+
+  -- where the choice holds there is a string in the line as it is compared
+  any_stands : (i j : ℕ) → i ≤ j → j ≤ length line → Holds line (any_literal l) i j → IsString (map (keys l.fold) l.texts) (drop i (take j (keys l.fold line)))
+  any_stands i j le within h = choice_stands (keys l.fold line) i j (map (keys l.fold) l.texts) le (omega (arith, within, size)) ((choice_keys line l.fold l.texts i j).0 h)
+
+  stands_any : (i j : ℕ) → i ≤ j → j ≤ length line → IsString (map (keys l.fold) l.texts) (drop i (take j (keys l.fold line))) → Holds line (any_literal l) i j
+  stands_any i j le within s = (choice_keys line l.fold l.texts i j).1 (stands_choice (keys l.fold line) i j (map (keys l.fold) l.texts) le (omega (arith, within, size)) s)
+
+  -- where the empty string is one of them each line is matched
+  pub empty_matches : IsString (map (keys l.fold) l.texts) [] → Matches (any_literal l) line false
+  empty_matches s = (0, 0, omega arith, stands_any 0 0 (omega arith) (omega arith) (subst (IsString (map (keys l.fold) l.texts)) (sym (nothing_between (keys l.fold line) 0 0 (omega arith) (omega arith))) s))
+
+  -- where it is not, the line is matched if it has a string
+  pub occurs_decides : (r : Bool) → (IsString (map (keys l.fold) l.texts) [] → ⊥) → IsTrue r ↔ ((i j : ℕ) × Occurs (map (keys l.fold) l.texts) 0 (keys l.fold line) i j) → IsTrue r ↔ Matches (any_literal l) line false
+  occurs_decides r none told = ((λ h. matched (told.0 h)), (λ m. told.1 (stands m)))
+    where
+      matched : (i j : ℕ) × Occurs (map (keys l.fold) l.texts) 0 (keys l.fold line) i j → Matches (any_literal l) line false
+      matched (i, j, o) =
+          let within : j ≤ length line = let w = o.2 in omega (arith, w, size) in
+          (i, j, within, stands_any i j (let h = o.1 in omega (arith, h)) within o.3)
+
+      stands : Matches (any_literal l) line false → (i j : ℕ) × Occurs (map (keys l.fold) l.texts) 0 (keys l.fold line) i j
+      stands (i, j, within, h) =
+          let le : i ≤ j = Holds-le line (any_literal l) i j h in
+          let s = any_stands i j le within h in
+          let on_line : j ≤ length (keys l.fold line) = omega (arith, within, size) in
+          elim (cases_lt i j) [
+            | inl some ↦ (i, j, (omega arith, some, on_line, s))
+            | inr empty ↦ absurd (none (subst (IsString (map (keys l.fold) l.texts)) (nothing_between (keys l.fold line) i j empty on_line) s))
+          ]
+
+  -- the line is matched as a whole where it is one of them
+  pub line_decides : (r : Bool) → IsTrue r ↔ IsString (map (keys l.fold) l.texts) (keys l.fold line) → IsTrue r ↔ Matches (any_literal l) line true
+  line_decides r told =
+      let whole : drop 0 (take (length line) (keys l.fold line)) ≡ keys l.fold line = all_read (keys l.fold line) (length line) (omega (arith, size)) in (
+        (λ h. stands_any 0 (length line) (omega arith) (omega arith) (subst (IsString (map (keys l.fold) l.texts)) (sym whole) (told.0 h))),
+        (λ m. told.1 (subst (IsString (map (keys l.fold) l.texts)) whole (any_stands 0 (length line) (omega arith) (omega arith) m))),
+      )
+
+  -- the best of the strings in the line is the part
+  pub best_is_part : (from : ℕ) (best : Option Span) → IsBestOccurrence (map (keys l.fold) l.texts) from (keys l.fold line) (length line) best → FindsPart (any_literal l ∷ []) line false from best
+  unfolding IsBestOccurrence
+  best_is_part from best b = go best b
+    where
+      occurs : (i j : ℕ) → IsFound (any_literal l ∷ []) line false from i j → Occurs (map (keys l.fold) l.texts) from (keys l.fold line) i j
+      occurs i j f =
+          let some = f.not_empty in
+          let within = f.on_line in
+          (f.begins, some, omega (arith, within, size), any_stands i j (omega (arith, some)) within (Any-single (λ e. Holds line e i j) (any_literal l) f.holds))
+
+      found : (i j : ℕ) → Occurs (map (keys l.fold) l.texts) from (keys l.fold line) i j → IsFound (any_literal l ∷ []) line false from i j
+      found i j o =
+          let some = o.1 in
+          let within : j ≤ length line = let w = o.2 in omega (arith, w, size) in
+          record { begins = o.0; not_empty = some; on_line = within; is_whole = tt; holds = Any-first (λ e. Holds line e i j) (any_literal l) [] (stands_any i j (omega (arith, some)) within o.3) }
+
+      go : (best : Option Span) → IsBestOccurrence (map (keys l.fold) l.texts) from (keys l.fold line) (length line) best → FindsPart (any_literal l ∷ []) line false from best
+      go None none = λ i j f. none i j f.on_line (occurs i j f)
+      go (Some span) (o, within, early, long) = record {
+        found = found span.start span.end o;
+        earliest = λ k m f. early k m f.on_line (occurs k m f);
+        longest = λ m f. long m f.on_line (occurs span.start m f);
+      }
+
+-- a text of no length is empty
+pub no_bytes : (t : Text) → length t ≡ 0 → t ≡ []
+no_bytes [] e = refl
+no_bytes (c ∷ t) e = absurd (omega (arith, e))

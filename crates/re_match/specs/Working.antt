@@ -1,0 +1,4 @@
+pub mod Literals
+pub mod Simulated
+pub mod CachedMatchers
+pub mod Matchers

@@ -1,0 +1,35 @@
+-- Matchers that keep the steps between sets of positions.
+use Rattle.std.specs.Prelude.{◌≡◌, ◌⊎◌, Bool, ℕ}
+use Rattle.re_syntax.specs.Bytes.{Text}
+use Rattle.re_syntax.specs.Expression.{Expression}
+use Rattle.re_auto.specs.Meters.{Steps}
+use Rattle.re_steps.specs.Working.Stages.{Cache, Searches, mode_for}
+use Rattle.re_needle.specs.Working.Needles.{IsSettled}
+use Rattle.re_syntax.specs.declared.tree.Tree.{Tree}
+use Rattle.re_auto.specs.declared.mode.Mode.{Mode}
+use Rattle.re_steps.specs.declared.table.Table.{Table}
+use Rattle.re_steps.specs.Working.Rows.{IsRight, IsBlank}
+
+-- the expression's tree, whether the whole line has to be matched (XCU grep, option -x), the cache,
+-- and how many entries it may have
+pub record CachedMatcher : Type 0 where
+  pub tree : Tree
+  pub whole : Bool
+  pub cache : Cache
+  pub most : ℕ
+
+-- what is known is right for the expression and the mode, or nothing is known
+abbrev pub IsKnownFor : Expression → Mode → Table → Type 0
+IsKnownFor e mode t = IsBlank t ⊎ IsRight e mode t
+
+-- the answer was known without a step, or a search found it
+pub record TellsAtOnce (e : Expression) (whole : Bool) (line : Text) (old new : Cache)
+    (before after : Steps) (answer : Bool) : Type 0 where
+  pub settled : IsSettled e whole line answer
+  pub cache : new ≡ old
+  pub steps : after ≡ before
+
+abbrev pub AnswersLine : Expression → Bool → Text → Cache → Cache → Steps → Steps → Bool → Type 0
+AnswersLine e whole line old new before after answer =
+    TellsAtOnce e whole line old new before after answer ⊎
+    Searches e (mode_for whole) line old new before after answer

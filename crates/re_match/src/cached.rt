@@ -1,0 +1,283 @@
+//! Search by stepping an automaton over the line, with a cache of the steps between sets of
+//! positions.
+ghost use Rattle.std.specs.Prelude.{◌≡◌, ℕ, ◌+◌, ◌-◌, ◌≤◌, ◌↔◌, [], ◌∷◌, false, IsTrue, IfOk};
+ghost use Rattle.std.specs.Prelude.{IfErr, IfSome, length};
+ghost use Rattle.std.specs.NonZero.{non_zero_usize_get};
+ghost use Rattle.re_syntax.specs.Expression.{expression_of};
+ghost use Rattle.re_syntax.specs.Holds.{Matches};
+ghost use Rattle.re_syntax.specs.Lines.{lines_of};
+ghost use Rattle.re_needle.specs.Working.Needles.{IsNeeded};
+ghost use Rattle.re_auto.specs.Searching.{FindsPart, AddsAtMost};
+ghost use Rattle.re_needle.specs.Working.Blocks.{IsBlock, PassesUnmatched, CountsMatched};
+ghost use Rattle.re_steps.specs.Working.Rows.{IsBlank, IsRight, cache_of};
+ghost use Rattle.re_match.specs.Working.CachedMatchers.{IsKnownFor};
+ghost use Rattle.re_steps.specs.Working.Stages.{Searches, IsReadied, mode_for};
+ghost use Rattle.re_match.specs.Working.CachedMatchers.{AnswersLine};
+
+use crate::line_match::LineMatch;
+use crate::looks::Uncounted;
+use crate::simulated::Simulated;
+use crate::sweeps::{Sweeps, count_by_sweeps, next_by_sweeps};
+use re_auto::{Automaton, Meter, Mode, StateSet};
+use re_steps::{Outcome, Pace, Table};
+use re_syntax::Span;
+use std::alloc::Global;
+use std::marker::Model;
+use std::num::NonZeroUsize;
+
+/// A matcher for an expression that keeps the steps that it worked out. Contracts see it as the
+/// tree, whether the whole line has to be matched, the entries of its cache, and how many entries
+/// that may have.
+#[derive(Drop)]
+pub struct Cached {
+    simulated: Simulated,
+    scratch: StateSet,
+    table: Table,
+    pace: Pace,
+    alloc: Global,
+}
+
+impl Model for Cached {
+    ghost use Rattle.re_syntax.specs.Expression.{expression_of};
+    ghost use Rattle.re_syntax.specs.contracts.tree.Tree as e;
+    ghost use Rattle.re_auto.specs.contracts.step.state_set.StateSet as s;
+    ghost use Rattle.std.specs.Coded.{codes};
+    ghost use Rattle.re_auto.specs.Working.StateSets.{IsMadeFor};
+    ghost use Rattle.re_steps.specs.Working.Rows.{cache_of};
+    ghost use Rattle.re_steps.specs.Working.Stages.{mode_for};
+    ghost use Rattle.re_match.specs.Working.CachedMatchers.{CachedMatcher, IsKnownFor};
+
+    ghost Value = { CachedMatcher };
+
+    ghost coded = { Prim.hlevel (codes, e.the_row.coded, s.the_row.coded) };
+
+    ghost view = { λ c.
+        record {
+          tree = c.simulated.tree;
+          whole = c.simulated.whole;
+          cache = cache_of c.table;
+          most = c.table.pairs.most;
+        } };
+
+    ghost invariant = { λ c. IsMadeFor (expression_of c.simulated.tree) c.scratch ×
+        IsKnownFor (expression_of c.simulated.tree) (mode_for c.simulated.whole) c.table };
+}
+
+impl Cached {
+    /// The matcher with an empty cache of at most `most` entries. If memory for the cache is
+    /// refused, the matcher is returned as it was.
+    pub fn over(
+        alloc: Global,
+        simulated: Simulated,
+        most: NonZeroUsize,
+    ) -> Result<Cached, Simulated>
+        ensures tree { IfOk result (λ c. (c.tree ≡ simulated.tree) × (c.whole ≡ simulated.whole)) }
+        ensures most { IfOk result (λ c. c.most ≡ non_zero_usize_get most) }
+        ensures empty { IfOk result (λ c. c.cache.entries ≡ []) }
+        ensures same { IfErr result (λ s. s ≡ simulated) }
+    {
+        let Ok(scratch) = StateSet::blank(alloc, simulated.automaton()) else {
+            return Err(simulated);
+        };
+        let Ok(table) = Table::new(alloc, most) else {
+            return Err(simulated);
+        };
+        Ok(Cached {
+            simulated,
+            scratch,
+            table,
+            pace: Pace::new(),
+            alloc,
+        })
+    }
+
+    // The same in a box. If memory is refused, the matcher is returned without a cache.
+    pub(crate) fn boxed(
+        alloc: Global,
+        simulated: Simulated,
+        most: NonZeroUsize,
+    ) -> Result<Box<Cached>, Simulated>
+        ensures tree { IfOk result
+            (λ c. (c.value.tree ≡ simulated.tree) × (c.value.whole ≡ simulated.whole)) }
+        ensures most { IfOk result (λ c. c.value.most ≡ non_zero_usize_get most) }
+        ensures empty { IfOk result (λ c. c.value.cache.entries ≡ []) }
+        ensures same { IfErr result (λ s. s ≡ simulated) }
+    {
+        let cached = Cached::over(alloc, simulated, most)?;
+        match Box::new(alloc, cached) {
+            Ok(cached) => Ok(cached),
+            Err(refused) => Err(refused.value.into_simulated()),
+        }
+    }
+
+    // The matcher without its cache.
+    fn into_simulated(self) -> Simulated
+        ensures { (result.tree ≡ self.tree) × (result.whole ≡ self.whole) }
+    {
+        let Cached { simulated, .. } = self;
+        simulated
+    }
+
+    /// How many entries the cache has.
+    pub fn cached(&self) -> usize
+        ensures held { result ≡ length self.now.cache.entries }
+        ensures few { result ≤ self.now.most }
+    {
+        self.table.pairs.held()
+    }
+
+    /// A string that every matched stretch has, if one is known.
+    pub(crate) fn needed(&self) -> Option<&[u8]>
+        ensures { IfSome result (λ text. IsNeeded text.now (expression_of self.now.tree)) }
+    {
+        self.simulated.needed()
+    }
+
+    // Whether the line is matched, for a line of which that is not known without a step.
+    #[inline(always)]
+    fn searched(&mut self, line: &[u8], meter: &mut Meter) -> bool
+        ensures searches { Searches (expression_of self.old.tree) (mode_for self.old.whole) line.now
+            self.old.cache self.new.cache meter.old meter.new result }
+        ensures same_tree { self.new.tree ≡ self.old.tree }
+        ensures same_whole { self.new.whole ≡ self.old.whole }
+        ensures same_most { self.new.most ≡ self.old.most }
+    {
+        let automaton = self.simulated.automaton();
+        let mode = self.simulated.mode();
+        if !is_ready(
+            &mut self.table,
+            &mut self.pace,
+            self.alloc,
+            automaton,
+            mode,
+            line,
+        ) {
+            return self.simulated.step_over(line, meter);
+        }
+        match self.table.search(
+            self.alloc,
+            automaton,
+            mode,
+            line,
+            &mut self.pace,
+            &mut self.scratch,
+            meter,
+        ) {
+            Outcome::Told(told) => told,
+            Outcome::GaveUp(place) => {
+                self.table.clear();
+                self.pace.give_up();
+                self.simulated.finish(&self.scratch, line, place, meter)
+            }
+        }
+    }
+
+    // Whether the line is matched.
+    #[inline(always)]
+    fn search(&mut self, line: &[u8], meter: &mut Meter) -> bool
+        ensures told { IsTrue result ↔
+            Matches (expression_of self.old.tree) line.now self.old.whole }
+        ensures same_tree { self.new.tree ≡ self.old.tree }
+        ensures same_whole { self.new.whole ≡ self.old.whole }
+        ensures steps { AddsAtMost (length line.now + 1) meter.old meter.new }
+        ensures counted { AnswersLine (expression_of self.old.tree) self.old.whole line.now
+            self.old.cache self.new.cache meter.old meter.new result }
+        ensures same_most { self.new.most ≡ self.old.most }
+    {
+        if let Some(told) = self.simulated.settled(line) {
+            return told;
+        }
+        self.searched(line, meter)
+    }
+}
+
+// Whether the table has rows. If it has none, they are made, provided that it is worth while and
+// there is memory for them.
+#[inline(always)]
+fn is_ready(
+    table: &mut Table,
+    pace: &mut Pace,
+    alloc: Global,
+    automaton: &Automaton,
+    mode: Mode,
+    line: &[u8],
+) -> bool
+    requires known { IsKnownFor (expression_of automaton.now) mode table.old }
+    ensures right { IsTrue result → IsRight (expression_of automaton.now) mode table.new }
+    ensures blank { result ≡ false → IsBlank table.new }
+    ensures readied { IsReadied (cache_of table.old) (cache_of table.new) }
+    ensures most { table.new.pairs.most ≡ table.old.pairs.most }
+{
+    if !table.is_blank() {
+        return true;
+    }
+    pace.begins(line.len()) && table.begin(alloc, automaton, mode)
+}
+
+impl LineMatch for Cached {
+    ghost use Rattle.re_syntax.specs.Expression.{expression_of};
+
+    ghost expression = { λ c. expression_of c.tree };
+
+    ghost whole = { λ c. c.whole };
+
+    fn is_match(&mut self, line: &[u8], meter: &mut Meter) -> bool
+        ensures told { IsTrue result ↔
+            Matches (expression_of self.old.tree) line.now self.old.whole }
+        ensures same_expression { expression_of self.new.tree ≡ expression_of self.old.tree }
+        ensures same_whole { self.new.whole ≡ self.old.whole }
+        ensures steps { AddsAtMost (length line.now + 1) meter.old meter.new }
+        ensures counted { AnswersLine (expression_of self.old.tree) self.old.whole line.now
+            self.old.cache self.new.cache meter.old meter.new result }
+        ensures same_most { self.new.most ≡ self.old.most }
+    {
+        self.search(line, meter)
+    }
+
+    fn find(&mut self, line: &[u8], from: usize, meter: &mut Meter) -> Option<Span>
+        requires { from ≤ length line.now }
+        ensures told { FindsPart (expression_of self.old.tree ∷ []) line.now self.old.whole from
+            result }
+        ensures same_expression { expression_of self.new.tree ≡ expression_of self.old.tree }
+        ensures same_whole { self.new.whole ≡ self.old.whole }
+        ensures steps { AddsAtMost (length line.now - from + 1) meter.old meter.new }
+        ensures same { self.new ≡ self.old }
+    {
+        self.simulated.find(line, from, meter)
+    }
+
+    fn next_matched(&mut self, block: &[u8], meter: &mut Meter) -> Option<Span> {
+        next_by_sweeps(self, block, meter)
+    }
+
+    fn count_matched(&mut self, block: &[u8], meter: &mut Meter) -> u64 {
+        let Some(count) = self.simulated.known_count(block) else {
+            return count_by_sweeps(self, block, meter);
+        };
+        meter.add_built(block.len() as u64);
+        count
+    }
+
+    fn first_candidate(&self, block: &[u8], asked: Uncounted) -> usize
+        requires { IsBlock block.now }
+        ensures { PassesUnmatched (expression_of self.now.tree) self.now.whole block.now result }
+    {
+        self.simulated.first_candidate(block, asked)
+    }
+}
+
+impl Sweeps for Cached {
+    ghost use Rattle.re_syntax.specs.Expression.{expression_of};
+
+    ghost expression = { λ c. expression_of c.tree };
+
+    ghost whole = { λ c. c.whole };
+
+    fn sweep(&self, block: &[u8], meter: &mut Meter) -> usize {
+        self.simulated.sweep(block, meter)
+    }
+
+    fn search(&mut self, line: &[u8], meter: &mut Meter) -> bool {
+        Cached::search(self, line, meter)
+    }
+}

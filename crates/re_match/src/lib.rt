@@ -1,0 +1,21 @@
+//! One matcher: what decides whether a line is matched by an expression, and finds its matched parts, in
+//! counted steps.
+#![tactic(auto)]
+
+mod cached;
+mod fixed;
+mod fixed_set;
+mod line_match;
+mod looks;
+mod matcher;
+mod prefilter;
+mod simulated;
+mod sweeps;
+
+pub use cached::Cached;
+pub use fixed::Fixed;
+pub use fixed_set::FixedSet;
+pub use line_match::LineMatch;
+pub use looks::{Looks, Uncounted};
+pub use matcher::{Matcher, spelled_tree};
+pub use simulated::Simulated;

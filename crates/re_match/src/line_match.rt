@@ -1,0 +1,94 @@
+ghost use Rattle.std.specs.Prelude.{◌≡◌, Bool, ◌+◌, ◌-◌, ◌<◌, ◌≤◌, ◌↔◌, [], ◌∷◌, IsTrue, IfSome};
+ghost use Rattle.std.specs.Prelude.{length};
+ghost use Rattle.re_syntax.specs.Expression.{Expression};
+ghost use Rattle.re_syntax.specs.Holds.{Matches};
+ghost use Rattle.re_syntax.specs.Lines.{lines_of};
+ghost use Rattle.re_auto.specs.Searching.{FindsPart, AddsAtMost};
+ghost use Rattle.re_needle.specs.Working.Blocks.{IsBlock, PassesUnmatched, CountsMatched};
+ghost use Rattle.re_needle.specs.Working.Blocks.{FindsMatched, next_cost};
+
+use crate::looks::Uncounted;
+use re_auto::Meter;
+use re_needle::line_end;
+use re_syntax::Span;
+
+/// What decides whether a line is matched, and finds the parts of it that are. It is made for one
+/// expression, which no search changes.
+pub trait LineMatch {
+    /// The expression that it is made for.
+    ghost expression: { Self → Expression };
+
+    /// Whether the whole line has to be matched (XCU grep, option `-x`).
+    ghost whole: { Self → Bool };
+
+    /// Whether the line is matched, in at most one step for each of its bytes and one more.
+    fn is_match(&mut self, line: &[u8], meter: &mut Meter) -> bool
+        ensures told { IsTrue result ↔ Matches (expression self.old) line.now (whole self.old) }
+        ensures same_expression { expression self.new ≡ expression self.old }
+        ensures same_whole { whole self.new ≡ whole self.old }
+        ensures steps { AddsAtMost (length line.now + 1) meter.old meter.new };
+
+    /// The part that begins earliest at `from` or later, and of those that begin there the
+    /// longest (XBD 9.1), in at most one step for each byte from `from` on and one more.
+    fn find(&mut self, line: &[u8], from: usize, meter: &mut Meter) -> Option<Span>
+        requires { from ≤ length line.now }
+        ensures told { FindsPart (expression self.old ∷ []) line.now (whole self.old) from result }
+        ensures same_expression { expression self.new ≡ expression self.old }
+        ensures same_whole { whole self.new ≡ whole self.old }
+        ensures steps { AddsAtMost (length line.now - from + 1) meter.old meter.new };
+
+    /// The first line of a block of whole lines that is matched, by its place without its newline.
+    /// It takes at most one step for each byte up to that newline and one for the newline. If no
+    /// line is matched, it takes at most one step for each byte of the block.
+    fn next_matched(&mut self, block: &[u8], meter: &mut Meter) -> Option<Span>
+        requires { IsBlock block.now }
+        ensures told { FindsMatched (expression self.old) (whole self.old) (lines_of block.now)
+            result }
+        ensures within { IfSome result
+            (λ at. (at.start ≤ at.end) × (at.end < length block.now)) }
+        ensures same_expression { expression self.new ≡ expression self.old }
+        ensures same_whole { whole self.new ≡ whole self.old }
+        ensures steps { AddsAtMost (next_cost block.now result) meter.old meter.new }
+    {
+        let mut start = 0;
+        'lines: loop {
+            let Some(end) = line_end(block, start) else {
+                return None;
+            };
+            if self.is_match(&block[start..end], meter) {
+                return Some(Span { start, end });
+            }
+            start = end + 1;
+        }
+    }
+
+    /// How many lines of a block of whole lines are matched, in at most one step for each of its
+    /// bytes.
+    fn count_matched(&mut self, block: &[u8], meter: &mut Meter) -> u64
+        requires { IsBlock block.now }
+        ensures told { CountsMatched (expression self.old) (whole self.old) (lines_of block.now)
+            result }
+        ensures same_expression { expression self.new ≡ expression self.old }
+        ensures same_whole { whole self.new ≡ whole self.old }
+        ensures steps { AddsAtMost (length block.now) meter.old meter.new }
+    {
+        let mut count: u64 = 0;
+        let mut rest = block;
+        'lines: loop {
+            let Some(at) = self.next_matched(rest, meter) else {
+                return count;
+            };
+            count += 1;
+            rest = &rest[at.end + 1..];
+        }
+    }
+
+    /// Where in a block of whole lines the first line begins that may be matched: no line before it
+    /// is matched. It takes no step: who asks for it counts the bytes that it passes. If only a search can say that, it is the first line.
+    fn first_candidate(&self, block: &[u8], _: Uncounted) -> usize
+        requires { IsBlock block.now }
+        ensures { PassesUnmatched (expression self.now) (whole self.now) block.now result }
+    {
+        0
+    }
+}

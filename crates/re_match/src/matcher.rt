@@ -1,0 +1,327 @@
+//! Matchers made from the texts of patterns.
+ghost use Rattle.std.specs.Prelude.{◌≡◌, ◌+◌, ◌-◌, ◌≤◌, ◌↔◌, ◌⊎◌, [], ◌∷◌, not, false, IsTrue};
+ghost use Rattle.std.specs.Prelude.{IfOk, IfErr, IfSome, length};
+ghost use Rattle.re_syntax.specs.Expression.{expression_of};
+ghost use Rattle.re_syntax.specs.Holds.{Matches, positions};
+ghost use Rattle.re_syntax.specs.Lines.{lines_of};
+ghost use Rattle.re_syntax.specs.Working.Counted.{HasPositions};
+ghost use Rattle.re_syntax.specs.Profile.{most_positions, most_states};
+ghost use Rattle.re_syntax.specs.Spelled.{IsSpelled, IsMeant, has_limit};
+ghost use Rattle.re_needle.specs.Working.Needles.{IsNeeded};
+ghost use Rattle.re_match.specs.Reading.{IsSmallFor, IsReadable, IsOutOfMemory, IsNotSpelled};
+ghost use Rattle.re_match.specs.Reading.{IsRefusedFor};
+ghost use Rattle.re_match.specs.Working.Matchers.{matched_expression, wants_whole, is_fixed};
+ghost use Rattle.re_match.specs.Working.Matchers.{room_of, entries_of, CountsSteps, IsBuildFault};
+ghost use Rattle.re_auto.specs.Searching.{FindsPart, AddsAtMost};
+ghost use Rattle.re_needle.specs.Working.Blocks.{IsBlock, PassesUnmatched, CountsMatched};
+
+use crate::cached::Cached;
+use crate::fixed::Fixed;
+use crate::fixed_set::FixedSet;
+use crate::line_match::LineMatch;
+use crate::looks::Uncounted;
+use crate::simulated::Simulated;
+use re_auto::{BuildFault, Meter};
+use re_syntax::{
+    FaultKind, MOST_POSITIONS, PatternFault, Span, Syntax, Tree, basic_positions,
+    extended_positions, read_basic, read_extended, read_fixed,
+};
+use std::alloc::{AllocError, Global};
+use std::num::NonZeroUsize;
+
+/// A matcher of any kind. The large ones are boxed, so that a matcher is moved and dropped as a
+/// pointer.
+#[derive(Drop)]
+pub enum Matcher {
+    /// Looks for a string.
+    Fixed(Fixed),
+    /// Looks for many strings at once.
+    FixedSet(Box<FixedSet>),
+    /// Steps an automaton.
+    Simulated(Box<Simulated>),
+    /// Steps an automaton, and keeps the steps between its sets of positions.
+    Cached(Box<Cached>),
+}
+
+impl Matcher {
+    /// The matcher for the text of a pattern, read in its syntax; with `fold` both cases of each
+    /// letter are alike (XCU grep, option `-i`), and with `whole` the whole line has to be matched
+    /// (option `-x`). A string that is not folded is looked for as it is, and may be of any length.
+    /// All other patterns get an automaton and a cache of at most `states` entries, from 1 to
+    /// 65,536. The cache is left out if memory for it is refused.
+    ///
+    /// # Errors
+    ///
+    /// `FaultKind::Memory` at 0 if out of memory; if the text is no expression, the fault of
+    /// [`re_syntax::read_basic`] or [`re_syntax::read_extended`]; `FaultKind::TooLarge` at 0 if its
+    /// expression has more than 4,096 positions once its intervals are written out.
+    pub fn new(
+        alloc: Global,
+        text: &[u8],
+        syntax: Syntax,
+        fold: bool,
+        whole: bool,
+        states: usize,
+    ) -> Result<Matcher, PatternFault>
+        requires { (1 ≤ states) × (states ≤ most_states) }
+        ensures meant { IfOk result (λ m. IsMeant syntax fold text.now (matched_expression m)) }
+        ensures whole { IfOk result (λ m. wants_whole m ≡ whole) }
+        ensures small { IfOk result (λ m. IsSmallFor syntax fold (matched_expression m)) }
+        ensures kind { IfOk result (λ m. is_fixed m ≡ not (has_limit syntax fold)) }
+        ensures room { IfOk result (λ m. room_of m ≤ states) }
+        ensures empty { IfOk result (λ m. entries_of m ≡ []) }
+        ensures refused { IfErr result
+            (λ fault. IsOutOfMemory fault ⊎ IsRefusedFor syntax fold text.now fault) }
+        ensures unreadable { IfErr result
+            (λ fault. IsOutOfMemory fault ⊎ (IsReadable syntax fold text.now → ⊥)) }
+    {
+        if is_limited(syntax, fold) {
+            return stepping_matcher(alloc, text, syntax, fold, whole, states);
+        }
+        fixed_matcher(alloc, text, whole)
+    }
+
+    /// How many entries its cache has; 0 if it has no cache.
+    pub fn cached(&self) -> usize
+        ensures held { result ≡ length (entries_of self.now) }
+        ensures few { result ≤ room_of self.now }
+    {
+        match self {
+            Matcher::Cached(cached) => cached.cached(),
+            _ => 0,
+        }
+    }
+
+    /// A string that every matched stretch has, if one is known of a matcher that steps an
+    /// automaton.
+    pub fn needed(&self) -> Option<&[u8]>
+        ensures { IfSome result (λ text. IsNeeded text.now (matched_expression self.now)) }
+    {
+        match self {
+            Matcher::Simulated(simulated) => simulated.needed(),
+            Matcher::Cached(cached) => cached.needed(),
+            _ => None,
+        }
+    }
+}
+
+impl LineMatch for Matcher {
+    ghost use Rattle.re_match.specs.Working.Matchers.{matched_expression, wants_whole};
+
+    ghost expression = { matched_expression };
+
+    ghost whole = { wants_whole };
+
+    fn is_match(&mut self, line: &[u8], meter: &mut Meter) -> bool
+        ensures told { IsTrue result ↔
+            Matches (matched_expression self.old) line.now (wants_whole self.old) }
+        ensures same_expression { matched_expression self.new ≡ matched_expression self.old }
+        ensures same_whole { wants_whole self.new ≡ wants_whole self.old }
+        ensures steps { AddsAtMost (length line.now + 1) meter.old meter.new }
+        ensures counted { CountsSteps line.now self.old meter.old self.new meter.new result }
+        ensures same_room { room_of self.new ≡ room_of self.old }
+    {
+        match self {
+            Matcher::Fixed(fixed) => fixed.is_match(line, meter),
+            Matcher::FixedSet(set) => set.is_match(line, meter),
+            Matcher::Simulated(simulated) => simulated.is_match(line, meter),
+            Matcher::Cached(cached) => cached.is_match(line, meter),
+        }
+    }
+
+    fn find(&mut self, line: &[u8], from: usize, meter: &mut Meter) -> Option<Span>
+        requires { from ≤ length line.now }
+        ensures told { FindsPart (matched_expression self.old ∷ []) line.now (wants_whole self.old)
+            from result }
+        ensures same_expression { matched_expression self.new ≡ matched_expression self.old }
+        ensures same_whole { wants_whole self.new ≡ wants_whole self.old }
+        ensures steps { AddsAtMost (length line.now - from + 1) meter.old meter.new }
+        ensures same_entries { entries_of self.new ≡ entries_of self.old }
+        ensures same_room { room_of self.new ≡ room_of self.old }
+    {
+        match self {
+            Matcher::Fixed(fixed) => fixed.find(line, from, meter),
+            Matcher::FixedSet(set) => set.find(line, from, meter),
+            Matcher::Simulated(simulated) => simulated.find(line, from, meter),
+            Matcher::Cached(cached) => cached.find(line, from, meter),
+        }
+    }
+
+    fn next_matched(&mut self, block: &[u8], meter: &mut Meter) -> Option<Span> {
+        match self {
+            Matcher::Fixed(fixed) => fixed.next_matched(block, meter),
+            Matcher::FixedSet(set) => set.next_matched(block, meter),
+            Matcher::Simulated(simulated) => simulated.next_matched(block, meter),
+            Matcher::Cached(cached) => cached.next_matched(block, meter),
+        }
+    }
+
+    fn count_matched(&mut self, block: &[u8], meter: &mut Meter) -> u64 {
+        match self {
+            Matcher::Fixed(fixed) => fixed.count_matched(block, meter),
+            Matcher::FixedSet(set) => set.count_matched(block, meter),
+            Matcher::Simulated(simulated) => simulated.count_matched(block, meter),
+            Matcher::Cached(cached) => cached.count_matched(block, meter),
+        }
+    }
+
+    fn first_candidate(&self, block: &[u8], asked: Uncounted) -> usize
+        requires { IsBlock block.now }
+        ensures { PassesUnmatched (matched_expression self.now) (wants_whole self.now) block.now
+            result }
+    {
+        match self {
+            Matcher::Fixed(fixed) => fixed.first_candidate(block, asked),
+            Matcher::FixedSet(set) => set.first_candidate(block, asked),
+            Matcher::Simulated(simulated) => simulated.first_candidate(block, asked),
+            Matcher::Cached(cached) => cached.first_candidate(block, asked),
+        }
+    }
+}
+
+// Whether an expression of the syntax has to be small, since an automaton is made for it.
+fn is_limited(syntax: Syntax, fold: bool) -> bool
+    ensures { result ≡ has_limit syntax fold }
+{
+    match syntax {
+        Syntax::Basic => true,
+        Syntax::Extended => true,
+        Syntax::Fixed => fold,
+    }
+}
+
+// The matcher that looks for the text as it is. Its one fault is `Memory`.
+fn fixed_matcher(alloc: Global, text: &[u8], whole: bool) -> Result<Matcher, PatternFault>
+    ensures made { IfOk result
+        (λ m. m ≡ Matcher.Fixed (record { text = text.now; whole = whole })) }
+    ensures refused { IfErr result IsOutOfMemory }
+{
+    match Fixed::new(alloc, text, whole) {
+        Ok(fixed) => Ok(Matcher::Fixed(fixed)),
+        Err(_) => Err(fault_at_first(FaultKind::Memory)),
+    }
+}
+
+// The matcher that steps the automaton of the text's meaning.
+fn stepping_matcher(
+    alloc: Global,
+    text: &[u8],
+    syntax: Syntax,
+    fold: bool,
+    whole: bool,
+    states: usize,
+) -> Result<Matcher, PatternFault>
+    requires limited { IsTrue (has_limit syntax fold) }
+    requires some { 1 ≤ states }
+    ensures meant { IfOk result (λ m. IsMeant syntax fold text.now (matched_expression m)) }
+    ensures whole { IfOk result (λ m. wants_whole m ≡ whole) }
+    ensures small { IfOk result (λ m. IsSmallFor syntax fold (matched_expression m)) }
+    ensures kind { IfOk result (λ m. is_fixed m ≡ false) }
+    ensures room { IfOk result (λ m. room_of m ≤ states) }
+    ensures empty { IfOk result (λ m. entries_of m ≡ []) }
+    ensures refused { IfErr result
+        (λ fault. IsOutOfMemory fault ⊎ IsRefusedFor syntax fold text.now fault) }
+{
+    let tree = match meant_tree(alloc, text, syntax, fold) {
+        Ok(tree) => tree,
+        Err(fault) => return Err(fault),
+    };
+    let simulated = match simulated_matcher(alloc, tree, whole) {
+        Ok(simulated) => simulated,
+        Err(fault) => return Err(fault),
+    };
+    match with_cache(alloc, simulated, states) {
+        Ok(matcher) => Ok(matcher),
+        Err(_) => Err(fault_at_first(FaultKind::Memory)),
+    }
+}
+
+// The matcher that steps the automaton of a tree. The errors are `TooLarge`, exactly if the
+// expression has more than 4,096 positions, and `Memory`.
+fn simulated_matcher(alloc: Global, tree: Tree, whole: bool) -> Result<Simulated, PatternFault>
+    ensures made { IfOk result (λ s. s ≡ record { tree = tree; whole = whole }) }
+    ensures few { IfOk result (λ _. positions (expression_of tree) ≤ most_positions) }
+    ensures refused { IfErr result (IsBuildFault (positions (expression_of tree))) }
+{
+    match Simulated::new(alloc, tree, whole) {
+        Ok(simulated) => Ok(simulated),
+        Err(BuildFault::TooLarge) => Err(fault_at_first(FaultKind::TooLarge)),
+        Err(BuildFault::Memory) => Err(fault_at_first(FaultKind::Memory)),
+    }
+}
+
+// The matcher with a cache of `states` entries, or without one if memory for it is refused.
+fn with_cache(alloc: Global, simulated: Simulated, states: usize) -> Result<Matcher, AllocError>
+    requires { 1 ≤ states }
+    ensures made { IfOk result (λ m.
+        (matched_expression m ≡ expression_of simulated.tree) × (wants_whole m ≡ simulated.whole)) }
+    ensures kind { IfOk result (λ m. is_fixed m ≡ false) }
+    ensures room { IfOk result (λ m. room_of m ≤ states) }
+    ensures empty { IfOk result (λ m. entries_of m ≡ []) }
+{
+    let Some(most) = NonZeroUsize::new(states) else {
+        unreachable!();
+    };
+    match Cached::boxed(alloc, simulated, most) {
+        Ok(cached) => Ok(Matcher::Cached(cached)),
+        Err(simulated) => Ok(Matcher::Simulated(Box::new(alloc, simulated)?)),
+    }
+}
+
+// The tree of the text's meaning. If it has too many positions, no tree is built, since it could be
+// far larger than the text.
+fn meant_tree(alloc: Global, text: &[u8], syntax: Syntax, fold: bool) -> Result<Tree, PatternFault>
+    requires limited { IsTrue (has_limit syntax fold) }
+    ensures meant { IfOk result (λ tree. IsMeant syntax fold text.now (expression_of tree)) }
+    ensures refused { IfErr result
+        (λ fault. IsOutOfMemory fault ⊎ IsRefusedFor syntax fold text.now fault) }
+{
+    let count = match spelled_positions(text, syntax) {
+        Ok(count) => count,
+        Err(fault) => return Err(fault),
+    };
+    if count > MOST_POSITIONS {
+        return Err(fault_at_first(FaultKind::TooLarge));
+    }
+    let tree = match spelled_tree(alloc, text, syntax) {
+        Ok(tree) => tree,
+        Err(fault) => return Err(fault),
+    };
+    if fold {
+        return Ok(re_syntax::fold(tree));
+    }
+    Ok(tree)
+}
+
+// How many positions the text has, as a pattern.
+fn spelled_positions(text: &[u8], syntax: Syntax) -> Result<usize, PatternFault>
+    ensures counted { IfOk result (HasPositions syntax text.now) }
+    ensures refused { IfErr result
+        (λ fault. IsOutOfMemory fault ⊎ IsNotSpelled syntax text.now fault) }
+{
+    match syntax {
+        Syntax::Basic => basic_positions(text),
+        Syntax::Extended => extended_positions(text),
+        Syntax::Fixed => Ok(text.len()),
+    }
+}
+
+/// The tree that the text spells.
+pub fn spelled_tree(alloc: Global, text: &[u8], syntax: Syntax) -> Result<Tree, PatternFault>
+    ensures read { IfOk result (λ tree. IsSpelled syntax text.now (expression_of tree)) }
+    ensures refused { IfErr result
+        (λ fault. IsOutOfMemory fault ⊎ IsNotSpelled syntax text.now fault) }
+{
+    match syntax {
+        Syntax::Basic => read_basic(alloc, text),
+        Syntax::Extended => read_extended(alloc, text),
+        Syntax::Fixed => read_fixed(alloc, text),
+    }
+}
+
+// A fault of the whole text, reported at its first place.
+fn fault_at_first(kind: FaultKind) -> PatternFault
+    ensures { result ≡ record { kind = kind; at = 0 } }
+{
+    PatternFault { kind, at: 0 }
+}

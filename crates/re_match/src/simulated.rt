@@ -1,0 +1,302 @@
+//! Search by stepping an automaton over the line.
+ghost use Rattle.std.specs.Prelude.{◌≡◌, ◌+◌, ◌-◌, ◌≤◌, ◌↔◌, [], ◌∷◌, true, false, IsTrue, IfOk};
+ghost use Rattle.std.specs.Prelude.{IfErr, IfSome, length};
+ghost use Rattle.re_syntax.specs.Expression.{expression_of};
+ghost use Rattle.re_syntax.specs.Holds.{Matches, positions};
+ghost use Rattle.re_syntax.specs.Lines.{lines_of};
+ghost use Rattle.re_syntax.specs.Profile.{most_positions};
+ghost use Rattle.re_auto.specs.declared.build.BuildFault.TheVariants.{Memory};
+ghost use Rattle.re_auto.specs.Working.Tables.{IsRefused};
+ghost use Rattle.re_needle.specs.Working.Needles.{IsNeeded};
+ghost use Rattle.re_auto.specs.Working.StateSets.{IsMadeFor};
+ghost use Rattle.re_steps.specs.Working.Simulations.{AreSetsFor, AreStartsFor};
+ghost use Rattle.re_steps.specs.Working.Stages.{Cache, Searches, FinishesFrom};
+ghost use Rattle.re_needle.specs.Working.Needles.{IsSettled};
+ghost use Rattle.re_steps.specs.Working.Stages.{mode_for};
+ghost use Rattle.re_auto.specs.Searching.{FindsPart, AddsAtMost};
+ghost use Rattle.re_needle.specs.Working.Blocks.{IsBlock, PassesUnmatched, CountsMatched};
+
+use crate::line_match::LineMatch;
+use crate::looks::Uncounted;
+use crate::prefilter::Prefilter;
+use crate::sweeps::{Sweeps, count_by_sweeps, next_by_sweeps};
+use re_auto::{Automaton, BuildFault, Meter, Mode, StateSet};
+use re_steps::{SetPair, StartPair};
+use re_syntax::{Span, Tree};
+use std::alloc::Global;
+use std::marker::Model;
+
+/// A matcher for an expression. Contracts see it as the tree and whether the whole line has to be
+/// matched. A line that its [`Prefilter`] settles takes no step.
+#[derive(Drop)]
+pub struct Simulated {
+    automaton: Automaton,
+    whole: bool,
+    prefilter: Prefilter,
+    sets: SetPair,
+    starts: StartPair,
+}
+
+impl Model for Simulated {
+    ghost use Rattle.re_syntax.specs.Expression.{expression_of};
+    ghost use Rattle.re_syntax.specs.contracts.tree.Tree as e;
+    ghost use Rattle.re_needle.specs.Working.Needles.{IsNeedleFor};
+    ghost use Rattle.re_match.specs.Working.Simulated.{TreeMatcher};
+    ghost use Rattle.re_steps.specs.Working.Simulations.{AreSetsFor, AreStartsFor};
+    ghost use Rattle.std.specs.Coded.{codes};
+
+    ghost Value = { TreeMatcher };
+
+    ghost coded = { Prim.hlevel (codes, e.the_row.coded) };
+
+    ghost view = { λ s. record { tree = s.automaton; whole = s.whole } };
+
+    ghost invariant = { λ s. AreSetsFor (expression_of s.automaton) s.sets ×
+        AreStartsFor (expression_of s.automaton) s.starts
+        × IsNeedleFor (expression_of s.automaton) s.prefilter.needle };
+}
+
+impl Simulated {
+    /// A matcher for the tree. All memory that searches need is taken here. The errors are
+    /// `TooLarge`, exactly if the expression has more than 4,096 positions once its intervals are
+    /// written out, and `Memory`.
+    pub fn new(alloc: Global, tree: Tree, whole: bool) -> Result<Simulated, BuildFault>
+        ensures made { IfOk result (λ s. s ≡ record { tree = tree; whole = whole }) }
+        ensures few { IfOk result (λ _. positions (expression_of tree) ≤ most_positions) }
+        ensures refused { IfErr result (IsRefused (positions (expression_of tree))) }
+    {
+        let prefilter = Prefilter::of(alloc, &tree);
+        let automaton = match Automaton::build(alloc, tree) {
+            Ok(automaton) => automaton,
+            Err(fault) => {
+                drop(prefilter);
+                return Err(fault);
+            }
+        };
+        let Ok(prefilter) = prefilter else {
+            drop(automaton);
+            return Err(BuildFault::Memory);
+        };
+        let (sets, starts) = match pairs_for(alloc, &automaton) {
+            Ok(pairs) => pairs,
+            Err(fault) => {
+                drop(automaton);
+                drop(prefilter);
+                return Err(fault);
+            }
+        };
+        Ok(Simulated {
+            automaton,
+            whole,
+            prefilter,
+            sets,
+            starts,
+        })
+    }
+
+    /// A string that every matched stretch has, if one is known.
+    pub(crate) fn needed(&self) -> Option<&[u8]>
+        ensures { IfSome result (λ text. IsNeeded text.now (expression_of self.now.tree)) }
+    {
+        self.prefilter.text()
+    }
+
+    /// The automaton.
+    #[inline(always)]
+    pub(crate) fn automaton(&self) -> &Automaton
+        ensures { result.now ≡ self.now.tree }
+    {
+        &self.automaton
+    }
+
+    /// The mode in which lines are searched.
+    #[inline(always)]
+    pub(crate) fn mode(&self) -> Mode
+        ensures { result ≡ mode_for self.now.whole }
+    {
+        if self.whole {
+            return Mode::Whole;
+        }
+        Mode::Search
+    }
+
+    /// What is known of the line without a step.
+    #[inline(always)]
+    pub(crate) fn settled(&self, line: &[u8]) -> Option<bool>
+        ensures { IfSome result
+            (λ told. IsSettled (expression_of self.now.tree) self.now.whole line.now told) }
+    {
+        self.prefilter.settled(line, self.whole)
+    }
+
+    /// Whether the line is matched, by steps alone.
+    pub(crate) fn step_over(&mut self, line: &[u8], meter: &mut Meter) -> bool
+        ensures searches { (cache : Cache) → cache.entries ≡ [] →
+            Searches (expression_of self.old.tree) (mode_for self.old.whole) line.now cache cache
+            meter.old meter.new result }
+        ensures same { self.new ≡ self.old }
+    {
+        if self.whole {
+            return self.sets.is_line(&self.automaton, line, meter);
+        }
+        self.sets.stands_in(&self.automaton, line, meter)
+    }
+
+    /// The rest of a search, by steps alone, from a place where the search has this set.
+    #[inline(never)]
+    pub(crate) fn finish(
+        &mut self,
+        set: &StateSet,
+        line: &[u8],
+        from: usize,
+        meter: &mut Meter,
+    ) -> bool
+        requires set { IsMadeFor (expression_of self.old.tree) set.now }
+        requires within { from ≤ length line.now }
+        ensures finishes { FinishesFrom (expression_of self.old.tree) (mode_for self.old.whole)
+            line.now from set.now meter.old meter.new result }
+        ensures same { self.new ≡ self.old }
+    {
+        if self.whole {
+            return self
+                .sets
+                .is_line_from(&self.automaton, set, line, from, meter);
+        }
+        self.sets
+            .stands_from(&self.automaton, set, line, from, meter)
+    }
+
+    // How many lines of a block of whole lines are matched, if that is known without a search.
+    pub(crate) fn known_count(&self, block: &[u8]) -> Option<u64>
+        requires { IsBlock block.now }
+        ensures { IfSome result (λ count. CountsMatched (expression_of self.now.tree)
+            self.now.whole (lines_of block.now) count) }
+    {
+        self.prefilter.count(block, self.whole)
+    }
+
+    // Whether the line is matched.
+    #[inline(always)]
+    fn search(&mut self, line: &[u8], meter: &mut Meter) -> bool
+        ensures told { IsTrue result ↔
+            Matches (expression_of self.old.tree) line.now self.old.whole }
+        ensures steps { AddsAtMost (length line.now + 1) meter.old meter.new }
+        ensures same { self.new ≡ self.old }
+    {
+        if let Some(told) = self.settled(line) {
+            return told;
+        }
+        self.step_over(line, meter)
+    }
+
+    // The matched part if the whole line has to be matched.
+    fn whole_line(&mut self, line: &[u8], from: usize, meter: &mut Meter) -> Option<Span>
+        requires within { from ≤ length line.now }
+        requires whole { self.old.whole ≡ true }
+        ensures told { FindsPart (expression_of self.old.tree ∷ []) line.now true from result }
+        ensures same { self.new ≡ self.old }
+        ensures steps { AddsAtMost (length line.now - from + 1) meter.old meter.new }
+    {
+        if from > 0 || line.is_empty() || !self.search(line, meter) {
+            return None;
+        }
+        Some(Span {
+            start: 0,
+            end: line.len(),
+        })
+    }
+
+    // The next part if it need not be the whole line.
+    fn part(&mut self, line: &[u8], from: usize, meter: &mut Meter) -> Option<Span>
+        requires { from ≤ length line.now }
+        ensures told { FindsPart (expression_of self.old.tree ∷ []) line.now false from result }
+        ensures same { self.new ≡ self.old }
+        ensures steps { AddsAtMost (length line.now - from) meter.old meter.new }
+    {
+        if let Some(known) = self.prefilter.part(line, from) {
+            return known;
+        }
+        self.starts.find(&self.automaton, line, from, meter)
+    }
+}
+
+// The sets and the starts for the automaton. The one error is `Memory`.
+fn pairs_for(alloc: Global, automaton: &Automaton) -> Result<(SetPair, StartPair), BuildFault>
+    ensures made { IfOk result
+        (λ pairs. AreSetsFor (expression_of automaton.now) pairs.0 ×
+        AreStartsFor (expression_of automaton.now) pairs.1) }
+    ensures refused { IfErr result (λ fault. fault ≡ Memory) }
+{
+    let sets = SetPair::new(alloc, automaton)?;
+    let starts = StartPair::new(alloc, automaton)?;
+    Ok((sets, starts))
+}
+
+impl LineMatch for Simulated {
+    ghost use Rattle.re_syntax.specs.Expression.{expression_of};
+
+    ghost expression = { λ s. expression_of s.tree };
+
+    ghost whole = { λ s. s.whole };
+
+    fn is_match(&mut self, line: &[u8], meter: &mut Meter) -> bool
+        ensures told { IsTrue result ↔
+            Matches (expression_of self.old.tree) line.now self.old.whole }
+        ensures same_expression { expression_of self.new.tree ≡ expression_of self.old.tree }
+        ensures same_whole { self.new.whole ≡ self.old.whole }
+        ensures steps { AddsAtMost (length line.now + 1) meter.old meter.new }
+        ensures same { self.new ≡ self.old }
+    {
+        self.search(line, meter)
+    }
+
+    fn find(&mut self, line: &[u8], from: usize, meter: &mut Meter) -> Option<Span>
+        requires { from ≤ length line.now }
+        ensures told { FindsPart (expression_of self.old.tree ∷ []) line.now self.old.whole from
+            result }
+        ensures same_expression { expression_of self.new.tree ≡ expression_of self.old.tree }
+        ensures same_whole { self.new.whole ≡ self.old.whole }
+        ensures steps { AddsAtMost (length line.now - from + 1) meter.old meter.new }
+        ensures same { self.new ≡ self.old }
+    {
+        if self.whole {
+            return self.whole_line(line, from, meter);
+        }
+        self.part(line, from, meter)
+    }
+
+    fn next_matched(&mut self, block: &[u8], meter: &mut Meter) -> Option<Span> {
+        next_by_sweeps(self, block, meter)
+    }
+
+    fn count_matched(&mut self, block: &[u8], meter: &mut Meter) -> u64 {
+        let Some(count) = self.known_count(block) else {
+            return count_by_sweeps(self, block, meter);
+        };
+        meter.add_built(block.len() as u64);
+        count
+    }
+
+    fn first_candidate(&self, block: &[u8], _: Uncounted) -> usize
+        requires { IsBlock block.now }
+        ensures { PassesUnmatched (expression_of self.now.tree) self.now.whole block.now result }
+    {
+        self.prefilter.first_line(block, self.whole)
+    }
+}
+
+impl Sweeps for Simulated {
+    ghost use Rattle.re_syntax.specs.Expression.{expression_of};
+
+    ghost expression = { λ s. expression_of s.tree };
+
+    ghost whole = { λ s. s.whole };
+
+    fn sweep(&self, block: &[u8], meter: &mut Meter) -> usize {
+        self.prefilter.sweep(block, self.whole, meter)
+    }
+
+    fn search(&mut self, line: &[u8], meter: &mut Meter) -> bool {
+        Simulated::search(self, line, meter)
+    }
+}

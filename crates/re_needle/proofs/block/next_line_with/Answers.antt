@@ -1,0 +1,33 @@
+use Rattle.std.proofs.Common.{◌≤◌, length, take, arith, length-take}
+use Rattle.std.specs.Prelude.{⊤}
+use Rattle.re_needle.specs.Working.Blocks.{StandsIn}
+use Rattle.re_needle.proofs.lemmas.BlockLemmas.{passes_whole, passes_front}
+use Rattle.re_needle.proofs.lemmas.CountedBlocks.{stands_around}
+use Rattle.re_needle.proofs.lemmas.BlockLemmas.{passed_within}
+use Rattle.re_needle.proofs.lemmas.NextLines.{none_next, none_in_all, next_from, passed_without}
+use Rattle.re_needle.proofs.block.next_line_with.Goals as goal
+
+pub returns-in_default-clause-told : goal.returns-in_default-clause-told
+returns-in_default-clause-told c =
+    let text = c.args.finder.now in
+    let block = c.args.block.now in
+    none_in_all (StandsIn text) block c.requires.block (passed_without text block (length block) (passes_whole text block c.requires.block c.in_default.ensures))
+
+pub returns-in_default-line_end-clause-told : goal.returns-in_default-line_end-clause-told
+returns-in_default-line_end-clause-told c =
+    let text = c.args.finder.now in
+    let block = c.args.block.now in
+    let start = c.line_start-start.result in
+    none_next (StandsIn text) block start c.requires.block (passed_without text block start (passes_front text block c.in-Some.at start c.in-Some.ensures c.line_start-start.ensures.lines)) c.in_default-line_end.ensures
+
+pub returns-clause-told : goal.returns-clause-told
+returns-clause-told c =
+    let text = c.args.finder.now in
+    let block = c.args.block.now in
+    let at = c.in-Some.at in
+    let start = c.line_start-start.result in
+    let end = c.in-Some-line_end.end in
+    let cut = c.in-Some-line_end.ensures in
+    let low : start ≤ at = omega (arith, passed_within (λ _. ⊤) (take at block) start c.line_start-start.ensures.lines, length-take at block) in
+    next_from (StandsIn text) block start end cut (passed_without text block start (passes_front text block at start c.in-Some.ensures c.line_start-start.ensures.lines))
+    (stands_around text c.requires.one_line block at start end c.in-Some.ensures.1 low c.line_start-start.ensures.last cut)

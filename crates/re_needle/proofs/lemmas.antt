@@ -1,0 +1,11 @@
+pub mod Occurrences
+pub mod NeededLaws
+pub mod RunLaws
+pub mod OutlineLaws
+pub mod ChoiceOutlines
+pub mod NeedleLaws
+pub mod BlockLemmas
+pub mod BegunLines
+pub mod CountedBlocks
+pub mod NextLines
+pub mod NibbleLanes

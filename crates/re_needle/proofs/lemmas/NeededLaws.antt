@@ -1,0 +1,36 @@
+-- Strings that a sequence of bytes needs.
+use Rattle.std.proofs.Common.{◌≡◌, ℕ, ◌+◌, ◌≤◌, List, [], ◌∷◌, ◌++◌, length, map, drop, refl, sym, subst, arith}
+use Rattle.std.proofs.lemmas.List.{append-nil}
+use Rattle.re_syntax.specs.Bytes.{Text}
+use Rattle.re_syntax.specs.Expression.{Expression, byte, cat, sequence}
+use Rattle.re_syntax.specs.Holds.{Holds}
+use Rattle.re_syntax.proofs.lemmas.FixedStrings.{cat-sequence, sequence-cat, holds-stands}
+use Rattle.re_syntax.proofs.lemmas.HoldsDecided.{Holds-le}
+use Rattle.re_needle.specs.Working.Needles.{StandsBetween, IsNeeded}
+use Rattle.re_needle.proofs.lemmas.Occurrences.{stands-occurs}
+
+-- a sequence of two lists of members is cut between them
+pub cat_cut : (line : Text) (xs ys : List Expression) (i j : ℕ) → Holds line (cat (xs ++ ys)) i j → (k : ℕ) × Holds line (cat xs) i k × Holds line (cat ys) k j
+cat_cut line [] ys i j h = (i, refl, h)
+cat_cut line (x ∷ xs) ys i j (m, first, later) = let rest = cat_cut line xs ys m j later in (rest.0, (m, first, rest.1), rest.2)
+
+-- bytes one after another hold on a stretch of their length
+cat_length : (line text : Text) (i j : ℕ) → Holds line (cat (map byte text)) i j → j ≡ i + length text
+cat_length line [] i j same = omega (arith, same)
+cat_length line (b ∷ text) i j (k, (c, at, is, next), later) = omega (arith, next, cat_length line text k j later)
+
+-- a text whose bytes are the first members is where the stretch begins
+leads : (line text : Text) (rest : List Expression) (i j : ℕ) → j ≤ length line → Holds line (cat (map byte text ++ rest)) i j → StandsBetween line text i j
+leads line text rest i j within h =
+    let cut = cat_cut line (map byte text) rest i j h in
+    let k : ℕ = cut.0 in
+    let bytes : Holds line (cat (map byte text)) i k = cut.1 in
+    let long : k ≡ i + length text = cat_length line text i k bytes in
+    let before : k ≤ j = Holds-le line (cat rest) k j cut.2 in
+    let stands : drop i line ≡ text ++ drop k line = holds-stands line text i k (cat-sequence line (map byte text) i k bytes) in
+    (i, omega arith, omega arith, stands-occurs line text (drop k line) i (omega arith) stands)
+
+-- bytes one after another need their text
+pub sequence_needed : (text : Text) → IsNeeded text (sequence (map byte text))
+sequence_needed text = λ line i j within h.
+    leads line text [] i j within (subst (λ xs. Holds line (cat xs) i j) (sym (append-nil (map byte text))) (sequence-cat line (map byte text) i j h))

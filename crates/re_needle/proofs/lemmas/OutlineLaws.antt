@@ -1,0 +1,258 @@
+-- Outlines of expressions, and the runs of sets that they make needed.
+use Rattle.std.proofs.Common.{◌≡◌, ℕ, zero, suc, ◌+◌, ◌-◌, ◌<◌, ◌≤◌, IsTrue, List, [], ◌∷◌, ◌++◌, length, map, take, drop, get_or, replicate, slice_index, Option, None, Some, Result, Ok, Err, IfOk, refl, sym, ap, ◌∙◌, subst, arith, append_assoc, length-append, length-drop, take-append-drop}
+use Rattle.std.proofs.lemmas.List.{length-map, append-nil, map-append, take_more, replicate_more}
+use Rattle.std.proofs.lemmas.Option.{get_or_from_slice_get, slice_get-get_or}
+use Rattle.re_syntax.specs.Bytes.{Bytes, Text}
+use Rattle.re_syntax.specs.Expression.{Expression, one_of, cat, repeat, expression_of}
+use Rattle.re_syntax.specs.Holds.{Holds, Turns}
+use Rattle.re_syntax.specs.Sets.{members}
+use Rattle.re_syntax.specs.declared.bytes.ByteSet.{ByteSet}
+use Rattle.re_syntax.specs.declared.tree.Tree.{Tree}
+use Rattle.re_syntax.proofs.lemmas.HoldsDecided.{Holds-le, Turns-le}
+use Rattle.re_needle.specs.declared.mark.Mark.{Mark}
+use Rattle.re_needle.specs.declared.mark.Mark.TheVariants as m
+use Rattle.re_needle.specs.Working.Runs.{RunStandsAt, set_at}
+use Rattle.re_needle.specs.Working.Outlines.{shown, MarkFits, Fits, AreSetMarks, IsOutline, AddsOutline, AddsTurns}
+use Rattle.re_needle.specs.Working.Needles.{RunIsNeeded, RunBegins, IsJustRun}
+use Rattle.re_needle.proofs.lemmas.NeededLaws.{cat_cut}
+
+-- ---- marks one after another
+
+mark_le : (line : Text) (mark : Option Bytes) (i j : ℕ) → MarkFits line mark i j → i ≤ j
+mark_le line (Some set) i j h = omega (arith, h.3)
+mark_le line None i j h = h
+
+pub fits_le : (line : Text) (marks : List (Option Bytes)) (i j : ℕ) → Fits line marks i j → i ≤ j
+fits_le line [] i j same = omega (arith, same)
+fits_le line (mark ∷ marks) i j (k, first, later) = omega (arith, mark_le line mark i k first, fits_le line marks k j later)
+
+fits_cut : (line : Text) (xs ys : List (Option Bytes)) (i j : ℕ) → Fits line (xs ++ ys) i j → (k : ℕ) × Fits line xs i k × Fits line ys k j
+fits_cut line [] ys i j h = (i, refl, h)
+fits_cut line (x ∷ xs) ys i j (m, first, later) = let rest = fits_cut line xs ys m j later in (rest.0, (m, first, rest.1), rest.2)
+
+fits_join : (line : Text) (xs ys : List (Option Bytes)) (i k j : ℕ) → Fits line xs i k → Fits line ys k j → Fits line (xs ++ ys) i j
+fits_join line [] ys i k j same h = subst (λ n. Fits line ys n j) (sym same) h
+fits_join line (x ∷ xs) ys i k j (m, first, later) h = (m, first, fits_join line xs ys m k j later h)
+
+pub sets_cut : (xs ys : List (Option Bytes)) → AreSetMarks (xs ++ ys) → AreSetMarks xs × AreSetMarks ys
+sets_cut [] ys h = (tt, h)
+sets_cut (x ∷ xs) ys h = let rest = sets_cut xs ys h.1 in ((h.0, rest.0), rest.1)
+
+all_sets : (run : List Bytes) → AreSetMarks (map Some run)
+all_sets [] = tt
+all_sets (s ∷ run) = (tt, all_sets run)
+
+-- ---- a run of sets, and where it is
+
+one_more : (s : Bytes) (run : List Bytes) (line : Text) (i : ℕ) → IsTrue (s (slice_index line i)) → RunStandsAt line run (i + 1) → RunStandsAt line (s ∷ run) i
+one_more s run line i has o =
+    let fits : i + 1 + length run ≤ length line = o.fits in
+    record { fits = omega (arith, fits); takes = taken }
+  where
+    taken : (j : ℕ) → j < length (s ∷ run) → IsTrue (set_at (s ∷ run) j (slice_index line (i + j)))
+    taken zero below = let place : i ≡ i + 0 = omega arith in subst (λ n. IsTrue (s (slice_index line n))) place has
+    taken (suc j) below =
+        let place : i + 1 + j ≡ i + suc j = omega arith in
+        subst (λ n. IsTrue (set_at run j (slice_index line n))) place (o.takes j (omega (arith, below)))
+
+sets_stand : (line : Text) (run : List Bytes) (i j : ℕ) → j ≤ length line → Fits line (map Some run) i j → RunStandsAt line run i × (j ≡ i + length run)
+sets_stand line [] i j within same = (record { fits = omega (arith, same, within); takes = λ k below. absurd (omega (arith, below)) }, omega (arith, same))
+sets_stand line (s ∷ run) i j within (k, (b, at, has, next), later) =
+    let rest = sets_stand line run k j within later in
+    let behind : j ≡ k + length run = rest.1 in
+    let here : slice_index line i ≡ b = get_or_from_slice_get line i b 0 at in
+    (one_more s run line i (subst (λ x. IsTrue (s x)) (sym here) has) (subst (λ n. RunStandsAt line run n) next rest.0), omega (arith, behind, next))
+
+one_less : (s : Bytes) (run : List Bytes) (line : Text) (i : ℕ) → RunStandsAt line (s ∷ run) i → RunStandsAt line run (i + 1)
+one_less s run line i o =
+    let fits : i + suc (length run) ≤ length line = o.fits in record {
+      fits = omega (arith, fits);
+      takes = λ j below.
+          let place : i + suc j ≡ i + 1 + j = omega arith in
+          subst (λ n. IsTrue (set_at run j (slice_index line n))) place (o.takes (suc j) (omega (arith, below)));
+    }
+
+stands_fit : (line : Text) (run : List Bytes) (i : ℕ) → RunStandsAt line run i → Fits line (map Some run) i (i + length run)
+stands_fit line [] i o = let same : i ≡ i + 0 = omega arith in same
+stands_fit line (s ∷ run) i o =
+    let fits : i + suc (length run) ≤ length line = o.fits in
+    let place : i + 0 ≡ i = omega arith in
+    let end : i + 1 + length run ≡ i + suc (length run) = omega arith in
+    let has : IsTrue (s (slice_index line i)) = subst (λ n. IsTrue (s (slice_index line n))) place (o.takes 0 (omega arith)) in
+    (i + 1, (slice_index line i, slice_get-get_or line i 0 (omega (arith, fits)), has, refl), subst (λ n. Fits line (map Some run) (i + 1) n) end (stands_fit line run (i + 1) (one_less s run line i o)))
+
+-- ---- outlines of parts and of wholes
+
+cat_join : (line : Text) (xs ys : List Expression) (i k j : ℕ) → Holds line (cat xs) i k → Holds line (cat ys) k j → Holds line (cat (xs ++ ys)) i j
+cat_join line [] ys i k j same h = subst (λ n. Holds line (cat ys) n j) (sym same) h
+cat_join line (x ∷ xs) ys i k j (m, first, later) h = (m, first, cat_join line xs ys m k j later h)
+
+outline_nothing : IsOutline [] (cat [])
+outline_nothing = record { fits = λ line i j h. h; holds = λ sets line i j f. f }
+
+outline_more : (xs ys : List (Option Bytes)) (es : List Expression) (e : Expression) → IsOutline xs (cat es) → IsOutline ys e → IsOutline (xs ++ ys) (cat (es ++ e ∷ []))
+outline_more xs ys es e front back = record {
+  fits = λ line i j h.
+      let (k, first, (n, here, end)) = cat_cut line es (e ∷ []) i j h in
+      fits_join line xs ys i k j (front.fits line i k first) (subst (λ x. Fits line ys k x) end (back.fits line k n here));
+  holds = λ sets line i j f.
+      let (k, first, later) = fits_cut line xs ys i j f in
+      let both = sets_cut xs ys sets in
+      cat_join line es (e ∷ []) i k j (front.holds both.0 line i k first) (j, back.holds both.1 line k j later, refl);
+}
+
+outline_set : (s : Bytes) → IsOutline (Some s ∷ []) (one_of s)
+outline_set s = record {
+  fits = λ line i j h. (j, h, refl);
+  holds = λ sets line i j (k, first, same). subst (λ n. Holds line (one_of s) i n) same first;
+}
+
+outline_stretch : (e : Expression) → IsOutline (None ∷ []) e
+outline_stretch e = record { fits = λ line i j h. (j, Holds-le line e i j h, refl); holds = λ sets. absurd sets.0 }
+
+outline_repeat : (xs : List (Option Bytes)) (e : Expression) (least : ℕ) (most : Option ℕ) → 1 ≤ least → IsOutline xs e → IsOutline (xs ++ None ∷ []) (repeat e least most)
+outline_repeat xs e least most some part = record {
+  fits = λ line i j (n, within, turns). once line i j n within.0 turns;
+  holds = λ sets. absurd (sets_cut xs (None ∷ []) sets).1.0;
+}
+  where
+    once : (line : Text) (i j n : ℕ) → least ≤ n → Turns (Holds line e) n i j → Fits line (xs ++ None ∷ []) i j
+    once line i j zero low turns = absurd (omega (arith, low, some))
+    once line i j (suc n) low (k, first, later) = fits_join line xs (None ∷ []) i k j (part.fits line i k first) (j, Turns-le (Holds line e) (Holds-le line e) n k j later, refl)
+
+-- ---- a set that is repeated
+
+-- n turns of a set are its bytes one after another
+turns_fit : (line : Text) (s : Bytes) (n i j : ℕ) → Turns (Holds line (one_of s)) n i j → Fits line (map Some (replicate n s)) i j
+turns_fit line s zero i j same = same
+turns_fit line s (suc n) i j (k, first, later) = (k, first, turns_fit line s n k j later)
+
+all_fit : (line : Text) (s : Bytes) (n m i j : ℕ) → n ≤ m → Turns (Holds line (one_of s)) m i j → Fits line (map Some (replicate n s) ++ None ∷ []) i j
+all_fit line s zero m i j few turns = (j, Turns-le (Holds line (one_of s)) (Holds-le line (one_of s)) m i j turns, refl)
+all_fit line s (suc n) zero i j few turns = absurd (omega (arith, few))
+all_fit line s (suc n) (suc m) i j few (k, first, later) = (k, first, all_fit line s n m k j (omega (arith, few)) later)
+
+all_hold : (line : Text) (s : Bytes) (n i j : ℕ) → Fits line (map Some (replicate n s)) i j → Turns (Holds line (one_of s)) n i j
+all_hold line s zero i j same = same
+all_hold line s (suc n) i j (k, first, later) = (k, first, all_hold line s n k j later)
+
+outline_turns : (s : Bytes) (n least : ℕ) (most : Option ℕ) → n ≤ least → IsOutline (map Some (replicate n s) ++ None ∷ []) (repeat (one_of s) least most)
+outline_turns s n least most few = record {
+  fits = λ line i j (m, within, turns). all_fit line s n m i j (omega (arith, few, within.0)) turns;
+  holds = λ sets. absurd (sets_cut (map Some (replicate n s)) (None ∷ []) sets).1.0;
+}
+
+outline_just : (s : Bytes) (n : ℕ) → IsOutline (map Some (replicate n s)) (repeat (one_of s) n (Some n))
+outline_just s n = record {
+  fits = λ line i j (m, within, turns).
+      let same : m ≡ n = omega (arith, within.0, within.1) in
+      turns_fit line s n i j (subst (λ x. Turns (Holds line (one_of s)) x i j) same turns);
+  holds = λ sets line i j f. (n, (omega arith, omega arith), all_hold line s n i j f);
+}
+
+-- ---- what is added to the marks
+
+pub adds_set : (old new : List Mark) (e : Expression) (set : ByteSet) → e ≡ one_of (members set) → new ≡ old ++ m.Set set ∷ [] → AddsOutline old e new
+adds_set old new e set is added = (m.Set set ∷ [], added, subst (λ x. IsOutline (Some (members set) ∷ []) x) (sym is) (outline_set (members set)))
+
+pub adds_stretch : (old new : List Mark) (e : Expression) → new ≡ old ++ m.Stretch ∷ [] → AddsOutline old e new
+adds_stretch old new e added = (m.Stretch ∷ [], added, outline_stretch e)
+
+pub adds_repeat : (old middle new : List Mark) (part e : Expression) (least : ℕ) (most : Option ℕ) → e ≡ repeat part least most → 1 ≤ least → AddsOutline old part middle → new ≡ middle ++ m.Stretch ∷ [] → AddsOutline old e new
+adds_repeat old middle new part e least most is some (more, same, outline) added = (
+  more ++ m.Stretch ∷ [],
+  added ∙ ap (λ l. l ++ m.Stretch ∷ []) same ∙ append_assoc old more (m.Stretch ∷ []),
+  subst (λ x. IsOutline x e) (sym (map-append shown more (m.Stretch ∷ []))) (subst (λ x. IsOutline (map shown more ++ None ∷ []) x) (sym is) (outline_repeat (map shown more) part least most some outline)),
+)
+
+-- n marks of a set that is repeated at least n times, and a stretch
+pub adds_least : (old middle new : List Mark) (s : Bytes) (n least : ℕ) (most : Option ℕ) → n ≤ least → AddsTurns old s n middle → new ≡ middle ++ m.Stretch ∷ [] → AddsOutline old (repeat (one_of s) least most) new
+adds_least old middle new s n least most few (more, same, sets) added = (
+  more ++ m.Stretch ∷ [],
+  added ∙ ap (λ l. l ++ m.Stretch ∷ []) same ∙ append_assoc old more (m.Stretch ∷ []),
+  subst (λ l. IsOutline l (repeat (one_of s) least most)) (sym (map-append shown more (m.Stretch ∷ []) ∙ ap (λ l. l ++ None ∷ []) sets)) (outline_turns s n least most few),
+)
+
+-- n marks of a set that is repeated exactly n times
+pub adds_just : (old new : List Mark) (s : Bytes) (n least : ℕ) (most : Option ℕ) → n ≡ least → most ≡ Some least → AddsTurns old s n new → AddsOutline old (repeat (one_of s) least most) new
+adds_just old new s n least most same just (more, is, sets) = (
+  more,
+  is,
+  subst (λ x. IsOutline (map shown more) (repeat (one_of s) least x)) (sym just)
+      (subst (λ x. IsOutline (map shown more) (repeat (one_of s) x (Some x))) same (subst (λ l. IsOutline l (repeat (one_of s) n (Some n))) (sym sets) (outline_just s n))),
+)
+
+-- one mark of the set more
+pub adds_turn : (old middle new : List Mark) (set : ByteSet) (n : ℕ) → AddsTurns old (members set) n middle → new ≡ middle ++ m.Set set ∷ [] → AddsTurns old (members set) (n + 1) new
+adds_turn old middle new set n (more, same, sets) added = (
+  more ++ m.Set set ∷ [],
+  added ∙ ap (λ l. l ++ m.Set set ∷ []) same ∙ append_assoc old more (m.Set set ∷ []),
+  map-append shown more (m.Set set ∷ []) ∙ ap (λ l. l ++ Some (members set) ∷ []) sets ∙ sym (map-append Some (replicate n (members set)) (members set ∷ [])) ∙ ap (map Some) (replicate_more n (members set)),
+)
+
+pub adds_nothing : (old : List Mark) → AddsOutline old (cat []) old
+adds_nothing old = ([], sym (append-nil old), outline_nothing)
+
+pub adds_more : (old middle new : List Mark) (parts : List Tree) (i : ℕ) (part : Tree) → i < length parts → part ≡ get_or parts i part
+    → AddsOutline old (cat (map expression_of (take i parts))) middle → AddsOutline middle (expression_of part) new → AddsOutline old (cat (map expression_of (take (i + 1) parts))) new
+adds_more old middle new parts i part lt is (xs, first, front) (ys, second, back) =
+    let grown : map expression_of (take (i + 1) parts) ≡ map expression_of (take i parts) ++ expression_of part ∷ [] =
+    ap (map expression_of) (take_more parts i part lt) ∙ map-append expression_of (take i parts) (get_or parts i part ∷ []) ∙ ap (λ x. map expression_of (take i parts) ++ expression_of x ∷ []) (sym is) in (
+      xs ++ ys,
+      second ∙ ap (λ l. l ++ ys) first ∙ append_assoc old xs ys,
+      subst (λ l. IsOutline l (cat (map expression_of (take (i + 1) parts)))) (sym (map-append shown xs ys))
+          (subst (λ es. IsOutline (map shown xs ++ map shown ys) (cat es)) (sym grown) (outline_more (map shown xs) (map shown ys) (map expression_of (take i parts)) (expression_of part) front back)),
+    )
+
+-- of a call that went well
+pub ok_with : {A E : Type 0} {P Q : Type 0} (r : Result A E) → (P → Q) → IfOk r (λ _. P) → IfOk r (λ _. Q)
+ok_with (Ok x) f h = f h
+ok_with (Err e) f h = tt
+
+-- ---- what is needed
+
+module _ (marks : List (Option Bytes)) (e : Expression) (outline : IsOutline marks e) (run : List Bytes) (rest : List (Option Bytes)) (start : ℕ) (stands : drop start marks ≡ map Some run ++ rest) where
+  cut : marks ≡ take start marks ++ (map Some run ++ rest)
+  cut = sym (take-append-drop start marks) ∙ ap (λ l. take start marks ++ l) stands
+
+  -- sets that are neighbours in the outline are needed
+  pub run_needed : RunIsNeeded run e
+  run_needed line i j within h =
+      let (k, before, later) = fits_cut line (take start marks) (map Some run ++ rest) i j (subst (λ l. Fits line l i j) cut (outline.fits line i j h)) in
+      let (n, here, behind) = fits_cut line (map Some run) rest k j later in
+      let low : i ≤ k = fits_le line (take start marks) i k before in
+      let high : n ≤ j = fits_le line rest n j behind in
+      let found = sets_stand line run k n (omega (arith, high, within)) here in
+      let end : n ≡ k + length run = found.1 in
+      (k, low, omega (arith, end, high), found.0)
+
+  -- and where they are the first sets each match begins with them
+  pub run_begins : start ≡ 0 → RunBegins run e
+  run_begins first line i j within h =
+      let is : marks ≡ map Some run ++ rest = subst (λ n. drop n marks ≡ map Some run ++ rest) first stands in
+      let (n, here, behind) = fits_cut line (map Some run) rest i j (subst (λ l. Fits line l i j) is (outline.fits line i j h)) in
+      (sets_stand line run i n (omega (arith, fits_le line rest n j behind, within)) here).0
+
+  lengths : length marks - start ≡ length run + length rest
+  lengths = sym (length-drop start marks) ∙ ap length stands ∙ length-append (map Some run) rest ∙ ap (λ n. n + length rest) (length-map run Some)
+
+  -- where they are all of it, the expression holds exactly where they are
+  pub just_run : 1 ≤ length run → length run ≡ length marks → IsJustRun run e
+  just_run some all = record {
+    stands = λ line i j within h. sets_stand line run i j within (subst (λ l. Fits line l i j) is (outline.fits line i j h));
+    holds = λ line k o. outline.holds (subst AreSetMarks (sym is) (all_sets run)) line k (k + length run) (subst (λ l. Fits line l k (k + length run)) (sym is) (stands_fit line run k o));
+  }
+    where
+      first : start ≡ 0
+      first = omega (arith, lengths, some, all)
+
+      nothing_more : (xs : List (Option Bytes)) → length xs ≡ 0 → map Some run ++ xs ≡ map Some run
+      nothing_more [] none = append-nil (map Some run)
+      nothing_more (x ∷ xs) none = absurd (omega (arith, none))
+
+      is : marks ≡ map Some run
+      is = subst (λ n. drop n marks ≡ map Some run ++ rest) first stands ∙ nothing_more rest (omega (arith, lengths, some, all))
+
+-- what is added to no mark
+pub outline_alone : (old new : List Mark) (e : Expression) → old ≡ [] → AddsOutline old e new → IsOutline (map shown new) e
+outline_alone old new e none (more, same, outline) = subst (λ l. IsOutline (map shown l) e) (sym (same ∙ ap (λ l. l ++ more) none)) outline

@@ -1,0 +1,40 @@
+use Rattle.std.proofs.Common.{map}
+use Rattle.re_syntax.specs.Expression.{expression_of}
+use Rattle.re_needle.specs.Working.Outlines.{IsOutline, shown}
+use Rattle.re_needle.proofs.lemmas.OutlineLaws.{outline_alone}
+use Rattle.re_needle.proofs.needle.Needle.of.Goals as goal
+
+pub returns-in-Some : goal.returns-in-Some
+returns-in-Some c =
+    let e = expression_of c.args.tree.now in
+    let outline : IsOutline (map shown c.deref-2.result.now) e =
+    rw c.deref-2.ensures.value (outline_alone c.new-marks.result.items c.add_outline.new.marks.items e c.new-marks.ensures.items c.in_ok-add_outline.ensures) in
+    rw c.in-Some.is at (c.in_ok-needle.ensures e outline)
+
+pub returns-in-Some-2 : goal.returns-in-Some-2
+returns-in-Some-2 c =
+    let e = expression_of c.args.tree.now in
+    let outline : IsOutline (map shown c.deref-4.result.now) e =
+    rw c.deref-4.ensures.value (outline_alone c.new-marks.result.items c.add_outline.new.marks.items e c.new-marks.ensures.items c.in_ok-add_outline.ensures) in
+    rw c.in-Some-2.is at (c.in_ok-needle-2.ensures e outline)
+
+pub returns-then-is_uncommon : goal.returns-then-is_uncommon
+returns-then-is_uncommon c =
+    let e = expression_of c.args.tree.now in
+    let outline : IsOutline (map shown c.deref-5.result.now) e =
+    rw c.deref-5.ensures.value (outline_alone c.new-marks.result.items c.add_outline.new.marks.items e c.new-marks.ensures.items c.in_ok-add_outline.ensures) in
+    c.in_ok-single.ensures e outline
+
+pub returns-in-Some-found : goal.returns-in-Some-found
+returns-in-Some-found c =
+    let e = expression_of c.args.tree.now in
+    let outline : IsOutline (map shown c.deref-7.result.now) e =
+    rw c.deref-7.ensures.value (outline_alone c.new-marks.result.items c.add_outline.new.marks.items e c.new-marks.ensures.items c.in_ok-add_outline.ensures) in
+    rw c.in-Some-found.is at (c.in-Ok.ensures e outline)
+
+pub returns : goal.returns
+returns c =
+    let e = expression_of c.args.tree.now in
+    let outline : IsOutline (map shown c.deref-5.result.now) e =
+    rw c.deref-5.ensures.value (outline_alone c.new-marks.result.items c.add_outline.new.marks.items e c.new-marks.ensures.items c.in_ok-add_outline.ensures) in
+    c.in_ok-single.ensures e outline

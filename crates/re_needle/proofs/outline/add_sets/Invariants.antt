@@ -1,0 +1,7 @@
+use Rattle.std.proofs.Common.{map, take}
+use Rattle.re_syntax.specs.Sets.{members}
+use Rattle.re_needle.specs.Working.Outlines.{AddsSets}
+use Rattle.re_needle.proofs.outline.add_sets.Given as goal
+
+abbrev pub invariant-sets : goal.invariant-sets
+invariant-sets l = AddsSets l.fn.marks.items (map members (take l.k l.sets)) l.marks.items

@@ -1,0 +1,13 @@
+use Rattle.std.proofs.Common.{arith}
+use Rattle.re_needle.specs.Working.Runs.{AllPass}
+use Rattle.re_needle.proofs.lemmas.RunLaws.{nowhere_marked}
+use Rattle.re_needle.proofs.probes.Probes.next_marks.Goals as goal
+
+pub quiet-preserved : goal.quiet-preserved
+quiet-preserved g c = record {
+  low = omega (arith, c.quiet.invariant.low);
+  high = omega (arith, c.if-past-at-ge64.true, c.quiet.invariant.high);
+  passed = nowhere_marked (AllPass c.args.self.now c.args.line.now) c.args.from c.quiet.at c.quiet.marks c.quiet.invariant.passed c.quiet.invariant.each c.quiet-test.true;
+  each = c.marks-marks-in-quiet.ensures.each;
+  within = c.marks-marks-in-quiet.ensures.within;
+}

@@ -1,0 +1,14 @@
+use Rattle.std.proofs.Common.{◌-◌, ◌≤◌, map}
+use Rattle.memchr.specs.Find.{Nowhere}
+use Rattle.re_syntax.specs.Sets.{members}
+use Rattle.re_needle.specs.Working.Runs.{RunStandsAt}
+use Rattle.re_needle.proofs.set_finder.SetFinder.find_by.Given as goal
+
+abbrev pub invariant-runs : goal.invariant-runs
+invariant-runs g l = (l.start ≤ l.end) × Nowhere (RunStandsAt l.line (map members l.self)) 0 l.start
+
+abbrev pub decreases-runs : goal.decreases-runs
+decreases-runs g l = l.end - l.start
+
+abbrev pub invariant-places : goal.invariant-places
+invariant-places g l = Nowhere (RunStandsAt l.line (map members l.self)) 0 l.place

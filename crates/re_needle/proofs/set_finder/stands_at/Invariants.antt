@@ -1,0 +1,7 @@
+use Rattle.std.proofs.Common.{ℕ, IsTrue, ◌+◌, ◌<◌, map, slice_index}
+use Rattle.re_syntax.specs.Sets.{members}
+use Rattle.re_needle.specs.Working.Runs.{set_at}
+use Rattle.re_needle.proofs.set_finder.stands_at.Given as goal
+
+abbrev pub invariant-sets : goal.invariant-sets
+invariant-sets l = (k : ℕ) → k < l.j → IsTrue (set_at (map members l.sets) k (slice_index l.line (l.place + k)))

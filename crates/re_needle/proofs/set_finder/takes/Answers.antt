@@ -1,0 +1,8 @@
+use Rattle.std.proofs.Common.{sym, ap, ◌∙◌}
+use Rattle.std.proofs.lemmas.List.{get_or-map}
+use Rattle.re_syntax.specs.Bytes.{Bytes, nothing}
+use Rattle.re_syntax.specs.Sets.{members}
+use Rattle.re_needle.proofs.set_finder.takes.Goals as goal
+
+pub returns : goal.returns
+returns c = c.has.ensures ∙ ap (λ (s : Bytes). s c.args.byte) (sym (get_or-map members c.args.sets.now c.args.j _ nothing c.requires))

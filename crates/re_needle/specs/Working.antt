@@ -1,0 +1,4 @@
+pub mod Runs
+pub mod Outlines
+pub mod Needles
+pub mod Blocks

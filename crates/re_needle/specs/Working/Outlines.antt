@@ -1,0 +1,67 @@
+-- Outlines of expressions: sets of bytes one after another, with stretches between them that may be
+-- anything.
+use Rattle.std.specs.Prelude.{◌≡◌, ℕ, ◌+◌, ◌<◌, ◌≤◌, ⊤, IsTrue, List, [], ◌∷◌, ◌++◌, length, map, replicate, slice_get, Option, None, Some}
+use Rattle.re_syntax.specs.Bytes.{Bytes, Text}
+use Rattle.re_syntax.specs.Expression.{Expression, one_of}
+use Rattle.re_syntax.specs.Holds.{Holds}
+use Rattle.re_syntax.specs.Sets.{members}
+use Rattle.re_needle.specs.declared.mark.Mark.{Mark}
+use Rattle.re_needle.specs.declared.mark.Mark.TheVariants as m
+use Rattle.re_needle.specs.Working.Runs.{set_at}
+
+-- a mark of an outline: a set, or any stretch
+abbrev pub shown : Mark → Option Bytes
+shown (m.Set set) = Some (members set)
+shown m.Stretch = None
+
+-- a mark fits the line from place i to place j
+abbrev pub MarkFits : Text → Option Bytes → ℕ → ℕ → Type 0
+MarkFits line (Some set) i j = Holds line (one_of set) i j
+MarkFits line None i j = i ≤ j
+
+-- the marks fit the stretch from i to j, one after another
+abbrev pub Fits : Text → List (Option Bytes) → ℕ → ℕ → Type 0
+Fits line [] i j = i ≡ j
+Fits line (mark ∷ marks) i j = (k : ℕ) × MarkFits line mark i k × Fits line marks k j
+
+-- each mark is a set
+abbrev pub IsSetMark : Option Bytes → Type 0
+IsSetMark (Some set) = ⊤
+IsSetMark None = ⊥
+
+abbrev pub AreSetMarks : List (Option Bytes) → Type 0
+AreSetMarks [] = ⊤
+AreSetMarks (mark ∷ marks) = IsSetMark mark × AreSetMarks marks
+
+-- The marks fit each stretch on which the expression holds. If all of them are sets, it holds on
+-- all that they fit.
+pub record IsOutline (marks : List (Option Bytes)) (e : Expression) : Type 0 where
+  pub fits : (line : Text) (i j : ℕ) → Holds line e i j → Fits line marks i j
+  pub holds : AreSetMarks marks → (line : Text) (i j : ℕ) → Fits line marks i j → Holds line e i j
+
+-- the marks are the old ones and then those that are an outline of the expression
+abbrev pub AddsOutline : List Mark → Expression → List Mark → Type 0
+AddsOutline old e new = (more : List Mark) × (new ≡ old ++ more) × IsOutline (map shown more) e
+
+-- the marks are the old ones and then those of these sets
+abbrev pub AddsSets : List Mark → List Bytes → List Mark → Type 0
+AddsSets old sets new = (more : List Mark) × (new ≡ old ++ more) × (map shown more ≡ map Some sets)
+
+-- the marks are the old ones and then n for this set
+abbrev pub AddsTurns : List Mark → Bytes → ℕ → List Mark → Type 0
+AddsTurns old set n new = AddsSets old (replicate n set) new
+
+-- the stretch of the line from i to j begins with a byte of each set in turn
+pub record Leads (sets : List Bytes) (line : Text) (i j : ℕ) : Type 0 where
+  pub within : i + length sets ≤ j
+  pub takes : (k : ℕ) → k < length sets →
+      (b : ℕ) × (slice_get line (i + k) ≡ Some b) × IsTrue (set_at sets k b)
+
+abbrev pub BeginsWith : List Bytes → Expression → Type 0
+BeginsWith sets e = (line : Text) (i j : ℕ) → Holds line e i j → Leads sets line i j
+
+-- each set of the third list has all bytes of the sets at its place in the first two
+pub record AreJoined (one other both : List Bytes) : Type 0 where
+  pub few : (length both ≤ length one) × (length both ≤ length other)
+  pub first : (k x : ℕ) → k < length both → IsTrue (set_at one k x) → IsTrue (set_at both k x)
+  pub second : (k x : ℕ) → k < length both → IsTrue (set_at other k x) → IsTrue (set_at both k x)

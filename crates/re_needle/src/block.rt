@@ -1,0 +1,212 @@
+//! Blocks of whole lines: finding one, passing over the first ones, and counting them, at once.
+ghost use Rattle.std.specs.Prelude.{◌≡◌, ◌+◌, ◌<◌, ◌≤◌, ◌↔◌, ◌++◌, ◌∷◌, IsTrue, IfSome};
+ghost use Rattle.std.specs.Prelude.{MatchOption, length, take, drop, ⊤};
+ghost use Rattle.re_syntax.specs.Lines.{newline, lines_of, HasNoNewline};
+ghost use Rattle.re_needle.specs.Working.Blocks.{IsBlock, LineBegins, Lacks, PassesAll};
+ghost use Rattle.re_needle.specs.Working.Blocks.{StandsIn, HoldsOfMany, IsLineFrom, FindsNext};
+ghost use Rattle.re_needle.specs.Working.Blocks.{next_cost};
+ghost use Rattle.re_needle.specs.Working.Needles.{run_of};
+ghost use Rattle.re_needle.specs.Working.Runs.{BeginsWithout, LacksRun};
+
+use crate::run_finder::RunFinder;
+use memchr::memmem::Finder;
+use memchr::{memchr, memrchr};
+use re_syntax::Span;
+
+/// Where the first line with the string begins in a block of whole lines; the end of the block if
+/// no line has it.
+pub fn first_line_with(finder: &Finder<'_>, block: &[u8]) -> usize
+    requires { IsBlock block.now }
+    ensures { PassesAll (Lacks finder.now) block.now result }
+{
+    match finder.find(block) {
+        Some(at) => line_start(&block[..at]),
+        None => block.len(),
+    }
+}
+
+/// Where the first line with the run begins in a block of whole lines; the end of the block if no
+/// line has it.
+pub fn first_line_with_run(finder: &RunFinder, block: &[u8]) -> usize
+    requires { IsBlock block.now }
+    ensures { PassesAll (LacksRun (run_of finder.now)) block.now result }
+{
+    match finder.find(block) {
+        Some(place) => line_start(&block[..place]),
+        None => block.len(),
+    }
+}
+
+/// Where the first line that begins with the run begins in a block of whole lines; the end of the
+/// block if there is none.
+// After a run inside a line, the search goes on at the next line.
+#[inline(never)]
+pub fn first_line_beginning_with(finder: &RunFinder, block: &[u8]) -> usize
+    requires { IsBlock block.now }
+    ensures { PassesAll (BeginsWithout (run_of finder.now)) block.now result }
+{
+    let mut start = 0;
+    'lines: loop {
+        let Some(place) = finder.find(&block[start..]) else {
+            return block.len();
+        };
+        let at = start + place;
+        if line_begins(block, at) {
+            return at;
+        }
+        let Some(length) = first_newline(&block[at..]) else {
+            return start;
+        };
+        start = at + length + 1;
+    }
+}
+
+// Whether a line of the bytes begins at the place.
+#[inline(always)]
+fn line_begins(bytes: &[u8], place: usize) -> bool
+    requires { place ≤ length bytes.now }
+    ensures { IsTrue result ↔ LineBegins bytes.now place }
+{
+    if place == 0 {
+        return true;
+    }
+    bytes[place - 1] == b'\n'
+}
+
+/// Where the last line of the bytes begins. It need not end with a newline.
+pub fn line_start(bytes: &[u8]) -> usize
+    ensures lines { PassesAll (λ _. ⊤) bytes.now result }
+    ensures last { HasNoNewline (drop result bytes.now) }
+{
+    match last_newline(bytes) {
+        Some(at) => at + 1,
+        None => 0,
+    }
+}
+
+// The place of the last newline.
+fn last_newline(bytes: &[u8]) -> Option<usize>
+    ensures { MatchOption result (HasNoNewline bytes.now) (λ k. (k < length bytes.now)
+        × (bytes.now ≡ take k bytes.now ++ newline ∷ drop (k + 1) bytes.now)
+        × HasNoNewline (drop (k + 1) bytes.now)) }
+{
+    memrchr(b'\n', bytes)
+}
+
+/// The first line of a block of whole lines that has the string, by its place without its newline.
+/// The string has no newline.
+pub fn next_line_with(finder: &Finder<'_>, block: &[u8]) -> Option<Span>
+    requires block { IsBlock block.now }
+    requires one_line { HasNoNewline finder.now }
+    ensures told { FindsNext (StandsIn finder.now) (lines_of block.now) result }
+    ensures within { IfSome result (λ at. (at.start ≤ at.end) × (at.end < length block.now)) }
+{
+    let Some(at) = finder.find(block) else {
+        return None;
+    };
+    let start = line_start(&block[..at]);
+    let Some(end) = line_end(block, start) else {
+        return None;
+    };
+    Some(Span { start, end })
+}
+
+/// How many bytes of a block a search for its next line answers for: those up to the newline of the
+/// line that was found, with that newline; all if none was found.
+pub fn bytes_to(block: &[u8], found: Option<Span>) -> u64
+    requires { IfSome found (λ at. at.end < length block.now) }
+    ensures { result ≡ next_cost block.now found }
+{
+    match found {
+        Some(at) => at.end as u64 + 1,
+        None => block.len() as u64,
+    }
+}
+
+/// How many lines of a block of whole lines have the string. `None` if the string is empty or has a
+/// newline.
+pub fn count_lines_with(finder: &Finder<'_>, block: &[u8]) -> Option<u64>
+    requires { IsBlock block.now }
+    ensures { IfSome result (λ n. HoldsOfMany (StandsIn finder.now) (lines_of block.now) n) }
+{
+    if finder.needle().is_empty() || first_newline(finder.needle()).is_some() {
+        return None;
+    }
+    Some(count_by(finder, block))
+}
+
+/// The same for a string that is not empty and has no newline.
+pub fn count_by(finder: &Finder<'_>, block: &[u8]) -> u64
+    requires block { IsBlock block.now }
+    requires some { 1 ≤ length finder.now }
+    requires one_line { HasNoNewline finder.now }
+    ensures { HoldsOfMany (StandsIn finder.now) (lines_of block.now) result }
+{
+    let mut count: u64 = 0;
+    let mut rest = block;
+    'lines: loop {
+        let Some(at) = finder.find(rest) else {
+            return count;
+        };
+        let Some(length) = first_newline(&rest[at..]) else {
+            unreachable!();
+        };
+        count += 1;
+        rest = &rest[at + length + 1..];
+    }
+}
+
+/// Where the line ends that begins at the place; `None` if no newline follows.
+#[inline(always)]
+pub fn line_end(block: &[u8], start: usize) -> Option<usize>
+    requires { start ≤ length block.now }
+    ensures { MatchOption result (HasNoNewline (drop start block.now))
+        (λ end. IsLineFrom block.now start end) }
+{
+    let length = near_newline(&block[start..])?;
+    Some(start + length)
+}
+
+/// Whether there is no newline.
+pub fn has_no_newline(bytes: &[u8]) -> bool
+    ensures { IsTrue result ↔ HasNoNewline bytes.now }
+{
+    match first_newline(bytes) {
+        Some(_) => false,
+        None => true,
+    }
+}
+
+// How many bytes are looked at one by one for the end of a line. Where lines are short that is
+// quicker than a call of `memchr`.
+const NEAR: usize = 8;
+
+// The place of the first newline, which may be near.
+#[inline(always)]
+fn near_newline(bytes: &[u8]) -> Option<usize>
+    ensures none { MatchOption result (HasNoNewline bytes.now)
+        (λ k. HasNoNewline (take k bytes.now)) }
+    ensures some { IfSome result (λ k. (k < length bytes.now)
+        × (bytes.now ≡ take k bytes.now ++ newline ∷ drop (k + 1) bytes.now)) }
+{
+    let near = NEAR.min(bytes.len());
+    'places: for place in 0..near {
+        if bytes[place] == b'\n' {
+            return Some(place);
+        }
+    }
+    match first_newline(&bytes[near..]) {
+        Some(further) => Some(near + further),
+        None => None,
+    }
+}
+
+// The place of the first newline.
+#[inline(always)]
+fn first_newline(bytes: &[u8]) -> Option<usize>
+    ensures { MatchOption result (HasNoNewline bytes.now) (λ k. (k < length bytes.now)
+        × HasNoNewline (take k bytes.now)
+        × (bytes.now ≡ take k bytes.now ++ newline ∷ drop (k + 1) bytes.now)) }
+{
+    memchr(b'\n', bytes)
+}

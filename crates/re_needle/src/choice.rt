@@ -1,0 +1,112 @@
+//! Which run of an outline is looked for. No contract depends on the choice.
+ghost use Rattle.std.specs.Prelude.{◌≡◌, ◌≤◌, length};
+
+use crate::mark::Mark;
+use crate::survey::{Survey, rank_of};
+
+// From how many bytes on a run is long. If one of two runs is long, the longer one is taken; else
+// one that is much rarer takes precedence over a longer one.
+const LONG: usize = 4;
+
+// By how many ranks a byte is much rarer than another.
+const MUCH: u8 = 32;
+
+// A set is small if at most about this number of 65,536 bytes of most texts are in it.
+const SMALL: u32 = 24_576;
+
+// A set may be in a run of sets if at most about this number are in it, like the set of letters and
+// digits.
+const LARGE: u32 = 65_536;
+
+/// What the marks of a run are.
+#[derive(Clone, Copy)]
+pub enum RunOf {
+    /// Single bytes.
+    Bytes,
+    /// Sets that few bytes of most texts are in.
+    SmallSets,
+    /// Sets that some bytes of most texts are not in.
+    Sets,
+}
+
+// A run of marks: where it begins, how long it is, and how common its rarest mark is.
+#[derive(Clone, Copy)]
+struct Run {
+    start: usize,
+    length: usize,
+    rank: u8,
+}
+
+impl Run {
+    // The empty run at a place.
+    fn at(start: usize) -> Run
+        ensures { result.start ≡ start }
+    {
+        Run {
+            start,
+            length: 0,
+            rank: u8::MAX,
+        }
+    }
+
+    // The run with one more mark.
+    fn with(self, rank: u8) -> Run
+        ensures { result.start ≡ self.start }
+    {
+        Run {
+            start: self.start,
+            length: self.length.saturating_add(1),
+            rank: self.rank.min(rank),
+        }
+    }
+
+    // Whether it takes precedence over the other, which begins at the same place or before. A
+    // single byte never takes precedence over a single byte.
+    fn beats(self, other: Run) -> bool {
+        if self.length >= LONG || other.length >= LONG || self.length < 2 || other.length < 2 {
+            return self.length > other.length;
+        }
+        if self.rank.saturating_add(MUCH) <= other.rank {
+            return true;
+        }
+        self.length > other.length && self.rank < other.rank.saturating_add(MUCH)
+    }
+}
+
+/// Where the run of such marks that is looked for begins.
+pub fn run_start(marks: &[Mark], of: RunOf) -> usize
+    ensures { result ≤ length marks.now }
+{
+    let mut now = Run::at(0);
+    let mut best = Run::at(0);
+    'marks: for place in 0..marks.len() {
+        now = match mark_rank(&marks[place], of) {
+            Some(rank) => now.with(rank),
+            None => Run::at(place + 1),
+        };
+        if now.beats(best) {
+            best = now;
+        }
+    }
+    best.start
+}
+
+/// How common the bytes of the mark are, if it may be one of such a run.
+pub fn mark_rank(mark: &Mark, of: RunOf) -> Option<u8> {
+    let Mark::Set(set) = mark else {
+        return None;
+    };
+    match of {
+        RunOf::Bytes => Some(rank_of(set.one_byte()?)),
+        RunOf::SmallSets => rank_within(&Survey::of(set)?, SMALL),
+        RunOf::Sets => rank_within(&Survey::of(set)?, LARGE),
+    }
+}
+
+// How common the set's bytes are, if at most `most` are in it.
+fn rank_within(survey: &Survey, most: u32) -> Option<u8> {
+    if survey.share > most {
+        return None;
+    }
+    Some(survey.rank)
+}

@@ -1,0 +1,25 @@
+//! What every match of an expression contains, and the search for it in lines and in blocks of lines.
+#![tactic(auto)]
+
+mod alike;
+mod block;
+mod choice;
+mod cost;
+mod lanes;
+mod leading;
+mod mark;
+mod needle;
+mod nibbles;
+mod outline;
+mod probes;
+mod run_finder;
+mod set_finder;
+mod survey;
+
+pub use block::{
+    bytes_to, count_by, count_lines_with, first_line_beginning_with, first_line_with,
+    first_line_with_run, has_no_newline, line_end, line_start, next_line_with,
+};
+pub use cost::LookCost;
+pub use needle::{Needle, one_byte};
+pub use run_finder::RunFinder;

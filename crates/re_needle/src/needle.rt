@@ -1,0 +1,208 @@
+//! What every match of an expression contains.
+ghost use Rattle.std.specs.Prelude.{◌≡◌, ◌≤◌, ◌++◌, List, Option, Some, IfOk, IfSome, length, map};
+ghost use Rattle.re_syntax.specs.Bytes.{Bytes, only};
+ghost use Rattle.re_syntax.specs.Expression.{Expression, byte, expression_of};
+ghost use Rattle.re_syntax.specs.Sets.{members};
+ghost use Rattle.re_needle.specs.Working.Needles.{IsNeedleFor};
+ghost use Rattle.re_needle.specs.Working.Outlines.{IsOutline, shown};
+
+use crate::choice::{RunOf, run_start};
+use crate::cost::LookCost;
+use crate::leading::leading_sets;
+use crate::mark::Mark;
+use crate::outline::add_outline;
+use crate::run_finder::RunFinder;
+use crate::set_finder::SetFinder;
+use crate::survey::rank_of;
+use memchr::memmem::Finder;
+use re_syntax::{ByteSet, Tree};
+use std::alloc::{AllocError, Global};
+
+// A run of sets of any size is looked for if it has at least this number of sets.
+const MANY_SETS: usize = 8;
+
+// A byte of this rank or a higher one is on most lines of most texts: the blank, `e` and `t`. The
+// table of ranks counts all bytes from 0xC0 on as common, too.
+const COMMON: u8 = 250;
+
+/// A run of bytes, or of sets of bytes, that every match of an expression contains.
+#[derive(Drop)]
+pub struct Needle {
+    /// Looks for the run.
+    pub finder: RunFinder,
+    /// Whether every match begins with the run.
+    pub is_first: bool,
+    /// Whether the matches are exactly the places of the run.
+    pub is_all: bool,
+    /// Whether the run is on most lines of some texts. Then it is looked for over blocks, as long
+    /// as lines are passed, and not in each line before a search by kept steps.
+    pub is_common: bool,
+}
+
+impl Needle {
+    /// The run to look for, the first of these that every match needs, also in groups and in what
+    /// is repeated once or more: two or more single bytes; a run of small sets that is rare in most
+    /// texts or is all there is; one byte that is not common; a long run of sets of any size; a
+    /// common byte. A choice has the sets that its branches begin with, and a set that is repeated
+    /// counts once for each time. `None` if there is none of these. The one error is that memory
+    /// was refused.
+    pub fn of(alloc: Global, tree: &Tree) -> Result<Option<Needle>, AllocError>
+        ensures { IfOk result (IsNeedleFor (expression_of tree.now)) }
+    {
+        let mut marks = Vec::new(alloc);
+        add_outline(alloc, tree, &mut marks)?;
+        let start = run_start(&marks, RunOf::Bytes);
+        if let Some(needle) = text_needle(alloc, &marks, start, 2)? {
+            return Ok(Some(needle));
+        }
+        let sets = run_start(&marks, RunOf::SmallSets);
+        if let Some(needle) = set_needle(alloc, &marks, sets)? {
+            return Ok(Some(needle));
+        }
+        let single = text_needle(alloc, &marks, start, 1)?;
+        if is_uncommon(&single) {
+            return Ok(single);
+        }
+        let wide = run_start(&marks, RunOf::Sets);
+        let Ok(found) = wide_needle(alloc, &marks, wide) else {
+            drop(single);
+            return Err(AllocError);
+        };
+        if let Some(needle) = found {
+            drop(single);
+            return Ok(Some(needle));
+        }
+        Ok(single)
+    }
+
+    /// What the search for it over a block costs.
+    pub fn look_cost(&self) -> LookCost {
+        if self.is_common && self.finder.text().is_none() {
+            return LookCost::High;
+        }
+        LookCost::Low
+    }
+}
+
+// Whether there is a needle, and it is not common.
+fn is_uncommon(needle: &Option<Needle>) -> bool {
+    match needle {
+        Some(needle) => !needle.is_common,
+        None => false,
+    }
+}
+
+// The needle of the single bytes from a mark on, if there are at least `least`.
+fn text_needle(
+    alloc: Global,
+    marks: &[Mark],
+    start: usize,
+    least: usize,
+) -> Result<Option<Needle>, AllocError>
+    requires start { start ≤ length marks.now }
+    requires some { 1 ≤ least }
+    ensures { IfOk result
+        (λ found. (e : Expression) → IsOutline (map shown marks.now) e → IsNeedleFor e found) }
+{
+    let bytes = leading_bytes(alloc, &marks[start..])?;
+    if bytes.len() < least {
+        return Ok(None);
+    }
+    let is_all = bytes.len() == marks.len();
+    let is_common = !is_all && is_common_byte(&bytes);
+    let finder = Finder::new(&bytes).into_owned(alloc)?;
+    Ok(Some(Needle {
+        finder: RunFinder::Text(finder),
+        is_first: start == 0,
+        is_all,
+        is_common,
+    }))
+}
+
+// Whether the text is one byte that is on most lines of most texts.
+fn is_common_byte(text: &[u8]) -> bool {
+    text.len() == 1 && rank_of(text[0]) >= COMMON
+}
+
+// The needle of the small sets from a mark on, if there are two or more.
+fn set_needle(alloc: Global, marks: &[Mark], start: usize) -> Result<Option<Needle>, AllocError>
+    requires { start ≤ length marks.now }
+    ensures { IfOk result
+        (λ found. (e : Expression) → IsOutline (map shown marks.now) e → IsNeedleFor e found) }
+{
+    let sets = leading_sets(alloc, &marks[start..], RunOf::SmallSets)?;
+    if sets.len() < 2 {
+        return Ok(None);
+    }
+    let is_all = sets.len() == marks.len();
+    let Some(finder) = SetFinder::new(sets) else {
+        return Ok(None);
+    };
+    if !is_all && !finder.is_selective() {
+        return Ok(None);
+    }
+    Ok(Some(Needle {
+        finder: RunFinder::Sets(finder),
+        is_first: start == 0,
+        is_all,
+        is_common: false,
+    }))
+}
+
+// The needle of sets of any size from a mark on, if there are many. On some texts such a run is on
+// most lines.
+fn wide_needle(alloc: Global, marks: &[Mark], start: usize) -> Result<Option<Needle>, AllocError>
+    requires { start ≤ length marks.now }
+    ensures { IfOk result
+        (λ found. (e : Expression) → IsOutline (map shown marks.now) e → IsNeedleFor e found) }
+{
+    let sets = leading_sets(alloc, &marks[start..], RunOf::Sets)?;
+    if sets.len() < MANY_SETS {
+        return Ok(None);
+    }
+    let Some(finder) = SetFinder::new(sets) else {
+        return Ok(None);
+    };
+    Ok(Some(Needle {
+        finder: RunFinder::Sets(finder),
+        is_first: start == 0,
+        is_all: false,
+        is_common: true,
+    }))
+}
+
+// The bytes of the marks before the first that isn't a single byte.
+fn leading_bytes(alloc: Global, marks: &[Mark]) -> Result<Vec<u8>, AllocError>
+    ensures { IfOk result
+        (λ bytes. (rest : List (Option Bytes)) ×
+        (map shown marks.now ≡ map Some (map only bytes.items) ++ rest)) }
+{
+    let mut bytes = Vec::new(alloc);
+    'marks: for mark in marks {
+        let Some(byte) = byte_of(mark) else {
+            return Ok(bytes);
+        };
+        bytes.push(byte)?;
+    }
+    Ok(bytes)
+}
+
+// The byte of the mark, if it is a single byte.
+fn byte_of(mark: &Mark) -> Option<u8>
+    ensures { IfSome result (λ b. shown mark.now ≡ Some (only b)) }
+{
+    match mark {
+        Mark::Set(set) => set.one_byte(),
+        Mark::Stretch => None,
+    }
+}
+
+/// The byte that the tree matches, if it matches that byte and nothing else.
+pub fn one_byte(tree: &Tree) -> Option<u8>
+    ensures { IfSome result (λ b. expression_of tree.now ≡ byte b) }
+{
+    match tree {
+        Tree::Set(set) => set.one_byte(),
+        _ => None,
+    }
+}

@@ -1,0 +1,153 @@
+//! Outlines of expressions: the sets of bytes that every match has one after another.
+ghost use Rattle.std.specs.Prelude.{◌≡◌, ◌++◌, ◌∷◌, [], IfOk, IfSome, IsTrue, Some, map};
+ghost use Rattle.re_syntax.specs.Expression.{alt, cat, expression_of, one_of, repeat};
+ghost use Rattle.re_syntax.specs.Sets.{members};
+ghost use Rattle.re_needle.specs.Working.Outlines.{AddsOutline, AddsSets, AddsTurns, AreJoined};
+
+use crate::choice::RunOf;
+use crate::leading::leading_sets;
+use crate::mark::Mark;
+use re_syntax::{ByteSet, Tree};
+use std::alloc::{AllocError, Global};
+
+// How many times a repeated set is in an outline at most.
+const MOST_TURNS: u16 = 32;
+
+/// Adds the outline of the expression. It goes through groups and into what is repeated once or
+/// more. It has a mark for each time that a set is repeated at least, and the sets that the
+/// branches of a choice begin with. The one error is that memory was refused.
+#[cycle(outline)]
+pub fn add_outline(alloc: Global, tree: &Tree, marks: &mut Vec<Mark>) -> Result<(), AllocError>
+    ensures { IfOk result
+        (λ _. AddsOutline marks.old.items (expression_of tree.now) marks.new.items) }
+{
+    match tree {
+        Tree::Set(set) => add_mark(marks, Mark::Set(*set)),
+        Tree::Cat(parts) => add_all(alloc, parts, marks),
+        Tree::Alt(parts) => add_choice(alloc, parts, marks),
+        Tree::Repeat(part, least, most) => {
+            if let Some(set) = one_set(part) {
+                return add_repeated(marks, set, *least, *most);
+            }
+            if *least == 0 {
+                return add_mark(marks, Mark::Stretch);
+            }
+            add_outline(alloc, part, marks)?;
+            add_mark(marks, Mark::Stretch)
+        }
+        _ => add_mark(marks, Mark::Stretch),
+    }
+}
+
+/// Adds the outlines of parts that follow one another.
+#[cycle(outline)]
+fn add_all(alloc: Global, parts: &[Tree], marks: &mut Vec<Mark>) -> Result<(), AllocError>
+    ensures { IfOk result
+        (λ _. AddsOutline marks.old.items (cat (map expression_of parts.now)) marks.new.items) }
+{
+    'parts: for i in 0..parts.len() {
+        add_outline(alloc, &parts[i], marks)?;
+    }
+    Ok(())
+}
+
+/// Adds the outline of a choice: the sets that its branches begin with, joined place by place as
+/// far as each branch has one, and a stretch.
+#[cycle(outline)]
+fn add_choice(alloc: Global, parts: &[Tree], marks: &mut Vec<Mark>) -> Result<(), AllocError>
+    ensures { IfOk result
+        (λ _. AddsOutline marks.old.items (alt (map expression_of parts.now)) marks.new.items) }
+{
+    let mut front = Vec::new(alloc);
+    'parts: for i in 0..parts.len() {
+        let mut branch = Vec::new(alloc);
+        add_outline(alloc, &parts[i], &mut branch)?;
+        let sets = leading_sets(alloc, &branch, RunOf::SmallSets)?;
+        if i == 0 {
+            front = sets;
+        } else {
+            join(&mut front, &sets);
+        }
+    }
+    add_sets(marks, &front)?;
+    add_mark(marks, Mark::Stretch)
+}
+
+// The set of the expression, if it is a set alone.
+fn one_set(tree: &Tree) -> Option<ByteSet>
+    ensures { IfSome result (λ set. expression_of tree.now ≡ one_of (members set)) }
+{
+    match tree {
+        Tree::Set(set) => Some(*set),
+        _ => None,
+    }
+}
+
+// Adds the outline of a repeated set: one mark for each time that it is repeated at least, and a
+// stretch if it may be repeated more often.
+fn add_repeated(
+    marks: &mut Vec<Mark>,
+    set: ByteSet,
+    least: u16,
+    most: Option<u16>,
+) -> Result<(), AllocError>
+    ensures { IfOk result (λ _. AddsOutline marks.old.items
+        (repeat (one_of (members set)) least most) marks.new.items) }
+{
+    let turns = least.min(MOST_TURNS);
+    add_turns(marks, set, turns)?;
+    if turns == least && is_just(most, least) {
+        return Ok(());
+    }
+    add_mark(marks, Mark::Stretch)
+}
+
+// Whether there is a most, and it is `least`.
+fn is_just(most: Option<u16>, least: u16) -> bool
+    ensures { IsTrue result → most ≡ Some least }
+{
+    match most {
+        Some(top) => top == least,
+        None => false,
+    }
+}
+
+// Adds `turns` marks for the set.
+fn add_turns(marks: &mut Vec<Mark>, set: ByteSet, turns: u16) -> Result<(), AllocError>
+    ensures { IfOk result
+        (λ _. AddsTurns marks.old.items (members set) turns marks.new.items) }
+{
+    'turns: for _turn in 0..turns {
+        marks.push(Mark::Set(set))?;
+    }
+    Ok(())
+}
+
+// Joins the sets place by place, as far as both lists have one.
+fn join(front: &mut Vec<ByteSet>, sets: &[ByteSet])
+    ensures { AreJoined (map members front.old.items) (map members sets.now)
+        (map members front.new.items) }
+{
+    front.truncate(sets.len());
+    'places: for k in 0..front.len() {
+        front[k] = front[k].union(sets[k]);
+    }
+}
+
+// Adds a mark for each set.
+fn add_sets(marks: &mut Vec<Mark>, sets: &[ByteSet]) -> Result<(), AllocError>
+    ensures { IfOk result
+        (λ _. AddsSets marks.old.items (map members sets.now) marks.new.items) }
+{
+    'sets: for k in 0..sets.len() {
+        marks.push(Mark::Set(sets[k]))?;
+    }
+    Ok(())
+}
+
+fn add_mark(marks: &mut Vec<Mark>, mark: Mark) -> Result<(), AllocError>
+    ensures { IfOk result (λ _. marks.new.items ≡ marks.old.items ++ mark ∷ []) }
+{
+    marks.push(mark)?;
+    Ok(())
+}

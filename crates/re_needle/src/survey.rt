@@ -1,0 +1,66 @@
+//! How common bytes and sets of bytes are. No contract depends on it.
+
+use crate::alike::Alike;
+use memchr::arch::all::packedpair::{DefaultFrequencyRank, HeuristicFrequencyRank};
+use re_syntax::ByteSet;
+
+// About how many of 65,536 bytes of most texts are the commonest byte.
+const COMMONEST: u32 = 8_192;
+
+// A byte that is this number of ranks lower is half as common.
+const HALVED: u8 = 10;
+
+/// How common the bytes of a set are.
+#[derive(Clone, Copy, Drop)]
+pub struct Survey {
+    /// How common the commonest is, from 0 for the rarest to 255.
+    pub rank: u8,
+    /// About how many of 65,536 bytes of most texts are in the set; at least one.
+    pub share: u32,
+}
+
+impl Survey {
+    /// The survey of a set; `None` if it has no byte.
+    pub fn of(set: &ByteSet) -> Option<Survey> {
+        if let Some(byte) = set.one_byte() {
+            return Some(Survey {
+                rank: rank_of(byte),
+                share: share_of(byte),
+            });
+        }
+        let mut survey = Survey { rank: 0, share: 0 };
+        for byte in 0..256usize {
+            if set.has(byte as u8) {
+                survey.rank = survey.rank.max(rank_of(byte as u8));
+                survey.share = survey.share.saturating_add(share_of(byte as u8));
+            }
+        }
+        if survey.share == 0 {
+            return None;
+        }
+        Some(survey)
+    }
+}
+
+/// About how many of 65,536 bytes of most texts have the bits.
+pub fn share_with(alike: Alike) -> u64 {
+    let mut share: u64 = 0;
+    for byte in 0..256usize {
+        if alike.has(byte as u8) {
+            share = share.saturating_add(u64::from(share_of(byte as u8)));
+        }
+    }
+    share
+}
+
+// About how many of 65,536 bytes of most texts are this one; at least one.
+fn share_of(byte: u8) -> u32 {
+    let behind = u8::MAX - rank_of(byte);
+    let share = COMMONEST >> (behind / HALVED);
+    (share - share / u32::from(2 * HALVED) * u32::from(behind % HALVED)).max(1)
+}
+
+/// How common the byte is in most texts, from 0 for the rarest to 255.
+pub fn rank_of(byte: u8) -> u8 {
+    DefaultFrequencyRank.rank(byte)
+}

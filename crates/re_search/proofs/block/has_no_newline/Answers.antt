@@ -1,8 +1,0 @@
-use Rattle.std.proofs.Common.{subst}
-use Rattle.std.proofs.lemmas.Bool.{false≢true}
-use Rattle.re_syntax.specs.Lines.{HasNoNewline}
-use Rattle.re_search.proofs.lemmas.CountedBlocks.{has_one}
-use Rattle.re_search.proofs.block.has_no_newline.Goals as goal
-
-pub returns-in-Some : goal.returns-in-Some
-returns-in-Some c = ((λ e. absurd (false≢true e)), (λ h. absurd (has_one _ _ (subst HasNoNewline c.in-Some.ensures.2 h))))

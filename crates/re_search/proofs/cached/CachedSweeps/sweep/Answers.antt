@@ -1,4 +1,0 @@
-use Rattle.re_search.proofs.cached.CachedSweeps.sweep.Goals as goal
-
-pub returns-clause-passes : goal.returns-clause-passes
-returns-clause-passes c = rw (← c.self.view_is) c.sweep.ensures.passes

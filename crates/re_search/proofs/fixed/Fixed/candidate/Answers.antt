@@ -1,9 +1,0 @@
-use Rattle.re_search.specs.Working.Literals.{literal_expression}
-use Rattle.re_search.proofs.lemmas.NeededLaws.{sequence_needed}
-use Rattle.re_search.proofs.lemmas.BlockLemmas.{passes_unmatched}
-use Rattle.re_search.proofs.fixed.Fixed.candidate.Goals as goal
-
-pub returns : goal.returns
-returns c =
-    let a = c.self.inside in
-    rw (← c.self.view_is) (passes_unmatched (literal_expression (record { text = a.finder; whole = a.whole })) a.finder a.whole (sequence_needed a.finder) c.args.block.now c.first_line_with.result c.first_line_with.ensures)

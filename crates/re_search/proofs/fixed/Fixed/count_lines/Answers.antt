@@ -1,6 +1,0 @@
-use Rattle.re_syntax.specs.Lines.{lines_of}
-use Rattle.re_search.proofs.lemmas.CountedBlocks.{counts_literal}
-use Rattle.re_search.proofs.fixed.Fixed.count_lines.Goals as goal
-
-pub returns : goal.returns
-returns c = rw (c.requires.part.0, ← c.self.view_is) (counts_literal c.self.inside.finder (lines_of c.args.block.now) c.count_by.result c.count_by.ensures)

@@ -1,5 +1,0 @@
-use Rattle.re_search.proofs.lemmas.OneText.{finds-decides}
-use Rattle.re_search.proofs.fixed.Fixed.stands_in.Goals as goal
-
-pub returns : goal.returns
-returns c = rw (c.is_some.ensures, ← c.self.view_is) (finds-decides c.self.inside.finder c.args.line.now c.find.result c.find.ensures)

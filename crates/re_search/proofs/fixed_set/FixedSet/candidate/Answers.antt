@@ -1,6 +1,0 @@
-use Rattle.re_search.specs.Working.Literals.{any_literal}
-use Rattle.re_search.proofs.lemmas.BlockLemmas.{passes_whole_too}
-use Rattle.re_search.proofs.fixed_set.FixedSet.candidate.Goals as goal
-
-pub returns : goal.returns
-returns c = passes_whole_too (any_literal c.args.self.now) c.args.self.now.whole c.args.block.now c.first_line.result c.first_line.ensures.passes

@@ -1,6 +1,0 @@
-use Rattle.std.proofs.Common.{◌≡◌, ℕ, ◌<◌, [], map}
-use Rattle.re_search.specs.Working.Branches.{text_at}
-use Rattle.re_search.proofs.fixed_set.has_empty.Given as goal
-
-abbrev pub invariant-places : goal.invariant-places
-invariant-places l = (i : ℕ) → i < l.place → text_at (map (λ s. s.now) l.strings) i ≡ [] → ⊥

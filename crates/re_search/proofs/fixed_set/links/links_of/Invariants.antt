@@ -1,9 +1,0 @@
-use Rattle.std.proofs.Common.{false, slice_index}
-use Rattle.re_search.specs.Working.FixedSets.{Labels, IsTrieOf, AreStartsOf, AreOwn, AreLinked, AreLinkedFor}
-use Rattle.re_search.proofs.fixed_set.links.links_of.Given as goal
-
-abbrev pub invariant-nodes : goal.invariant-nodes
-invariant-nodes l = record {
-  linked : AreLinked (slice_index l.trie.first.items l.node) l.links.fails.items l.links.ends.items;
-  right : (all : Labels) → IsTrieOf all l.trie.first.items l.trie.bytes.items → AreStartsOf false all l.starts → AreOwn all l.owns → AreLinkedFor all l.links.fails.items l.links.ends.items;
-}

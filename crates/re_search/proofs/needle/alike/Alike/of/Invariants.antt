@@ -1,7 +1,0 @@
-use Rattle.std.proofs.Common.{ℕ, ◌<◌, IsTrue}
-use Rattle.re_syntax.specs.Sets.{members}
-use Rattle.re_search.specs.Working.Runs.{HasBits}
-use Rattle.re_search.proofs.needle.alike.Alike.of.Given as goal
-
-abbrev pub invariant-bytes : goal.invariant-bytes
-invariant-bytes l = (x : ℕ) → x < l.byte → IsTrue (members l.set x) → HasBits l.alike x

@@ -1,5 +1,0 @@
-use Rattle.std.proofs.Common.{◌≤◌}
-use Rattle.re_search.proofs.needle.choice.run_start.Given as goal
-
-abbrev pub invariant-marks : goal.invariant-marks
-invariant-marks l = record { now : l.now.start ≤ l.place; best : l.best.start ≤ l.place }

@@ -1,5 +1,0 @@
-use Rattle.re_search.proofs.lemmas.NibbleLanes.{lesser_lanes}
-use Rattle.re_search.proofs.needle.lanes.lesser.Goals as goal
-
-pub returns : goal.returns
-returns c = lesser_lanes c.args.a c.args.b c.fits-a.0 c.fits-b.0

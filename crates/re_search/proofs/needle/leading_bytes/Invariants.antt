@@ -1,7 +1,0 @@
-use Rattle.std.proofs.Common.{◌≡◌, ◌++◌, drop, map, Some}
-use Rattle.re_syntax.specs.Bytes.{only}
-use Rattle.re_search.specs.Working.Outlines.{shown}
-use Rattle.re_search.proofs.needle.leading_bytes.Given as goal
-
-abbrev pub invariant-marks : goal.invariant-marks
-invariant-marks l = map shown l.marks ≡ map Some (map only l.bytes.items) ++ map shown (drop l.mark-index l.marks)

@@ -1,9 +1,0 @@
-use Rattle.std.proofs.Common.{map, subst, arith}
-use Rattle.std.proofs.lemmas.List.{take_all}
-use Rattle.re_syntax.specs.Sets.{members}
-use Rattle.re_search.specs.Working.Outlines.{AddsSets}
-use Rattle.re_search.proofs.needle.outline.add_sets.Goals as goal
-
-pub returns : goal.returns
-returns c =
-    subst (λ l. AddsSets c.args.marks.now.items (map members l) c.sets.marks.items) (take_all c.sets.k c.args.sets.now (omega (arith, c.sets-test.false))) c.sets.invariant

@@ -1,7 +1,0 @@
-use Rattle.std.proofs.Common.{map, take}
-use Rattle.re_syntax.specs.Sets.{members}
-use Rattle.re_search.specs.Working.Outlines.{AddsSets}
-use Rattle.re_search.proofs.needle.outline.add_sets.Given as goal
-
-abbrev pub invariant-sets : goal.invariant-sets
-invariant-sets l = AddsSets l.fn.marks.items (map members (take l.k l.sets)) l.marks.items

@@ -1,9 +1,0 @@
-use Rattle.std.proofs.Common.{rules, ◌≡◌, ◌++◌, ◌∷◌, []}
-use Rattle.re_search.specs.declared.needle.outline.Mark.TheVariants as m
-use Rattle.re_search.proofs.lemmas.OutlineLaws.{adds_turn}
-use Rattle.re_search.proofs.needle.outline.add_turns.Goals as goal
-
-pub turns-preserved : goal.turns-preserved
-turns-preserved c =
-    let added : c.push.new.self.items ≡ c.turns.marks.items ++ m.Set c.args.set ∷ [] = search rules in
-    adds_turn c.args.marks.now.items c.turns.marks.items c.push.new.self.items c.args.set c.turns._turn c.turns.invariant added

@@ -1,6 +1,0 @@
-use Rattle.re_syntax.specs.Sets.{members}
-use Rattle.re_search.specs.Working.Outlines.{AddsTurns}
-use Rattle.re_search.proofs.needle.outline.add_turns.Given as goal
-
-abbrev pub invariant-turns : goal.invariant-turns
-invariant-turns l = AddsTurns l.fn.marks.items (members l.set) l._turn l.marks.items

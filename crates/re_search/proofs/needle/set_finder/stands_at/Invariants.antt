@@ -1,7 +1,0 @@
-use Rattle.std.proofs.Common.{ℕ, IsTrue, ◌+◌, ◌<◌, map, slice_index}
-use Rattle.re_syntax.specs.Sets.{members}
-use Rattle.re_search.specs.Working.Runs.{set_at}
-use Rattle.re_search.proofs.needle.set_finder.stands_at.Given as goal
-
-abbrev pub invariant-sets : goal.invariant-sets
-invariant-sets l = (k : ℕ) → k < l.j → IsTrue (set_at (map members l.sets) k (slice_index l.line (l.place + k)))

@@ -1,6 +1,0 @@
-use Rattle.re_search.proofs.lemmas.NeedleLaws.{settled_lacks}
-use Rattle.re_search.proofs.prefilter.Prefilter.settled.Goals as goal
-
-pub returns-then-is_none : goal.returns-then-is_none
-returns-then-is_none c = λ e is.
-    settled_lacks e c.in-Some.needle (rw c.in-Some.is at is) c.args.line.now c.args.whole c.find.result c.find.ensures c.if-is_none.ensures

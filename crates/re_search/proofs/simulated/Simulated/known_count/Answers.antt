@@ -1,5 +1,0 @@
-use Rattle.re_syntax.specs.Expression.{expression_of}
-use Rattle.re_search.proofs.simulated.Simulated.known_count.Goals as goal
-
-pub returns : goal.returns
-returns c = rw (← c.self.view_is) (c.count.ensures (expression_of c.self.inside.automaton) c.self.invariant.2)

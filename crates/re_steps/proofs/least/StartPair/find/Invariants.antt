@@ -1,0 +1,19 @@
+use Rattle.std.proofs.Common.{◌≡◌, ◌-◌, ◌≤◌, length}
+use Rattle.re_syntax.specs.Expression.{expression_of}
+use Rattle.re_auto.specs.Working.StartSets.{place_of}
+use Rattle.re_auto.specs.Searching.{AddsAtMost}
+use Rattle.re_steps.specs.Working.Simulations.{AreStartsFor, Carries}
+use Rattle.re_steps.proofs.least.StartPair.find.Given as goal
+
+abbrev pub invariant-places : goal.invariant-places
+invariant-places l = record {
+  after : l.from ≤ l.place;
+  within : l.place ≤ length l.line;
+  made : AreStartsFor (expression_of l.automaton) l.self;
+  here : place_of l.self.current ≡ l.place;
+  carries : Carries (expression_of l.automaton) l.from l.line l.place l.self.current l.best;
+  steps : AddsAtMost (l.place - l.from) l.fn.meter l.meter;
+}
+
+abbrev pub decreases-places : goal.decreases-places
+decreases-places l = length l.line - l.place

@@ -1,0 +1,96 @@
+-- Places of a line at which no matched stretch ends, and the steps up to them.
+use Rattle.std.proofs.Common.{◌≡◌, ℕ, zero, suc, ◌+◌, ◌<◌, ◌≤◌, Bool, true, false, IsTrue, ◌⊎◌, inl, inr, length, refl, sym, ◌∙◌, subst, arith}
+use Rattle.std.specs.Prelude.{◌↔◌}
+use Rattle.std.proofs.lemmas.Bool.{false≢true}
+use Rattle.re_syntax.specs.Bytes.{Text}
+use Rattle.re_syntax.specs.Expression.{Expression}
+use Rattle.re_syntax.specs.Holds.{Holds, Matches}
+use Rattle.re_auto.specs.declared.mode.Mode.TheVariants.{Search, Whole}
+use Rattle.re_auto.specs.declared.step.state_set.StateSet.{StateSet}
+use Rattle.re_auto.specs.Meters.{Steps}
+use Rattle.re_auto.specs.Working.Positions.{PartHolds, part_of, is_begin, is_end}
+use Rattle.re_auto.specs.Working.StateSets.{IsNowhere, StandsAt}
+use Rattle.re_auto.proofs.lemmas.Chains.{not_at_begin, not_at_end}
+use Rattle.re_auto.proofs.lemmas.LeastStarts.{passes}
+use Rattle.re_auto.proofs.lemmas.PositionsTell.{positions_tell}
+use Rattle.re_auto.specs.Searching.{AddsAtMost}
+use Rattle.re_steps.specs.Working.Simulations.{EndsAt, NoneEndsBefore}
+
+-- no step was taken yet
+pub no_step : (n : ℕ) (steps : Steps) → AddsAtMost n steps steps
+no_step n steps = record { built = omega arith; reused = omega arith; sum = omega arith }
+
+-- what holds of no place before `next`, and not there, holds of none up to there
+pub none_more : (P : ℕ → Type 0) (place next : ℕ) → ((k : ℕ) → place ≤ k → k < next → ¬ P k) → ¬ P next → (k : ℕ) → place ≤ k → k < next + 1 → ¬ P k
+none_more P place next none here k low high p =
+    elim (before k high) [
+      | inl early ↦ none k low early p
+      | inr same ↦ here (subst P same p)
+    ]
+  where
+    before : (k : ℕ) → k < next + 1 → (k < next) ⊎ (k ≡ next)
+    before k lt = search arith
+
+module _ (e : Expression) (line : Text) where
+  -- none ends before the first place
+  pub none_at_first : NoneEndsBefore e line 0
+  unfolding NoneEndsBefore
+  none_at_first k lt = absurd (omega arith)
+
+  -- a set that no stretch ends at, and that the search has at each place passed
+  pub none_passed : (set : StateSet) (place next : ℕ) → NoneEndsBefore e line place → next ≤ length line
+      → ((line : Text) (j : ℕ) → StandsAt e Search line j set → false ≡ is_end line j → IsTrue false ↔ EndsAt e Search line j)
+      → ((k : ℕ) → place ≤ k → k < next → StandsAt e Search line k set) → NoneEndsBefore e line next
+  unfolding NoneEndsBefore
+  none_passed set place next none within told stands k lt ends =
+      elim (before k) [
+        | inl early ↦ none k early ends
+        | inr late ↦ false≢true ((told line k (stands k late lt) (sym (not_at_end line k (omega arith)))).1 ends)
+      ]
+    where
+      before : (k : ℕ) → (k < place) ⊎ (place ≤ k)
+      before k = search arith
+
+  -- a matched stretch that ends on the line
+  pub matched_at : (j : ℕ) → j ≤ length line → EndsAt e Search line j → Matches e line false
+  matched_at j le ends = (ends.0, j, le, ends.2)
+
+  -- where none ends before the line's end, the last place decides
+  pub end_decides : (accepted : Bool) → NoneEndsBefore e line (length line) → (IsTrue accepted ↔ EndsAt e Search line (length line)) → IsTrue accepted ↔ Matches e line false
+  unfolding NoneEndsBefore
+  end_decides accepted none told = (λ h. matched_at (length line) (omega arith) (told.0 h), λ m. back m.0 m.1 m.2 m.3)
+    where
+      last : (j : ℕ) → j ≤ length line → (j ≡ length line) ⊎ (j < length line)
+      last j le = search arith
+
+      back : (i j : ℕ) → j ≤ length line → Holds line e i j → IsTrue accepted
+      back i j le h = elim (last j le) [
+        | inl same ↦ told.1 (i, tt, subst (λ k. Holds line e i k) same h)
+        | inr early ↦ absurd (none j early (i, tt, h))
+      ]
+
+  -- where a stretch has to begin at the first place, the last one decides on the whole line
+  pub whole_decides : (accepted : Bool) → (IsTrue accepted ↔ EndsAt e Whole line (length line)) → IsTrue accepted ↔ Matches e line true
+  whole_decides accepted told = (λ h. first (told.0 h), λ m. told.1 (0, refl, m))
+    where
+      first : EndsAt e Whole line (length line) → Holds line e 0 (length line)
+      first (zero, begins, h) = h
+      first (suc i, begins, h) = absurd (false≢true (sym (not_at_begin (suc i) (omega arith)) ∙ begins))
+
+  -- a set of stretches from the first place that is nowhere: the whole line is not matched
+  pub nowhere_fails : (set : StateSet) (j : ℕ) → StandsAt e Whole line j set → IsNowhere set → j ≤ length line → Matches e line true → ⊥
+  unfolding StandsAt
+  nowhere_fails set j stands nowhere le m = chain ((positions_tell e 0 line 0 (length line)).0 m)
+    where
+      inside : 0 < j
+      inside = positive j refl
+        where
+          positive : (k : ℕ) → j ≡ k → 0 < k
+          positive zero same = absurd (false≢true (sym nowhere.0 ∙ stands.0 ∙ subst (λ k. is_begin k ≡ true) (sym same) refl))
+          positive (suc k) same = omega arith
+
+      chain : PartHolds (part_of e 0) line 0 (length line) → ⊥
+      chain (inl (same, empty)) = omega (arith, inside)
+      chain (inr (q, r, l)) =
+          let (p, here) = passes (part_of e 0) line 0 j (length line) q inside le r in
+          nowhere.1 p ((stands.1 p).1 (0, refl, here))

@@ -1,0 +1,267 @@
+-- What is known of sets stays right when a set or a cell is added.
+use Rattle.std.proofs.Common.{◌≡◌, ℕ, zero, suc, ◌+◌, ◌-◌, ◌*◌, ◌/◌, ◌<◌, ◌≤◌, true, false, ◌⊎◌, inl, inr, List, [], ◌∷◌, ◌++◌, Some, length, length-append, slice_get, slice_index, get_or, replicate, refl, sym, ap, ◌∙◌, subst, arith}
+use Rattle.std.proofs.Math.Seq.{get_or-append_right}
+use Rattle.std.proofs.lemmas.Bool.{cases_eq, false≢true}
+use Rattle.std.proofs.lemmas.List.{get_or_append_left, get_or-replicate, length-replicate}
+use Rattle.std.proofs.lemmas.Nat.{div-mul-add}
+use Rattle.std.proofs.lemmas.Option.{slice_get_within, get_or_from_slice_get}
+use Rattle.re_syntax.specs.Expression.{Expression}
+use Rattle.re_syntax.specs.Holds.{positions}
+use Rattle.re_auto.specs.declared.mode.Mode.{Mode}
+use Rattle.re_auto.specs.declared.mode.Mode.TheVariants.{Search}
+use Rattle.re_auto.specs.declared.step.state_set.StateSet.{StateSet}
+use Rattle.re_auto.specs.Working.Bits.{Has}
+use Rattle.re_auto.specs.Working.StateSets.{IsMadeFor, IsSame, IsNextSet, IsAccepting, TakenAlike}
+use Rattle.re_auto.specs.Working.Tables.{words_for}
+use Rattle.re_auto.proofs.lemmas.RowLemmas.{row_within}
+use Rattle.re_steps.specs.declared.table.Mark.{Mark}
+use Rattle.re_steps.specs.Working.Pairs.{unknown, Mirrors, IsKeptOrLost}
+use Rattle.re_steps.specs.Working.Rows.{limit, IsSoundTable, IsRowOf, IsMarkOf, IsCellOf, TellsNext, cell_at}
+use Rattle.re_steps.proofs.lemmas.StageLaws.{same_sym, accepting_same, next_same}
+
+-- elements of a list that is longer by one
+pub get_left : {X : Type 0} (xs ys : List X) (k : ℕ) (x : X) → slice_get xs k ≡ Some x → slice_get (xs ++ ys) k ≡ Some x
+get_left [] ys k x is = cc
+get_left (y ∷ xs) ys zero x is = is
+get_left (y ∷ xs) ys (suc k) x is = get_left xs ys k x is
+
+pub get_last : {X : Type 0} (xs : List X) (y : X) → slice_get (xs ++ y ∷ []) (length xs) ≡ Some y
+get_last [] y = refl
+get_last (x ∷ xs) y = get_last xs y
+
+pub get_cases : {X : Type 0} (xs : List X) (y : X) (k : ℕ) (x : X) → slice_get (xs ++ y ∷ []) k ≡ Some x → (slice_get xs k ≡ Some x) ⊎ ((k ≡ length xs) × (y ≡ x))
+get_cases [] y zero x is = inr (refl, cc)
+get_cases [] y (suc k) x is = cc
+get_cases (z ∷ xs) y zero x is = inl is
+get_cases (z ∷ xs) y (suc k) x is = elim (get_cases xs y k x is) [ inl h ↦ inl h | inr h ↦ inr (ap suc h.0, h.1) ]
+
+-- a set that is the same was made for the same automaton
+pub made_same : (e : Expression) (set same : StateSet) → IsSame same set → IsMadeFor e set → IsMadeFor e same
+made_same e set same is made = subst (λ words. (length words ≡ words_for (positions e)) × ((q : ℕ) → Has words q → q < positions e)) (sym is.0) made
+
+-- and has the same mark
+pub mark_same : (e : Expression) (mode : Mode) (set same : StateSet) (mark : Mark) → IsSame same set → IsMarkOf e mode set mark → IsMarkOf e mode same mark
+mark_same e mode set same mark is of = record {
+  inside = (λ h. accepting_same e mode set same false is (of.inside.0 h), λ h. of.inside.1 (accepting_same e mode same set false (same_sym same set is) h));
+  at_end = (λ h. accepting_same e mode set same true is (of.at_end.0 h), λ h. of.at_end.1 (accepting_same e mode same set true (same_sym same set is) h));
+}
+
+-- bytes that the same positions take lead to the same sets
+next_alike : (e : Expression) (mode : Mode) (from into : StateSet) (b c : ℕ) → TakenAlike e b c → IsNextSet e mode from b into → IsNextSet e mode from c into
+unfolding IsNextSet
+next_alike e mode from into b c alike next = (next.0, λ q. (λ h. let w = (next.1 q).0 h in ((alike q).0 w.0, w.1), λ w. (next.1 q).1 ((alike q).1 w.0, w.1)))
+
+module _ (e : Expression) (mode : Mode) (sets : List StateSet) (stride : ℕ) where
+  -- a cell says nothing of what isn't held
+  pub tells_unknown : (from : StateSet) (byte : ℕ) → TellsNext e mode sets stride from byte unknown
+  tells_unknown from byte = record { plain = λ low. absurd (omega (arith, low)); special = λ high low. absurd (omega (arith, low)) }
+
+  -- the same cell for a byte that the same positions take
+  tells_alike : (from : StateSet) (b c cell : ℕ) → TakenAlike e b c → TellsNext e mode sets stride from b cell → TellsNext e mode sets stride from c cell
+  tells_alike from b c cell alike t = record {
+    plain = λ low. let on = t.plain low in record { into = on.into; row = on.row; next = next_alike e mode from on.into b c alike on.next; plain = on.plain };
+    special = λ high low. let on = t.special high low in record { into = on.into; row = on.row; next = next_alike e mode from on.into b c alike on.next; search = on.search; accepting = on.accepting };
+  }
+
+  -- the cell of a set by its number and its mark
+  pub tells_cell : (from into same : StateSet) (byte number cell : ℕ) (mark : Mark) → slice_get sets number ≡ Some same → IsSame same into → IsNextSet e mode from byte into → IsMarkOf e mode same mark
+      → number * stride < limit → IsCellOf mode mark (number * stride) cell → (cell < unknown) × TellsNext e mode sets stride from byte cell
+  tells_cell from into same byte number cell mark is alike next of small (inl plain) = (
+    omega (arith, small, plain.0),
+    record {
+      plain = λ low. record {
+        into = same;
+        row = record { number = number; row = plain.0; is = is };
+        next = next_same e mode from into same byte alike next;
+        plain = λ search accepts. absurd (none search accepts);
+      };
+      special = λ high low. absurd (omega (arith, high, small, plain.0));
+    },
+  )
+    where
+      none : mode ≡ Search → IsAccepting e Search same false → ⊥
+      none search accepts = false≢true (sym (plain.1 search) ∙ of.inside.1 (subst (λ m. IsAccepting e m same false) (sym search) accepts))
+  tells_cell from into same byte number cell mark is alike next of small (inr special) = (
+    omega (arith, small, special.0),
+    record {
+      plain = λ low. absurd (omega (arith, low, special.0));
+      special = λ high low. record {
+        into = same;
+        row = record { number = number; row = omega (arith, special.0); is = is };
+        next = next_same e mode from into same byte alike next;
+        search = special.1;
+        accepting = subst (λ m. IsAccepting e m same false) special.1 (of.inside.0 special.2);
+      };
+    },
+  )
+
+-- with sets added after the others
+pub row_longer : (sets more : List StateSet) (stride r : ℕ) (set : StateSet) → IsRowOf sets stride r set → IsRowOf (sets ++ more) stride r set
+row_longer sets more stride r set row = record { number = row.number; row = row.row; is = get_left sets more row.number set row.is }
+
+tells_longer : (e : Expression) (mode : Mode) (sets more : List StateSet) (stride : ℕ) (from : StateSet) (byte cell : ℕ) → TellsNext e mode sets stride from byte cell → TellsNext e mode (sets ++ more) stride from byte cell
+tells_longer e mode sets more stride from byte cell t = record {
+  plain = λ low. let on = t.plain low in record { into = on.into; row = row_longer sets more stride cell on.into on.row; next = on.next; plain = on.plain };
+  special = λ high low. let on = t.special high low in record { into = on.into; row = row_longer sets more stride (cell - limit) on.into on.row; next = on.next; search = on.search; accepting = on.accepting };
+}
+
+module _ (e : Expression) (mode : Mode) (classes : List ℕ) (stride : ℕ) (sets : List StateSet) (marks : List Mark) (cells : List ℕ) (entries : List (ℕ × ℕ)) (sound : IsSoundTable e mode classes stride sets marks cells entries) where
+  -- each set has a cell for each byte
+  pub cell_within : (r c : ℕ) (set : StateSet) → IsRowOf sets stride r set → c < 256 → r + slice_index classes c < length cells
+  cell_within r c set row small =
+      let lt = slice_get_within sets row.number set row.is in
+      let fits = row_within row.number (length sets) stride lt in
+      let class = sound.classed c small in
+      omega (arith, sound.rows, row.row, fits, class)
+
+  -- a set is added, with its mark and a row for it that holds nothing
+  pub sound_longer : (same : StateSet) (mark : Mark) → IsMadeFor e same → IsMarkOf e mode same mark → ((t : ℕ) (other : StateSet) → slice_get sets t ≡ Some other → IsSame other same → ⊥)
+      → length cells + stride ≤ limit → Mirrors entries (cells ++ replicate stride unknown)
+      → IsSoundTable e mode classes stride (sets ++ same ∷ []) (marks ++ mark ∷ []) (cells ++ replicate stride unknown) entries
+  sound_longer same mark made of fresh fits mirrors = record {
+    bytes = sound.bytes;
+    few_classes = sound.few_classes;
+    classed = sound.classed;
+    alike = sound.alike;
+    made = λ t set is. elim (get_cases sets same t set is) [ inl h ↦ sound.made t set h | inr h ↦ subst (IsMadeFor e) h.1 made ];
+    apart = λ s t one other is at alike. elim (get_cases sets same s one is) [
+      | inl early ↦ elim (get_cases sets same t other at) [
+        | inl before ↦ sound.apart s t one other early before alike
+        | inr last ↦ absurd (fresh s one early (subst (IsSame one) (sym last.1) alike))
+      ]
+      | inr late ↦ elim (get_cases sets same t other at) [
+        | inl before ↦ absurd (fresh t other before (subst (IsSame other) (sym late.1) (same_sym one other alike)))
+        | inr last ↦ late.0 ∙ sym last.0
+      ]
+    ];
+    marked = λ t set is. elim (get_cases sets same t set is) [
+      | inl h ↦ let m = sound.marked t set h in record { mark = m.mark; is = get_left marks (mark ∷ []) t m.mark m.is; tells = m.tells }
+      | inr h ↦ record {
+        mark = mark;
+        is = subst (λ n. slice_get (marks ++ mark ∷ []) n ≡ Some mark) (sound.as_many ∙ sym h.0) (get_last marks mark);
+        tells = subst (λ s. IsMarkOf e mode s mark) h.1 of;
+      }
+    ];
+    as_many = omega (arith, length-append marks (mark ∷ []), length-append sets (same ∷ []), sound.as_many);
+    rows =
+        let product : (length sets + 1) * stride ≡ length sets * stride + stride = omega arith in
+        let count : length (sets ++ same ∷ []) ≡ length sets + 1 = omega (arith, length-append sets (same ∷ [])) in
+        omega (arith, length-append cells (replicate stride unknown), length-replicate stride unknown, sound.rows, product) ∙ ap (λ n. n * stride) (sym count);
+    few = omega (arith, length-append cells (replicate stride unknown), length-replicate stride unknown, fits);
+    mirrors = mirrors;
+    tells = λ r from c row small. elim (get_cases sets same row.number from row.is) [
+      | inl is ↦ old r from c row small is
+      | inr is ↦ new r from c row small is.0
+    ];
+  }
+    where
+      old : (r : ℕ) (from : StateSet) (c : ℕ) (row : IsRowOf (sets ++ same ∷ []) stride r from) → c < 256 → slice_get sets row.number ≡ Some from →
+          TellsNext e mode (sets ++ same ∷ []) stride from c (cell_at classes (cells ++ replicate stride unknown) r c)
+      old r from c row small is =
+          let before : IsRowOf sets stride r from = record { number = row.number; row = row.row; is = is } in
+          let within = cell_within r c from before small in
+          subst (TellsNext e mode (sets ++ same ∷ []) stride from c) (sym (get_or_append_left cells (replicate stride unknown) 0 (r + slice_index classes c) within))
+          (tells_longer e mode sets (same ∷ []) stride from c (cell_at classes cells r c) (sound.tells r from c before small))
+
+      new : (r : ℕ) (from : StateSet) (c : ℕ) (row : IsRowOf (sets ++ same ∷ []) stride r from) → c < 256 → row.number ≡ length sets →
+          TellsNext e mode (sets ++ same ∷ []) stride from c (cell_at classes (cells ++ replicate stride unknown) r c)
+      new r from c row small last =
+          let class = sound.classed c small in
+          let first : r ≡ length cells = row.row ∙ ap (λ n. n * stride) last ∙ sym sound.rows in
+          let is : cell_at classes (cells ++ replicate stride unknown) r c ≡ unknown =
+          get_or-append_right cells (replicate stride unknown) (r + slice_index classes c) 0 (omega (arith, first))
+          ∙ get_or-replicate stride (r + slice_index classes c - length cells) unknown 0 (omega (arith, first, class)) in
+          subst (TellsNext e mode (sets ++ same ∷ []) stride from c) (sym is) (tells_unknown e mode (sets ++ same ∷ []) stride from c)
+
+  -- a row's number and a class are known from a cell's place
+  pub same_place : (r s a b : ℕ) (from set : StateSet) → IsRowOf sets stride r from → IsRowOf sets stride s set → a < stride → b < stride → r + a ≡ s + b → (a ≡ b) × (from ≡ set)
+  same_place r s a b from set row other fits fits-2 is =
+      let sum : row.number * stride + a ≡ other.number * stride + b = omega (arith, row.row, other.row, is) in
+      let number : row.number ≡ other.number = sym (div-mul-add row.number stride a fits) ∙ ap (λ n. n / stride) sum ∙ div-mul-add other.number stride b fits-2 in
+      let both : Some from ≡ Some set = sym row.is ∙ ap (slice_get sets) number ∙ other.is in
+      (omega (arith, sum, ap (λ n. n * stride) number), cc)
+
+  -- a cell is held, and others may not be any more
+  pub sound_held : (new : List ℕ) (now : List (ℕ × ℕ)) (r byte cell : ℕ) (set : StateSet) → IsRowOf sets stride r set → byte < 256 → TellsNext e mode sets stride set byte cell → length new ≡ length cells
+      → (slice_index new (r + slice_index classes byte) ≡ cell) ⊎ (slice_index new (r + slice_index classes byte) ≡ unknown)
+      → ((k : ℕ) → (k ≡ r + slice_index classes byte → ⊥) → IsKeptOrLost (slice_index cells k) (slice_index new k)) → Mirrors now new
+      → IsSoundTable e mode classes stride sets marks new now
+  sound_held new now r byte cell set row small tells len here others mirrors = record {
+    bytes = sound.bytes;
+    few_classes = sound.few_classes;
+    classed = sound.classed;
+    alike = sound.alike;
+    made = sound.made;
+    apart = sound.apart;
+    marked = sound.marked;
+    as_many = sound.as_many;
+    rows = len ∙ sound.rows;
+    few = omega (arith, len, sound.few);
+    mirrors = mirrors;
+    tells = λ s from c at lt. elim (cases_eq (s + slice_index classes c) (r + slice_index classes byte)) [
+      | inl same ↦
+          let both = same_place s r (slice_index classes c) (slice_index classes byte) from set at row (sound.classed c lt) (sound.classed byte small) same in
+          subst (λ f. TellsNext e mode sets stride f c (cell_at classes new s c)) (sym both.1) (subst (λ k. TellsNext e mode sets stride set c (slice_index new k)) (sym same) (elim here [
+            | inl is ↦ subst (TellsNext e mode sets stride set c) (sym is) (tells_alike e mode sets stride set byte c cell (sound.alike byte c small lt (sym both.0)) tells)
+            | inr is ↦ subst (TellsNext e mode sets stride set c) (sym is) (tells_unknown e mode sets stride set c)
+          ]))
+      | inr other ↦ elim (others (s + slice_index classes c) other) [
+        | inl is ↦ subst (TellsNext e mode sets stride from c) (sym is) (sound.tells s from c at lt)
+        | inr is ↦ subst (TellsNext e mode sets stride from c) (sym is) (tells_unknown e mode sets stride from c)
+      ]
+    ];
+  }
+
+  some_class : 0 < stride
+  some_class = omega (arith, sound.classed 0 (omega arith))
+
+  number_of_row : (r : ℕ) (set : StateSet) (row : IsRowOf sets stride r set) → r / stride ≡ row.number
+  number_of_row r set row =
+      let first : row.number * stride + 0 ≡ r = omega (arith, row.row) in
+      ap (λ n. n / stride) (sym first) ∙ div-mul-add row.number stride 0 some_class
+
+  -- the set of a row, by its number
+  pub set_of_row : (r n : ℕ) (set read : StateSet) (keys : List StateSet) → IsRowOf sets stride r set → keys ≡ sets → n ≡ r / stride → read ≡ get_or keys n read → read ≡ set
+  set_of_row r n set read keys row same number is =
+      is ∙ ap (λ ks. get_or ks n read) same ∙ get_or_from_slice_get sets n set read (subst (λ k. slice_get sets k ≡ Some set) (sym (number ∙ number_of_row r set row)) row.is)
+
+  -- a set whose row has a cell has a number
+  pub number_within : (n c : ℕ) → n * stride + c < length cells → n < length sets
+  number_within n c lt = elim (sides n (length sets)) [
+    | inl inside ↦ inside
+    | inr past ↦
+        let fits = row_within (length sets) (n + 1) stride (omega (arith, past)) in
+        let product : (n + 1) * stride ≡ n * stride + stride = omega arith in
+        absurd (omega (arith, fits, product, lt, sound.rows))
+  ]
+    where
+      sides : (m n : ℕ) → (m < n) ⊎ (n ≤ m)
+      sides m n = search arith
+
+  -- the set of row 0
+  pub row_zero : (set first : StateSet) → IsRowOf sets stride 0 set → slice_get sets 0 ≡ Some first → set ≡ first
+  row_zero set first row is =
+      let zero : 0 ≡ 0 * stride = omega arith in
+      (same_place 0 0 0 0 set first row (record { number = 0; row = zero; is = is }) some_class some_class refl).1
+
+  -- rows are below the limit
+  pub row_small : (number : ℕ) (set : StateSet) → slice_get sets number ≡ Some set → number * stride < limit
+  row_small number set is =
+      let fits = row_within number (length sets) stride (slice_get_within sets number set is) in
+      omega (arith, fits, sound.rows, sound.few, some_class)
+
+  pub row_inside : (r : ℕ) (set : StateSet) → IsRowOf sets stride r set → r / stride < length sets
+  row_inside r set row = omega (arith, number_of_row r set row, slice_get_within sets row.number set row.is)
+
+  -- a set's mark, by its number
+  pub mark_of_set : (number : ℕ) (set : StateSet) (read : Mark) → slice_get sets number ≡ Some set → slice_get marks number ≡ Some read → IsMarkOf e mode set read
+  mark_of_set number set read at is =
+      let m = sound.marked number set at in
+      let both : Some m.mark ≡ Some read = sym m.is ∙ is in
+      subst (IsMarkOf e mode set) (some_same both) m.tells
+    where
+      some_same : {X : Type 0} {x y : X} → Some x ≡ Some y → x ≡ y
+      some_same is = cc
+
+  pub mark_of_row : (r : ℕ) (set : StateSet) (read : Mark) → IsRowOf sets stride r set → slice_get marks (r / stride) ≡ Some read → IsMarkOf e mode set read
+  mark_of_row r set read row is = mark_of_set row.number set read row.is (sym (ap (slice_get marks) (number_of_row r set row)) ∙ is)

@@ -1,0 +1,248 @@
+-- What a search that went over a line stage by stage says, and how many steps it counted.
+use Rattle.std.proofs.Common.{◌≡◌, ℕ, zero, suc, ◌+◌, ◌-◌, ◌*◌, ◌<◌, ◌≤◌, Bool, true, false, IsTrue, ◌⊎◌, inl, inr, [], length, nat_eq, slice_index, refl, sym, ap, ◌∙◌, subst, arith, eq-eqb}
+use Rattle.std.specs.Prelude.{◌↔◌, IsSome}
+use Rattle.std.specs.Map.{lookup}
+use Rattle.std.proofs.lemmas.Bool.{false≢true}
+use Rattle.std.proofs.lemmas.Option.{slice_get-get_or}
+use Rattle.re_syntax.specs.Bytes.{Text}
+use Rattle.re_syntax.specs.Expression.{Expression}
+use Rattle.re_syntax.specs.Holds.{Matches}
+use Rattle.re_auto.specs.declared.mode.Mode.{Mode}
+use Rattle.re_auto.specs.declared.mode.Mode.TheVariants.{Search, Whole}
+use Rattle.re_auto.specs.declared.step.state_set.StateSet.{StateSet}
+use Rattle.re_auto.specs.Working.Bits.{Has}
+use Rattle.re_auto.specs.Meters.{Steps, many_built}
+use Rattle.re_auto.specs.Working.Positions.{part_of, is_end}
+use Rattle.re_auto.specs.Working.StateSets.{IsSame, IsNowhere, IsNextSet, IsAccepting, StandsAt}
+use Rattle.re_auto.specs.Working.Stepping.{Accepts, IsAfter, IsNext}
+use Rattle.re_auto.specs.Working.Tables.{CanBegin}
+use Rattle.re_auto.proofs.lemmas.Chains.{not_at_end}
+use Rattle.re_auto.proofs.lemmas.SetsByWords.{stands_next, matched_by, nowhere_stays}
+use Rattle.re_auto.specs.Searching.{AddsAtMost}
+use Rattle.re_steps.specs.Working.Simulations.{EndsAt, NoneEndsBefore}
+use Rattle.re_steps.specs.Working.Stages.{Cache, Stage, AreAlike, IsHeld, HoldsNoOther, IsPlain, GoesOver, Goes, Finishes, Searches, IsReadied, mode_for}
+use Rattle.re_steps.proofs.lemmas.Passing.{none_at_first, matched_at, end_decides, whole_decides, nowhere_fails}
+
+-- sets that are the same
+pub same_sym : (one other : StateSet) → IsSame one other → IsSame other one
+same_sym one other is = (sym is.0, sym is.1)
+
+pub same_trans : (one two three : StateSet) → IsSame one two → IsSame two three → IsSame one three
+same_trans one two three a b = (a.0 ∙ b.0, a.1 ∙ b.1)
+
+pub nowhere_same : (set same : StateSet) → IsSame same set → IsNowhere set → IsNowhere same
+nowhere_same set same is n = (is.1 ∙ n.0, subst (λ words. (q : ℕ) → ¬ Has words q) (sym is.0) n.1)
+
+pub stands_same : (e : Expression) (mode : Mode) (line : Text) (j : ℕ) (set same : StateSet) → IsSame same set → StandsAt e mode line j set → StandsAt e mode line j same
+unfolding StandsAt
+stands_same e mode line j set same is stands = (is.1 ∙ stands.0, subst (λ words. IsAfter (part_of e 0) mode line j (Has words)) (sym is.0) stands.1)
+
+pub accepting_same : (e : Expression) (mode : Mode) (set same : StateSet) (at_end : Bool) → IsSame same set → IsAccepting e mode set at_end → IsAccepting e mode same at_end
+unfolding IsAccepting
+accepting_same e mode set same at_end is accepts =
+    subst (λ b. Accepts (part_of e 0) mode b at_end (Has same.words.items)) (sym is.1) (subst (λ words. Accepts (part_of e 0) mode set.at_begin at_end (Has words)) (sym is.0) accepts)
+
+pub next_same : (e : Expression) (mode : Mode) (from into same : StateSet) (c : ℕ) → IsSame same into → IsNextSet e mode from c into → IsNextSet e mode from c same
+unfolding IsNextSet
+next_same e mode from into same c is next = (is.1 ∙ next.0, subst (λ words. IsNext (part_of e 0) mode from.at_begin (Has from.words.items) c (Has words)) (sym is.0) next.1)
+
+pub next_from_same : (e : Expression) (mode : Mode) (from same into : StateSet) (c : ℕ) → IsSame same from → IsNextSet e mode from c into → IsNextSet e mode same c into
+unfolding IsNextSet
+next_from_same e mode from same into c is next =
+    (next.0, subst (λ b. IsNext (part_of e 0) mode b (Has same.words.items) c (Has into.words.items)) (sym is.1) (subst (λ words. IsNext (part_of e 0) mode from.at_begin (Has words) c (Has into.words.items)) (sym is.0) next.1))
+
+-- stages that are alike
+pub alike_trans : (one two three : Stage) → AreAlike one two → AreAlike two three → AreAlike one three
+alike_trans one two three a b = record { set = same_trans one.set two.set three.set a.set b.set; cache = a.cache ∙ b.cache; steps = a.steps ∙ b.steps }
+
+pub alike_self : (stage : Stage) → AreAlike stage stage
+alike_self stage = record { set = (refl, refl); cache = refl; steps = refl }
+
+over_alike : (e : Expression) (mode : Mode) (c : ℕ) (old new other : Stage) → AreAlike other new → GoesOver e mode c old new → GoesOver e mode c old other
+over_alike e mode c old new other is over = record {
+  plain = over.plain;
+  over = elim over.over [
+    | inl r ↦ inl (record { held = r.held; next = next_same e mode old.set new.set other.set c is.set r.next; cache = is.cache ∙ r.cache; steps = is.steps ∙ r.steps })
+    | inr rest ↦ inr (elim rest [
+      | inl b ↦ inl (record {
+        not_held = b.not_held;
+        next = next_same e mode old.set new.set other.set c is.set b.next;
+        cache = subst (λ cache. HoldsNoOther e old.cache old.set c cache) (sym is.cache) b.cache;
+        steps = is.steps ∙ b.steps;
+      })
+      | inr p ↦ inr (record { search = p.search; nowhere = p.nowhere; never = p.never; same = alike_trans other new old is p.same })
+    ])
+  ];
+}
+
+-- a cache without entries holds nothing
+pub nothing_held : (cache : Cache) (set : StateSet) (c : ℕ) → cache.entries ≡ [] → ¬ IsHeld cache set c
+nothing_held cache set c none h = false≢true (subst (λ es. IsSome (lookup (nat_eq (h.number * cache.stride + slice_index cache.classes c)) es)) none h.held)
+
+module _ (e : Expression) (mode : Mode) (line : Text) where
+  pub goes_alike : (j : ℕ) (first last other : Stage) → AreAlike other last → Goes e mode line j first last → Goes e mode line j first other
+  unfolding Goes
+  goes_alike zero first last other is goes = alike_trans other last first is goes
+  goes_alike (suc j) first last other is (middle, goes, over) = (middle, goes, over_alike e mode (slice_index line j) middle last other is over)
+
+  -- nothing was gone over
+  pub goes_nowhere : (stage : Stage) → Goes e mode line 0 stage stage
+  unfolding Goes
+  goes_nowhere stage = alike_self stage
+
+  -- one byte more is gone over
+  pub goes_on : (j : ℕ) (first middle last : Stage) → Goes e mode line j first middle → GoesOver e mode (slice_index line j) middle last → Goes e mode line (suc j) first last
+  unfolding Goes
+  goes_on j first middle last goes over = (middle, goes, over)
+
+  -- one byte more, with a cache that holds nothing
+  pub goes_built : (j : ℕ) (first : Stage) (cache : Cache) (set next : StateSet) (before after : Steps) → cache.entries ≡ [] → IsPlain e mode set → IsNextSet e mode set (slice_index line j) next
+      → after ≡ many_built 1 before → Goes e mode line j first (record { set = set; cache = cache; steps = before }) → Goes e mode line (suc j) first (record { set = next; cache = cache; steps = after })
+  goes_built j first cache set next before after none plain is counted goes =
+      goes_on j first (record { set = set; cache = cache; steps = before }) (record { set = next; cache = cache; steps = after }) goes
+      (record { plain = plain; over = inr (inl (record { not_held = nothing_held cache set (slice_index line j) none; next = is; cache = λ other b small held. inl held; steps = counted })) })
+
+  over_stands : (j : ℕ) (old new : Stage) → j < length line → GoesOver e mode (slice_index line j) old new → StandsAt e mode line j old.set → StandsAt e mode line (suc j) new.set
+  over_stands j old new lt over stands = elim over.over [
+    | inl r ↦ stands_next e mode old.set new.set (slice_index line j) r.next line j (slice_get-get_or line j 0 lt) stands
+    | inr rest ↦ elim rest [
+      | inl b ↦ stands_next e mode old.set new.set (slice_index line j) b.next line j (slice_get-get_or line j 0 lt) stands
+      | inr p ↦ stands_same e mode line (suc j) old.set new.set p.same.set
+          (subst (λ m. StandsAt e m line (suc j) old.set) (sym p.search)
+          (nowhere_stays e (slice_index line j) p.never old.set line j p.nowhere (slice_get-get_or line j 0 lt) (subst (λ m. StandsAt e m line j old.set) p.search stands)))
+    ]
+  ]
+
+  -- the set of each stage is right at its place
+  pub goes_stands : (j : ℕ) (first last : Stage) → j ≤ length line → StandsAt e mode line 0 first.set → Goes e mode line j first last → StandsAt e mode line j last.set
+  unfolding Goes
+  goes_stands zero first last le stands goes = stands_same e mode line 0 first.set last.set goes.set stands
+  goes_stands (suc j) first last le stands (middle, goes, over) = over_stands j middle last (omega arith) over (goes_stands j first middle (omega arith) stands goes)
+
+  over_steps : (n : ℕ) (c : ℕ) (first old new : Stage) → GoesOver e mode c old new → AddsAtMost n first.steps old.steps → AddsAtMost (suc n) first.steps new.steps
+  over_steps n c first old new over a = elim over.over [
+    | inl r ↦ rw r.steps (record { built = omega (arith, a.built); reused = omega (arith, a.reused); sum = omega (arith, a.sum) })
+    | inr rest ↦ elim rest [
+      | inl b ↦ rw b.steps (record { built = omega (arith, a.built); reused = omega (arith, a.reused); sum = omega (arith, a.sum) })
+      | inr p ↦ rw p.same.steps (record { built = omega (arith, a.built); reused = omega (arith, a.reused); sum = omega (arith, a.sum) })
+    ]
+  ]
+
+  -- each byte counts as one step at most
+  pub goes_steps : (j : ℕ) (first last : Stage) → Goes e mode line j first last → AddsAtMost j first.steps last.steps
+  unfolding Goes
+  goes_steps zero first last goes = rw goes.steps (record { built = omega arith; reused = omega arith; sum = omega arith })
+  goes_steps (suc j) first last (middle, goes, over) = over_steps j (slice_index line j) first middle last over (goes_steps j first middle goes)
+
+  pub finishes_steps : (first : Stage) (cache : Cache) (steps : Steps) (answer : Bool) → Finishes e mode line first cache steps answer → AddsAtMost (length line + 1) first.steps steps
+  finishes_steps first cache steps answer f =
+      let a = goes_steps f.place first (record { set = f.set; cache = cache; steps = steps }) f.goes in
+      record { built = a.built; reused = a.reused; sum = omega (arith, a.sum, f.within) }
+
+module _ (e : Expression) (line : Text) where
+  -- no matched stretch ends at a place with a set that is gone over
+  none_here : (j : ℕ) (set : StateSet) → j < length line → IsPlain e Search set → StandsAt e Search line j set → ¬ EndsAt e Search line j
+  none_here j set lt plain stands ends =
+      let told : IsTrue false ↔ IsAccepting e Search set false = (λ no. absurd (false≢true no), λ accepts. absurd (plain refl accepts)) in
+      false≢true ((matched_by e Search false false set told line j stands (sym (not_at_end line j lt))).1 ends)
+
+  none_more : (j : ℕ) → NoneEndsBefore e line j → ¬ EndsAt e Search line j → NoneEndsBefore e line (suc j)
+  unfolding NoneEndsBefore
+  none_more j none here k lt ends = elim (sides k lt) [
+    | inl early ↦ none k early ends
+    | inr same ↦ here (subst (EndsAt e Search line) same ends)
+  ]
+    where
+      sides : (k : ℕ) → k < suc j → (k < j) ⊎ (k ≡ j)
+      sides k lt = search arith
+
+  -- no matched stretch ends where a search went on
+  pub goes_none : (j : ℕ) (first last : Stage) → j ≤ length line → StandsAt e Search line 0 first.set → Goes e Search line j first last → NoneEndsBefore e line j
+  unfolding Goes
+  goes_none zero first last le stands goes = none_at_first e line
+  goes_none (suc j) first last le stands (middle, goes, over) =
+      none_more j (goes_none j first middle (omega arith) stands goes)
+      (none_here j middle.set (omega arith) over.plain (goes_stands e Search line j first middle (omega arith) stands goes))
+
+  -- bytes that are passed
+  pub goes_past : (first stage : Stage) (j d : ℕ) → IsNowhere stage.set → IsPlain e Search stage.set → ((k : ℕ) → j ≤ k → k < d + j → ¬ CanBegin (part_of e 0) (slice_index line k))
+      → Goes e Search line j first stage → Goes e Search line (d + j) first stage
+  goes_past first stage j zero nowhere plain never goes =
+      let same : j ≡ 0 + j = omega arith in
+      subst (λ k. Goes e Search line k first stage) same goes
+  goes_past first stage j (suc d) nowhere plain never goes =
+      let same : suc (d + j) ≡ suc d + j = omega arith in
+      subst (λ k. Goes e Search line k first stage) same
+      (goes_on e Search line (d + j) first stage stage (goes_past first stage j d nowhere plain (λ k low high. never k low (omega (arith, high))) goes)
+      (record { plain = plain; over = inr (inr (record { search = refl; nowhere = nowhere; never = never (d + j) (omega arith) (omega arith); same = alike_self stage })) }))
+
+  pub goes_to : (first stage : Stage) (j n : ℕ) → j ≤ n → IsNowhere stage.set → IsPlain e Search stage.set → ((k : ℕ) → j ≤ k → k < n → ¬ CanBegin (part_of e 0) (slice_index line k))
+      → Goes e Search line j first stage → Goes e Search line n first stage
+  goes_to first stage j n le nowhere plain never goes =
+      let sum : n - j + j ≡ n = omega arith in
+      subst (λ k. Goes e Search line k first stage) sum (goes_past first stage j (n - j) nowhere plain (λ k low high. never k low (omega (arith, high))) goes)
+
+  -- what a search for some matched stretch says
+  told_search : (first : Stage) (cache : Cache) (steps : Steps) (answer : Bool) → StandsAt e Search line 0 first.set → Finishes e Search line first cache steps answer → IsTrue answer ↔ Matches e line false
+  told_search first cache steps answer stands f =
+      let last : Stage = record { set = f.set; cache = cache; steps = steps } in
+      let here = goes_stands e Search line f.place first last f.within stands f.goes in
+      elim f.decides [
+        | inl i ↦ (
+          λ _. matched_at e line f.place f.within ((matched_by e Search true false f.set (λ _. i.accepting, λ _. refl) line f.place here (sym (not_at_end line f.place i.within))).0 refl),
+          λ _. i.yes,
+        )
+        | inr rest ↦ elim rest [
+          | inl lost ↦ absurd (search_is_whole lost.whole)
+          | inr l ↦ end_decides e line answer (subst (NoneEndsBefore e line) l.last (goes_none f.place first last f.within stands f.goes))
+              (matched_by e Search answer true f.set l.told line (length line) (subst (λ j. StandsAt e Search line j f.set) l.last here) (at_end line))
+        ]
+      ]
+    where
+      search_is_whole : Search ≡ Whole → ⊥
+      search_is_whole is = cc
+
+      at_end : (line : Text) → true ≡ is_end line (length line)
+      at_end line = sym (eq-eqb (length line) (length line) refl)
+
+  told_whole : (first : Stage) (cache : Cache) (steps : Steps) (answer : Bool) → StandsAt e Whole line 0 first.set → Finishes e Whole line first cache steps answer → IsTrue answer ↔ Matches e line true
+  told_whole first cache steps answer stands f =
+      let last : Stage = record { set = f.set; cache = cache; steps = steps } in
+      let here = goes_stands e Whole line f.place first last f.within stands f.goes in
+      elim f.decides [
+        | inl i ↦ absurd (whole_is_search i.search)
+        | inr rest ↦ elim rest [
+          | inl lost ↦ (
+            λ yes. absurd (false≢true (sym lost.no ∙ yes)),
+            λ m. absurd (nowhere_fails e line f.set f.place here lost.nowhere f.within m),
+          )
+          | inr l ↦ whole_decides e line answer (matched_by e Whole answer true f.set l.told line (length line) (subst (λ j. StandsAt e Whole line j f.set) l.last here) (at_end line))
+        ]
+      ]
+    where
+      whole_is_search : Whole ≡ Search → ⊥
+      whole_is_search is = cc
+
+      at_end : (line : Text) → true ≡ is_end line (length line)
+      at_end line = sym (eq-eqb (length line) (length line) refl)
+
+  pub finishes_told : (whole : Bool) (first : Stage) (cache : Cache) (steps : Steps) (answer : Bool) → StandsAt e (mode_for whole) line 0 first.set
+      → Finishes e (mode_for whole) line first cache steps answer → IsTrue answer ↔ Matches e line whole
+  finishes_told false = told_search
+  finishes_told true = told_whole
+
+  -- a whole search
+  pub searches_told : (whole : Bool) (old new : Cache) (before after : Steps) (answer : Bool) → Searches e (mode_for whole) line old new before after answer → IsTrue answer ↔ Matches e line whole
+  searches_told whole old new before after answer s = finishes_told whole s.first new after answer s.stands s.finishes
+
+  readied_twice : (old middle first : Cache) → IsReadied old middle → IsReadied middle first → IsReadied old first
+  readied_twice old middle first (inl same) later = subst (λ cache. IsReadied cache first) same later
+  readied_twice old middle first (inr none) (inl same) = inr (none.0, ap (λ (cache : Cache). cache.entries) same ∙ none.1)
+  readied_twice old middle first (inr none) (inr still) = inr (none.0, still.1)
+
+  -- a search with a cache that was made ready
+  pub searches_readied : (mode : Mode) (old middle new : Cache) (before after : Steps) (answer : Bool) → IsReadied old middle → Searches e mode line middle new before after answer → Searches e mode line old new before after answer
+  searches_readied mode old middle new before after answer ready s = record { first = s.first; stands = s.stands; cache = readied_twice old middle s.first.cache ready s.cache; steps = s.steps; finishes = s.finishes }
+
+  pub searches_steps : (mode : Mode) (old new : Cache) (before after : Steps) (answer : Bool) → Searches e mode line old new before after answer → AddsAtMost (length line + 1) before after
+  searches_steps mode old new before after answer s = subst (λ b. AddsAtMost (length line + 1) b after) s.steps (finishes_steps e mode line s.first new after answer s.finishes)

@@ -1,0 +1,236 @@
+-- Searches that go on by what is held, and where they get.
+use Rattle.std.proofs.Common.{◌≡◌, ℕ, zero, suc, ◌+◌, ◌-◌, ◌*◌, ◌<◌, ◌≤◌, Bool, true, false, ◌⊎◌, inl, inr, List, Option, Some, None, length, nat_eq, nat_lt, get_or, slice_get, slice_index, refl, sym, ap, ◌∙◌, subst, arith}
+use Rattle.std.specs.Prelude.{IsSome}
+use Rattle.std.specs.Map.{lookup}
+use Rattle.std.proofs.lemmas.Bool.{false≢true, lt-ltb, ltb-true, cases_eq}
+use Rattle.std.proofs.lemmas.Option.{slice_get_within, slice_get-get_or, get_or_from_slice_get}
+use Rattle.re_syntax.specs.Bytes.{Text}
+use Rattle.re_syntax.specs.Expression.{Expression}
+use Rattle.re_auto.specs.declared.mode.Mode.{Mode}
+use denote.Enum.Bare.{sameb}
+use Rattle.re_auto.specs.contracts.mode.Mode.{the_type}
+use Rattle.re_auto.specs.declared.mode.Mode.TheVariants.{Search, Whole}
+use Rattle.re_auto.specs.declared.step.state_set.StateSet.{StateSet}
+use Rattle.re_auto.specs.Meters.{Steps, many_built, many_reused}
+use Rattle.re_auto.specs.Working.StateSets.{IsSame, IsNextSet}
+use Rattle.re_steps.specs.declared.table.Mark.{Mark}
+use Rattle.re_steps.specs.Working.Pairs.{unknown, shown, Mirrors, IsKeptOrLost}
+use Rattle.re_steps.specs.Working.Stages.{Cache, Stage, IsHeld, HoldsNoOther, IsPlain, GoesOver, Goes}
+use Rattle.re_steps.specs.declared.table.Table.{Table}
+use Rattle.re_steps.specs.declared.walking.Spot.{Spot}
+use Rattle.re_steps.specs.declared.walking.Went.{Went}
+use Rattle.re_steps.specs.declared.walking.Went.TheVariants as w
+use Rattle.re_steps.specs.Working.Rows.{limit, IsSoundTable, IsRight, IsRowOf, TellsNext, ComesTo, Lands, LandsAlone, cell_at, cache_of, row_under, walked}
+use Rattle.re_steps.specs.Working.Walks.{LeadsOn, Arrives}
+use Rattle.re_steps.proofs.lemmas.StageLaws.{nothing_held, goes_nowhere, goes_on, same_sym}
+use Rattle.re_steps.proofs.lemmas.RowLaws.{cell_within, same_place, number_within}
+
+-- over no byte
+pub walked_none : (place : ℕ) (steps : Steps) → walked (place - place) steps ≡ steps
+walked_none place steps = let none : place - place ≡ 0 = omega arith in ap (λ n. walked n steps) none
+
+-- steps that were reused, and one more
+pub walked_more : (n : ℕ) (steps : Steps) → many_reused 1 (walked n steps) ≡ walked (suc n) steps
+walked_more zero steps = refl
+walked_more (suc n) steps = ap (λ k. record { built = steps.built; reused = k }) (omega arith)
+
+-- the mode is that for whole lines, or it isn't
+pub is_whole : (mode : Mode) → true ≡ sameb the_type mode Whole → mode ≡ Whole
+is_whole Whole told = refl
+is_whole Search told = absurd (false≢true (sym told))
+
+pub is_search : (mode : Mode) → false ≡ sameb the_type mode Whole → mode ≡ Search
+is_search Search told = refl
+is_search Whole told = absurd (false≢true told)
+
+-- the row below a cell
+pub under_low : (cell : ℕ) → cell < limit → row_under cell ≡ cell
+under_low cell low = rw (lt-ltb cell limit low) refl
+
+pub under_high : (cell : ℕ) → limit ≤ cell → row_under cell ≡ cell - limit
+under_high cell high = rw (not_below cell limit high) refl
+  where
+    not_below : (m n : ℕ) → n ≤ m → nat_lt m n ≡ false
+    not_below m n le = by (nat_lt m n) refl
+      where
+        by : (b : Bool) → nat_lt m n ≡ b → nat_lt m n ≡ false
+        by false is = is
+        by true is = absurd (omega (arith, le, ltb-true m n is))
+
+pub sides : (m n : ℕ) → (m < n) ⊎ (n ≤ m)
+sides m n = search arith
+
+module _ (e : Expression) (mode : Mode) (classes : List ℕ) (stride : ℕ) (sets : List StateSet) (marks : List Mark) (cells : List ℕ) (entries : List (ℕ × ℕ)) (sound : IsSoundTable e mode classes stride sets marks cells entries) where
+  abbrev pub cache : Cache
+  cache = record { classes = classes; stride = stride; sets = sets; entries = entries }
+
+  some_shown : (o : Option ℕ) → shown o < unknown → IsSome o
+  some_shown None low = absurd (omega (arith, low))
+  some_shown (Some v) low = refl
+
+  none_shown : (o : Option ℕ) → unknown ≡ shown o → ((v : ℕ) → o ≡ Some v → v < unknown) → IsSome o → ⊥
+  none_shown None is small some = false≢true some
+  none_shown (Some v) is small some = let low = small v refl in absurd (omega (arith, is, low))
+
+  -- a pair whose cell is known is held
+  pub cell_held : (r byte : ℕ) (set : StateSet) → IsRowOf sets stride r set → byte < 256 → cell_at classes cells r byte < unknown → IsHeld cache set byte
+  cell_held r byte set row small low =
+      let at : r + slice_index classes byte ≡ row.number * stride + slice_index classes byte = omega (arith, row.row) in
+      let shows = sound.mirrors.shows (r + slice_index classes byte) (cell_within e mode classes stride sets marks cells entries sound r byte set row small) in
+      record {
+        number = row.number;
+        same = set;
+        is = row.is;
+        alike = (refl, refl);
+        held = subst (λ k. IsSome (lookup (nat_eq k) entries)) at (some_shown (lookup (nat_eq (r + slice_index classes byte)) entries) (omega (arith, low, shows)));
+      }
+
+  -- and one whose cell is unknown isn't
+  pub cell_not_held : (r byte : ℕ) (set : StateSet) → IsRowOf sets stride r set → byte < 256 → cell_at classes cells r byte ≡ unknown → ¬ IsHeld cache set byte
+  cell_not_held r byte set row small none h =
+      let number : h.number ≡ row.number = sound.apart h.number row.number h.same set h.is row.is h.alike in
+      let at : h.number * stride + slice_index classes byte ≡ r + slice_index classes byte = ap (λ n. n * stride + slice_index classes byte) number ∙ ap (λ n. n + slice_index classes byte) (sym row.row) in
+      let place = r + slice_index classes byte in
+      none_shown (lookup (nat_eq place) entries) (sym none ∙ sound.mirrors.shows place (cell_within e mode classes stride sets marks cells entries sound r byte set row small))
+      (λ v is. (sound.mirrors.within place v is).1) (subst (λ k. IsSome (lookup (nat_eq k) entries)) at h.held)
+
+  -- a search comes over a byte whose cell is a row
+  pub comes_on : (line : Text) (first : Stage) (steps : Steps) (j r : ℕ) → j < length line → slice_index line j < 256 → cell_at classes cells r (slice_index line j) < limit
+      → ComesTo e mode line first cache steps j r → ComesTo e mode line first cache (many_reused 1 steps) (suc j) (cell_at classes cells r (slice_index line j))
+  comes_on line first steps j r lt small low came =
+      let c = slice_index line j in
+      let on = (sound.tells r came.set c came.row small).plain low in
+      record {
+        set = on.into;
+        row = on.row;
+        plain = λ within. on.plain;
+        goes = goes_on e mode line j first (record { set = came.set; cache = cache; steps = steps }) (record { set = on.into; cache = cache; steps = many_reused 1 steps }) came.goes
+            (record { plain = came.plain lt; over = inl (record { held = cell_held r c came.set came.row small (omega (arith, low)); next = on.next; cache = refl; steps = refl }) });
+      }
+
+  -- where a search is after a cell
+  pub lands_at : (line : Text) (first : Stage) (from : StateSet) (now : Cache) (before after : Steps) (j byte cell : ℕ) → slice_get line j ≡ Some byte
+      → TellsNext e mode now.sets now.stride from byte cell → cell < unknown → Goes e mode line j first (record { set = from; cache = cache; steps = before })
+      → ((into : StateSet) → IsNextSet e mode from byte into → GoesOver e mode byte (record { set = from; cache = cache; steps = before }) (record { set = into; cache = now; steps = after }))
+      → Lands e mode line first now after j cell
+  lands_at line first from now before after j byte cell is tells held goes over = elim (sides cell limit) [
+    | inl low ↦ let on = tells.plain low in record {
+      set = on.into;
+      row = rw (under_low cell low) on.row;
+      plain = λ _. on.plain;
+      special = λ high. absurd (omega (arith, low, high));
+      goes = goes_on e mode line j first (record { set = from; cache = cache; steps = before }) (record { set = on.into; cache = now; steps = after }) goes (rw (get_or_from_slice_get line j byte 0 is) (over on.into on.next));
+    }
+    | inr high ↦ let on = tells.special high held in record {
+      set = on.into;
+      row = rw (under_high cell high) on.row;
+      plain = λ low. absurd (omega (arith, low, high));
+      special = λ _. (on.search, on.accepting);
+      goes = goes_on e mode line j first (record { set = from; cache = cache; steps = before }) (record { set = on.into; cache = now; steps = after }) goes (rw (get_or_from_slice_get line j byte 0 is) (over on.into on.next));
+    }
+  ]
+
+  -- by a cell that is held
+  pub lands_held : (line : Text) (first : Stage) (steps : Steps) (j r byte : ℕ) → byte < 256 → slice_get line j ≡ Some byte → cell_at classes cells r byte < unknown
+      → ComesTo e mode line first cache steps j r → Lands e mode line first cache (many_reused 1 steps) j (cell_at classes cells r byte)
+  lands_held line first steps j r byte small is held came =
+      lands_at line first came.set cache steps (many_reused 1 steps) j byte (cell_at classes cells r byte) is (sound.tells r came.set byte came.row small) held came.goes
+      (λ into next. record {
+        plain = came.plain (slice_get_within line j byte is);
+        over = inl (record { held = cell_held r byte came.set came.row small held; next = next; cache = refl; steps = refl });
+      })
+
+  -- by one that was worked out
+  pub lands_learned : (line : Text) (first : Stage) (now : Cache) (before after : Steps) (j r byte cell : ℕ) → byte < 256 → slice_get line j ≡ Some byte → cell_at classes cells r byte ≡ unknown
+      → ((set : StateSet) → IsRowOf sets stride r set → (cell < unknown) × TellsNext e mode now.sets now.stride set byte cell) → ((set : StateSet) → IsRowOf sets stride r set → HoldsNoOther e cache set byte now)
+      → after ≡ many_built 1 before → ComesTo e mode line first cache before j r → Lands e mode line first now after j cell
+  lands_learned line first now before after j r byte cell small is none found others counted came =
+      lands_at line first came.set now before after j byte cell is (found came.set came.row).1 (found came.set came.row).0 came.goes
+      (λ into next. record {
+        plain = came.plain (slice_get_within line j byte is);
+        over = inr (inl (record { not_held = cell_not_held r byte came.set came.row small none; next = next; cache = others came.set came.row; steps = counted }));
+      })
+
+  -- or where only the set is known
+  pub lands_alone : (line : Text) (first : Stage) (into : StateSet) (before after : Steps) (j r byte : ℕ) → byte < 256 → slice_get line j ≡ Some byte → cell_at classes cells r byte ≡ unknown
+      → ((set : StateSet) → IsRowOf sets stride r set → IsNextSet e mode set byte into) → after ≡ many_built 1 before → ComesTo e mode line first cache before j r → LandsAlone e mode line first into after j
+  lands_alone line first into before after j r byte small is none next counted came = λ now empty.
+      goes_on e mode line j first (record { set = came.set; cache = cache; steps = before }) (record { set = into; cache = now; steps = after }) came.goes
+      (rw (get_or_from_slice_get line j byte 0 is) (record {
+        plain = came.plain (slice_get_within line j byte is);
+        over = inr (inl (record {
+          not_held = cell_not_held r byte came.set came.row small none;
+          next = next came.set came.row;
+          cache = λ other b lt held. absurd (nothing_held now other b empty held);
+          steps = counted;
+        }));
+      }))
+
+  -- the row below a cell is that of some set
+  pub row_below : (from : StateSet) (byte cell : ℕ) → TellsNext e mode sets stride from byte cell → cell < unknown → (set : StateSet) × IsRowOf sets stride (row_under cell) set
+  row_below from byte cell tells held = elim (sides cell limit) [
+    | inl low ↦ let on = tells.plain low in (on.into, rw (under_low cell low) on.row)
+    | inr high ↦ let on = tells.special high held in (on.into, rw (under_high cell high) on.row)
+  ]
+
+  -- no pair is held after one was put but that one and those that were held
+  pub holds_no_other : (sets-2 : List StateSet) (marks-2 : List Mark) (cells-2 : List ℕ) → IsSoundTable e mode classes stride sets-2 marks-2 cells-2 entries
+      → ((r : ℕ) (set : StateSet) → IsRowOf sets stride r set → IsRowOf sets-2 stride r set)
+      → (new : List ℕ) (now : List (ℕ × ℕ)) → Mirrors now new → (r byte : ℕ) (set : StateSet) → IsRowOf sets stride r set → byte < 256
+      → ((k : ℕ) → (k ≡ r + slice_index classes byte → ⊥) → IsKeptOrLost (slice_index cells-2 k) (slice_index new k)) → length new ≡ length cells-2
+      → HoldsNoOther e cache set byte (record { classes = classes; stride = stride; sets = sets-2; entries = now })
+  holds_no_other sets-2 marks-2 cells-2 sound-2 rows new now mirrors r byte set row small others len = λ other b lt h.
+      let k = h.number * stride + slice_index classes b in
+      let here : IsRowOf sets-2 stride (h.number * stride) h.same = record { number = h.number; row = refl; is = h.is } in
+      elim (cases_eq k (r + slice_index classes byte)) [
+        | inl same ↦
+            let both = same_place e mode classes stride sets-2 marks-2 cells-2 entries sound-2 (h.number * stride) r (slice_index classes b) (slice_index classes byte) h.same set here (rows r set row) (sound.classed b lt) (sound.classed byte small) same in
+            inr (subst (IsSame other) both.1 (same_sym h.same other h.alike), sound.alike b byte lt small both.0)
+        | inr not ↦
+            let value = held_value (lookup (nat_eq k) now) refl h.held in
+            let inside = (mirrors.within k value.0 value.1).0 in
+            let known : slice_index new k < unknown = omega (arith, mirrors.shows k inside, ap shown value.1, (mirrors.within k value.0 value.1).1) in
+            let old_cell : slice_index cells-2 k < unknown = kept (slice_index cells-2 k) (slice_index new k) (others k not) known in
+            let entry : IsSome (lookup (nat_eq k) entries) = some_shown (lookup (nat_eq k) entries) (omega (arith, old_cell, sound-2.mirrors.shows k (omega (arith, inside, len)))) in
+            let was = held_value (lookup (nat_eq k) entries) refl entry in
+            let within : h.number < length sets = number_within e mode classes stride sets marks cells entries sound h.number (slice_index classes b) (sound.mirrors.within k was.0 was.1).0 in
+            let old : IsRowOf sets stride (h.number * stride) (get_or sets h.number h.same) = record { number = h.number; row = refl; is = slice_get-get_or sets h.number h.same within } in
+            let both = same_place e mode classes stride sets-2 marks-2 cells-2 entries sound-2 (h.number * stride) (h.number * stride) (slice_index classes b) (slice_index classes b) (get_or sets h.number h.same) h.same
+            (rows (h.number * stride) (get_or sets h.number h.same) old) here (sound.classed b lt) (sound.classed b lt) refl in
+            inl (record { number = h.number; same = h.same; is = slice_get-get_or sets h.number h.same within ∙ ap Some both.1; alike = h.alike; held = entry })
+      ]
+    where
+      held_value : (o : Option ℕ) {p : Option ℕ} → p ≡ o → IsSome o → (v : ℕ) × (p ≡ Some v)
+      held_value None is some = absurd (false≢true some)
+      held_value (Some v) is some = (v, is)
+
+      kept : (old new : ℕ) → IsKeptOrLost old new → new < unknown → old < unknown
+      kept old new (inl same) low = omega (arith, same, low)
+      kept old new (inr lost) low = absurd (omega (arith, lost, low))
+
+-- the steps of a walk, by what counting them promises
+pub walked_is : (n : ℕ) (old new : Steps) → new ≡ many_reused n old → (n ≡ 0 → new ≡ old) → new ≡ walked n old
+walked_is zero old new counted none = none refl
+walked_is (suc n) old new counted none = counted
+
+module _ (e : Expression) (mode : Mode) (line : Text) (old : Table) (before : Steps) (spot : Spot) (new : Table) (into : StateSet) (after : Steps) where
+  -- a search that came over one byte by a cell went on
+  pub arrives_on : (place cell j : ℕ) (went : Went) → LeadsOn e mode line new place cell went → IsRight e mode new → spot.place < place → suc j ≡ place
+      → ((first : Stage) → ComesTo e mode line first (cache_of old) before spot.place spot.row → Lands e mode line first (cache_of new) after j cell) → Arrives e mode line old before spot new into after went
+  arrives_on place cell j (w.To next) leads right on is lands = record {
+    right = right;
+    on = omega (arith, on, leads.0);
+    within = leads.1;
+    row = leads.2;
+    comes = λ first came. leads.3 first after j is (lands first came);
+  }
+  arrives_on place cell j (w.Told answer) leads right on is lands = record { right = right; finishes = λ first came. leads first after j is (lands first came) }
+  arrives_on place cell j (w.Alone k) leads right on is lands = absurd leads
+
+module _ (e : Expression) (mode : Mode) (line : Text) (t : Table) (right : IsRight e mode t) (steps : Steps) where
+  -- the stage at the first place of a line
+  abbrev pub first_stage : Stage
+  first_stage = record { set = right.rows.start; cache = cache_of t; steps = steps }
+
+  pub comes_first : (0 < length line → IsPlain e mode right.rows.start) → ComesTo e mode line first_stage (cache_of t) steps 0 (1 * t.stride)
+  comes_first plain = record { set = right.rows.start; row = record { number = 1; row = refl; is = right.rows.is_start }; plain = plain; goes = goes_nowhere e mode line first_stage }

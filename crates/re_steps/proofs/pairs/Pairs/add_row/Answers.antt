@@ -1,0 +1,23 @@
+use Rattle.std.proofs.Common.{◌≡◌, ◌++◌, replicate, sym, ap, ◌∙◌, subst}
+use Rattle.std.proofs.lemmas.List.{take-replicate}
+use Rattle.re_steps.specs.Working.Pairs.{unknown, Mirrors}
+use Rattle.re_steps.proofs.lemmas.PairLemmas.{mirrors_longer}
+use Rattle.re_steps.proofs.pairs.Pairs.add_row.Goals as goal
+
+pub invariant_of-self-2 : goal.invariant_of-self-2
+invariant_of-self-2 c =
+    let added : c.extend_from_slice.new.self.items ≡ c.self.inside.cells.items ++ replicate c.args.width unknown =
+    c.in_ok-extend_from_slice.ensures.items ∙ ap (λ xs. c.self.inside.cells.items ++ xs) (take-replicate c.args.width 256 unknown c.requires) in
+    subst (Mirrors c.self.inside.entries.entries) (sym added) (mirrors_longer c.self.inside.entries.entries c.self.inside.cells.items c.args.width c.self.invariant)
+
+pub returns-clause-added : goal.returns-clause-added
+returns-clause-added c =
+    let added : c.extend_from_slice.new.self.items ≡ c.self.inside.cells.items ++ replicate c.args.width unknown =
+    c.in_ok-extend_from_slice.ensures.items ∙ ap (λ xs. c.self.inside.cells.items ++ xs) (take-replicate c.args.width 256 unknown c.requires) in
+    added ∙ ap (λ s. s.cells ++ replicate c.args.width unknown) c.self.view_is
+
+pub returns-clause-mirrors : goal.returns-clause-mirrors
+returns-clause-mirrors c =
+    let added : c.extend_from_slice.new.self.items ≡ c.self.inside.cells.items ++ replicate c.args.width unknown =
+    c.in_ok-extend_from_slice.ensures.items ∙ ap (λ xs. c.self.inside.cells.items ++ xs) (take-replicate c.args.width 256 unknown c.requires) in
+    subst (Mirrors c.self.inside.entries.entries) (sym added) (mirrors_longer c.self.inside.entries.entries c.self.inside.cells.items c.args.width c.self.invariant)

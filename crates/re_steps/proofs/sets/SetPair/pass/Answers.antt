@@ -1,0 +1,15 @@
+use Rattle.std.proofs.Common.{add-one}
+use Rattle.re_syntax.specs.Expression.{expression_of}
+use Rattle.re_auto.specs.declared.mode.Mode.TheVariants.{Search}
+use Rattle.re_steps.proofs.lemmas.StageLaws.{goes_to, goes_built}
+use Rattle.re_steps.proofs.sets.SetPair.pass.Goals as goal
+
+pub returns-then-next-place-clause-goes : goal.returns-then-next-place-clause-goes
+returns-then-next-place-clause-goes c = λ first cache none plain goes.
+    goes_to (expression_of c.args.automaton.now) c.args.line.now first _ c.args.place c.next_beginning-next.result c.next_beginning-next.ensures.within.0
+    (c.is_nowhere.ensures.0 c.if-is_nowhere.true) plain c.next_beginning-next.ensures.passed goes
+
+pub returns-clause-goes : goal.returns-clause-goes
+returns-clause-goes c = λ first cache none plain goes.
+    rw (add-one c.args.place) (goes_built (expression_of c.args.automaton.now) Search c.args.line.now c.args.place first cache c.args.self.now.current c.advance.new.self.current c.args.meter.now c.advance.new.meter
+    none plain c.advance.ensures.next c.advance.ensures.counted goes)

@@ -1,0 +1,5 @@
+pub mod Simulations
+pub mod Pairs
+pub mod Rows
+pub mod Stages
+pub mod Walks

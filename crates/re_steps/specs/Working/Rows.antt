@@ -1,0 +1,174 @@
+-- Numbered sets of positions, and for each a row of cells with the set after each byte, as far as
+-- that is held.
+use Rattle.std.specs.Prelude.{◌≡◌, ℕ, zero, suc, ◌+◌, ◌-◌, ◌*◌, ◌^◌, ◌<◌, ◌≤◌, ◌↔◌, ◌⊎◌, List, Some, [], true, false, IsTrue, length, nat_lt, if◌then◌else◌, slice_get, slice_index}
+use Rattle.re_syntax.specs.Bytes.{Text}
+use Rattle.re_syntax.specs.Expression.{Expression}
+use Rattle.re_auto.specs.declared.mode.Mode.{Mode}
+use Rattle.re_auto.specs.declared.mode.Mode.TheVariants.{Search}
+use Rattle.re_auto.specs.declared.step.state_set.StateSet.{StateSet}
+use Rattle.re_auto.specs.Meters.{Steps, many_reused}
+use Rattle.re_auto.specs.Working.StateSets.{IsMadeFor, IsSame, IsNowhere, IsNextSet, IsAccepting, StandsAt, AreAlikeInClasses}
+use Rattle.re_steps.specs.declared.table.Mark.{Mark}
+use Rattle.re_steps.specs.declared.table.Table.{Table}
+use Rattle.re_steps.specs.Working.Pairs.{unknown, Mirrors}
+use Rattle.re_steps.specs.Working.Stages.{Cache, Stage, IsPlain, Goes}
+
+-- Cells below this are rows of sets where a search goes on. Others, but for `unknown`, are the row
+-- of a set at which a matched stretch ends, plus this number.
+abbrev pub limit : ℕ
+limit = 2 ^ 30
+
+-- row r, of rows of `stride` cells, is that of this set
+pub record IsRowOf (sets : List StateSet) (stride r : ℕ) (set : StateSet) : Type 0 where
+  pub number : ℕ
+  pub row : r ≡ number * stride
+  pub is : slice_get sets number ≡ Some set
+
+-- row r is that of some set
+abbrev pub IsRow : Table → ℕ → Type 0
+IsRow t r = (set : StateSet) × IsRowOf t.sets.keys t.stride r set
+
+-- row r is that of the set after this byte, where a search goes on
+pub record GoesOnTo (e : Expression) (mode : Mode) (sets : List StateSet) (stride : ℕ)
+    (from : StateSet) (byte r : ℕ) : Type 0 where
+  pub into : StateSet
+  pub row : IsRowOf sets stride r into
+  pub next : IsNextSet e mode from byte into
+  pub plain : IsPlain e mode into
+
+-- row r is that of the set after this byte, at which a matched stretch ends inside a line
+pub record StopsAt (e : Expression) (mode : Mode) (sets : List StateSet) (stride : ℕ)
+    (from : StateSet) (byte r : ℕ) : Type 0 where
+  pub into : StateSet
+  pub row : IsRowOf sets stride r into
+  pub next : IsNextSet e mode from byte into
+  pub search : mode ≡ Search
+  pub accepting : IsAccepting e Search into false
+
+-- what a cell says of the set and the byte that it is for
+pub record TellsNext (e : Expression) (mode : Mode) (sets : List StateSet) (stride : ℕ)
+    (from : StateSet) (byte cell : ℕ) : Type 0 where
+  pub plain : cell < limit → GoesOnTo e mode sets stride from byte cell
+  pub special : limit ≤ cell → cell < unknown → StopsAt e mode sets stride from byte (cell - limit)
+
+-- the cell for a row and a byte
+abbrev pub cell_at : List ℕ → List ℕ → ℕ → ℕ → ℕ
+cell_at classes cells r byte = slice_index cells (r + slice_index classes byte)
+
+-- the mark says at which places of a line a matched stretch ends if the search has this set
+pub record IsMarkOf (e : Expression) (mode : Mode) (set : StateSet) (mark : Mark) : Type 0 where
+  pub inside : IsTrue mark.inside ↔ IsAccepting e mode set false
+  pub at_end : IsTrue mark.at_end ↔ IsAccepting e mode set true
+
+-- the cell of a row whose set has this mark
+abbrev pub IsCellOf : Mode → Mark → ℕ → ℕ → Type 0
+IsCellOf mode mark row cell =
+    ((cell ≡ row) × (mode ≡ Search → mark.inside ≡ false)) ⊎
+    ((cell ≡ row + limit) × (mode ≡ Search) × (mark.inside ≡ true))
+
+-- the mark of this number is the set's
+pub record HasMark (e : Expression) (mode : Mode) (marks : List Mark) (number : ℕ)
+    (set : StateSet) : Type 0 where
+  pub mark : Mark
+  pub is : slice_get marks number ≡ Some mark
+  pub tells : IsMarkOf e mode set mark
+
+-- all that is known is right for the automaton of this expression and for the mode
+pub record IsSoundTable (e : Expression) (mode : Mode) (classes : List ℕ) (stride : ℕ)
+    (sets : List StateSet) (marks : List Mark) (cells : List ℕ)
+    (entries : List (ℕ × ℕ)) : Type 0 where
+  pub bytes : length classes ≡ 256
+  pub few_classes : stride ≤ 256
+  pub classed : (c : ℕ) → c < 256 → slice_index classes c < stride
+  pub alike : AreAlikeInClasses e classes
+  pub made : (t : ℕ) (set : StateSet) → slice_get sets t ≡ Some set → IsMadeFor e set
+  pub apart : (s t : ℕ) (one other : StateSet) → slice_get sets s ≡ Some one →
+      slice_get sets t ≡ Some other → IsSame one other → s ≡ t
+  pub marked : (t : ℕ) (set : StateSet) → slice_get sets t ≡ Some set → HasMark e mode marks t set
+  pub as_many : length marks ≡ length sets
+  pub rows : length cells ≡ length sets * stride
+  pub few : length cells ≤ limit
+  pub mirrors : Mirrors entries cells
+  pub tells : (r : ℕ) (from : StateSet) (c : ℕ) → IsRowOf sets stride r from → c < 256 →
+      TellsNext e mode sets stride from c (cell_at classes cells r c)
+
+abbrev pub IsSound : Expression → Mode → Table → Type 0
+IsSound e mode t =
+    IsSoundTable e mode t.classes.items t.stride t.sets.keys t.marks.items t.pairs.cells
+    t.pairs.entries
+
+-- row 0 is that of the set without positions, and the next that of a line's first place
+pub record HasFirstRows (e : Expression) (mode : Mode) (sets : List StateSet) : Type 0 where
+  pub nowhere : StateSet
+  pub is_nowhere : slice_get sets 0 ≡ Some nowhere
+  pub empty : IsNowhere nowhere
+  pub start : StateSet
+  pub is_start : slice_get sets 1 ≡ Some start
+  pub stands : (line : Text) → StandsAt e mode line 0 start
+
+pub record IsRight (e : Expression) (mode : Mode) (t : Table) : Type 0 where
+  pub sound : IsSound e mode t
+  pub rows : HasFirstRows e mode t.sets.keys
+
+-- nothing is known
+pub record IsBlank (t : Table) : Type 0 where
+  pub sets : t.sets.keys ≡ []
+  pub marks : t.marks.items ≡ []
+  pub cells : t.pairs.cells ≡ []
+  pub entries : t.pairs.entries ≡ []
+
+-- what contracts see of the table
+abbrev pub cache_of : Table → Cache
+cache_of t =
+    record {
+      classes = t.classes.items;
+      stride = t.stride;
+      sets = t.sets.keys;
+      entries =
+          t.pairs.entries;
+    }
+
+-- a search that came from a first stage is at place j in this row, with this cache and these steps
+pub record ComesTo (e : Expression) (mode : Mode) (line : Text) (first : Stage) (cache : Cache)
+    (steps : Steps) (j r : ℕ) : Type 0 where
+  pub set : StateSet
+  pub row : IsRowOf cache.sets cache.stride r set
+  pub plain : j < length line → IsPlain e mode set
+  pub goes : Goes e mode line j first (record { set = set; cache = cache; steps = steps })
+
+-- the steps after n more that were reused
+abbrev pub walked : ℕ → Steps → Steps
+walked zero steps = steps
+walked (suc n) steps = many_reused (suc n) steps
+
+-- the row that a cell leads to
+abbrev pub row_under : ℕ → ℕ
+row_under cell = if nat_lt cell limit then cell else cell - limit
+
+-- a search that came from a first stage to place j goes over the byte there by this cell, and then
+-- it has this cache and these steps
+pub record Lands (e : Expression) (mode : Mode) (line : Text) (first : Stage) (cache : Cache)
+    (steps : Steps) (j cell : ℕ) : Type 0 where
+  pub set : StateSet
+  pub row : IsRowOf cache.sets cache.stride (row_under cell) set
+  pub plain : cell < limit → IsPlain e mode set
+  pub special : limit ≤ cell → (mode ≡ Search) × IsAccepting e Search set false
+  pub goes : Goes e mode line (suc j) first (record { set = set; cache = cache; steps = steps })
+
+-- the same if only this set is known, and nothing is held any more
+abbrev pub LandsAlone : Expression → Mode → Text → Stage → StateSet → Steps → ℕ → Type 0
+LandsAlone e mode line first set steps j =
+    (cache : Cache) → cache.entries ≡ [] →
+    Goes e mode line (suc j) first (record { set = set; cache = cache; steps = steps })
+
+-- what was known still is, and sets were added after the others
+pub record Extends (old new : Table) : Type 0 where
+  pub classes : new.classes.items ≡ old.classes.items
+  pub stride : new.stride ≡ old.stride
+  pub sets : (number : ℕ) (set : StateSet) → slice_get old.sets.keys number ≡ Some set →
+      slice_get new.sets.keys number ≡ Some set
+  pub cells : (k : ℕ) → k < length old.pairs.cells →
+      slice_index new.pairs.cells k ≡ slice_index old.pairs.cells k
+  pub more : length old.pairs.cells ≤ length new.pairs.cells
+  pub entries : new.pairs.entries ≡ old.pairs.entries
+  pub most : new.pairs.most ≡ old.pairs.most

@@ -1,0 +1,17 @@
+//! Searches by the steps of an automaton: sets of positions and least starts on their way over a line,
+//! and a bounded cache of the steps between sets.
+#![tactic(auto)]
+
+mod least;
+mod pace;
+mod pairs;
+mod sets;
+mod stride;
+mod table;
+mod walking;
+
+pub use least::StartPair;
+pub use pace::Pace;
+pub use sets::SetPair;
+pub use table::Table;
+pub use walking::Outcome;

@@ -1,0 +1,9 @@
+pub mod KeyLaws
+pub mod SetSteps
+pub mod SetTries
+pub mod SetSearch
+pub mod SetLeaps
+pub mod SetBranches
+pub mod SetLinks
+pub mod SetTable
+pub mod SetSorted

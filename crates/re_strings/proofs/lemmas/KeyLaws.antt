@@ -1,0 +1,207 @@
+-- Bytes, strings and lines as they are compared.
+use Rattle.std.proofs.Common.{◌≡◌, ◌↔◌, ℕ, ◌+◌, ◌-◌, ◌<◌, ◌≤◌, ◌⊎◌, inl, inr, Bool, true, false, IsTrue, ◌||◌, List, [], ◌∷◌, length, map, slice_index, nat_eq, refl, sym, ap, subst, ◌∙◌, arith}
+use Rattle.std.specs.Char.{to_ascii_lowercase}
+use Rattle.std.proofs.lemmas.Bool.{cases_lt, and_from, and_right, and_left, or_cases, le-leb, lt-leb, lt-ltb, le-ltb, cond-true, cond-false, eqb-true, eq-eqb, ne_eqb, cases_eq}
+use Rattle.std.proofs.lemmas.List.{get_or-map}
+use Rattle.re_syntax.specs.Bytes.{Text, only, range, closed, other_case}
+use Rattle.re_syntax.specs.Lines.{lines_of, newline, put_before}
+use Rattle.re_strings.specs.Working.Keys.{key, keys}
+use Rattle.re_strings.specs.Working.FixedSets.{Labels, StepsOn, AreStartsOf}
+
+-- a byte between two is in their range
+inside : (low high b : ℕ) → low ≤ b → b ≤ high → range low high b ≡ true
+inside low high b from to = and_from _ _ (le-leb low b from) (le-leb b high to)
+
+below : (low high b : ℕ) → b < low → range low high b ≡ false
+below low high b lt = and_left _ _ (lt-leb low b lt)
+
+above : (low high b : ℕ) → high < b → range low high b ≡ false
+above low high b lt = and_right _ _ (lt-leb b high lt)
+
+-- ---- one byte
+
+-- where case counts each byte is compared as it is
+pub key_plain : (b : ℕ) → key false b ≡ b
+unfolding key
+key_plain b = refl
+
+key_upper : (b : ℕ) → 65 ≤ b → b ≤ 90 → key true b ≡ b + 32
+unfolding key
+key_upper b from to = cond-true _ _ _ (inside 65 90 b from to)
+
+key_below : (b : ℕ) → b < 65 → key true b ≡ b
+unfolding key
+key_below b lt = cond-false _ _ _ (below 65 90 b lt)
+
+key_above : (b : ℕ) → 90 < b → key true b ≡ b
+unfolding key
+key_above b lt = cond-false _ _ _ (above 65 90 b lt)
+
+-- an upper-case letter is compared by its lower case, any other byte as it is
+key_cases : (b : ℕ) → ((65 ≤ b) × (b ≤ 90) × (key true b ≡ b + 32)) ⊎ (((b < 65) ⊎ (90 < b)) × (key true b ≡ b))
+key_cases b =
+    elim (cases_lt b 65) [
+      | inl early ↦ inr (inl early, key_below b early)
+      | inr from ↦ elim (cases_lt 90 b) [ inl late ↦ inr (inr late, key_above b late) | inr to ↦ inl (from, to, key_upper b from to) ]
+    ]
+
+-- the other case, by the range of the byte
+other_upper : (b : ℕ) → 65 ≤ b → b ≤ 90 → other_case b ≡ b + 32
+other_upper b from to = cond-true _ _ _ (inside 65 90 b from to)
+
+other_lower : (b : ℕ) → 97 ≤ b → b ≤ 122 → other_case b ≡ b - 32
+other_lower b from to = cond-false _ _ _ (above 65 90 b (omega (arith, from))) ∙ cond-true _ _ _ (inside 97 122 b from to)
+
+other_below : (b : ℕ) → b < 65 → other_case b ≡ b
+other_below b lt = cond-false _ _ _ (below 65 90 b lt) ∙ cond-false _ _ _ (below 97 122 b (omega (arith, lt)))
+
+other_between : (b : ℕ) → 90 < b → b < 97 → other_case b ≡ b
+other_between b from to = cond-false _ _ _ (above 65 90 b from) ∙ cond-false _ _ _ (below 97 122 b to)
+
+other_above : (b : ℕ) → 122 < b → other_case b ≡ b
+other_above b lt = cond-false _ _ _ (above 65 90 b (omega (arith, lt))) ∙ cond-false _ _ _ (above 97 122 b lt)
+
+-- both cases are compared alike
+key_other : (b : ℕ) → key true (other_case b) ≡ key true b
+key_other b =
+    elim (cases_lt b 65) [
+      | inl early ↦ ap (key true) (other_below b early)
+      | inr from ↦ elim (cases_lt 90 b) [
+        | inr to ↦ ap (key true) (other_upper b from to) ∙ key_above (b + 32) (omega (arith, from)) ∙ sym (key_upper b from to)
+        | inl past ↦ elim (cases_lt b 97) [
+          | inl between ↦ ap (key true) (other_between b past between)
+          | inr low ↦ elim (cases_lt 122 b) [
+            | inl late ↦ ap (key true) (other_above b late)
+            | inr high ↦
+                let back : b - 32 + 32 ≡ b = omega (arith, low) in
+                ap (key true) (other_lower b low high) ∙ key_upper (b - 32) (omega (arith, low)) (omega (arith, high)) ∙ back ∙ sym (key_above b past)
+          ]
+        ]
+      ]
+    ]
+
+-- bytes that are compared alike are the same but for case
+same_but_case : (b c : ℕ) → key true c ≡ key true b → (c ≡ b) ⊎ (other_case c ≡ b)
+same_but_case b c same =
+    elim (key_cases c) [
+      | inl (from, to, up) ↦ elim (key_cases b) [
+        | inl (low, high, is) ↦ let e : c ≡ b = omega (arith, same, up, is) in inl e
+        | inr (out, is) ↦ inr (other_upper c from to ∙ sym up ∙ same ∙ is)
+      ]
+      | inr (out, here) ↦ elim (key_cases b) [
+        | inl (low, high, is) ↦
+            let at : c ≡ b + 32 = sym here ∙ same ∙ is in
+            let back : c - 32 ≡ b = omega (arith, at) in
+            inr (other_lower c (omega (arith, at, low)) (omega (arith, at, high)) ∙ back)
+        | inr (away, is) ↦ inl (sym here ∙ same ∙ is)
+      ]
+    ]
+
+-- a byte with both its cases has those that are compared alike
+pub closed_byte : (b c : ℕ) → IsTrue (closed (only b) c) ↔ IsTrue (only (key true b) (key true c))
+closed_byte b c = ((λ h. forward (or_cases (nat_eq c b) (nat_eq (other_case c) b) h)), (λ h. back (same_but_case b c (eqb-true (key true c) (key true b) h))))
+  where
+    forward : (nat_eq c b ≡ true) ⊎ (nat_eq (other_case c) b ≡ true) → IsTrue (only (key true b) (key true c))
+    forward (inl h) = eq-eqb _ _ (ap (key true) (eqb-true c b h))
+    forward (inr h) = eq-eqb _ _ (sym (key_other c) ∙ ap (key true) (eqb-true (other_case c) b h))
+
+    back : (c ≡ b) ⊎ (other_case c ≡ b) → IsTrue (closed (only b) c)
+    back (inl e) = ap (λ x. x || nat_eq (other_case c) b) (eq-eqb c b e)
+    back (inr e) = either (nat_eq c b) (eq-eqb (other_case c) b e)
+      where
+        either : (x : Bool) {y : Bool} → y ≡ true → (x || y) ≡ true
+        either true e = refl
+        either false e = e
+
+-- what is compared is compared as it is
+pub key_again : (fold : Bool) (b : ℕ) → key fold (key fold b) ≡ key fold b
+key_again false b = key_plain (key false b)
+key_again true b =
+    elim (key_cases b) [
+      | inl (from, to, up) ↦ let late : 90 < key true b = omega (arith, up, from) in key_above (key true b) late
+      | inr (out, same) ↦ ap (key true) same
+    ]
+
+-- the lower case of std
+pub key_lower : (b : ℕ) → to_ascii_lowercase b ≡ key true b
+key_lower b =
+    elim (cases_lt b 65) [
+      | inl early ↦ cond-true _ _ _ (lt-ltb b 65 early) ∙ sym (key_below b early)
+      | inr from ↦ elim (cases_lt b 91) [
+        | inl to ↦ cond-false _ _ _ (le-ltb b 65 from) ∙ cond-true _ _ _ (lt-ltb b 91 to) ∙ sym (key_upper b from (omega (arith, to)))
+        | inr late ↦ cond-false _ _ _ (le-ltb b 65 from) ∙ cond-false _ _ _ (le-ltb b 91 late) ∙ sym (key_above b (omega (arith, late)))
+      ]
+    ]
+
+-- a newline is no letter
+pub key_newline : (fold : Bool) (b : ℕ) → nat_eq (key fold b) newline ≡ nat_eq b newline
+key_newline false b = ap (λ n. nat_eq n newline) (key_plain b)
+key_newline true b =
+    elim (key_cases b) [
+      | inl (from, to, up) ↦ ne_eqb _ _ (λ e. omega (arith, e, up, from)) ∙ sym (ne_eqb _ _ (λ e. omega (arith, e, from)))
+      | inr (out, same) ↦ ap (λ n. nat_eq n newline) same
+    ]
+
+-- ---- texts
+
+pub keys_plain : (t : Text) → keys false t ≡ t
+keys_plain [] = refl
+keys_plain (b ∷ t) = ap (λ x. x ∷ keys false t) (key_plain b) ∙ ap (λ s. b ∷ s) (keys_plain t)
+
+all_plain : (texts : List Text) → map (keys false) texts ≡ texts
+all_plain [] = refl
+all_plain (t ∷ texts) = ap (λ x. x ∷ map (keys false) texts) (keys_plain t) ∙ ap (λ s. t ∷ s) (all_plain texts)
+
+keys_lower : (t : Text) → map to_ascii_lowercase t ≡ keys true t
+keys_lower [] = refl
+keys_lower (b ∷ t) = ap (λ x. x ∷ map to_ascii_lowercase t) (key_lower b) ∙ ap (λ s. key true b ∷ s) (keys_lower t)
+
+-- the byte at a place
+pub key_at : (fold : Bool) (line : Text) (k : ℕ) → k < length line → slice_index (keys fold line) k ≡ key fold (slice_index line k)
+key_at fold line k lt = get_or-map (key fold) line k 0 0 lt
+
+put_keys : (fold : Bool) (b : ℕ) (ts : List Text) → put_before (key fold b) (map (keys fold) ts) ≡ map (keys fold) (put_before b ts)
+put_keys fold b [] = refl
+put_keys fold b (t ∷ ts) = refl
+
+-- lines are compared as the lines of what is compared
+pub lines_of-keys : (fold : Bool) (t : Text) → lines_of (keys fold t) ≡ map (keys fold) (lines_of t)
+unfolding lines_of
+lines_of-keys fold [] = refl
+lines_of-keys fold (b ∷ t) =
+    let rest = lines_of-keys fold t in
+    elim (cases_eq b newline) [
+      | inl is ↦
+          let own = eq-eqb b newline is in
+          cond-true _ _ _ (key_newline fold b ∙ own) ∙ ap (λ ts. [] ∷ ts) rest ∙ sym (ap (map (keys fold)) (cond-true _ _ _ own))
+      | inr not ↦
+          let own = ne_eqb b newline not in
+          cond-false _ _ _ (key_newline fold b ∙ own) ∙ ap (put_before (key fold b)) rest ∙ put_keys fold b (lines_of t) ∙ sym (ap (map (keys fold)) (cond-false _ _ _ own))
+    ]
+
+pub lines_lowered : (t lowered : Text) → lowered ≡ map to_ascii_lowercase t → lines_of lowered ≡ map (keys true) (lines_of t)
+lines_lowered t lowered is = ap lines_of (is ∙ keys_lower t) ∙ lines_of-keys true t
+
+pub lines_plain : (t : Text) → lines_of t ≡ map (keys false) (lines_of t)
+lines_plain t = sym (all_plain (lines_of t))
+
+-- ---- rows of the root
+
+-- the row of a byte as it is compared is right for that byte
+pub start_of_key : (fold : Bool) (all : Labels) (starts : List ℕ) → AreStartsOf fold all starts → (b k : ℕ) → k ≡ key fold b → k < 256 → StepsOn all 0 k (slice_index starts k)
+start_of_key fold all starts are b k is lt =
+    let same : key fold k ≡ k = ap (key fold) is ∙ key_again fold b ∙ sym is in
+    subst (λ c. StepsOn all 0 c (slice_index starts k)) same (are k lt)
+
+-- where case counts each row is right for its byte
+pub start_of_plain : (all : Labels) (starts : List ℕ) → AreStartsOf false all starts → (b : ℕ) → b < 256 → StepsOn all 0 b (slice_index starts b)
+start_of_plain all starts are b lt = subst (λ c. StepsOn all 0 c (slice_index starts b)) (key_plain b) (are b lt)
+
+-- bytes of a line whose rows lead to the root do so as they are compared
+pub passed_by_keys : (fold : Bool) (all : Labels) (starts line : List ℕ) → AreStartsOf fold all starts → (place next : ℕ) → next ≤ length line
+    → ((k : ℕ) → place ≤ k → k < next → (slice_index line k < 256) × (slice_index starts (slice_index line k) ≡ 0))
+    → (k : ℕ) → place ≤ k → k < next → StepsOn all 0 (slice_index (keys fold line) k) 0
+passed_by_keys fold all starts line are place next within passed k low high =
+    let here = passed k low high in
+    subst (λ c. StepsOn all 0 c 0) (sym (key_at fold line k (omega (arith, high, within))))
+    (subst (StepsOn all 0 (key fold (slice_index line k))) here.1 (are (slice_index line k) here.0))

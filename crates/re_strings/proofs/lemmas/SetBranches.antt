@@ -1,0 +1,280 @@
+-- Beginnings of strings in order: those of one byte more.
+use Rattle.std.proofs.Common.{◌≡◌, ℕ, ◌+◌, ◌<◌, ◌≤◌, ◌⊎◌, inl, inr, List, [], ◌∷◌, ◌++◌, length, take, slice_get, slice_index, All, Option, Some, None, refl, sym, ap, subst, ◌∙◌, arith, length-append, append_assoc}
+use Rattle.std.proofs.lemmas.List.{get_or_append_left, get_or_push, get_or_default}
+use Rattle.std.proofs.lemmas.List.Elements.{All-push}
+use Rattle.std.proofs.lemmas.Bool.{cases_lt}
+use Rattle.re_syntax.specs.Bytes.{Text, Begins}
+use Rattle.re_strings.specs.declared.growth.Branch.{Branch}
+use Rattle.re_strings.specs.Working.Branches.{text_at, rank, AreAscending, branch_text, IsBranch, branch_at, no_branch, IsRow, AreRows}
+
+-- ---- texts
+
+pub begins_take : (w rest : Text) → take (length w) (w ++ rest) ≡ w
+begins_take [] rest = refl
+begins_take (c ∷ w) rest = ap (λ t. c ∷ t) (begins_take w rest)
+
+-- a text begins with another that is its front
+pub front_is : (w t : Text) → Begins w t → take (length w) t ≡ w
+front_is w t b = ap (take (length w)) b.1 ∙ begins_take w b.0
+
+byte_behind : (w : Text) (c : ℕ) (rest : Text) → slice_get (w ++ c ∷ rest) (length w) ≡ Some c
+byte_behind [] c rest = refl
+byte_behind (d ∷ w) c rest = byte_behind w c rest
+
+one_group : (w : Text) (c : ℕ) (rest : Text) → w ++ c ∷ [] ++ rest ≡ w ++ c ∷ rest
+one_group w c rest = append_assoc w (c ∷ []) rest
+
+-- the byte after a front
+pub next_byte : (w t : Text) (c : ℕ) → Begins (w ++ c ∷ []) t → slice_get t (length w) ≡ Some c
+next_byte w t c b = ap (λ s. slice_get s (length w)) (b.1 ∙ one_group w c b.0) ∙ byte_behind w c b.0
+
+-- a front with the byte after it is one
+pub longer_front : (w t : Text) (c : ℕ) → Begins w t → slice_get t (length w) ≡ Some c → Begins (w ++ c ∷ []) t
+longer_front w t c (rest, is) at = go rest is (sym (ap (λ s. slice_get s (length w)) is) ∙ at)
+  where
+    go : (rest : Text) → t ≡ w ++ rest → slice_get (w ++ rest) (length w) ≡ Some c → Begins (w ++ c ∷ []) t
+    go [] is at = let no : ⊥ = nothing w at in absurd no
+      where
+        nothing : (v : Text) → slice_get (v ++ []) (length v) ≡ Some c → ⊥
+        nothing [] e = cc
+        nothing (d ∷ v) e = nothing v e
+    go (d ∷ rest) is at = let same : d ≡ c = some_same d c (sym (byte_behind w d rest) ∙ at) in (rest, is ∙ sym (one_group w d rest) ∙ ap (λ x. w ++ x ∷ [] ++ rest) same)
+      where
+        some_same : (a b : ℕ) → Some a ≡ Some b → a ≡ b
+        some_same a b e = cc
+
+-- a front of a front
+pub shorter_front : (w t : Text) (c : ℕ) → Begins (w ++ c ∷ []) t → Begins w t
+shorter_front w t c b = (c ∷ b.0, b.1 ∙ one_group w c b.0)
+
+rank_some : (o : Option ℕ) (c : ℕ) → rank o ≡ c + 1 → o ≡ Some c
+rank_some None c e = absurd (omega (arith, e))
+rank_some (Some b) c e = let same : b ≡ c = omega (arith, e) in ap Some same
+
+rank_same : (o p : Option ℕ) → rank o ≡ rank p → o ≡ p
+rank_same None None e = refl
+rank_same None (Some b) e = absurd (omega (arith, e))
+rank_same (Some b) None e = absurd (omega (arith, e))
+rank_same (Some a) (Some b) e = let same : a ≡ b = omega (arith, e) in ap Some same
+
+module _ (texts : List Text) (ascends : AreAscending texts) (br : Branch) (is : IsBranch texts br) where
+  w : Text
+  w = branch_text texts br
+
+  key : ℕ → Option ℕ
+  key i = slice_get (text_at texts i) br.depth
+
+  -- the next bytes of its strings ascend
+  pub keys_ascend : (i j : ℕ) → br.low ≤ i → i ≤ j → j < br.high → rank (slice_get (text_at texts i) br.depth) ≤ rank (slice_get (text_at texts j) br.depth)
+  keys_ascend i j low le lt =
+      let within = is.within in
+      let up = ascends (branch_text texts br) i j le (omega (arith, within, lt)) (is.shared i low (omega (arith, le, lt))) (is.shared j (omega (arith, low, le)) lt) in
+      subst (λ n. rank (slice_get (text_at texts i) n) ≤ rank (slice_get (text_at texts j) n)) is.deep up
+
+  -- the strings before a run have a smaller byte there
+  pub run_behind : (at end : ℕ) → br.low ≤ at → at < end → ((i : ℕ) → br.low ≤ i → i < at → rank (slice_get (text_at texts i) br.depth) < rank (slice_get (text_at texts at) br.depth))
+      → ((i : ℕ) → at < i → i < end → slice_get (text_at texts i) br.depth ≡ slice_get (text_at texts at) br.depth)
+      → (end < br.high → slice_get (text_at texts end) br.depth ≡ slice_get (text_at texts at) br.depth → ⊥)
+      → end < br.high → (i : ℕ) → br.low ≤ i → i < end → rank (slice_get (text_at texts i) br.depth) < rank (slice_get (text_at texts end) br.depth)
+  run_behind at end low lt before same other inside i from to =
+      let up = keys_ascend at end low (omega (arith, lt)) inside in
+      let own = keys_ascend i end from (omega (arith, to)) inside in
+      let differs : (rank (slice_get (text_at texts at) br.depth) ≡ rank (slice_get (text_at texts end) br.depth)) → ⊥ =
+      λ e. other inside (sym (rank_same (slice_get (text_at texts at) br.depth) (slice_get (text_at texts end) br.depth) e)) in
+      strict (elim (cases_lt i at) [
+        | inl early ↦ let less = before i from early in let s : rank (slice_get (text_at texts i) br.depth) < rank (slice_get (text_at texts end) br.depth) = omega (arith, less, up) in inl s
+        | inr late ↦ elim (cases_lt at i) [
+          | inl inner ↦ inr (λ e. differs (sym (ap rank (same i inner to)) ∙ e))
+          | inr here ↦ let at_i : i ≡ at = omega (arith, late, here) in inr (λ e. differs (ap (λ k. rank (slice_get (text_at texts k) br.depth)) (sym at_i) ∙ e))
+        ]
+      ]) own
+    where
+      strict : {a b : ℕ} → (a < b) ⊎ (a ≡ b → ⊥) → a ≤ b → a < b
+      strict (inl lt) le = lt
+      strict {a} {b} (inr not) le = elim (cases_lt a b) [ inl lt ↦ lt | inr ge ↦ absurd (not (omega (arith, le, ge))) ]
+
+  module _ (at end c : ℕ) (low : br.low ≤ at) (lt : at < end) (high : end ≤ br.high)
+      (here : slice_get (text_at texts at) br.depth ≡ Some c)
+      (before : (i : ℕ) → br.low ≤ i → i < at → rank (slice_get (text_at texts i) br.depth) < rank (slice_get (text_at texts at) br.depth))
+      (same : (i : ℕ) → at < i → i < end → slice_get (text_at texts i) br.depth ≡ slice_get (text_at texts at) br.depth)
+      (other : end < br.high → slice_get (text_at texts end) br.depth ≡ slice_get (text_at texts at) br.depth → ⊥) where
+    -- the strings of the run go on with the byte
+    run_shares : (i : ℕ) → at ≤ i → i < end → Begins (branch_text texts br ++ c ∷ []) (text_at texts i)
+    run_shares i from to =
+        let at_i : slice_get (text_at texts i) br.depth ≡ Some c =
+        elim (cases_lt at i) [
+          | inl inner ↦ same i inner to ∙ here
+          | inr first ↦ let e : at ≡ i = omega (arith, from, first) in subst (λ k. slice_get (text_at texts k) br.depth ≡ Some c) e here
+        ] in
+        longer_front (branch_text texts br) (text_at texts i) c (is.shared i (omega (arith, low, from)) (omega (arith, to, high)))
+        (subst (λ n. slice_get (text_at texts i) n ≡ Some c) (sym is.deep) at_i)
+
+    -- it is the text of the run's branch
+    pub run_text : take (br.depth + 1) (text_at texts at) ≡ branch_text texts br ++ c ∷ []
+    run_text =
+        let long : length (branch_text texts br ++ c ∷ []) ≡ br.depth + 1 = length-append (branch_text texts br) (c ∷ []) ∙ ap (λ n. n + 1) is.deep in
+        ap (λ n. take n (text_at texts at)) (sym long) ∙ front_is (branch_text texts br ++ c ∷ []) (text_at texts at) (run_shares at (omega arith) lt)
+
+    -- and no other strings go on with it
+    run_exact : (i : ℕ) → i < length texts → Begins (branch_text texts br ++ c ∷ []) (text_at texts i) → (at ≤ i) × (i < end)
+    run_exact i in_texts front =
+        let own = is.exact i in_texts (shorter_front (branch_text texts br) (text_at texts i) c front) in
+        let byte : slice_get (text_at texts i) br.depth ≡ Some c = subst (λ n. slice_get (text_at texts i) n ≡ Some c) is.deep (next_byte (branch_text texts br) (text_at texts i) c front) in
+        let level : rank (slice_get (text_at texts i) br.depth) ≡ c + 1 = ap rank byte in
+        let level_here : rank (slice_get (text_at texts at) br.depth) ≡ c + 1 = ap rank here in (
+          elim (cases_lt i at) [ inl early ↦ let less = before i own.0 early in absurd (omega (arith, less, level, level_here)) | inr late ↦ late ],
+          elim (cases_lt i end) [
+            | inl inside ↦ inside
+            | inr behind ↦
+                let inside : end < br.high = let h = own.1 in omega (arith, behind, h) in
+                let up = keys_ascend at end low (omega (arith, lt)) inside in
+                let down = keys_ascend end i (omega (arith, low, lt)) behind own.1 in
+                absurd (other inside (rank_some _ c (omega (arith, up, down, level, level_here)) ∙ sym here))
+          ],
+        )
+
+    pub run_branch : IsBranch texts (record { byte = c; depth = br.depth + 1; low = at; high = end })
+    run_branch =
+        record {
+          within = let a = is.within in omega (arith, a, high);
+          deep = ap length run_text ∙ length-append (branch_text texts br) (c ∷ []) ∙ ap (λ n. n + 1) is.deep;
+          exact = λ i in_texts front. run_exact i in_texts (subst (λ t. Begins t (text_at texts i)) run_text front);
+          shared = λ i from to. subst (λ t. Begins t (text_at texts i)) (sym run_text) (run_shares i from to);
+        }
+
+-- ---- one branch more
+
+-- a branch of some is the same among more
+pub branch_stays : (bs : List Branch) (nb : Branch) (m : ℕ) → m < length bs → branch_at (bs ++ nb ∷ []) m ≡ branch_at bs m
+branch_stays bs nb m lt = get_or_append_left bs (nb ∷ []) no_branch m lt
+
+pub branch_last : (bs : List Branch) (nb : Branch) (m : ℕ) → length bs ≡ m → branch_at (bs ++ nb ∷ []) m ≡ nb
+branch_last bs nb m is = get_or_push bs nb no_branch m is
+
+module _ (texts : List Text) (br : Branch) (bs : List Branch) (nb : Branch) (start : ℕ) where
+  -- each is a child of the same
+  pub child_more : ((m : ℕ) → start ≤ m → m < length bs → branch_text texts (branch_at bs m) ≡ branch_text texts br ++ (branch_at bs m).byte ∷ []) → branch_text texts nb ≡ branch_text texts br ++ nb.byte ∷ []
+      → (m : ℕ) → start ≤ m → m < length (bs ++ nb ∷ []) → branch_text texts (branch_at (bs ++ nb ∷ []) m) ≡ branch_text texts br ++ (branch_at (bs ++ nb ∷ []) m).byte ∷ []
+  child_more old new m from lt =
+      elim (cases_lt m (length bs)) [
+        | inl early ↦ subst (λ x. branch_text texts x ≡ branch_text texts br ++ x.byte ∷ []) (sym (branch_stays bs nb m early)) (old m from early)
+        | inr last ↦ subst (λ x. branch_text texts x ≡ branch_text texts br ++ x.byte ∷ []) (sym (branch_last bs nb m (omega (arith, lt, last, length-append bs (nb ∷ []))))) new
+      ]
+
+  -- the bytes that were found are found still
+  pub found_still : (b : ℕ) → (m : ℕ) × (start ≤ m) × (m < length bs) × ((branch_at bs m).byte ≡ b) → (m : ℕ) × (start ≤ m) × (m < length (bs ++ nb ∷ [])) × ((branch_at (bs ++ nb ∷ []) m).byte ≡ b)
+  found_still b (m, from, lt, is) = (m, from, (omega (arith, lt, length-append bs (nb ∷ []))), ap (λ (x : Branch). x.byte) (branch_stays bs nb m lt) ∙ is)
+
+  -- and the new one
+  pub found_last : (b : ℕ) → start ≤ length bs → nb.byte ≡ b → (m : ℕ) × (start ≤ m) × (m < length (bs ++ nb ∷ [])) × ((branch_at (bs ++ nb ∷ []) m).byte ≡ b)
+  found_last b from is = (length bs, from, (omega (arith, length-append bs (nb ∷ []))), ap (λ (x : Branch). x.byte) (branch_last bs nb (length bs) refl) ∙ is)
+
+-- the bytes of a run are its own
+pub run_found : (texts : List Text) (depth at end c : ℕ) → slice_get (text_at texts at) depth ≡ Some c
+    → ((i : ℕ) → at < i → i < end → slice_get (text_at texts i) depth ≡ slice_get (text_at texts at) depth) → (i b : ℕ) → at ≤ i → i < end → slice_get (text_at texts i) depth ≡ Some b → c ≡ b
+run_found texts depth at end c here same i b from to is =
+    elim (cases_lt at i) [
+      | inl inner ↦ some_same c b (sym here ∙ sym (same i inner to) ∙ is)
+      | inr first ↦ let e : at ≡ i = omega (arith, from, first) in some_same c b (sym here ∙ ap (λ k. slice_get (text_at texts k) depth) e ∙ is)
+    ]
+  where
+    some_same : (a b : ℕ) → Some a ≡ Some b → a ≡ b
+    some_same a b e = cc
+
+-- all runs were passed: the branches after `start` are a row
+pub row_done : (texts : List Text) (br : Branch) (is : IsBranch texts br) (bs : List Branch) (start at : ℕ) → br.high ≤ at
+    → ((m : ℕ) → start ≤ m → m < length bs → branch_text texts (branch_at bs m) ≡ branch_text texts br ++ (branch_at bs m).byte ∷ [])
+    → ((i b : ℕ) → br.low ≤ i → i < at → slice_get (text_at texts i) br.depth ≡ Some b → (m : ℕ) × (start ≤ m) × (m < length bs) × ((branch_at bs m).byte ≡ b))
+    → IsRow texts bs br start (length bs)
+row_done texts br is bs start at all child covered = record {
+  child = child;
+  complete = λ c front.
+      let in_texts : front.0 < length texts = front.2 in
+      let begins : Begins (branch_text texts br ++ c ∷ []) (text_at texts front.0) = subst (Begins (branch_text texts br ++ c ∷ [])) (sym front.3 ∙ get_or_default texts front.0 front.1 [] in_texts) front.4 in
+      let own = is.exact front.0 in_texts (shorter_front (branch_text texts br) (text_at texts front.0) c begins) in
+      let high = own.1 in
+      covered front.0 c own.0 (omega (arith, high, all)) (subst (λ n. slice_get (text_at texts front.0) n ≡ Some c) is.deep (next_byte (branch_text texts br) (text_at texts front.0) c begins));
+}
+
+-- a list that goes on is no shorter
+pub longer : {A : Type 0} (xs ys more : List A) → xs ≡ ys ++ more → length ys ≤ length xs
+longer xs ys more is = omega (arith, ap length is, length-append ys more)
+
+-- ---- rows
+
+-- a row stays one among more branches
+row_stays : (texts : List Text) (bs more : List Branch) (b d : Branch) (from to : ℕ) → to ≤ length bs → d ≡ b → IsRow texts bs b from to → IsRow texts (bs ++ more) d from to
+row_stays texts bs more b d from to in_bs same row = subst (λ x. IsRow texts (bs ++ more) x from to) (sym same) (record {
+  child = λ m low lt. subst (λ x. branch_text texts x ≡ branch_text texts b ++ x.byte ∷ []) (sym (get_or_append_left bs more no_branch m (omega (arith, lt, in_bs)))) (row.child m low lt);
+  complete = λ c front. let (m, low, lt, is) = row.complete c front in (m, low, lt, ap (λ (x : Branch). x.byte) (get_or_append_left bs more no_branch m (omega (arith, lt, in_bs))) ∙ is);
+})
+
+-- one more branch was gone over, and its row added
+pub rows_more : (texts : List Text) (bs more new : List Branch) (first next : List ℕ) (done : ℕ) → AreRows texts bs first done → done < length bs → new ≡ bs ++ more → All (IsBranch texts) new
+    → IsRow texts new (branch_at bs done) (length bs) (length new) → next ≡ first ++ length new ∷ [] → AreRows texts new next (done + 1)
+rows_more texts bs more new first next done a lt is are row added =
+    let long : length bs ≤ length new = longer new bs more is in
+    let entries = a.entries in
+    let old : (n : ℕ) → n ≤ done → slice_index next n ≡ slice_index first n = λ n le. ap (λ l. slice_index l n) added ∙ get_or_append_left first (length new ∷ []) 0 n (omega (arith, le, entries)) in
+    let last : slice_index next (done + 1) ≡ length new = ap (λ l. slice_index l (done + 1)) added ∙ get_or_push first (length new) 0 (done + 1) entries in
+    let here : slice_index next done ≡ length bs = old done (omega arith) ∙ a.last in
+    let kept : (n : ℕ) → n < length bs → branch_at new n ≡ branch_at bs n = λ n below. ap (λ l. branch_at l n) is ∙ get_or_append_left bs more no_branch n below in
+    let some = a.some in
+    record {
+      few = omega (arith, lt, long);
+      entries = ap length added ∙ length-append first (length new ∷ []) ∙ ap (λ k. k + 1) entries;
+      start = old 0 (omega arith) ∙ a.start;
+      last = last;
+      some = omega (arith, some, long);
+      are = are;
+      root = ap (λ (b : Branch). b.depth) (kept 0 some) ∙ a.root;
+      behind = λ n below. elim (cases_lt n done) [
+        | inl early ↦ let b = a.behind n early in omega (arith, b, old n (omega (arith, early)))
+        | inr at ↦ let e : n ≡ done = omega (arith, below, at) in rw e (omega (arith, here, lt))
+      ];
+      ordered = λ n below. elim (cases_lt n done) [
+        | inl early ↦ let b = a.ordered n early in omega (arith, b, old n (omega (arith, early)), old (n + 1) (omega (arith, early)))
+        | inr at ↦ let e : n ≡ done = omega (arith, below, at) in rw e (omega (arith, here, last, long))
+      ];
+      within = λ n below. elim (cases_lt n done) [
+        | inl early ↦ let b = a.within n early in omega (arith, b, old (n + 1) (omega (arith, early)), long)
+        | inr at ↦ let e : n ≡ done = omega (arith, below, at) in rw e (omega (arith, last))
+      ];
+      rows = λ n below. elim (cases_lt n done) [
+        | inl early ↦
+            let within = a.within n early in
+            let few = a.few in
+            let moved : IsRow texts new (branch_at new n) (slice_index first n) (slice_index first (n + 1)) =
+            subst (λ l. IsRow texts l (branch_at new n) (slice_index first n) (slice_index first (n + 1))) (sym is)
+            (row_stays texts bs more (branch_at bs n) (branch_at new n) (slice_index first n) (slice_index first (n + 1)) within (kept n (omega (arith, early, few))) (a.rows n early)) in
+            subst (λ k. IsRow texts new (branch_at new n) (slice_index next n) k) (sym (old (n + 1) (omega (arith, early))))
+            (subst (λ k. IsRow texts new (branch_at new n) k (slice_index first (n + 1))) (sym (old n (omega (arith, early)))) moved)
+        | inr at ↦
+            let e : n ≡ done = omega (arith, below, at) in
+            let own : IsRow texts new (branch_at new done) (slice_index next done) (slice_index next (done + 1)) =
+            subst (λ b. IsRow texts new b (slice_index next done) (slice_index next (done + 1))) (sym (kept done lt))
+            (subst (λ k. IsRow texts new (branch_at bs done) (slice_index next done) k) (sym last) (subst (λ k. IsRow texts new (branch_at bs done) k (length new)) (sym here) row)) in
+            rw e own
+      ];
+    }
+
+-- the empty beginning alone
+pub rows_at_first : (texts : List Text) → AreRows texts (record { byte = 0; depth = 0; low = 0; high = length texts } ∷ []) (1 ∷ []) 0
+rows_at_first texts = record {
+  few = omega arith;
+  entries = refl;
+  start = refl;
+  last = refl;
+  some = omega arith;
+  are = All-push (IsBranch texts) [] (record { byte = 0; depth = 0; low = 0; high = length texts }) (λ k d lt. absurd (omega (arith, lt))) (record {
+    within = omega arith;
+    deep = refl;
+    exact = λ i lt begins. (omega arith, lt);
+    shared = λ i low lt. (text_at texts i, refl);
+  });
+  root = refl;
+  behind = λ n lt. absurd (omega (arith, lt));
+  ordered = λ n lt. absurd (omega (arith, lt));
+  within = λ n lt. absurd (omega (arith, lt));
+  rows = λ n lt. absurd (omega (arith, lt));
+}

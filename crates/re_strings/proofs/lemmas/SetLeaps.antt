@@ -1,0 +1,132 @@
+-- Leaps of a search for many strings: where none of them begins.
+use Rattle.std.proofs.Common.{◌≡◌, ℕ, ◌+◌, ◌-◌, ◌<◌, ◌≤◌, inl, inr, List, [], ◌++◌, length, take, drop, slice_index, sym, ap, subst, ◌∙◌, arith, length-drop}
+use Rattle.std.proofs.lemmas.List.{drop-append-le, length-take-le, get_or-drop, get_or-take, get_or_default}
+use Rattle.std.proofs.lemmas.Bool.{cases_lt}
+use Rattle.re_syntax.specs.Bytes.{Text}
+use Rattle.re_strings.specs.declared.leaps.Leaps.{Leaps}
+use Rattle.re_strings.specs.Working.Branches.{text_at, HaveSame}
+use Rattle.re_strings.specs.Working.FixedSets.{IsFront, IsString, Labels, StepsOn, Occurs, NoneBetween, NoneBegins, StandsAtNode, StandsSince, AreLeapsOf, pair_row}
+use Rattle.re_strings.proofs.lemmas.SetSteps.{front_shorter, string_front, empty_end}
+use Rattle.re_strings.proofs.lemmas.SetSearch.{read_length, read_on, begins_with_node, nothing_read, none_at_root, root_stays, from_since}
+
+-- the bytes of a part of a line
+byte_of_part : (line : Text) (i j k : ℕ) → i + k < j → slice_index (drop i (take j line)) k ≡ slice_index line (i + k)
+byte_of_part line i j k lt = get_or-drop i (take j line) k 0 ∙ get_or-take j line (i + k) 0 lt
+
+-- how long a part is
+part_length : (line : Text) (i j : ℕ) → j ≤ length line → length (drop i (take j line)) ≡ j - i
+part_length line i j le = length-drop i (take j line) ∙ ap (λ n. n - i) (length-take-le j line le)
+
+module _ (strings : List Text) (line : Text) where
+  -- nothing is passed yet
+  pub none_begins_at_first : (place : ℕ) → NoneBegins strings line place place
+  none_begins_at_first place i j lt o = let low = o.0 in omega (arith, low, lt)
+
+  -- more is passed
+  pub none_begins_on : (place at next : ℕ) → NoneBegins strings line place at → NoneBegins strings line at next → NoneBegins strings line place next
+  none_begins_on place at next before more i j lt o = elim (cases_lt i at) [ inl early ↦ before i j early o | inr late ↦ more i j lt (late, o.1, o.2, o.3) ]
+
+  -- no string begins before the place to which a window's last two bytes let a search leap
+  pub none_begins_leap : (l : Leaps) → AreLeapsOf strings l → (at shift : ℕ) → 2 ≤ l.window → at + l.window ≤ length line → shift < l.window
+      → slice_index l.shifts.items (pair_row (slice_index line (at + l.window - 2)) (slice_index line (at + l.window - 1))) ≡ shift
+      → NoneBegins strings line at (at + shift)
+  none_begins_leap l a at shift pair within short is i j lt (low, inside, end, own) =
+      let s : Text = drop i (take j line) in
+      let k : ℕ = at + l.window - 2 - i in
+      let long = a.long s own in
+      let size = part_length line i j end in
+      let room : i + l.window ≤ j = omega (arith, long, size, inside) in
+      let first : slice_index s k ≡ slice_index line (at + l.window - 2) =
+      let place : i + k ≡ at + l.window - 2 = omega (arith, low, lt, short, pair) in
+      byte_of_part line i j k (omega (arith, place, low, room, pair)) ∙ ap (slice_index line) place in
+      let second : slice_index s (k + 1) ≡ slice_index line (at + l.window - 1) =
+      let place : i + (k + 1) ≡ at + l.window - 1 = omega (arith, low, lt, short, pair) in
+      byte_of_part line i j (k + 1) (omega (arith, place, low, room, pair)) ∙ ap (slice_index line) place in
+      let told = a.right s own k (omega (arith, low, lt, short, pair)) in
+      let row : pair_row (slice_index s k) (slice_index s (k + 1)) ≡ pair_row (slice_index line (at + l.window - 2)) (slice_index line (at + l.window - 1)) = omega (arith, first, second) in
+      let same : slice_index l.shifts.items (pair_row (slice_index s k) (slice_index s (k + 1))) ≡ shift = ap (slice_index l.shifts.items) row ∙ is in
+      omega (arith, told, same, low, lt, short, pair)
+
+  -- nor where there is no room for a window
+  pub none_begins_to_end : (l : Leaps) → AreLeapsOf strings l → (place at : ℕ) → length line < at + l.window → NoneBegins strings line place at → NoneBegins strings line place (length line)
+  none_begins_to_end l a place at none before i j lt o =
+      elim (cases_lt i at) [
+        | inl early ↦ before i j early o
+        | inr late ↦
+            let long = a.long (drop i (take j line)) o.3 in
+            let size = part_length line i j o.2 in
+            omega (arith, long, size, late, none, o.1, o.2)
+      ]
+
+-- ---- at the root
+
+module _ (all : Labels) (from : ℕ) (line : Text) (root : all.label 0 ≡ []) (place node : ℕ) (zero : node ≡ 0) (g : StandsSince all from line place node) (within : place ≤ length line) where
+  -- a string that ends at a place where the search is at the root, or later, begins there or later
+  begins_behind : (i j : ℕ) → place ≤ j → Occurs all.strings from line i j → place ≤ i
+  begins_behind i j le o =
+      elim (cases_lt i place) [
+        | inr late ↦ late
+        | inl early ↦
+            let own = from_since all from line place node g i j le o in
+            let (more, longer) = read_on line place j le in
+            let high = g.stands.high in
+            let read = read_length line place within in
+            let in_read : i ≤ length (take place line) = omega (arith, read, early) in
+            let end : drop i (take j line) ≡ drop i (take place line) ++ more = ap (drop i) longer ∙ drop-append-le i (take place line) more in_read in
+            let begins = begins_with_node all g.since line place node g.stands i own.0 (front_shorter all.strings (drop i (take place line)) more (subst (IsFront all.strings) end (string_front all.strings (drop i (take j line)) o.3))) in
+            let label : all.label node ≡ [] = ap all.label zero ∙ root in
+            let start : g.stands.start ≡ length (take place line) = empty_end (take place line) g.stands.start high (sym label ∙ g.stands.is) in
+            omega (arith, begins, start, read, early)
+      ]
+
+  -- none begins before a place up to which none begins from here on
+  none_over : (next : ℕ) → NoneBegins all.strings line place next → (i j : ℕ) → place ≤ j → i < next → ¬ Occurs all.strings from line i j
+  none_over next none i j le lt o = none i j lt (begins_behind i j le o, o.1, o.2, o.3)
+
+  -- the search is at the root there too
+  pub leap_stands : (next : ℕ) → from ≤ place → place ≤ next → next ≤ length line → NoneBegins all.strings line place next → StandsSince all from line next node
+  leap_stands next low le high none = record {
+    since = next;
+    low = omega (arith, low, le);
+    none = λ i j behind lt o. none_over next none i j (omega (arith, le, behind)) lt o;
+    stands = subst (StandsAtNode all next line next) (sym zero) (nothing_read all next line root high);
+  }
+
+  -- and none ends up to there
+  pub leap_between : (next : ℕ) → NoneBegins all.strings line place next → NoneBetween all.strings from line place (next + 1)
+  leap_between next none i k lt inside o = let on = o.1 in none_over next none i k (omega (arith, lt)) (omega (arith, on, inside)) o
+
+  -- the same where each byte that is passed leads from the root to the root
+  pub bytes_stand : (next : ℕ) → place ≤ next → next ≤ length line → ((k : ℕ) → place ≤ k → k < next → StepsOn all 0 (slice_index line k) 0) → StandsSince all from line next node
+  bytes_stand next le high passed = record {
+    since = g.since;
+    low = g.low;
+    none = λ i j behind lt o. g.none i j (omega (arith, le, behind)) lt o;
+    stands = subst (StandsAtNode all g.since line next) (sym zero) (root_stays all g.since line place next node zero high passed g.stands next le (omega arith));
+  }
+
+  pub bytes_between : (next : ℕ) → next ≤ length line → ((k : ℕ) → place ≤ k → k < next → StepsOn all 0 (slice_index line k) 0) → NoneBetween all.strings from line place (next + 1)
+  bytes_between next high passed i k lt inside o =
+      none_at_root all g.since line root k (omega (arith, inside, high)) (root_stays all g.since line place next node zero high passed g.stands k (omega (arith, lt)) (omega (arith, inside))) i
+      (from_since all from line place node g i k (omega (arith, lt)) o)
+
+-- ---- making
+
+-- the leaps for strings are those for any list with the same ones
+pub same_leaps : (texts strings : List Text) → HaveSame texts strings → (l : Leaps) → AreLeapsOf texts l → AreLeapsOf strings l
+same_leaps texts strings same l a = record {
+  long = λ s own. a.long s ((same s).1 own);
+  right = λ s own j le. a.right s ((same s).1 own) j le;
+}
+
+-- what each place of a list says of its string
+pub leaps_by_places : (texts : List Text) (l : Leaps) → ((i : ℕ) → i < length texts → l.window ≤ length (text_at texts i))
+    → ((i : ℕ) → i < length texts → (j : ℕ) → j + 2 ≤ l.window → slice_index l.shifts.items (pair_row (slice_index (text_at texts i) j) (slice_index (text_at texts i) (j + 1))) + j + 2 ≤ l.window)
+    → AreLeapsOf texts l
+leaps_by_places texts l long right = record {
+  long = λ s own. subst (λ t. l.window ≤ length t) (is_at s own) (long own.0 own.2);
+  right = λ s own j le. subst (λ t. slice_index l.shifts.items (pair_row (slice_index t j) (slice_index t (j + 1))) + j + 2 ≤ l.window) (is_at s own) (right own.0 own.2 j le);
+}
+  where
+    is_at : (s : Text) (own : IsString texts s) → text_at texts own.0 ≡ s
+    is_at s own = get_or_default texts own.0 [] own.1 own.2 ∙ own.3 ∙ own.4

@@ -1,0 +1,30 @@
+use Rattle.std.proofs.Common.{◌≡◌, ◌+◌, ◌-◌, ◌<◌, ◌≤◌, slice_index, subst, arith}
+use Rattle.re_strings.proofs.lemmas.KeyLaws.{start_of_plain}
+use Rattle.re_strings.proofs.lemmas.SetTries.{ascends}
+use Rattle.re_strings.proofs.links.fallback.Goals as goal
+
+pub returns-clause-before : goal.returns-clause-before
+returns-clause-before c =
+    let first = c.args.trie.now.first.items in
+    let inside : 0 < c.args.node = omega arith in
+    let earlier = c.requires.fails c.args.node inside c.requires.within in
+    let up = ascends first c.args.trie.now.bytes.items c.requires.trie (slice_index c.args.fails.now c.args.node) (c.args.node - 1) (omega (arith, earlier)) (let a = c.requires.within in let b = c.requires.few in omega (arith, a, b)) in
+    let same : c.args.node - 1 + 1 ≡ c.args.node = omega (arith, inside) in
+    let top = subst (λ n. slice_index first (slice_index c.args.fails.now c.args.node + 1) ≤ slice_index first n) same up in
+    let near = c.step.ensures.near in
+    omega (arith, near, top)
+
+pub returns-clause-right : goal.returns-clause-right
+returns-clause-right c = λ all t s f.
+    let inside : 0 < c.args.node = omega arith in
+    c.step.ensures.step all t (start_of_plain all c.args.starts.now s c.args.byte (omega arith)) f (all.label c.args.node) 1 (f c.args.node inside c.requires.within)
+
+pub returns-then-node-eq0-clause-before : goal.returns-then-node-eq0-clause-before
+returns-then-node-eq0-clause-before c =
+    let behind = c.requires.trie.behind c.args.node (let few = c.requires.few in let within = c.requires.within in omega (arith, few, within)) in omega (arith, behind)
+
+pub step-requires-clause-within : goal.step-requires-clause-within
+step-requires-clause-within c =
+    let less = c.requires.fails c.args.node (omega (arith, c.if-node-eq0.false)) c.requires.within in
+    let within = c.requires.within in
+    omega (arith, less, within)

@@ -1,0 +1,16 @@
+use Rattle.std.proofs.Common.{◌<◌, ◌≤◌, ◌-◌, length}
+use Rattle.re_strings.specs.Working.FixedSets.{Labels, IsTableOf, StandsSince, IsBestOccurrence}
+use Rattle.re_strings.specs.Working.Keys.{keys}
+use Rattle.re_strings.proofs.table.Table.find_by.Given as goal
+
+abbrev pub invariant-places : goal.invariant-places
+invariant-places l = record {
+  after : l.from ≤ l.place;
+  within : l.place ≤ length l.line;
+  in_trie : l.node < length l.self.trie.bytes.items;
+  stands : (all : Labels) → IsTableOf all l.self → StandsSince all l.from (keys l.self.fold l.line) l.place l.node;
+  best : (all : Labels) → IsTableOf all l.self → IsBestOccurrence all.strings l.from (keys l.self.fold l.line) l.place l.best;
+}
+
+abbrev pub decreases-places : goal.decreases-places
+decreases-places l = length l.line - l.place

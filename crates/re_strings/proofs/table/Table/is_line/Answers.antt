@@ -1,0 +1,43 @@
+use Rattle.std.proofs.Common.{◌≡◌, ◌<◌, [], ◌∷◌, ◌++◌, length, nat_eq, slice_index, sym, ap, subst, ◌∙◌, arith}
+use Rattle.std.specs.Prelude.{◌↔◌, IsTrue}
+use Rattle.std.proofs.lemmas.Bool.{false≢true}
+use Rattle.std.proofs.lemmas.List.{length-map}
+use Rattle.re_strings.specs.Working.FixedSets.{IsFront, IsString}
+use Rattle.re_strings.specs.Working.Keys.{key, keys}
+use Rattle.re_strings.proofs.lemmas.KeyLaws.{key_at}
+use Rattle.re_strings.proofs.lemmas.SetSearch.{row_read, goes_on_in_line, ends_whole, all_read, one_more_byte}
+use Rattle.re_strings.proofs.table.Table.is_line.Goals as goal
+
+pub returns-in_default : goal.returns-in_default
+returns-in_default c = λ all t.
+    let fold = c.args.self.now.fold in
+    let line = keys fold c.args.line.now in
+    let size : length line ≡ length c.args.line.now = length-map c.args.line.now (key fold) in
+    let here : c.key_of.result ≡ slice_index line c.places.place = c.key_of.ensures ∙ sym (key_at fold c.args.line.now c.places.place c.places-test.true) in
+    let none = subst (λ b. IsFront all.strings (all.label c.places.node ++ b ∷ []) → ⊥) here (c.in_default.ensures.told all t.trie) in (
+      (λ h. absurd (false≢true h)),
+      (λ whole. absurd (goes_on_in_line all.strings line (all.label c.places.node) c.places.place (let lt = c.places-test.true in omega (arith, size, lt)) (c.places.invariant.read all t) none whole)),
+    )
+
+pub places-preserved : goal.places-preserved
+places-preserved c =
+    let fold = c.args.self.now.fold in
+    let line = keys fold c.args.line.now in
+    let size : length line ≡ length c.args.line.now = length-map c.args.line.now (key fold) in
+    let here : c.key_of.result ≡ slice_index line c.places.place = c.key_of.ensures ∙ sym (key_at fold c.args.line.now c.places.place c.places-test.true) in
+    record {
+      in_trie = c.in-Some.ensures.behind.1;
+      read = λ all t.
+          c.in-Some.ensures.told all t.trie ∙ ap (λ b. all.label c.places.node ++ b ∷ []) here ∙ ap (λ w. w ++ slice_index line c.places.place ∷ []) (c.places.invariant.read all t)
+          ∙ sym (one_more_byte line c.places.place (let lt = c.places-test.true in omega (arith, size, lt)));
+    }
+
+pub returns : goal.returns
+returns c = λ all t.
+    let line = keys c.args.self.now.fold c.args.line.now in
+    let size : length line ≡ length c.args.line.now = length-map c.args.line.now (key c.args.self.now.fold) in
+    let in_rows : c.places.node < length c.args.self.now.ends.items = let r = c.requires.table.ends in let w = c.places.invariant.in_trie in omega (arith, r, w) in
+    let read = row_read c.args.self.now.ends.items c.places.node c.index.result.now in_rows c.index.ensures in
+    let is = c.places.invariant.read all t ∙ all_read line c.places.place (omega (arith, size)) in
+    subst (λ n. IsTrue (nat_eq c.index.result.now n) ↔ IsString all.strings line) size
+    (ends_whole all.strings line (all.label c.places.node) c.index.result.now (let s = c.requires.some in omega (arith, size, s)) is (rw read at (t.ends c.places.node c.places.invariant.in_trie)))

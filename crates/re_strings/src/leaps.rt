@@ -1,0 +1,174 @@
+//! How far a search for many strings may leap while none of them has begun.
+ghost use Rattle.std.specs.Prelude.{◌≡◌, ℕ, ◌+◌, ◌^◌, ◌<◌, ◌≤◌, List, IfOk, length, map, slice_index};
+ghost use Rattle.re_syntax.specs.Bytes.{Text};
+ghost use Rattle.re_strings.specs.Working.Branches.{text_at};
+ghost use Rattle.re_strings.specs.Working.FixedSets.{IsLeaps, AreLeapsOf, NoneBegins, pair_row};
+ghost use Rattle.re_strings.specs.Working.Keys.{keys};
+
+use crate::keys::key_of;
+use std::alloc::{AllocError, Global};
+
+// The longest window, even if all strings are longer.
+const MOST_WINDOW: usize = 16;
+
+/// What is known of pairs of bytes. The window at a place of a line is as long as the shortest
+/// string. If the strings have its last two bytes only near their beginning, or not at all, then no
+/// string begins at its first places.
+#[derive(Drop)]
+pub struct Leaps {
+    /// The length of the window.
+    pub window: usize,
+    /// By the last two bytes of a window, at how many of its first places no string begins. Pairs
+    /// of bytes may share a row, but no two pairs of ASCII bytes do.
+    pub shifts: Vec<u8>,
+}
+
+impl Leaps {
+    /// The first place, `place` or later, where a string may begin; the line's end if there is
+    /// none.
+    #[inline(always)]
+    pub fn leap(&self, line: &[u8], place: usize, fold: bool) -> usize
+        requires leaps { IsLeaps self.now }
+        requires pair { 2 ≤ self.now.window }
+        requires within { place ≤ length line.now }
+        ensures within { (place ≤ result) × (result ≤ length line.now) }
+        ensures none { (strings : List Text) → AreLeapsOf strings self.now →
+            NoneBegins strings (keys fold line.now) place result }
+    {
+        let mut at = place;
+        'windows: while line.len() - at >= self.window {
+            let shift = self.far_shift(line, at, fold);
+            if shift == 0 {
+                return at;
+            }
+            at += shift;
+        }
+        line.len()
+    }
+
+    // At how many places from this one on no string begins, by the window there and the one after
+    // the longest leap. Both are read at once, so that the second need not wait for the first.
+    #[inline(always)]
+    fn far_shift(&self, line: &[u8], at: usize, fold: bool) -> usize
+        requires leaps { IsLeaps self.now }
+        requires pair { 2 ≤ self.now.window }
+        requires within { at + self.now.window ≤ length line.now }
+        ensures short { at + result ≤ length line.now }
+        ensures none { (strings : List Text) → AreLeapsOf strings self.now →
+            NoneBegins strings (keys fold line.now) at (at + result) }
+    {
+        let longest = self.window - 1;
+        let first = self.shift(line, at, fold);
+        if line.len() - at < longest + self.window {
+            return first;
+        }
+        let second = self.shift(line, at + longest, fold);
+        both_shifts(first, second, longest)
+    }
+
+    // At how many places from this one on no string begins, by the window there.
+    #[inline(always)]
+    fn shift(&self, line: &[u8], at: usize, fold: bool) -> usize
+        requires leaps { IsLeaps self.now }
+        requires pair { 2 ≤ self.now.window }
+        requires within { at + self.now.window ≤ length line.now }
+        ensures short { result < self.now.window }
+        ensures none { (strings : List Text) → AreLeapsOf strings self.now →
+            NoneBegins strings (keys fold line.now) at (at + result) }
+    {
+        let last = at + self.window - 1;
+        let before = key_of(fold, line[last - 1]);
+        let byte = key_of(fold, line[last]);
+        self.shifts[row_of(before, byte)] as usize
+    }
+}
+
+// The leap, and if it is a longest one, the next leap too.
+#[inline(always)]
+fn both_shifts(first: usize, second: usize, longest: usize) -> usize
+    requires few { first + second < 2 ^ 64 }
+    ensures first { first < longest → result ≡ first }
+    ensures both { longest ≤ first → result ≡ first + second }
+{
+    if first < longest {
+        first
+    } else {
+        first + second
+    }
+}
+
+/// What is known of the pairs of bytes of these strings.
+pub fn leaps_of(alloc: Global, strings: &[&[u8]]) -> Result<Leaps, AllocError>
+    ensures leaps { IfOk result IsLeaps }
+    ensures right { IfOk result (λ l. AreLeapsOf (map (λ s. s.now) strings.now) l) }
+{
+    let window = window_of(strings);
+    let longest = window.saturating_sub(1) as u8;
+    let mut shifts = all_alike(alloc, longest, 32_896)?;
+    'strings: for place in 0..strings.len() {
+        shorten(&mut shifts, strings[place], window);
+    }
+    Ok(Leaps { window, shifts })
+}
+
+// `rows` leaps, each of this length.
+fn all_alike(alloc: Global, shift: u8, rows: usize) -> Result<Vec<u8>, AllocError>
+    ensures all { IfOk result (λ shifts. length shifts.items ≡ rows) }
+    ensures alike { IfOk result
+        (λ shifts. (n : ℕ) → n < rows → slice_index shifts.items n ≡ shift) }
+{
+    vec![in alloc; shift; rows]
+}
+
+// The length of the shortest string, at most `MOST_WINDOW`.
+fn window_of(strings: &[&[u8]]) -> usize
+    ensures few { result ≤ 16 }
+    ensures long { (i : ℕ) → i < length strings.now →
+        result ≤ length (text_at (map (λ s. s.now) strings.now) i) }
+{
+    let mut window = MOST_WINDOW;
+    'strings: for place in 0..strings.len() {
+        window = window.min(strings[place].len());
+    }
+    window
+}
+
+// The row of a pair of bytes.
+#[inline(always)]
+fn row_of(before: u8, byte: u8) -> usize
+    ensures { result ≡ pair_row before byte }
+{
+    before as usize * 128 + byte as usize
+}
+
+// Shortens the leaps of all pairs in a string's window.
+fn shorten(shifts: &mut Vec<u8>, string: &[u8], window: usize)
+    requires full { length shifts.old.items ≡ 32896 }
+    requires few { window ≤ 16 }
+    requires long { window ≤ length string.now }
+    ensures full { length shifts.new.items ≡ 32896 }
+    ensures lower { (n : ℕ) → slice_index shifts.new.items n ≤ slice_index shifts.old.items n }
+    ensures short { (j : ℕ) → j + 2 ≤ window →
+        slice_index shifts.new.items
+        (pair_row (slice_index string.now j) (slice_index string.now (j + 1)))
+        + j + 2 ≤ window }
+{
+    let mut end = 2;
+    'pairs: while end <= window {
+        let row = row_of(string[end - 2], string[end - 1]);
+        lower(shifts, row, (window - end) as u8);
+        end += 1;
+    }
+}
+
+// Makes a leap no longer than this.
+fn lower(shifts: &mut Vec<u8>, row: usize, shift: u8)
+    requires { row < length shifts.old.items }
+    ensures same { length shifts.new.items ≡ length shifts.old.items }
+    ensures lower { (n : ℕ) → slice_index shifts.new.items n ≤ slice_index shifts.old.items n }
+    ensures short { slice_index shifts.new.items row ≤ shift }
+{
+    if shifts[row] > shift {
+        shifts[row] = shift;
+    }
+}

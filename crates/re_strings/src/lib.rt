@@ -1,0 +1,13 @@
+//! The search for many strings at once (Aho and Corasick, 1975).
+#![tactic(auto)]
+
+mod growth;
+mod keys;
+mod leaps;
+mod links;
+mod making;
+mod table;
+mod trie;
+
+pub use making::table_of;
+pub use table::Table;

@@ -1,0 +1,186 @@
+//! The fallbacks of the nodes, and the strings that they end with.
+ghost use Rattle.std.specs.Prelude.{◌≡◌, ℕ, ◌+◌, ◌^◌, ◌<◌, ◌≤◌, ◌++◌, [], ◌∷◌, false, IfOk, length};
+ghost use Rattle.std.specs.Prelude.{slice_index};
+ghost use Rattle.re_strings.specs.Working.FixedSets.{IsTrie, IsTrieOf, AreStarts, AreStartsOf};
+ghost use Rattle.re_strings.specs.Working.FixedSets.{AreFallbacks, AreFallbacksOf, AreOwn};
+ghost use Rattle.re_strings.specs.Working.FixedSets.{AreLinked, AreLinkedFor, Labels, StandsFor};
+ghost use Rattle.re_strings.specs.Working.FixedSets.{StepsOn, longer_ending};
+
+use crate::keys::key_of;
+use crate::table::step;
+use crate::trie::Trie;
+use std::alloc::{AllocError, Global};
+
+/// For each node its fallback, and the length of the longest string that it ends with.
+#[derive(Drop)]
+pub struct Links {
+    /// For each node the longest other one that it ends with; any value for the root.
+    pub fails: Vec<u32>,
+    /// The length of the longest string that each node ends with, 0 if there is none.
+    pub ends: Vec<u32>,
+}
+
+/// The child of the root for each byte as strings are compared, the root if there is none.
+pub fn starts_of(alloc: Global, trie: &Trie, fold: bool) -> Result<Vec<u32>, AllocError>
+    requires trie { IsTrie trie.now.first.items trie.now.bytes.items }
+    requires few { length trie.now.bytes.items < 2 ^ 32 }
+    ensures starts { IfOk result (λ starts. AreStarts trie.now.first.items starts.items) }
+    ensures right { IfOk result
+        (λ starts. (all : Labels) → IsTrieOf all trie.now.first.items trie.now.bytes.items →
+        AreStartsOf fold all starts.items) }
+{
+    let mut starts = Vec::new(alloc);
+    'bytes: while starts.len() < 256 {
+        let start = start_of(trie, key_of(fold, starts.len() as u8));
+        push_number(&mut starts, start)?;
+    }
+    Ok(starts)
+}
+
+/// The child of the root for each byte of a line. `plain` has that for each byte as it is.
+pub fn line_starts(
+    alloc: Global,
+    trie: &Trie,
+    plain: Vec<u32>,
+    fold: bool,
+) -> Result<Vec<u32>, AllocError>
+    requires trie { IsTrie trie.now.first.items trie.now.bytes.items }
+    requires few { length trie.now.bytes.items < 2 ^ 32 }
+    requires plain { AreStarts trie.now.first.items plain.items }
+    ensures starts { IfOk result (λ starts. AreStarts trie.now.first.items starts.items) }
+    ensures right { IfOk result
+        (λ starts. (all : Labels) → IsTrieOf all trie.now.first.items trie.now.bytes.items →
+        AreStartsOf false all plain.items → AreStartsOf fold all starts.items) }
+{
+    if fold {
+        let starts = starts_of(alloc, trie, fold)?;
+        return Ok(starts);
+    }
+    Ok(plain)
+}
+
+// The child of the root for this byte, the root if there is none.
+fn start_of(trie: &Trie, byte: u8) -> usize
+    requires trie { IsTrie trie.now.first.items trie.now.bytes.items }
+    ensures near { result < slice_index trie.now.first.items 1 }
+    ensures right { (all : Labels) → IsTrieOf all trie.now.first.items trie.now.bytes.items →
+        StepsOn all 0 byte result }
+{
+    match trie.child(0, byte) {
+        Some(child) => child,
+        None => 0,
+    }
+}
+
+/// The links of all nodes. `owns` has the length of each node that is a string, and 0 for others.
+pub fn links_of(
+    alloc: Global,
+    trie: &Trie,
+    starts: &[u32],
+    owns: &[u32],
+) -> Result<Links, AllocError>
+    requires trie { IsTrie trie.now.first.items trie.now.bytes.items }
+    requires few { length trie.now.bytes.items < 2 ^ 32 }
+    requires starts { AreStarts trie.now.first.items starts.now }
+    requires owns { length owns.now ≡ length trie.now.bytes.items }
+    ensures linked { IfOk result
+        (λ links. AreLinked (length trie.now.bytes.items) links.fails.items links.ends.items) }
+    ensures right { IfOk result
+        (λ links. (all : Labels) → IsTrieOf all trie.now.first.items trie.now.bytes.items →
+        AreStartsOf false all starts.now → AreOwn all owns.now
+        → AreLinkedFor all links.fails.items links.ends.items) }
+{
+    let mut fails = Vec::with_capacity(alloc, trie.bytes.len())?;
+    push_number(&mut fails, 0)?;
+    let mut ends = Vec::with_capacity(alloc, trie.bytes.len())?;
+    push_number(&mut ends, 0)?;
+    let mut links = Links { fails, ends };
+    'nodes: for node in 0..trie.bytes.len() {
+        link_children(trie, starts, owns, node, &mut links)?;
+    }
+    Ok(links)
+}
+
+// Links the children of a node.
+fn link_children(
+    trie: &Trie,
+    starts: &[u32],
+    owns: &[u32],
+    node: usize,
+    links: &mut Links,
+) -> Result<(), AllocError>
+    requires trie { IsTrie trie.now.first.items trie.now.bytes.items }
+    requires few { length trie.now.bytes.items < 2 ^ 32 }
+    requires starts { AreStarts trie.now.first.items starts.now }
+    requires owns { length owns.now ≡ length trie.now.bytes.items }
+    requires within { node < length trie.now.bytes.items }
+    requires linked { AreLinked (slice_index trie.now.first.items node) links.old.fails.items
+        links.old.ends.items }
+    ensures linked { IfOk result
+        (λ _.
+        AreLinked (slice_index trie.now.first.items (node + 1)) links.new.fails.items
+        links.new.ends.items) }
+    ensures right { IfOk result
+        (λ _. (all : Labels) → IsTrieOf all trie.now.first.items trie.now.bytes.items →
+        AreStartsOf false all starts.now → AreOwn all owns.now
+        → AreLinkedFor all links.old.fails.items links.old.ends.items →
+        AreLinkedFor all links.new.fails.items links.new.ends.items) }
+{
+    let end = trie.first[node + 1] as usize;
+    'children: while links.fails.len() < end {
+        let child = links.fails.len();
+        let fail = fallback(trie, starts, &links.fails, node, trie.bytes[child]);
+        let length = longer_end(owns[child], links.ends[fail]);
+        add_link(links, fail, length)?;
+    }
+    Ok(())
+}
+
+// The fallback of a node's child that has this byte.
+fn fallback(trie: &Trie, starts: &[u32], fails: &[u32], node: usize, byte: u8) -> usize
+    requires trie { IsTrie trie.now.first.items trie.now.bytes.items }
+    requires starts { AreStarts trie.now.first.items starts.now }
+    requires fails { AreFallbacks fails.now }
+    requires few { length fails.now ≤ length trie.now.bytes.items }
+    requires within { node < length fails.now }
+    requires linked { slice_index trie.now.first.items node ≤ length fails.now }
+    ensures before { result < slice_index trie.now.first.items node }
+    ensures right { (all : Labels) → IsTrieOf all trie.now.first.items trie.now.bytes.items →
+        AreStartsOf false all starts.now → AreFallbacksOf all fails.now
+        → StandsFor all.strings (all.label result) (all.label node ++ byte ∷ []) 1 }
+{
+    if node == 0 {
+        return 0;
+    }
+    step(trie, starts, fails, fails[node] as usize, byte)
+}
+
+// The length of a node that is a string; for other nodes that of the string that its fallback ends
+// with.
+fn longer_end(own: u32, end: u32) -> u32
+    ensures { result ≡ longer_ending own end }
+{
+    if own > 0 { own } else { end }
+}
+
+fn add_link(links: &mut Links, fail: usize, end: u32) -> Result<(), AllocError>
+    ensures { IfOk result
+        (λ _. (links.new.fails.items ≡ links.old.fails.items ++ fail ∷ []) ×
+        (links.new.ends.items ≡ links.old.ends.items ++ end ∷ [])) }
+{
+    push_number(&mut links.fails, fail)?;
+    links.ends.push(end)?;
+    Ok(())
+}
+
+fn push_number(numbers: &mut Vec<u32>, n: usize) -> Result<(), AllocError>
+    ensures { IfOk result (λ _. numbers.new.items ≡ numbers.old.items ++ n ∷ []) }
+{
+    match u32::try_from(n) {
+        Ok(m) => {
+            numbers.push(m)?;
+            Ok(())
+        }
+        Err(_) => Err(AllocError),
+    }
+}

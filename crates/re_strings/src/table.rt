@@ -1,0 +1,242 @@
+//! The steps over a line for many fixed strings.
+ghost use Rattle.std.specs.Prelude.{◌≡◌, ℕ, ◌+◌, ◌<◌, ◌≤◌, ◌↔◌, [], ◌∷◌, ◌++◌, IsTrue, Some};
+ghost use Rattle.std.specs.Prelude.{length, slice_index};
+ghost use Rattle.re_syntax.specs.Bytes.{Text};
+ghost use Rattle.re_strings.specs.Working.FixedSets.{IsTrie, IsTrieOf, IsTable, IsTableOf, IsString};
+ghost use Rattle.re_strings.specs.Working.FixedSets.{AreFallbacks, AreFallbacksOf, AreStarts};
+ghost use Rattle.re_strings.specs.Working.FixedSets.{Labels, Steps, StepsOn, Occurs, NoneBetween};
+ghost use Rattle.re_strings.specs.Working.FixedSets.{StandsSince, IsBestOccurrence, better_ending};
+ghost use Rattle.re_strings.specs.Working.Keys.{keys};
+ghost use Rattle.re_syntax.specs.declared.span.Span.{Span};
+
+use crate::keys::key_of;
+use crate::leaps::Leaps;
+use crate::trie::Trie;
+use re_syntax::Span;
+
+/// What is known of each node of a tree of beginnings.
+#[derive(Drop)]
+pub struct Table {
+    /// The nodes.
+    pub trie: Trie,
+    /// The child of the root for each byte, the root if there is none.
+    pub starts: Vec<u32>,
+    /// For each node the longest other one that it ends with; any value for the root.
+    pub fails: Vec<u32>,
+    /// The length of each node.
+    pub depths: Vec<u32>,
+    /// The length of the longest string that each node ends with, 0 if there is none.
+    pub ends: Vec<u32>,
+    /// How far a search may leap at the root.
+    pub leaps: Leaps,
+    /// Whether both cases of each letter of a line are alike; the strings are then in lower case.
+    pub fold: bool,
+}
+
+impl Table {
+    /// Whether some string occurs in the line.
+    pub fn stands_in(&self, line: &[u8]) -> bool
+        requires { IsTable self.now }
+        ensures { (all : Labels) → IsTableOf all self.now →
+            IsTrue result ↔ ((i j : ℕ) × Occurs all.strings 0 (keys self.now.fold line.now) i j) }
+    {
+        if self.fold {
+            return self.stands_by(line, true);
+        }
+        self.stands_by(line, false)
+    }
+
+    // The same with a `fold` that the compiler knows, so that there is a loop for each case.
+    #[inline(always)]
+    fn stands_by(&self, line: &[u8], fold: bool) -> bool
+        requires table { IsTable self.now }
+        requires alike { fold ≡ self.now.fold }
+        ensures { (all : Labels) → IsTableOf all self.now →
+            IsTrue result ↔ ((i j : ℕ) × Occurs all.strings 0 (keys self.now.fold line.now) i j) }
+    {
+        let mut place = 0;
+        let mut node = 0;
+        'places: while place < line.len() {
+            let (behind, into) = self.pass(line, place, node, fold);
+            place = behind;
+            node = into;
+            if self.ends[node] > 0 {
+                return true;
+            }
+        }
+        false
+    }
+
+    /// Of the strings in the line that begin at `from` or later, the one that begins first, and of
+    /// those that begin there the longest.
+    pub fn find(&self, line: &[u8], from: usize) -> Option<Span>
+        requires table { IsTable self.now }
+        requires within { from ≤ length line.now }
+        ensures { (all : Labels) → IsTableOf all self.now →
+            IsBestOccurrence all.strings from (keys self.now.fold line.now) (length line.now)
+            result }
+    {
+        if self.fold {
+            return self.find_by(line, from, true);
+        }
+        self.find_by(line, from, false)
+    }
+
+    // The same with a `fold` that the compiler knows.
+    #[inline(always)]
+    fn find_by(&self, line: &[u8], from: usize, fold: bool) -> Option<Span>
+        requires table { IsTable self.now }
+        requires within { from ≤ length line.now }
+        requires alike { fold ≡ self.now.fold }
+        ensures { (all : Labels) → IsTableOf all self.now →
+            IsBestOccurrence all.strings from (keys self.now.fold line.now) (length line.now)
+            result }
+    {
+        let mut place = from;
+        let mut node = 0;
+        let mut best = None;
+        'places: while place < line.len() {
+            let (behind, into) = self.pass(line, place, node, fold);
+            place = behind;
+            node = into;
+            if begins_before(best, place.saturating_sub(self.depths[node] as usize)) {
+                return best;
+            }
+            best = better(best, place, self.ends[node] as usize);
+        }
+        best
+    }
+
+    /// Whether the line, which is not empty, is one of the strings.
+    pub fn is_line(&self, line: &[u8]) -> bool
+        requires table { IsTable self.now }
+        requires some { 0 < length line.now }
+        ensures { (all : Labels) → IsTableOf all self.now →
+            IsTrue result ↔ IsString all.strings (keys self.now.fold line.now) }
+    {
+        let mut node = 0;
+        'places: for place in 0..line.len() {
+            let Some(child) = self.trie.child(node, key_of(self.fold, line[place])) else {
+                return false;
+            };
+            node = child;
+        }
+        self.ends[node] as usize == line.len()
+    }
+
+    // Goes over the byte at `place`. If no string has begun, it first passes the bytes where none
+    // begins. Returns the place after the byte, and the node there.
+    #[inline(always)]
+    fn pass(&self, line: &[u8], place: usize, node: usize, fold: bool) -> (usize, usize)
+        requires table { IsTable self.now }
+        requires within { place < length line.now }
+        requires in_trie { node < length self.now.trie.bytes.items }
+        requires alike { fold ≡ self.now.fold }
+        ensures on { (place < result.0) × (result.0 ≤ length line.now) }
+        ensures in_trie { result.1 < length self.now.trie.bytes.items }
+        ensures stands { (all : Labels) → IsTableOf all self.now → (from : ℕ) → from ≤ place →
+            StandsSince all from (keys self.now.fold line.now) place node
+            → StandsSince all from (keys self.now.fold line.now) result.0 result.1 }
+        ensures between { (all : Labels) → IsTableOf all self.now → (from : ℕ) → from ≤ place →
+            StandsSince all from (keys self.now.fold line.now) place node
+            → NoneBetween all.strings from (keys self.now.fold line.now) place result.0 }
+    {
+        let start = self.next_start(line, place, node, fold);
+        if start == line.len() {
+            return (start, node);
+        }
+        let byte = key_of(fold, line[start]);
+        let into = step(&self.trie, &self.starts, &self.fails, node, byte);
+        (start + 1, into)
+    }
+
+    // The place itself if a string has begun; else the first place from there on where one may
+    // begin, or the line's end if there is none.
+    #[inline(always)]
+    fn next_start(&self, line: &[u8], place: usize, node: usize, fold: bool) -> usize
+        requires table { IsTable self.now }
+        requires within { place < length line.now }
+        requires alike { fold ≡ self.now.fold }
+        ensures within { (place ≤ result) × (result ≤ length line.now) }
+        ensures stands { (all : Labels) → IsTableOf all self.now → (from : ℕ) → from ≤ place →
+            StandsSince all from (keys self.now.fold line.now) place node
+            → StandsSince all from (keys self.now.fold line.now) result node }
+        ensures between { (all : Labels) → IsTableOf all self.now → (from : ℕ) → from ≤ place →
+            StandsSince all from (keys self.now.fold line.now) place node
+            → NoneBetween all.strings from (keys self.now.fold line.now) place (result + 1) }
+    {
+        if node > 0 {
+            return place;
+        }
+        if self.leaps.window < 2 {
+            return first_start(&self.starts, line, place);
+        }
+        self.leaps.leap(line, place, fold)
+    }
+}
+
+// The node for the longest end of the bytes so far, after this byte.
+#[inline]
+pub fn step(trie: &Trie, starts: &[u32], fails: &[u32], node: usize, byte: u8) -> usize
+    requires trie { IsTrie trie.now.first.items trie.now.bytes.items }
+    requires starts { AreStarts trie.now.first.items starts.now }
+    requires fails { AreFallbacks fails.now }
+    requires few { length fails.now ≤ length trie.now.bytes.items }
+    requires within { node < length fails.now }
+    ensures within { result < length trie.now.bytes.items }
+    ensures near { result < slice_index trie.now.first.items (node + 1) }
+    ensures step { (all : Labels) → IsTrieOf all trie.now.first.items trie.now.bytes.items →
+        StepsOn all 0 byte (slice_index starts.now byte) → AreFallbacksOf all fails.now
+        → Steps all node byte result }
+{
+    let mut at = node;
+    'nodes: while at > 0 {
+        if let Some(child) = trie.child(at, byte) {
+            return child;
+        }
+        at = fails[at] as usize;
+    }
+    starts[byte as usize] as usize
+}
+
+// The first place, `place` or later, whose byte a string begins with; the line's end if there is
+// none.
+fn first_start(starts: &[u32], line: &[u8], place: usize) -> usize
+    requires full { length starts.now ≡ 256 }
+    requires within { place ≤ length line.now }
+    ensures within { (place ≤ result) × (result ≤ length line.now) }
+    ensures passed { (k : ℕ) → place ≤ k → k < result →
+        (slice_index line.now k < 256) × (slice_index starts.now (slice_index line.now k) ≡ 0) }
+{
+    'places: for next in place..line.len() {
+        if starts[line[next] as usize] > 0 {
+            return next;
+        }
+    }
+    line.len()
+}
+
+// Whether the best so far begins before this place.
+fn begins_before(best: Option<Span>, place: usize) -> bool
+    ensures { IsTrue result ↔ ((known : Span) × (best ≡ Some known) × (known.start < place)) }
+{
+    match best {
+        Some(known) => known.start < place,
+        None => false,
+    }
+}
+
+// The better of the best so far and a string of this length that ends at `end`. There is no such
+// string if the length is 0.
+fn better(best: Option<Span>, end: usize, length: usize) -> Option<Span>
+    ensures { result ≡ better_ending best end length }
+{
+    if length == 0 {
+        return best;
+    }
+    let start = end.saturating_sub(length);
+    match best {
+        Some(known) if known.start < start => best,
+        _ => Some(Span { start, end }),
+    }
+}

@@ -1,0 +1,37 @@
+//! The tree of the beginnings of some strings.
+ghost use Rattle.std.specs.Prelude.{◌≡◌, ℕ, ◌+◌, ◌<◌, ◌≤◌, [], ◌∷◌, ◌++◌, length, slice_index};
+ghost use Rattle.std.specs.Prelude.{MatchOption, IfSome};
+ghost use Rattle.re_strings.specs.Working.FixedSets.{IsTrie, IsTrieOf, IsFront, Labels};
+
+use memchr::memchr;
+
+/// A tree whose nodes are the beginnings of some strings, shorter ones first. Each has the byte
+/// that it adds to its parent.
+#[derive(Drop)]
+pub struct Trie {
+    /// The first child of each node; the children of a node are next to each other. One more entry
+    /// ends those of the last node.
+    pub first: Vec<u32>,
+    /// The last byte of each node; any value for the root.
+    pub bytes: Vec<u8>,
+}
+
+impl Trie {
+    /// The child of the node for this byte.
+    #[inline]
+    pub fn child(&self, node: usize, byte: u8) -> Option<usize>
+        requires trie { IsTrie self.now.first.items self.now.bytes.items }
+        requires within { node < length self.now.bytes.items }
+        ensures behind { IfSome result
+            (λ m. (node < m) × (m < length self.now.bytes.items) ×
+            (m < slice_index self.now.first.items (node + 1))) }
+        ensures told { (all : Labels) → IsTrieOf all self.now.first.items self.now.bytes.items
+            → MatchOption result (IsFront all.strings (all.label node ++ byte ∷ []) → ⊥)
+            (λ m. all.label m ≡ all.label node ++ byte ∷ []) }
+    {
+        let from = self.first[node] as usize;
+        let to = self.first[node + 1] as usize;
+        let place = memchr(byte, &self.bytes[from..to])?;
+        Some(from + place)
+    }
+}
