@@ -26,7 +26,7 @@ use Rattle.grep_core.specs.Working.Passed.{AddsCounted}
 use Rattle.grep_core.specs.Working.OneLine.{IsPlain, LineRowsOf, TakesLine, BreaksLine}
 use Rattle.grep_core.specs.Working.StretchRows.{RowsOfLines, TakesLines, BreaksLines}
 use Rattle.grep_core.specs.Working.Searched.{leaves_early, summary_as, BreaksSource, StopsSource, SearchesSource}
-use Rattle.re_search.proofs.lemmas.SomeOfJoined.{Any-left}
+use Rattle.re_syntax.proofs.lemmas.SomeOfJoined.{Any-left}
 use Rattle.grep_core.proofs.lemmas.Verdicts.{decided_yes, decided_no, picked}
 use Rattle.grep_core.proofs.lemmas.Decided.{dec_fault_met}
 use Rattle.grep_core.proofs.lemmas.CostLaws.{searched_no_line, searched_one_line, searched_more_lines, searched_first_lines}

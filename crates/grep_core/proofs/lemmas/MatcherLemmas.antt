@@ -7,7 +7,7 @@ use Rattle.re_syntax.specs.declared.fault.PatternFault.{PatternFault}
 use Rattle.re_syntax.specs.declared.syntax.Syntax.{Syntax}
 use Rattle.re_syntax.specs.Bytes.{Text}
 use Rattle.re_syntax.specs.Spelled.{IsMeant}
-use Rattle.re_search.specs.declared.matcher.Matcher.{Matcher}
+use Rattle.re_search.specs.Matcher.{Matcher}
 use Rattle.re_search.specs.Reading.{IsSmallFor, IsReadable, IsRefusedFor, IsOutOfMemory}
 use Rattle.re_search.specs.Working.Matchers.{matched_expression, wants_whole}
 use Rattle.grep_core.specs.declared.options.Options.{Options}

@@ -8,7 +8,7 @@ use Rattle.re_syntax.proofs.lemmas.PartsLaws.{IsPart-unique}
 use Rattle.re_syntax.proofs.lemmas.PartsExist.{AreParts-exist}
 use Rattle.re_search.specs.Meters.{Steps}
 use Rattle.re_search.specs.Searching.{FindsPart, AddsAtMost}
-use Rattle.re_search.specs.declared.span.Span.{Span}
+use Rattle.re_syntax.specs.declared.span.Span.{Span}
 use Rattle.grep_core.specs.declared.options.Options.{Options}
 use Rattle.grep_core.specs.Counted.{one_more}
 use Rattle.grep_core.specs.Output.{parts, form, head_of}

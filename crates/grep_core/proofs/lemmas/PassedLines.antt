@@ -8,7 +8,7 @@ use Rattle.re_syntax.proofs.lemmas.LinesLaws.{lines_of-terminated}
 use Rattle.re_search.specs.Meters.{Steps}
 use Rattle.re_search.specs.Searching.{AddsAtMost}
 use Rattle.re_search.specs.Working.Blocks.{IsBlock, HoldsOfMany}
-use Rattle.re_search.proofs.lemmas.SearchedBlocks.{block_lines}
+use Rattle.re_search.proofs.lemmas.NextLines.{block_lines}
 use Rattle.re_search.proofs.lemmas.CountedBlocks.{counts_same}
 use Rattle.grep_core.specs.declared.options.Options.{Options}
 use Rattle.grep_core.specs.Cost.{SearchesLines}

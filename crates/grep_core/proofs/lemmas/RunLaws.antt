@@ -23,7 +23,7 @@ use Rattle.grep_core.specs.Sources.{source_at}
 use Rattle.grep_core.specs.Cost.{SearchesLines, SearchesFiles}
 use Rattle.grep_core.specs.Working.Groups.{GroupedAs, behind_rows}
 use Rattle.grep_core.specs.Working.Searched.{is_fault, status_by, SourceGives, CountsSource, FinishesSource, BreaksSource, BreaksMessage, StopsSource}
-use Rattle.re_search.proofs.lemmas.SomeOfJoined.{Any-left, Any-right, Any-append-cases, Any-single, none_more}
+use Rattle.re_syntax.proofs.lemmas.SomeOfJoined.{Any-left, Any-right, Any-append-cases, Any-single, none_more}
 use Rattle.grep_core.proofs.lemmas.CostLaws.{searched_without_steps, searched_one_file, searched_up_to}
 use Rattle.grep_core.proofs.lemmas.Decided.{dec_stops}
 use Rattle.grep_core.proofs.lemmas.Verdicts.{decided_no}

@@ -6,7 +6,7 @@ use Rattle.grep_core.specs.declared.options.Options.{Options}
 use Rattle.grep_core.specs.declared.status.Status.TheVariants.{Selected as selected, NoneSelected, Error}
 use Rattle.grep_core.specs.Files.{File, HasSelected}
 use Rattle.grep_core.specs.Messages.{FaultMet, AnySelected, StatusOf}
-use Rattle.re_search.proofs.lemmas.SomeOfJoined.{Any-right}
+use Rattle.re_syntax.proofs.lemmas.SomeOfJoined.{Any-right}
 
 module _ (es : List Expression) (options : Options) where
   -- under `-q` a selected line decides

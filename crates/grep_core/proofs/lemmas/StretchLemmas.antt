@@ -9,10 +9,10 @@ use Rattle.re_syntax.specs.Bytes.{Text}
 use Rattle.re_syntax.specs.Expression.{Expression}
 use Rattle.re_syntax.specs.Lines.{newline, terminated, lines_of, HasNoNewline}
 use Rattle.re_syntax.proofs.lemmas.LinesLaws.{lines_of-terminated}
-use Rattle.re_search.specs.declared.span.Span.{Span}
+use Rattle.re_syntax.specs.declared.span.Span.{Span}
 use Rattle.re_search.specs.Working.Blocks.{IsBlock, IsNext}
 use Rattle.re_search.specs.Working.Sought.{Sought, IsSought}
-use Rattle.re_search.proofs.lemmas.SearchedBlocks.{block_lines, free_lines}
+use Rattle.re_search.proofs.lemmas.NextLines.{block_lines, free_lines}
 use Rattle.grep_core.specs.declared.options.Options.{Options}
 use Rattle.grep_core.specs.Files.{Selected}
 use Rattle.grep_core.specs.Row.{colon, head}

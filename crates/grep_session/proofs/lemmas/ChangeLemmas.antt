@@ -15,7 +15,7 @@ use Rattle.grep_core.specs.declared.options.Options.{Options}
 use Rattle.grep_core.specs.Choose.{IfHolds, Chosen}
 use Rattle.grep_core.specs.Cost.{search_cost}
 use Rattle.grep_core.specs.Files.{Matched}
-use Rattle.re_search.proofs.lemmas.SomeOfJoined.{Any-single}
+use Rattle.re_syntax.proofs.lemmas.SomeOfJoined.{Any-single}
 use Rattle.grep_core.proofs.lemmas.CostLaws.{adds_none, adds_within}
 use Rattle.grep_core.proofs.lemmas.Decided.{dec_matched}
 use Rattle.grep_core.proofs.lemmas.Verdicts.{decided_yes, decided_no}

@@ -8,7 +8,7 @@ use Rattle.re_syntax.specs.Parts.{IsFound, IsPart, ArePartsFrom, AreParts}
 use Rattle.re_syntax.proofs.lemmas.PartsLaws.{IsPart-unique}
 use Rattle.re_syntax.proofs.lemmas.PartsExist.{AreParts-exist}
 use Rattle.re_search.specs.Searching.{AddsAtMost}
-use Rattle.re_search.specs.declared.span.Span.{Span}
+use Rattle.re_syntax.specs.declared.span.Span.{Span}
 use Rattle.grep_core.specs.Meters.{Steps}
 use Rattle.grep_core.specs.declared.options.Options.{Options}
 use Rattle.grep_core.specs.Choose.{IfHolds}

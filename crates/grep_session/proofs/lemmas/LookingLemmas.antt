@@ -7,7 +7,7 @@ use Rattle.std.proofs.lemmas.List.Elements.{All-get_or}
 use Rattle.re_syntax.specs.Bytes.{Text}
 use Rattle.re_syntax.specs.Expression.{Expression}
 use Rattle.re_syntax.specs.Parts.{AreParts}
-use Rattle.re_search.specs.declared.span.Span.{Span}
+use Rattle.re_syntax.specs.declared.span.Span.{Span}
 use Rattle.grep_core.specs.declared.options.Options.{Options}
 use Rattle.grep_core.specs.Files.{File, Selected}
 use Rattle.grep_core.specs.Run.{file_at}

@@ -9,7 +9,7 @@ use Rattle.re_syntax.proofs.lemmas.Decisions.{Any-first}
 use Rattle.grep_core.specs.Meters.{Steps}
 use Rattle.grep_core.specs.Choose.{IfHolds, Chosen}
 use Rattle.grep_core.specs.Files.{Inputs, AreMeant, Matched}
-use Rattle.re_search.proofs.lemmas.SomeOfJoined.{Any-single}
+use Rattle.re_syntax.proofs.lemmas.SomeOfJoined.{Any-single}
 use Rattle.grep_session.specs.declared.change.Change.TheVariants.{Dropped}
 use Rattle.grep_session.specs.Working.Changed.{HasChanged, ChangeCost, SearchesEach}
 use Rattle.grep_session.specs.Edits.{DropPattern, with_patterns}

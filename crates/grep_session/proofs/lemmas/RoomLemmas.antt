@@ -6,7 +6,7 @@ use Rattle.std.proofs.lemmas.List.Elements.{All-append, All-nil, All-push}
 use Rattle.std.specs.List.{remove}
 use Rattle.re_syntax.specs.Expression.{Expression}
 use Rattle.re_search.proofs.lemmas.OneMatcherMore.{same_after}
-use Rattle.re_search.specs.declared.matcher.Matcher.{Matcher}
+use Rattle.re_search.specs.Matcher.{Matcher}
 use Rattle.re_search.specs.Working.Matchers.{room_of}
 use Rattle.grep_session.specs.Working.Rooms.{SameBounded, KeepAtMost}
 use Rattle.grep_session.proofs.lemmas.SessionLemmas.{map-remove}

@@ -6,7 +6,7 @@ use Rattle.re_syntax.specs.Expression.{Expression}
 use Rattle.re_syntax.specs.Holds.{Holds, Matches}
 use Rattle.re_syntax.specs.Parts.{IsFound, ArePartsFrom}
 use Rattle.re_syntax.proofs.lemmas.Decisions.{Any-cases, Any-none}
-use Rattle.re_search.proofs.lemmas.SomeOfJoined.{Any-left, Any-append-cases}
+use Rattle.re_syntax.proofs.lemmas.SomeOfJoined.{Any-left, Any-append-cases}
 use Rattle.grep_session.specs.Working.Kept.{AreMatching}
 
 -- ---- two lists of expressions that find the same

@@ -1,6 +1,6 @@
 -- What is found in a line.
 use Rattle.std.specs.Prelude.{ℕ, List, [], ◌∷◌}
-use Rattle.re_search.specs.declared.span.Span.{Span}
+use Rattle.re_syntax.specs.declared.span.Span.{Span}
 
 -- the numbers of the patterns that match the line, in ascending order, and the parts of it that are
 -- kept

@@ -1,7 +1,7 @@
 -- What the matchers of a session may keep.
 use Rattle.std.specs.Prelude.{◌≡◌, ℕ, ◌≤◌, Bool, List, All, map}
 use Rattle.re_syntax.specs.Expression.{Expression}
-use Rattle.re_search.specs.declared.matcher.Matcher.{Matcher}
+use Rattle.re_search.specs.Matcher.{Matcher}
 use Rattle.re_search.specs.Working.Matchers.{room_of}
 
 -- the same matchers in the same order, each of which may keep as much as before

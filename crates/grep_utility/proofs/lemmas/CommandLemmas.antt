@@ -9,7 +9,7 @@ use Rattle.re_syntax.specs.declared.syntax.Syntax.{Syntax}
 use Rattle.re_syntax.specs.declared.fault.PatternFault.{PatternFault}
 use Rattle.re_syntax.specs.Bytes.{Text}
 use Rattle.re_search.specs.Meters.{Steps}
-use Rattle.re_search.specs.declared.matcher.Matcher.{Matcher}
+use Rattle.re_search.specs.Matcher.{Matcher}
 use Rattle.re_search.specs.Reading.{IsOutOfMemory}
 use Rattle.re_search.specs.Working.Matchers.{matched_expression}
 use Rattle.re_syntax.specs.Expression.{Expression}

@@ -7,7 +7,7 @@ use Rattle.std.specs.Io.KnownBytes.{Consumes, IsAtEnd}
 use Rattle.re_syntax.specs.Bytes.{Text}
 use Rattle.grep_core.specs.Working.Limited.{limited}
 use Rattle.re_syntax.proofs.lemmas.Decisions.{Any-first}
-use Rattle.re_search.proofs.lemmas.SomeOfJoined.{Any-left, Any-right}
+use Rattle.re_syntax.proofs.lemmas.SomeOfJoined.{Any-left, Any-right}
 use Rattle.grep_core.specs.Counted.{one_more}
 use Rattle.grep_core.specs.Run.{count_more}
 use Rattle.grep_core.specs.Sources.{GivesBack}

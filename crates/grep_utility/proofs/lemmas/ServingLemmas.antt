@@ -8,7 +8,7 @@ use Rattle.re_syntax.specs.declared.syntax.Syntax.{Syntax}
 use Rattle.re_syntax.specs.Bytes.{Text}
 use Rattle.re_syntax.specs.Expression.{byte, sequence}
 use Rattle.re_syntax.specs.Spelled.{IsMeant}
-use Rattle.re_search.specs.declared.matcher.Matcher.{Matcher}
+use Rattle.re_search.specs.Matcher.{Matcher}
 use Rattle.re_search.specs.Working.Literals.{literal_meaning}
 use Rattle.re_search.specs.Reading.{IsReadable}
 use Rattle.re_search.specs.Working.Matchers.{matched_expression, wants_whole}

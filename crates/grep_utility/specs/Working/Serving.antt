@@ -5,7 +5,7 @@ use Rattle.re_syntax.specs.Bytes.{Text}
 use Rattle.re_syntax.specs.Expression.{Expression, byte, sequence}
 use Rattle.re_syntax.specs.Profile.{most_positions}
 use Rattle.re_syntax.specs.Spelled.{IsSpelled, has_limit}
-use Rattle.re_search.specs.declared.matcher.Matcher.{Matcher}
+use Rattle.re_search.specs.Matcher.{Matcher}
 use Rattle.re_search.specs.Reading.{IsReadable}
 use Rattle.re_search.specs.Working.Literals.{any_literal}
 use Rattle.re_search.specs.Working.Matchers.{matched_expression, wants_whole}

@@ -1,7 +1,7 @@
 use Rattle.std.proofs.Common.{ℕ, ◌<◌, ◌∷◌, [], length, map, get_or, subst, sym, arith}
 use Rattle.std.proofs.Math.ListN.{get_or-map}
 use Rattle.std.proofs.lemmas.List.{length-map}
-use Rattle.re_search.specs.declared.span.Span.{Span}
+use Rattle.re_syntax.specs.declared.span.Span.{Span}
 use Rattle.grep_core.specs.Written.{GoesOut, StopsWithin}
 use Rattle.grep_session.specs.Working.Kept.{span_places}
 use Rattle.grep_session.proofs.lemmas.Writing.{writes_err}

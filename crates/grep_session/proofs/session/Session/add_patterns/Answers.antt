@@ -2,7 +2,7 @@ use Rattle.std.proofs.Common.{◌≡◌, List, ◌+◌, ◌≤◌, ◌<◌, ◌+
 use Rattle.std.proofs.lemmas.List.{length-map, length-append, map-append}
 use Rattle.re_syntax.specs.Lines.{list_of}
 use Rattle.re_search.specs.Reading.{IsReadable}
-use Rattle.re_search.specs.declared.matcher.Matcher.{Matcher}
+use Rattle.re_search.specs.Matcher.{Matcher}
 use Rattle.re_search.specs.Working.Matchers.{matched_expression, wants_whole, room_of}
 use Rattle.grep_core.specs.Files.{AreMeant}
 use Rattle.grep_core.proofs.lemmas.CostLaws.{same_length}
