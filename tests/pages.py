@@ -32,11 +32,11 @@ MOST_WORDS = {
     "docs/CHANGING.md": 1_900,
     "docs/ROADMAP.md": 1_000,
     "docs/GLOSSARY.md": 820,
-    "crates/*/README.md": 3_500,
+    "crates/*/README.md": 3_700,
     "tests/README.md": 1_000,
     "editors/emacs/README.md": 1_500,
     "editors/nvim/*.md": 1_500,
-    "*": 34_000,
+    "*": 34_200,
 }
 """How many words pages have at most, by the pattern of their names."""
 
