@@ -1,10 +1,6 @@
-pub mod LimitedLemmas
-pub mod WindowLemmas
-pub mod WindowBlocks
+pub use Rattle.grep_io.proofs.lemmas.HandedLemmas
+pub use Rattle.grep_io.proofs.lemmas.NumberedLemmas
 pub mod RowLemmas
-pub mod SentLemmas
-pub mod BufferLemmas
-pub mod LineSentLemmas
 pub mod MessageLemmas
 pub mod ChooseLaws
 pub mod Decided
@@ -24,12 +20,7 @@ pub mod MessageLaws
 pub mod StatusLaws
 pub mod SourceLaws
 pub mod Readings
-pub mod FileLaws
 pub mod WriterLaws
-pub mod HandedLemmas
-pub mod NewlineLemmas
-pub mod NumberedLemmas
-pub mod PassedLemmas
 pub mod PassedLines
 pub mod PassLemmas
 pub mod OneFile

@@ -8,18 +8,18 @@ use Rattle.re_search.specs.Meters.{Steps}
 use Rattle.grep_core.specs.declared.options.Options.{Options}
 use Rattle.grep_core.specs.declared.options.Context.{Context}
 use Rattle.grep_core.specs.declared.output.around.Progress.{Progress}
-use Rattle.grep_core.specs.declared.input.lines.Stage.TheVariants.{Open}
+use Rattle.grep_io.specs.declared.input.lines.Stage.TheVariants.{Open}
 use Rattle.grep_core.specs.declared.search.file.FileEnd.TheVariants.{Whole, Broken}
-use Rattle.grep_core.specs.Counted.{one_more}
+use Rattle.grep_io.specs.Counted.{one_more}
 use Rattle.grep_core.specs.Choose.{EachGives}
 use Rattle.grep_core.specs.Files.{whole, broken, Selected}
 use Rattle.grep_core.specs.Output.{around, form, GroupsOf, SelectedLines}
-use Rattle.grep_core.specs.Reading.{open_source, most_lines, OneLeft, IsOneLineAndFew, HasRead}
+use Rattle.grep_io.specs.Reading.{open_source, most_lines, OneLeft, IsOneLineAndFew, HasRead}
 use Rattle.grep_core.specs.Run.{Writer, TakesAll, TakesFront}
 use Rattle.grep_core.specs.Cost.{SearchesLines}
-use Rattle.grep_core.specs.Working.Handed.{file_so_far}
+use Rattle.grep_io.specs.Working.Handed.{file_so_far}
 use Rattle.grep_core.specs.Working.LastLines.{LastLines}
-use Rattle.grep_core.specs.Working.Numbered.{Numbered, HasHanded, StandsAs}
+use Rattle.grep_io.specs.Working.Numbered.{Numbered, HasHanded, StandsAs}
 use Rattle.grep_core.specs.Working.Passed.{AreUnselected, Waits}
 use Rattle.grep_core.specs.Working.Progress.{progress_from, next_shown, behind_line, last_of, rows_at}
 use Rattle.grep_core.specs.Working.Searched.{leaves_early, SearchesSource, BreaksSource, StopsSource}
@@ -28,10 +28,10 @@ use Rattle.grep_core.proofs.lemmas.CostLaws.{searched_no_line, searched_more_lin
 use Rattle.grep_core.proofs.lemmas.ChooseLaws.{EachGives-one}
 use Rattle.grep_core.proofs.lemmas.FileOutput.{file_is, chosen_line, chosen_count}
 use Rattle.grep_core.proofs.lemmas.BlockLines.{last_of-many}
-use Rattle.grep_core.proofs.lemmas.HandedLemmas.{begins_with, has_read}
+use Rattle.grep_io.proofs.lemmas.HandedLemmas.{begins_with, has_read}
 use Rattle.grep_core.proofs.lemmas.LinesLemmas.{early_form, WrittenOf, WritesLines, searches_whole, searches_broken, stops_among, stops_behind, breaks_in, chosen_on}
-use Rattle.grep_core.proofs.lemmas.MoreLines.{file_with}
-use Rattle.grep_core.proofs.lemmas.NumberedLemmas.{has_handed_none}
+use Rattle.grep_io.proofs.lemmas.FileLaws.{file_with}
+use Rattle.grep_io.proofs.lemmas.NumberedLemmas.{has_handed_none}
 use Rattle.grep_core.proofs.lemmas.WaitingRows.{WaitsNot, waits_not_next, held_next, length-last_of}
 use Rattle.grep_core.proofs.lemmas.Verdicts.{picked}
 use Rattle.grep_core.proofs.lemmas.WriterLaws.{TakesAll-nothing, TakesAll-more, TakesFront-more}

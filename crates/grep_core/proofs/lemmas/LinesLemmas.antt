@@ -10,17 +10,17 @@ use Rattle.re_syntax.specs.Expression.{Expression}
 use Rattle.re_search.specs.Meters.{Steps}
 use Rattle.re_search.specs.Working.Blocks.{HoldsOfMany}
 use Rattle.grep_core.specs.declared.options.Options.{Options}
-use Rattle.grep_core.specs.declared.input.lines.Stage.TheVariants.{Open}
+use Rattle.grep_io.specs.declared.input.lines.Stage.TheVariants.{Open}
 use Rattle.grep_core.specs.declared.search.file.FileEnd.TheVariants.{Whole, Broken, Left}
-use Rattle.grep_core.specs.Counted.{one_more}
-use Rattle.grep_core.specs.Working.Numbered.{Numbered, HasHanded, StandsAs}
+use Rattle.grep_io.specs.Counted.{one_more}
+use Rattle.grep_io.specs.Working.Numbered.{Numbered, HasHanded, StandsAs}
 use Rattle.grep_core.specs.Files.{File, whole, broken, Selected, HasSelected}
 use Rattle.grep_core.specs.Output.{Form, nothing, names, counts, form, SelectedLines}
 use Rattle.grep_core.specs.Messages.{FaultMet}
-use Rattle.grep_core.specs.Reading.{open_source, file_of, failures_of, most_lines, OneLeft, IsOneLineAndFew, HasRead}
+use Rattle.grep_io.specs.Reading.{open_source, file_of, failures_of, most_lines, OneLeft, IsOneLineAndFew, HasRead}
 use Rattle.grep_core.specs.Run.{Writer, TakesAll, TakesFront, first_lines}
 use Rattle.grep_core.specs.Working.Groups.{GroupedAs, behind_rows}
-use Rattle.grep_core.specs.Working.Handed.{StandsFor, BeginsWith, file_so_far}
+use Rattle.grep_io.specs.Working.Handed.{StandsFor, BeginsWith, file_so_far}
 use Rattle.grep_core.specs.Cost.{SearchesLine, SearchesLines}
 use Rattle.grep_core.specs.Working.Passed.{AddsCounted}
 use Rattle.grep_core.specs.Working.OneLine.{IsPlain, LineRowsOf, TakesLine, BreaksLine}
@@ -34,11 +34,10 @@ use Rattle.grep_core.proofs.lemmas.WriterLaws.{TakesAll-nothing, TakesAll-more, 
 use Rattle.grep_core.proofs.lemmas.OneLineLemmas.{line_passed, line_counted}
 use Rattle.grep_core.proofs.lemmas.CountedLines.{many_within}
 use Rattle.grep_core.proofs.lemmas.StretchLemmas.{found_within}
-use Rattle.grep_core.proofs.lemmas.OneFile.{whole-failures}
-use Rattle.grep_core.proofs.lemmas.FileLaws.{FaultMet-left}
+use Rattle.grep_core.proofs.lemmas.OneFile.{FaultMet-left, whole-failures}
 use Rattle.grep_core.proofs.lemmas.MoreLines.{SelectedLines-passed}
-use Rattle.grep_core.proofs.lemmas.HandedLemmas.{begins_with, has_read}
-use Rattle.grep_core.proofs.lemmas.NumberedLemmas.{has_handed_none}
+use Rattle.grep_io.proofs.lemmas.HandedLemmas.{begins_with, has_read}
+use Rattle.grep_io.proofs.lemmas.NumberedLemmas.{has_handed_none}
 use Rattle.grep_core.proofs.lemmas.FileOutput.{positive, chosen_tells, rows_line, chosen_line, chosen_count, output_all, output_left, output_front, rows_begun, plain_rows}
 
 -- where a file is left early, only its name is written, if that

@@ -12,13 +12,13 @@ use Rattle.grep_core.specs.declared.options.Options.{Options}
 use Rattle.grep_core.specs.declared.search.file.FileEnd.{FileEnd}
 use Rattle.grep_core.specs.declared.search.file.FileEnd.TheVariants.{Missing}
 use Rattle.grep_core.specs.declared.search.file.FileFound.{FileFound}
-use Rattle.grep_core.specs.Counted.{one_more}
+use Rattle.grep_io.specs.Counted.{one_more}
 use Rattle.grep_core.specs.Around.{Groups}
 use Rattle.grep_core.specs.Choose.{Chosen}
-use Rattle.grep_core.specs.Working.LineReader.{LineReader}
+use Rattle.grep_io.specs.Working.LineReader.{LineReader}
 use Rattle.grep_core.specs.Files.{File, Selected}
 use Rattle.grep_core.specs.Output.{Form, nothing, names, counts, parts, lines, around, form, shown_name, shown_number, numbered}
-use Rattle.grep_core.specs.Reading.{Source, Reading, not_opened, fails_after, ends_after, open_source, IsReadingOf, file_of, failures_of, AreLeft, OneLeft, HasRead}
+use Rattle.grep_io.specs.Reading.{Source, Reading, not_opened, fails_after, ends_after, open_source, IsReadingOf, file_of, failures_of, AreLeft, OneLeft, HasRead}
 use Rattle.grep_core.specs.Run.{Writer, TakesAll, TakesFront, first_lines, count_more}
 use Rattle.grep_core.specs.Working.Groups.{behind_rows}
 use Rattle.grep_core.specs.Working.OneLine.{IsPlain, LineRowsOf}
@@ -26,7 +26,7 @@ use Rattle.grep_core.specs.Working.Searched.{CountsSource, BreaksSource, StopsSo
 use Rattle.grep_core.proofs.lemmas.Verdicts.{decided_yes, decided_no}
 use Rattle.grep_core.proofs.lemmas.CostLaws.{searched_no_line, searched_first_lines}
 use Rattle.grep_core.proofs.lemmas.WriterLaws.{TakesAll-nothing}
-use Rattle.grep_core.proofs.lemmas.WindowLemmas.{none_in_nothing}
+use Rattle.grep_io.proofs.lemmas.WindowLemmas.{none_in_nothing}
 use Rattle.grep_core.proofs.lemmas.Readings.{IsReadingOf-exists}
 use Rattle.grep_core.proofs.lemmas.FileOutput.{rows_none, output_all, rows_begun, plain_rows, behind_rows-none}
 

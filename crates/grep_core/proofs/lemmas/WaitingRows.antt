@@ -9,7 +9,7 @@ use Rattle.grep_core.specs.declared.options.Options.{Options}
 use Rattle.grep_core.specs.declared.output.around.Progress.{Progress}
 use Rattle.grep_core.specs.Row.{hyphen, output_line}
 use Rattle.grep_core.specs.Output.{written}
-use Rattle.grep_core.specs.Written.{GoesOut, StopsWithin, Writes}
+use Rattle.grep_io.specs.Written.{GoesOut, StopsWithin, Writes}
 use Rattle.grep_core.specs.Working.Progress.{next_shown, behind_line, with_waiting, last_of, row_with, rows_around}
 use Rattle.grep_core.proofs.lemmas.RowLemmas.{goes_nowhere, goes_on, stops_early, stops_later, writes_last}
 use Rattle.grep_core.proofs.lemmas.WriterLaws.{written-append}

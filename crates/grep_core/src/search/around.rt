@@ -7,18 +7,15 @@ ghost use Rattle.re_search.specs.Working.Blocks.{IsBlock};
 ghost use Rattle.grep_core.specs.Around.{group_separator};
 ghost use Rattle.grep_core.specs.Row.{output_line};
 ghost use Rattle.grep_core.specs.Output.{form, around, written};
-ghost use Rattle.grep_core.specs.Reading.{open_source, OneLeft};
+ghost use Rattle.grep_io.specs.Reading.{open_source, OneLeft};
 ghost use Rattle.grep_core.specs.Run.{writer, TakesAll};
-ghost use Rattle.grep_core.specs.Written.{Writes};
+ghost use Rattle.grep_io.specs.Written.{Writes};
 ghost use Rattle.grep_core.specs.Working.Passed.{Waits};
 ghost use Rattle.grep_core.specs.Working.Progress.{rows_around, row_by, rows_at, last_of};
 ghost use Rattle.grep_core.specs.Working.Progress.{next_shown};
 ghost use Rattle.grep_core.specs.Working.ShownLines.{ShowsLine, BreaksShown};
 ghost use Rattle.grep_core.specs.Working.Searched.{SearchesSource, BreaksSource, StopsSource};
 
-use crate::devices::counted::{CountedRead, CountedWrite, WriteFault};
-use crate::input::lines::{ReadFault, Stage};
-use crate::input::numbered::NumberedLines;
 use crate::options::Context;
 use crate::output::around::{Progress, Shown};
 use crate::output::rows::write_separator;
@@ -28,6 +25,7 @@ use crate::search::file::{FileEnd, FileFound, SearchFault, count_found};
 use crate::search::held::next_held;
 use crate::search::matching::is_selected;
 use crate::search::sending::send_before_read;
+use grep_io::{CountedRead, CountedWrite, NumberedLines, ReadFault, Stage, WriteFault};
 use re_search::{LineMatch, Meter, Searchers};
 use std::alloc::AllocError;
 

@@ -3,20 +3,18 @@ ghost use Rattle.std.specs.Prelude.{◌≡◌, ℕ, List, ◌-◌, ◌≤◌, []
 ghost use Rattle.re_syntax.specs.Bytes.{Text};
 ghost use Rattle.re_search.specs.Working.Asking.{SameSearchers, asks_whole, expressions_by};
 ghost use Rattle.grep_core.specs.Output.{counts, form};
-ghost use Rattle.grep_core.specs.Reading.{open_source, OneLeft};
+ghost use Rattle.grep_io.specs.Reading.{open_source, OneLeft};
 ghost use Rattle.grep_core.specs.Run.{writer};
-ghost use Rattle.grep_core.specs.Working.Numbered.{HasHanded};
+ghost use Rattle.grep_io.specs.Working.Numbered.{HasHanded};
 ghost use Rattle.grep_core.specs.Working.Passed.{AddsCounted};
 ghost use Rattle.grep_core.specs.Working.Searched.{SearchesSource, BreaksSource, StopsSource};
 
-use crate::devices::counted::{CountedRead, CountedWrite};
-use crate::input::lines::{ReadFault, Stage};
-use crate::input::numbered::NumberedLines;
 use crate::options::Options;
 use crate::output::wanted::Wanted;
 use crate::search::file::{FileEnd, FileFound, SearchFault, count_found};
 use crate::search::line::search_line;
 use crate::search::sending::send_before_read;
+use grep_io::{CountedRead, CountedWrite, NumberedLines, ReadFault, Stage};
 use re_search::{LineMatch, Meter, Searchers};
 
 // How many of `count` lines are selected, of which `matched` are matched (XCU grep, option `-v`).

@@ -3,17 +3,13 @@ ghost use Rattle.std.specs.Prelude.{◌≡◌, ℕ, ◌+◌, ◌-◌, ◌^◌, �
 ghost use Rattle.std.specs.Prelude.{false, if◌then◌else◌};
 ghost use Rattle.re_search.specs.Working.Asking.{SameSearchers, asks_whole, expressions_by};
 ghost use Rattle.grep_core.specs.Output.{form};
-ghost use Rattle.grep_core.specs.Reading.{open_source, OneLeft};
+ghost use Rattle.grep_io.specs.Reading.{open_source, OneLeft};
 ghost use Rattle.grep_core.specs.Run.{writer};
 ghost use Rattle.grep_core.specs.Sources.{source_at, GivesBack};
 ghost use Rattle.grep_core.specs.Working.OneLine.{IsPlain};
 ghost use Rattle.grep_core.specs.Working.Searched.{is_missing, is_fault, SearchesSource};
 ghost use Rattle.grep_core.specs.Working.Searched.{BreaksSource, StopsSource};
 
-use crate::devices::counted::{CountedRead, CountedWrite, WriteFault};
-use crate::input::lines::{ReadFault, Stage};
-use crate::input::numbered::NumberedLines;
-use crate::input::sources::Sources;
 use crate::output::wanted::Wanted;
 use crate::search::around::search_around;
 use crate::search::behind::Behind;
@@ -22,6 +18,8 @@ use crate::search::held::{next_held, write_stretch};
 use crate::search::line::search_line;
 use crate::search::sending::send_before_read;
 use crate::search::setting::Setting;
+use crate::sources::Sources;
+use grep_io::{CountedRead, CountedWrite, NumberedLines, ReadFault, Stage, WriteFault};
 use re_search::{LineMatch, Meter, Searchers};
 
 /// How the search of a file ended.

@@ -8,16 +8,16 @@ ghost use Rattle.grep_core.specs.Output.{form, written};
 ghost use Rattle.grep_core.specs.Run.{writer, RunGives, devices};
 ghost use Rattle.grep_core.specs.Sources.{source_at, GivesBack};
 ghost use Rattle.grep_core.specs.Working.Searched.{summary_as, SourceGives};
-ghost use Rattle.grep_core.specs.Written.{Writes};
+ghost use Rattle.grep_io.specs.Written.{Writes};
 
-use crate::devices::counted::{CountedWrite, WriteFault};
-use crate::input::sources::Sources;
 use crate::options::Options;
 use crate::output::summary::{status_of, tell_fault, write_summary};
 use crate::output::wanted::Wanted;
 use crate::search::file::{FileFound, SearchFault, search_file};
 use crate::search::setting::{Asked, Setting};
+use crate::sources::Sources;
 use crate::status::{RunFault, Status};
+use grep_io::{CountedWrite, WriteFault};
 use re_search::{Filter, LineMatch, Meter, Searchers};
 use std::alloc::Global;
 

@@ -1,9 +1,8 @@
 //! Sending buffered output before a read that may wait.
 ghost use Rattle.std.specs.Prelude.{[]};
-ghost use Rattle.grep_core.specs.Written.{Writes};
+ghost use Rattle.grep_io.specs.Written.{Writes};
 
-use crate::devices::counted::{CountedRead, CountedWrite, WriteFault};
-use crate::input::numbered::NumberedLines;
+use grep_io::{CountedRead, CountedWrite, NumberedLines, WriteFault};
 
 /// Sends buffered output if the next line is not held whole, since it then needs a read, which may
 /// wait.

@@ -1,17 +1,17 @@
 use Rattle.std.proofs.Common.{◌≡◌, ◌*◌, ◌+◌, ◌≤◌, ◌∙◌, [], ◌∷◌, ◌++◌, Bool, true, Result, Err, length, length-append, append_assoc, map, take, refl, sym, ap, subst, arith, if◌then◌else◌}
 use Rattle.re_syntax.specs.Lines.{terminated}
 use Rattle.re_search.proofs.lemmas.KeptMatchers.{unasked, asked_over, same_sought}
-use Rattle.grep_core.specs.declared.input.lines.ReadFault.{ReadFault}
+use Rattle.grep_io.specs.declared.input.lines.ReadFault.{ReadFault}
 use Rattle.std.specs.Result.{IsErrAnd}
 use Rattle.grep_core.specs.declared.search.file.SearchFault.{SearchFault}
 use Rattle.grep_core.specs.declared.search.file.SearchFault.TheVariants.{Write, Memory}
 use Rattle.grep_core.specs.Cost.{SearchesLines}
-use Rattle.grep_core.specs.Reading.{IsOneLineAndFew}
-use Rattle.grep_core.proofs.lemmas.WindowLemmas.{none_in_nothing, few_behind}
+use Rattle.grep_io.specs.Reading.{IsOneLineAndFew}
+use Rattle.grep_io.proofs.lemmas.WindowLemmas.{none_in_nothing, few_behind}
 use Rattle.grep_core.specs.Working.LastLines.{LastLines}
 use Rattle.grep_core.specs.Working.Passed.{Waits}
 use Rattle.grep_core.proofs.lemmas.WaitingRows.{if_kept}
-use Rattle.grep_core.specs.Working.Numbered.{HasHanded, NextIs}
+use Rattle.grep_io.specs.Working.Numbered.{HasHanded, NextIs}
 use Rattle.grep_core.specs.Working.Progress.{next_shown, last_of}
 use Rattle.grep_core.specs.Working.Stretches.{IsNextOf}
 use Rattle.grep_core.proofs.lemmas.CostLaws.{adds_none, searched_bytes, searched_more_lines, searched_one_line, searched_once}

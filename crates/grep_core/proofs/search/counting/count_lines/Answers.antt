@@ -1,7 +1,7 @@
 use Rattle.std.proofs.Common.{◌≡◌, ◌∙◌, [], Bool, false, Result, Err, map, refl, ap, subst, arith}
 use Rattle.re_search.proofs.lemmas.KeptMatchers.{unasked, asked_over}
-use Rattle.grep_core.specs.declared.input.lines.ReadFault.{ReadFault}
-use Rattle.grep_core.specs.Working.Numbered.{NextIs}
+use Rattle.grep_io.specs.declared.input.lines.ReadFault.{ReadFault}
+use Rattle.grep_io.specs.Working.Numbered.{NextIs}
 use Rattle.grep_core.proofs.lemmas.WrittenLemmas.{TakesAll-written, TakesFront-written}
 use Rattle.grep_core.proofs.lemmas.FileOutput.{rows_none}
 use Rattle.grep_core.proofs.lemmas.LinesLemmas.{counts_plain, counts_late, written_plain, searched_none, searched_counted, counted_further, searched_sent, breaks_sending, may_count, fewer_left, searched_line, breaks_at, ends_whole, ends_broken, runs_out}

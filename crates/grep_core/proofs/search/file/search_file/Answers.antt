@@ -1,5 +1,5 @@
 use Rattle.std.proofs.Common.{◌≡◌, ◌+◌, [], ◌∷◌, map, ap, subst, ◌∙◌}
-use Rattle.grep_core.specs.Working.Numbered.{Numbered}
+use Rattle.grep_io.specs.Working.Numbered.{Numbered}
 use Rattle.grep_core.specs.Run.{writer, count_more}
 use Rattle.grep_core.specs.Sources.{source_at, GivesBack}
 use Rattle.grep_core.proofs.lemmas.SourceLaws.{gives_both}

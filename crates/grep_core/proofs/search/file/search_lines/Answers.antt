@@ -1,7 +1,7 @@
 use Rattle.std.proofs.Common.{◌≡◌, ◌∙◌, [], Bool, false, Result, Err, map, refl, sym, ap, subst, arith}
 use Rattle.re_search.proofs.lemmas.KeptMatchers.{unasked, asked_over, same_sought}
-use Rattle.grep_core.specs.declared.input.lines.ReadFault.{ReadFault}
-use Rattle.grep_core.specs.Working.Numbered.{NextIs}
+use Rattle.grep_io.specs.declared.input.lines.ReadFault.{ReadFault}
+use Rattle.grep_io.specs.Working.Numbered.{NextIs}
 use Rattle.grep_core.specs.Working.Searched.{leaves_early}
 use Rattle.grep_core.proofs.lemmas.WrittenLemmas.{TakesAll-written, TakesFront-written}
 use Rattle.grep_core.proofs.lemmas.FileOutput.{rows_none}

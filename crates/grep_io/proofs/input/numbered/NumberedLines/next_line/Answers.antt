@@ -1,0 +1,60 @@
+use Rattle.std.proofs.Common.{◌≡◌, ◌≢◌, ◌<◌, [], Err, ap, arith}
+use Rattle.grep_io.specs.declared.input.lines.Stage.TheVariants.{Ended}
+use Rattle.grep_io.specs.Reading.{most_lines}
+use Rattle.grep_io.proofs.lemmas.WindowLemmas.{none_in_nothing, one_line, one_line_and_few}
+use Rattle.grep_io.proofs.lemmas.NumberedLemmas.{next_is_line, next_is_end, next_is_cut, next_is_past, next_is_refused}
+use Rattle.grep_io.proofs.input.numbered.NumberedLines.next_line.Goals as goal
+
+pub returns-in-Ok-true-clause-next : goal.returns-in-Ok-true-clause-next
+returns-in-Ok-true-clause-next g c =
+    let handed_out = rw c.in-Ok-true.field-0-test at c.in-Ok-true.ensures.line in
+    let full : c.self.inside.number ≡ most_lines = omega arith in
+    rw (← c.self.view_is) (λ reader handed s. next_is_past g.R.CountedRead.remaining g.R.CountedRead.failures reader c.self.inside.lines c.next_line.new.self c.self.inside.number handed s full handed_out)
+
+pub returns-in-Ok-true-2-clause-next : goal.returns-in-Ok-true-2-clause-next
+returns-in-Ok-true-2-clause-next g c =
+    let handed_out = rw c.in-Ok-true.field-0-test at c.in-Ok-true.ensures.line in
+    let below : c.self.inside.number < most_lines = omega arith in
+    rw (← c.self.view_is) (λ reader handed s. next_is_line g.R.CountedRead.remaining g.R.CountedRead.failures reader c.self.inside.lines c.next_line.new.self c.self.inside.number handed s below handed_out)
+
+pub returns-in-Ok-false-clause-next : goal.returns-in-Ok-false-clause-next
+returns-in-Ok-false-clause-next g c =
+    let used_up = rw c.in-Ok-false.field-0-test at c.in-Ok-false.ensures.line in
+    rw (← c.self.view_is) (λ reader handed s. next_is_end g.R.CountedRead.remaining g.R.CountedRead.failures reader c.self.inside.lines c.next_line.new.self c.self.inside.number handed s used_up)
+
+pub returns-in-Err-Device-clause-next : goal.returns-in-Err-Device-clause-next
+returns-in-Err-Device-clause-next g c =
+    let cut_off = c.in-Err-Device.ensures.device (ap Err c.in-Err-Device.field-0-is) in
+    let not_over : c.self.inside.lines.stage ≢ Ended = λ e. let no = c.in-Err-Device.ensures.over e in cc in
+    rw (← c.self.view_is) (λ reader handed s. next_is_cut g.R.CountedRead.remaining g.R.CountedRead.failures reader c.self.inside.lines c.next_line.new.self c.self.inside.number handed s not_over cut_off)
+
+pub returns-in-Err-Memory-clause-next : goal.returns-in-Err-Memory-clause-next
+returns-in-Err-Memory-clause-next g c =
+    let refused = c.in-Err-Memory.ensures.memory (ap Err c.in-Err-Memory.field-0-is) in
+    let not_over : c.self.inside.lines.stage ≢ Ended = λ e. let no = c.in-Err-Memory.ensures.over e in cc in
+    rw (← c.self.view_is) (λ reader handed s. next_is_refused g.R.CountedRead.remaining g.R.CountedRead.failures reader c.self.inside.lines c.next_line.new.self c.self.inside.number handed s not_over refused)
+
+pub returns-in-Ok-true-clause-held : goal.returns-in-Ok-true-clause-held
+returns-in-Ok-true-clause-held g c =
+    let handed_out = rw c.in-Ok-true.field-0-test at c.in-Ok-true.ensures.line in
+    one_line_and_few [] c.next_line.new.self.ahead none_in_nothing handed_out.few_held
+
+pub returns-in-Ok-true-2-clause-held : goal.returns-in-Ok-true-2-clause-held
+returns-in-Ok-true-2-clause-held g c =
+    let handed_out = rw c.in-Ok-true.field-0-test at c.in-Ok-true.ensures.line in
+    one_line_and_few [] c.next_line.new.self.ahead none_in_nothing handed_out.few_held
+
+pub returns-in-Ok-false-clause-held : goal.returns-in-Ok-false-clause-held
+returns-in-Ok-false-clause-held g c =
+    let used_up = rw c.in-Ok-false.field-0-test at c.in-Ok-false.ensures.line in
+    rw used_up.none_held none_in_nothing
+
+pub returns-in-Err-Device-clause-held : goal.returns-in-Err-Device-clause-held
+returns-in-Err-Device-clause-held g c =
+    let cut_off = c.in-Err-Device.ensures.device (ap Err c.in-Err-Device.field-0-is) in
+    one_line c.next_line.new.self.ahead cut_off.unfinished
+
+pub returns-in-Err-Memory-clause-held : goal.returns-in-Err-Memory-clause-held
+returns-in-Err-Memory-clause-held g c =
+    let refused = c.in-Err-Memory.ensures.memory (ap Err c.in-Err-Memory.field-0-is) in
+    refused.few_held

@@ -1,0 +1,6 @@
+//! The lines of a reader.
+
+pub mod lines;
+pub mod newlines;
+pub mod numbered;
+pub mod window;
