@@ -9,6 +9,8 @@ pub mod Groups
 pub mod Progress
 pub mod LastLines
 pub mod Searched
+pub mod Given
+pub mod Taken
 pub mod SameChoice
 pub mod MatcherLists
 pub mod Stretches

@@ -11,8 +11,7 @@ use crate::options::Form;
 use crate::output::counts::{write_count, write_name};
 use crate::output::messages::{write_cannot_open, write_read_error};
 use crate::output::wanted::Wanted;
-use crate::search::file::{FileEnd, FileFound};
-use crate::status::Status;
+use crate::status::{FileEnd, FileFound, Status};
 use grep_io::{CountedWrite, WriteFault, push_all};
 
 /// Writes what follows the rows of a file's lines: under `-l` the file's name, if a line is

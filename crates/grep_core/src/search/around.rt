@@ -13,18 +13,19 @@ ghost use Rattle.grep_io.specs.Written.{Writes};
 ghost use Rattle.grep_core.specs.Working.Passed.{Waits};
 ghost use Rattle.grep_core.specs.Working.Progress.{rows_around, row_by, rows_at, last_of};
 ghost use Rattle.grep_core.specs.Working.Progress.{next_shown};
-ghost use Rattle.grep_core.specs.Working.ShownLines.{ShowsLine, BreaksShown};
-ghost use Rattle.grep_core.specs.Working.Searched.{SearchesSource, BreaksSource, StopsSource};
+ghost use Rattle.grep_core.specs.Working.ShownLines.{ShowGives};
+ghost use Rattle.grep_core.specs.Working.Given.{SearchGives};
 
 use crate::options::Context;
 use crate::output::around::{Progress, Shown};
 use crate::output::rows::write_separator;
 use crate::output::wanted::Wanted;
 use crate::search::behind::Behind;
-use crate::search::file::{FileEnd, FileFound, SearchFault, count_found};
+use crate::search::file::count_found;
 use crate::search::held::next_held;
 use crate::search::matching::is_selected;
-use crate::search::sending::send_before_read;
+use crate::search::taking::take_next;
+use crate::status::{FileEnd, FileFound, SearchFault};
 use grep_io::{CountedRead, CountedWrite, NumberedLines, ReadFault, Stage, WriteFault};
 use re_search::{LineMatch, Meter, Searchers};
 use std::alloc::AllocError;
@@ -150,16 +151,9 @@ fn show_line<W: CountedWrite>(
 ) -> Result<(), SearchFault>
     requires few { progress.old.waiting ≤ progress.old.context.before }
     requires held { length behind.old.lines ≤ number }
-    ensures ok { IfOk result (λ _. ShowsLine wanted.now.options wanted.now.many
-        wanted.now.name.now found number line.now progress.old progress.new behind.old behind.new
-        (writer W.contents W.failures out.old) (writer W.contents W.failures out.new)) }
-    ensures write { result ≡ Err SearchFault.Write → BreaksShown wanted.now.options
-        wanted.now.many wanted.now.name.now found number line.now progress.old behind.old
-        (writer W.contents W.failures out.old) (writer W.contents W.failures out.new) }
-    ensures memory { (count : ℕ) → result ≡ Err (SearchFault.Memory count) → (number ≡ count)
-        × TakesAll (writer W.contents W.failures out.old) (writer W.contents W.failures out.new)
-        (rows_at wanted.now.options wanted.now.many wanted.now.name.now found
-        (next_shown progress.old found) behind.old.lines number line.now) }
+    ensures { ShowGives wanted.now.options wanted.now.many wanted.now.name.now found number
+        line.now progress.old progress.new behind.old behind.new
+        (writer W.contents W.failures out.old) (writer W.contents W.failures out.new) result }
 {
     let at = progress.step(found);
     write_shown(wanted, behind, at, found, number, line, out)?;
@@ -190,27 +184,12 @@ pub fn search_around<R: CountedRead, M: LineMatch, W: CountedWrite>(
     requires is_asked { form wanted.now.options ≡ around context }
     requires whole { asks_whole searchers.old ≡ wanted.now.options.line_regexp }
     requires none_behind { behind.old ≡ record { limit = context.before; lines = [] } }
-    ensures ok { IfOk result
-        (λ found. SearchesSource (expressions_by M.expression searchers.old) wanted.now.options wanted.now.many
-        shown (open_source wanted.now.name.now (R.remaining lines.old.lines.reader))
+    ensures given { SearchGives (expressions_by M.expression searchers.old) wanted.now.options
+        wanted.now.many shown (open_source wanted.now.name.now (R.remaining lines.old.lines.reader))
         (OneLeft (R.remaining lines.new.lines.reader))
         (R.failures lines.old.lines.reader) (R.failures lines.new.lines.reader)
         (writer W.contents W.failures out.old) (writer W.contents W.failures out.new)
-        meter.old meter.new found.end found.selected) }
-    ensures write { result ≡ Err SearchFault.Write →
-        BreaksSource (expressions_by M.expression searchers.old) wanted.now.options wanted.now.many
-        shown (open_source wanted.now.name.now (R.remaining lines.old.lines.reader))
-        (OneLeft (R.remaining lines.new.lines.reader))
-        (R.failures lines.old.lines.reader) (R.failures lines.new.lines.reader)
-        (writer W.contents W.failures out.old) (writer W.contents W.failures out.new) meter.old
-        meter.new }
-    ensures memory { (count : ℕ) → result ≡ Err (SearchFault.Memory count) →
-        StopsSource (expressions_by M.expression searchers.old) wanted.now.options wanted.now.many
-        shown (open_source wanted.now.name.now (R.remaining lines.old.lines.reader))
-        (OneLeft (R.remaining lines.new.lines.reader)) count (R.failures lines.old.lines.reader)
-        (R.failures lines.new.lines.reader)
-        (writer W.contents W.failures out.old) (writer W.contents W.failures out.new) meter.old
-        meter.new }
+        meter.old meter.new result }
     ensures same { SameSearchers M.expression M.whole searchers.old searchers.new }
 {
     let mut progress = Progress::new(context, shown);
@@ -230,24 +209,15 @@ pub fn search_around<R: CountedRead, M: LineMatch, W: CountedWrite>(
             continue 'lines;
         }
         lines.pass(bytes, count);
-        send_before_read(lines, out)?;
-        match lines.next_line() {
-            Ok(true) => {
-                let number = lines.number();
-                let line = lines.line();
-                let found = is_selected(searchers, wanted.options, line, meter);
-                show_line(wanted, &mut progress, behind, found, number, line, out)?;
-                selected = count_found(selected, found);
-            }
-            Ok(false) => {
-                let end = FileEnd::Whole;
-                return Ok(FileFound { end, selected });
-            }
-            Err(ReadFault::Device) => {
-                let end = FileEnd::Broken;
-                return Ok(FileFound { end, selected });
-            }
-            Err(ReadFault::Memory) => return Err(SearchFault::Memory(lines.number())),
+        match take_next(lines, out) {
+            Ok(None) => {}
+            Ok(Some(end)) => return Ok(FileFound { end, selected }),
+            Err(fault) => return Err(fault),
         }
+        let number = lines.number();
+        let line = lines.line();
+        let found = is_selected(searchers, wanted.options, line, meter);
+        show_line(wanted, &mut progress, behind, found, number, line, out)?;
+        selected = count_found(selected, found);
     }
 }
