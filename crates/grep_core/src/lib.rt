@@ -10,8 +10,8 @@ mod sources;
 mod status;
 
 pub use grep_io::{
-    Buffered, CountedRead, CountedWrite, Limited, Lines, NumberedLines, ReadFault, Stage, Tally,
-    WholeLines, WriteFault, push_all,
+    Buffered, CountedRead, CountedWrite, Limited, Lines, ReadFault, Stage, Tally, WholeLines,
+    WriteFault, push_all,
 };
 pub use laws::{context_is_for_lines, has_one_answer, means_one};
 pub use options::{Context, Flag, Form, Options};

@@ -2,5 +2,4 @@
 
 pub mod lines;
 pub mod newlines;
-pub mod numbered;
 pub mod window;

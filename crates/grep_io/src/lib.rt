@@ -12,5 +12,4 @@ pub use devices::push::push_all;
 pub use devices::whole_lines::WholeLines;
 pub use input::lines::{Lines, ReadFault, Stage};
 pub use input::newlines::count_newlines;
-pub use input::numbered::NumberedLines;
 pub use input::window::lines_end;

@@ -15,7 +15,7 @@ use crate::search::file::count_found;
 use crate::search::line::search_line;
 use crate::search::taking::take_next;
 use crate::status::{FileEnd, FileFound, SearchFault};
-use grep_io::{CountedRead, CountedWrite, NumberedLines, ReadFault, Stage};
+use grep_io::{CountedRead, CountedWrite, Lines, ReadFault, Stage};
 use re_search::{LineMatch, Meter, Searchers};
 
 // How many of `count` lines are selected, of which `matched` are matched (XCU grep, option `-v`).
@@ -33,7 +33,7 @@ fn count_selected(options: &Options, count: u64, matched: u64) -> u64
 // Passes the next lines, as far as they are held, and adds the number of the selected ones to the
 // count. None is passed where there are more than can be numbered.
 fn pass_counted<R: CountedRead, M: LineMatch>(
-    lines: &mut NumberedLines<R>,
+    lines: &mut Lines<R>,
     searchers: &mut Searchers<'_, '_, M>,
     options: &Options,
     selected: u64,
@@ -60,7 +60,7 @@ fn pass_counted<R: CountedRead, M: LineMatch>(
 /// Searches the lines of a reader, from the first on, where only the number of selected lines is
 /// written, and that after the last line. Buffered output is sent before a read, which may wait.
 pub fn count_lines<R: CountedRead, M: LineMatch, W: CountedWrite>(
-    lines: &mut NumberedLines<R>,
+    lines: &mut Lines<R>,
     searchers: &mut Searchers<'_, '_, M>,
     wanted: &Wanted,
     out: &mut W,

@@ -10,8 +10,7 @@ ghost use Rattle.grep_core.specs.Working.OneLine.{IsPlain};
 ghost use Rattle.grep_core.specs.Working.Given.{SearchGives};
 
 use crate::output::wanted::Wanted;
-use crate::search::around::search_around;
-use crate::search::behind::Behind;
+use crate::search::around::{Surroundings, search_around};
 use crate::search::counting::count_lines;
 use crate::search::held::{next_held, write_stretch};
 use crate::search::line::search_line;
@@ -19,7 +18,7 @@ use crate::search::setting::Setting;
 use crate::search::taking::take_next;
 use crate::sources::Sources;
 use crate::status::{FileEnd, FileFound, SearchFault};
-use grep_io::{CountedRead, CountedWrite, NumberedLines, ReadFault, Stage, WriteFault};
+use grep_io::{CountedRead, CountedWrite, Lines, ReadFault, Stage, WriteFault};
 use re_search::{LineMatch, Meter, Searchers};
 
 /// One more, where a line was found.
@@ -33,7 +32,7 @@ pub fn count_found(selected: u64, found: bool) -> u64
 /// Searches the lines of a reader, from the first on: writes the rows of the selected lines, and
 /// under `-q` and `-l` stops at the first. Buffered output is sent before a read, which may wait.
 fn search_lines<R: CountedRead, M: LineMatch, W: CountedWrite>(
-    lines: &mut NumberedLines<R>,
+    lines: &mut Lines<R>,
     searchers: &mut Searchers<'_, '_, M>,
     wanted: &Wanted,
     out: &mut W,
@@ -86,7 +85,7 @@ fn search_lines<R: CountedRead, M: LineMatch, W: CountedWrite>(
 // Searches the lines of a reader, from the first on, as the options ask.
 fn search_opened<R: CountedRead, M: LineMatch, W: CountedWrite>(
     setting: &Setting,
-    lines: &mut NumberedLines<R>,
+    lines: &mut Lines<R>,
     searchers: &mut Searchers<'_, '_, M>,
     wanted: &Wanted,
     out: &mut W,
@@ -110,47 +109,37 @@ fn search_opened<R: CountedRead, M: LineMatch, W: CountedWrite>(
     let Some(context) = wanted.options.shown_around() else {
         return search_lines(lines, searchers, wanted, out, meter);
     };
-    let mut behind = Behind::new(setting.asked.alloc, context.before);
-    search_around(
-        context,
-        setting.shown,
-        &mut behind,
-        lines,
-        searchers,
-        wanted,
-        out,
-        meter,
-    )
+    let mut surroundings = Surroundings::new(setting.asked.alloc, context, setting.shown);
+    search_around(&mut surroundings, lines, searchers, wanted, out, meter)
 }
 
 /// Opens the next source, searches its lines and returns its reader.
 pub fn search_file<S: Sources, M: LineMatch, W: CountedWrite>(
     setting: &Setting,
     sources: &mut S,
-    k: usize,
     searchers: &mut Searchers<'_, '_, M>,
     out: &mut W,
     meter: &mut Meter,
 ) -> Result<FileFound, SearchFault>
-    requires place { k < length (S.listed sources.old) }
-    requires in_order { S.stands_at sources.old k }
+    requires place { setting.now.place < length (S.listed sources.old) }
+    requires in_order { S.stands_at sources.old setting.now.place }
     requires whole { asks_whole searchers.old ≡ setting.now.asked.options.line_regexp }
     ensures listed { S.listed sources.new ≡ S.listed sources.old }
-    ensures next { S.stands_at sources.new (k + 1) }
+    ensures next { S.stands_at sources.new (setting.now.place + 1) }
     ensures same_loan { S.loan sources.new ≡ S.loan sources.old }
     ensures given { SearchGives (expressions_by M.expression searchers.old)
         setting.now.asked.options setting.now.many setting.now.shown
-        (source_at (S.listed sources.old) k) (GivesBack S.given_back sources.old sources.new)
+        (source_at (S.listed sources.old) setting.now.place) (GivesBack S.given_back sources.old sources.new)
         (S.failures sources.old) (S.failures sources.new)
         (writer W.contents W.failures out.old) (writer W.contents W.failures out.new)
         meter.old meter.new result }
     ensures same { SameSearchers M.expression M.whole searchers.old searchers.new }
 {
-    let Some(reader) = sources.open(k) else {
+    let Some(reader) = sources.open(setting.place) else {
         let end = FileEnd::Missing;
         return Ok(FileFound { end, selected: 0 });
     };
-    let mut lines = match NumberedLines::new(setting.asked.alloc, reader) {
+    let mut lines = match Lines::new(setting.asked.alloc, reader) {
         Ok(lines) => lines,
         Err(reader) => {
             sources.close(reader);
@@ -160,7 +149,7 @@ pub fn search_file<S: Sources, M: LineMatch, W: CountedWrite>(
     let wanted = Wanted {
         options: setting.asked.options,
         many: setting.many,
-        name: sources.name(k),
+        name: sources.name(setting.place),
     };
     let found = search_opened(setting, &mut lines, searchers, &wanted, out, meter);
     sources.close(lines.into_reader());

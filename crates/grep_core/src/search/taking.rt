@@ -6,7 +6,7 @@ ghost use Rattle.grep_io.specs.Written.{Writes};
 ghost use Rattle.grep_core.specs.Working.Taken.{NextTaken};
 
 use crate::status::{FileEnd, SearchFault};
-use grep_io::{CountedRead, CountedWrite, NumberedLines, ReadFault, WriteFault};
+use grep_io::{CountedRead, CountedWrite, Lines, ReadFault, WriteFault};
 
 /// Sends buffered output if the next line is not held whole, since it then needs a read, which may
 /// wait.
@@ -14,7 +14,7 @@ use grep_io::{CountedRead, CountedWrite, NumberedLines, ReadFault, WriteFault};
 /// Returns `WriteFault` if a write fails. It is not tried again.
 #[tactic(auto, using(crate::proofs::lemmas::RowLemmas::writing))]
 pub fn send_before_read<R: CountedRead, W: CountedWrite>(
-    lines: &NumberedLines<R>,
+    lines: &Lines<R>,
     out: &mut W,
 ) -> Result<(), WriteFault>
     ensures { Writes W.contents W.failures out.old out.new [] result }
@@ -29,7 +29,7 @@ pub fn send_before_read<R: CountedRead, W: CountedWrite>(
 /// before a read, which may wait.
 #[inline(always)]
 pub fn take_next<R: CountedRead, W: CountedWrite>(
-    lines: &mut NumberedLines<R>,
+    lines: &mut Lines<R>,
     out: &mut W,
 ) -> Result<Option<FileEnd>, SearchFault>
     ensures { (reader : R) (handed : List Text)
@@ -38,7 +38,7 @@ pub fn take_next<R: CountedRead, W: CountedWrite>(
         out.new result }
 {
     send_before_read(lines, out)?;
-    match lines.next_line() {
+    match lines.next_numbered() {
         Ok(true) => Ok(None),
         Ok(false) => Ok(Some(FileEnd::Whole)),
         Err(ReadFault::Device) => Ok(Some(FileEnd::Broken)),

@@ -102,6 +102,12 @@ module _ {R : Type 0} (remaining : R → Option Text) (failures : R → ℕ) whe
       (nil_from_length new (omega (arith, long, ap length h.0)), h.1)
   stage_stays Failed old new reader count h cut = rest_free (take count old) new (subst HasNoNewline cut h)
 
+  -- at the end nothing is ahead
+  pub none_at_end : (stage : Stage) (ahead : Text) (reader : R) → IsStageOf remaining failures stage ahead reader → stage ≡ Ended → ahead ≡ []
+  none_at_end Open ahead reader h over = absurd (let no : ⊥ = cc in no)
+  none_at_end Ended ahead reader h over = h.0
+  none_at_end Failed ahead reader h over = absurd (let no : ⊥ = cc in no)
+
   handed_too : (stage : Stage) (given : Text) (handed lines : List Text) → AreHanded stage given handed → (stage ≡ Ended → lines ≡ []) → All HasNoNewline lines → AreHanded stage (given ++ terminated lines) (handed ++ lines)
   handed_too Open given handed lines h none free =
       (ap (λ l. l ++ terminated lines) h.0 ∙ sym (terminated-append handed lines), All-append HasNoNewline handed lines h.1 free)

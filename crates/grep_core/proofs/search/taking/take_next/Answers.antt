@@ -15,10 +15,10 @@ returns-in-Ok-false g c = λ reader handed h.
 
 pub returns-in-Err-Device : goal.returns-in-Err-Device
 returns-in-Err-Device g c = λ reader handed h.
-    let next = subst (λ (r : Result Bool ReadFault). NextIs g.R.CountedRead.remaining g.R.CountedRead.failures reader handed c.next_line.new.self r) (ap Err c.in-Err-Device.field-0-is) (c.in-Err-Device.ensures.next reader handed h) in
+    let next = subst (λ (r : Result Bool ReadFault). NextIs g.R.CountedRead.remaining g.R.CountedRead.failures reader handed c.next_numbered.new.self r) (ap Err c.in-Err-Device.field-0-is) (c.in-Err-Device.ensures.next reader handed h) in
     (next, c.in_ok-send_before_read.ensures)
 
 pub returns-in-Err-Memory : goal.returns-in-Err-Memory
 returns-in-Err-Memory g c = λ reader handed h.
-    let next = subst (λ (r : Result Bool ReadFault). NextIs g.R.CountedRead.remaining g.R.CountedRead.failures reader handed c.next_line.new.self r) (ap Err c.in-Err-Memory.field-0-is) (c.in-Err-Memory.ensures.next reader handed h) in
+    let next = subst (λ (r : Result Bool ReadFault). NextIs g.R.CountedRead.remaining g.R.CountedRead.failures reader handed c.next_numbered.new.self r) (ap Err c.in-Err-Memory.field-0-is) (c.in-Err-Memory.ensures.next reader handed h) in
     (next, c.in-Err-Memory.ensures.held, sym c.number.ensures, c.in_ok-send_before_read.ensures)

@@ -9,9 +9,10 @@ invariant-loop-self g l =
     let remaining = g.R.CountedRead.remaining in
     record {
       still_open : l.self-inside.stage ≡ Open;
-      kept : Keeps (prepend_known l.fn.self.ahead (remaining l.fn.self.reader)) (prepend_known l.self-inside.window.ahead (remaining l.self-inside.reader));
-      none_failed : g.R.CountedRead.failures l.self-inside.reader ≡ g.R.CountedRead.failures l.fn.self.reader;
-      same_loan : g.R.CountedRead.loan l.self-inside.reader ≡ g.R.CountedRead.loan l.fn.self.reader;
+      kept : Keeps (prepend_known l.fn.self.lines.ahead (remaining l.fn.self.lines.reader)) (prepend_known l.self-inside.window.ahead (remaining l.self-inside.reader));
+      none_failed : g.R.CountedRead.failures l.self-inside.reader ≡ g.R.CountedRead.failures l.fn.self.lines.reader;
+      same_number : l.self-inside.number ≡ l.fn.self.number;
+      same_loan : g.R.CountedRead.loan l.self-inside.reader ≡ g.R.CountedRead.loan l.fn.self.lines.reader;
     }
 
 abbrev pub decreases-loop-self : goal.decreases-loop-self

@@ -1,6 +1,6 @@
 use Rattle.std.proofs.Common.{◌∙◌, arith}
 use Rattle.grep_io.proofs.lemmas.PassedLemmas.{count_block}
-use Rattle.grep_io.proofs.input.numbered.NumberedLines.count.Goals as goal
+use Rattle.grep_io.proofs.input.lines.Lines.count.Goals as goal
 
 pub returns : goal.returns
 returns g c =
