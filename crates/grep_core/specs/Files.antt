@@ -7,18 +7,8 @@ use Rattle.re_syntax.specs.Bytes.{Text}
 use Rattle.re_syntax.specs.Expression.{Expression}
 use Rattle.re_syntax.specs.Holds.{Matches}
 use Rattle.re_syntax.specs.Spelled.{IsMeant}
+pub use Rattle.grep_io.specs.File.{File, Ending, whole, missing, broken}
 use Rattle.grep_core.specs.declared.options.Options.{Options}
-
--- how a file ended: read to its end, not opened, or left where a read failed
-pub data Ending : Type 0 where
-  whole : Ending
-  missing : Ending
-  broken : Ending
-
-pub record File : Type 0 where
-  pub name : Text
-  pub lines : List Text
-  pub ending : Ending
 
 -- all that grep's output is of
 pub record Inputs : Type 0 where

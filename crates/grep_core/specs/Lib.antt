@@ -6,22 +6,22 @@ pub use Rattle.re_syntax.specs.Parts
 pub use Rattle.re_syntax.specs.Lines
 pub use Rattle.re_syntax.specs.Spelled
 pub use Rattle.re_search.specs.Meters
+pub use Rattle.grep_io.specs.Counted
+pub use Rattle.grep_io.specs.Written
+pub use Rattle.grep_io.specs.Buffer
+pub use Rattle.grep_io.specs.Reading
 pub use Rattle.re_search.specs.Searching
 pub use Rattle.re_search.specs.Working.Filters
 -- what the contract of the whole command, or of the session, rests on
-pub mod Counted
 pub mod Row
 pub mod Choose
 pub mod Files
 pub mod Around
 pub mod Output
 pub mod Messages
-pub mod Reading
 pub mod Run
 pub mod Sources
 pub mod Cost
-pub mod Buffer
-pub mod Written
 pub mod Matchers
 -- what the public laws say of the definitions
 pub mod Laws

@@ -1,5 +1,5 @@
 -- What a run over sources writes, each source read once from front to back.
-use Rattle.std.specs.Prelude.{◌≡◌, ℕ, zero, suc, ◌+◌, ◌<◌, ◌≤◌, IsTrue, List, [], ◌∷◌, ◌++◌}
+use Rattle.std.specs.Prelude.{◌≡◌, ℕ, suc, ◌+◌, ◌<◌, ◌≤◌, IsTrue, List, [], ◌∷◌, ◌++◌}
 use Rattle.std.specs.Prelude.{length, take, get_or, Option, Result, Ok, Err}
 use Rattle.std.specs.List.{AllZip}
 use Rattle.std.specs.Io.KnownBytes.{Appends}
@@ -11,13 +11,14 @@ use Rattle.grep_core.specs.declared.options.Options.{Options}
 use Rattle.grep_core.specs.declared.status.Status.{Status}
 use Rattle.grep_core.specs.declared.status.RunFault.{RunFault}
 use Rattle.grep_core.specs.declared.status.RunFault.TheVariants.{Write, MessageWrite, Memory}
-use Rattle.grep_core.specs.Counted.{one_more}
+pub use Rattle.grep_io.specs.Counted.{count_more}
+use Rattle.grep_io.specs.Counted.{one_more}
 use Rattle.grep_core.specs.Choose.{IfHolds}
 use Rattle.grep_core.specs.Files.{File, whole, missing, HasSelected, AreMeant}
 use Rattle.grep_core.specs.Output.{Form, parts, lines, around, form, OutAs, Out, are_many, written}
 use Rattle.grep_core.specs.Messages.{FaultMet, Messages, StatusOf}
-use Rattle.grep_core.specs.Reading.{Source, Reading, IsReadingOf, file_of, failures_of, AreLeft}
-use Rattle.grep_core.specs.Reading.{HasRead}
+use Rattle.grep_io.specs.Reading.{Source, Reading, IsReadingOf, file_of, failures_of, AreLeft}
+use Rattle.grep_io.specs.Reading.{HasRead}
 use Rattle.grep_core.specs.Sources.{source_at}
 use Rattle.grep_core.specs.Cost.{SearchesFiles}
 
@@ -42,11 +43,6 @@ pub record Devices : Type 0 where
 abbrev pub devices : Writer → Writer → ℕ → Steps → Devices
 devices out messages failures steps =
     record { out = out; messages = messages; source_failures = failures; steps = steps }
-
--- a count of n with more failures, which stays at the greatest u64
-abbrev pub count_more : ℕ → ℕ → ℕ
-count_more n zero = n
-count_more n (suc more) = one_more (count_more n more)
 
 -- the lines were written and no write failed
 pub record TakesAll (old new : Writer) (text : List Text) : Type 0 where

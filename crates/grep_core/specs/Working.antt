@@ -1,10 +1,7 @@
-pub mod Limited
-pub mod Sent
-pub mod LineReader
-pub mod Held
-pub mod Refilled
-pub mod Handed
-pub mod Numbered
+pub use Rattle.grep_io.specs.Working.Limited
+pub use Rattle.grep_io.specs.Working.LineReader
+pub use Rattle.grep_io.specs.Working.Handed
+pub use Rattle.grep_io.specs.Working.Numbered
 pub mod Passed
 pub mod Wanted
 pub mod OneLine
@@ -12,6 +9,8 @@ pub mod Groups
 pub mod Progress
 pub mod LastLines
 pub mod Searched
+pub mod Given
+pub mod Taken
 pub mod SameChoice
 pub mod MatcherLists
 pub mod Stretches

@@ -8,7 +8,7 @@ pub mod held;
 pub mod line;
 pub mod matching;
 pub mod run;
-pub mod sending;
 pub mod serving;
 pub mod setting;
 pub mod stretch;
+pub mod taking;

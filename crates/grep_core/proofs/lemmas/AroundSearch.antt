@@ -1,37 +1,42 @@
 -- A search of the lines of an open source of which lines around the selected ones are shown, one
 -- more line at a time.
-use Rattle.std.proofs.Common.{◌≡◌, ℕ, ◌+◌, ◌-◌, ◌^◌, ◌<◌, ◌≤◌, Bool, true, false, IsTrue, Decides, List, [], ◌∷◌, ◌++◌, Option, length, refl, sym, ap, subst, ◌∙◌, append-nil, inl, inr, arith, if◌then◌else◌}
+use Rattle.std.proofs.Common.{◌≡◌, ℕ, ◌+◌, ◌-◌, ◌^◌, ◌<◌, ◌≤◌, Bool, true, false, IsTrue, Decides, List, [], ◌∷◌, ◌++◌, Option, Result, Ok, Err, length, refl, sym, ap, subst, ◌∙◌, append-nil, inl, inr, arith, if◌then◌else◌}
 use Rattle.std.proofs.lemmas.List.{length-append, length_push}
+use Rattle.std.specs.Result.{IsErrAnd}
 use Rattle.re_syntax.specs.Bytes.{Text}
 use Rattle.re_syntax.specs.Expression.{Expression}
 use Rattle.re_search.specs.Meters.{Steps}
 use Rattle.grep_core.specs.declared.options.Options.{Options}
 use Rattle.grep_core.specs.declared.options.Context.{Context}
 use Rattle.grep_core.specs.declared.output.around.Progress.{Progress}
-use Rattle.grep_core.specs.declared.input.lines.Stage.TheVariants.{Open}
-use Rattle.grep_core.specs.declared.search.file.FileEnd.TheVariants.{Whole, Broken}
-use Rattle.grep_core.specs.Counted.{one_more}
+use Rattle.grep_io.specs.declared.input.lines.Stage.TheVariants.{Open}
+use Rattle.grep_core.specs.declared.status.FileFound.{FileFound}
+use Rattle.grep_core.specs.declared.status.SearchFault.{SearchFault}
+use Rattle.grep_core.specs.declared.status.SearchFault.TheVariants.{Write, Memory}
+use Rattle.grep_io.specs.Counted.{one_more}
 use Rattle.grep_core.specs.Choose.{EachGives}
-use Rattle.grep_core.specs.Files.{whole, broken, Selected}
+use Rattle.grep_core.specs.Files.{Selected}
 use Rattle.grep_core.specs.Output.{around, form, GroupsOf, SelectedLines}
-use Rattle.grep_core.specs.Reading.{open_source, most_lines, OneLeft, IsOneLineAndFew, HasRead}
+use Rattle.grep_io.specs.Reading.{open_source, most_lines, OneLeft, IsOneLineAndFew, HasRead}
 use Rattle.grep_core.specs.Run.{Writer, TakesAll, TakesFront}
 use Rattle.grep_core.specs.Cost.{SearchesLines}
-use Rattle.grep_core.specs.Working.Handed.{file_so_far}
+use Rattle.grep_io.specs.Working.Handed.{file_so_far}
 use Rattle.grep_core.specs.Working.LastLines.{LastLines}
-use Rattle.grep_core.specs.Working.Numbered.{Numbered, HasHanded, StandsAs}
+use Rattle.grep_io.specs.Working.Numbered.{Numbered, HasHanded}
 use Rattle.grep_core.specs.Working.Passed.{AreUnselected, Waits}
 use Rattle.grep_core.specs.Working.Progress.{progress_from, next_shown, behind_line, last_of, rows_at}
-use Rattle.grep_core.specs.Working.Searched.{leaves_early, SearchesSource, BreaksSource, StopsSource}
+use Rattle.grep_core.specs.Working.Searched.{leaves_early, BreaksSource, StopsSource}
+use Rattle.grep_core.specs.Working.Given.{SearchGives}
+use Rattle.grep_core.specs.Working.ShownLines.{ShowStops}
 use Rattle.grep_core.proofs.lemmas.AroundLemmas.{Tracks, tracks_none, tracks_line, tracks_passed, tracked_groups, tracks_further}
 use Rattle.grep_core.proofs.lemmas.CostLaws.{searched_no_line, searched_more_lines}
 use Rattle.grep_core.proofs.lemmas.ChooseLaws.{EachGives-one}
 use Rattle.grep_core.proofs.lemmas.FileOutput.{file_is, chosen_line, chosen_count}
 use Rattle.grep_core.proofs.lemmas.BlockLines.{last_of-many}
-use Rattle.grep_core.proofs.lemmas.HandedLemmas.{begins_with, has_read}
-use Rattle.grep_core.proofs.lemmas.LinesLemmas.{early_form, WrittenOf, WritesLines, searches_whole, searches_broken, stops_among, stops_behind, breaks_in, chosen_on}
-use Rattle.grep_core.proofs.lemmas.MoreLines.{file_with}
-use Rattle.grep_core.proofs.lemmas.NumberedLemmas.{has_handed_none}
+use Rattle.grep_io.proofs.lemmas.HandedLemmas.{begins_with, has_read}
+use Rattle.grep_core.proofs.lemmas.LinesLemmas.{early_form, WrittenOf, WritesLines, stops_among, stops_behind, breaks_in, chosen_on}
+use Rattle.grep_io.proofs.lemmas.FileLaws.{file_with}
+use Rattle.grep_io.proofs.lemmas.NumberedLemmas.{has_handed_none}
 use Rattle.grep_core.proofs.lemmas.WaitingRows.{WaitsNot, waits_not_next, held_next, length-last_of}
 use Rattle.grep_core.proofs.lemmas.Verdicts.{picked}
 use Rattle.grep_core.proofs.lemmas.WriterLaws.{TakesAll-nothing, TakesAll-more, TakesFront-more}
@@ -84,7 +89,7 @@ module _ {R : Type 0} (remaining : R → Option Text) (failures : R → ℕ) (es
   written_tracked p lines rows t = subst (λ shape. WrittenOf es options many shown name shape lines rows) (sym asked) (written_around p lines rows t)
 
   -- a source is not left early
-  never_early : {P : Type 0} → IsTrue (leaves_early options) → P
+  pub never_early : {P : Type 0} → IsTrue (leaves_early options) → P
   never_early early = absurd (elim (early_form options early) [ inl e ↦ (let no : ⊥ = cc (asked, e) in no) | inr e ↦ (let no : ⊥ = cc (asked, e) in no) ])
 
   pub followed_none : (now : Numbered R) (w : Writer) (steps : Steps) (behind : List Text) → now.lines.reader ≡ reader → now.lines.ahead ≡ [] → now.lines.stage ≡ Open → now.number ≡ 0 → behind ≡ [] → Followed now w w steps steps 0 (progress_from context shown) behind
@@ -161,34 +166,11 @@ module _ {R : Type 0} (remaining : R → Option Text) (failures : R → ℕ) (es
   }
 
   module _ (before now : Numbered R) (old mid : Writer) (began amid : Steps) (selected : ℕ) (p : Progress) (behind : List Text) (s : Followed before old mid began amid selected p behind) where
-    writes : WritesLines es options many shown name s.lines old mid selected
+    pub writes : WritesLines es options many shown name s.lines old mid selected
     writes = record { rows = s.rows; of = written_tracked p s.lines s.rows s.tracks; wrote = s.wrote; chosen = s.chosen; are_chosen = s.are_chosen; counted = s.counted }
 
     pub same_before : p.context.before ≡ context.before
     same_before = ap (λ (c : Context). c.before) s.tracks.same_context
-
-    -- buffered output could not be sent
-    pub followed_unsent : (new : Writer) → TakesFront mid new [] → new.failures ≡ one_more mid.failures
-        → BreaksSource es options many shown (open_source name (remaining reader)) (OneLeft (remaining before.lines.reader)) (failures reader) (failures before.lines.reader) old new began amid
-    followed_unsent new front counted =
-        breaks_in es options many shown name (remaining reader) (remaining before.lines.reader) old mid new began amid selected (failures reader) (failures before.lines.reader) s.handed.hands.none_failed
-        s.lines s.rows (written_tracked p s.lines s.rows s.tracks) (subst (TakesFront old new) (append-nil s.rows) (TakesFront-more old mid new s.rows [] s.wrote front)) (counted ∙ ap one_more s.wrote.none_failed) s.steps
-        (begins_with remaining failures name reader before.lines s.lines s.handed.hands s.handed.few)
-
-    -- no line is left
-    pub followed_whole : StandsAs remaining failures reader now s.lines whole → SearchesSource es options many shown (open_source name (remaining reader)) (OneLeft (remaining now.lines.reader)) (failures reader) (failures now.lines.reader) old mid began amid Whole selected
-    followed_whole stands = searches_whole es options many shown name (remaining reader) (remaining now.lines.reader) old mid began amid (failures reader) (failures now.lines.reader) s.lines selected writes s.steps (stands name)
-
-    -- a read failed, or there is one line too many
-    pub followed_broken : StandsAs remaining failures reader now s.lines broken → SearchesSource es options many shown (open_source name (remaining reader)) (OneLeft (remaining now.lines.reader)) (failures reader) (failures now.lines.reader) old mid began amid Broken selected
-    followed_broken stands = searches_broken es options many shown name (remaining reader) (remaining now.lines.reader) old mid began amid (failures reader) (failures now.lines.reader) s.lines selected writes s.steps (stands name) never_early
-
-    -- out of memory
-    pub followed_out : HasHanded remaining failures reader now s.lines → IsOneLineAndFew now.lines.ahead → (count : ℕ) → now.number ≡ count
-        → StopsSource es options many shown (open_source name (remaining reader)) (OneLeft (remaining now.lines.reader)) count (failures reader) (failures now.lines.reader) old mid began amid
-    followed_out handed few count is_count =
-        stops_behind es options many shown name (remaining reader) (remaining now.lines.reader) old mid began amid s.lines selected count writes s.steps
-        (begins_with remaining failures name reader now.lines s.lines handed.hands handed.few) (handed.counted ∙ is_count) (has_read remaining failures name reader now.lines s.lines handed.hands few) (failures reader) (failures now.lines.reader) handed.hands.none_failed
 
     -- lines that were searched could not be kept
     pub followed_unkept : now.lines.reader ≡ before.lines.reader → IsOneLineAndFew before.lines.ahead → (all : List Text) (ended : Steps) → HasHanded remaining failures reader now (s.lines ++ all) → SearchesLines es options (length es) all amid ended → (count : ℕ) → before.number ≡ count
@@ -252,7 +234,7 @@ module _ {R : Type 0} (remaining : R → Option Text) (failures : R → ℕ) (es
               at_most false eq = omega (arith, eq, s.few, one_further)
 
           -- a write failed in it
-          pub followed_breaks : (new : Writer) → TakesFront mid new (rows_at options many name found (next_shown p found) behind count line) → new.failures ≡ one_more mid.failures
+          followed_breaks : (new : Writer) → TakesFront mid new (rows_at options many name found (next_shown p found) behind count line) → new.failures ≡ one_more mid.failures
               → BreaksSource es options many shown (open_source name (remaining reader)) (OneLeft (remaining now.lines.reader)) (failures reader) (failures now.lines.reader) old new began ended
           followed_breaks new front counted =
               breaks_in es options many shown name (remaining reader) (remaining now.lines.reader) old mid new began ended selected (failures reader) (failures now.lines.reader) next.hands.none_failed
@@ -260,7 +242,7 @@ module _ {R : Type 0} (remaining : R → Option Text) (failures : R → ℕ) (es
               spent (begins_with remaining failures name reader now.lines (s.lines ++ line ∷ []) next.hands next.few)
 
           -- the line could not be kept
-          pub followed_refused : IsOneLineAndFew now.lines.ahead → (new : Writer) → TakesAll mid new (rows_at options many name found (next_shown p found) behind count line)
+          followed_refused : IsOneLineAndFew now.lines.ahead → (new : Writer) → TakesAll mid new (rows_at options many name found (next_shown p found) behind count line)
               → StopsSource es options many shown (open_source name (remaining reader)) (OneLeft (remaining now.lines.reader)) count (failures reader) (failures now.lines.reader) old new began ended
           followed_refused few_held new took =
               let chosen = s.chosen ++ picked found (length s.lines + 1, line) in
@@ -275,3 +257,16 @@ module _ {R : Type 0} (remaining : R → Option Text) (failures : R → ℕ) (es
               })
               spent (begins_with remaining failures name reader now.lines (s.lines ++ line ∷ []) next.hands next.few)
               (next.counted ∙ sym is_number) (has_read remaining failures name reader now.lines (s.lines ++ line ∷ []) next.hands few_held) (failures reader) (failures now.lines.reader) next.hands.none_failed
+
+          -- what is shown at it could not be written, or the line could not be kept
+          pub followed_stops : IsOneLineAndFew now.lines.ahead → (new : Writer) (waits : LastLines) → waits.lines ≡ behind → (fault : SearchFault) → ShowStops options many name found count line p waits mid new fault
+              → (result : Result FileFound SearchFault) → IsErrAnd result (λ reported. reported ≡ fault)
+              → SearchGives es options many shown (open_source name (remaining reader)) (OneLeft (remaining now.lines.reader)) (failures reader) (failures now.lines.reader) old new began ended result
+          followed_stops few_held new waits is fault shows (Ok f) kept = absurd kept
+          followed_stops few_held new waits is Write shows (Err reported) kept =
+              subst (λ f. SearchGives es options many shown (open_source name (remaining reader)) (OneLeft (remaining now.lines.reader)) (failures reader) (failures now.lines.reader) old new began ended (Err f)) (sym kept)
+              (followed_breaks new (subst (λ ls. TakesFront mid new (rows_at options many name found (next_shown p found) ls count line)) is shows.wrote) shows.counted)
+          followed_stops few_held new waits is (Memory n) shows (Err reported) kept =
+              subst (λ f. SearchGives es options many shown (open_source name (remaining reader)) (OneLeft (remaining now.lines.reader)) (failures reader) (failures now.lines.reader) old new began ended (Err f)) (sym kept)
+              (subst (λ m. StopsSource es options many shown (open_source name (remaining reader)) (OneLeft (remaining now.lines.reader)) m (failures reader) (failures now.lines.reader) old new began ended) shows.0
+              (followed_refused few_held new (subst (λ ls. TakesAll mid new (rows_at options many name found (next_shown p found) ls count line)) is shows.1)))

@@ -11,8 +11,8 @@ use Rattle.re_syntax.proofs.lemmas.LinesLaws.{lines_of-terminated}
 use Rattle.re_search.specs.Working.Blocks.{IsBlock}
 use Rattle.grep_core.specs.Working.LastLines.{LastLines, with_lines}
 use Rattle.grep_core.specs.Working.Progress.{last_of}
-use Rattle.grep_core.proofs.lemmas.PassedLemmas.{terminated-append}
-use Rattle.grep_core.proofs.lemmas.WindowBlocks.{ends_in_newline, drop_past}
+use Rattle.grep_io.proofs.lemmas.PassedLemmas.{terminated-append}
+use Rattle.grep_io.proofs.lemmas.WindowBlocks.{ends_in_newline, drop_past}
 use Rattle.grep_core.proofs.lemmas.WaitingRows.{length-last_of}
 
 -- ---- the last of some lines

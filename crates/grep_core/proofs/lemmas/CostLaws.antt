@@ -12,7 +12,7 @@ use Rattle.re_search.specs.Searching.{AddsAtMost}
 use Rattle.grep_core.specs.declared.options.Options.{Options}
 use Rattle.grep_core.specs.Files.{File}
 use Rattle.grep_core.specs.Output.{Form, nothing, names, counts, parts, lines, around, form}
-use Rattle.grep_core.proofs.lemmas.PassedLemmas.{terminated-append}
+use Rattle.grep_io.proofs.lemmas.PassedLemmas.{terminated-append}
 use Rattle.grep_core.specs.Cost.{search_cost, PartsAsked, AsksParts, SearchesLine, LinesCost, FilesCost, SearchesLines, SearchesFiles}
 
 -- steps after steps

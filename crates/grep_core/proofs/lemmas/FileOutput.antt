@@ -7,19 +7,20 @@ use Rattle.re_syntax.specs.Bytes.{Text}
 use Rattle.re_syntax.specs.Expression.{Expression}
 use Rattle.re_syntax.proofs.lemmas.Decisions.{Any-none, Any-first, Any-later, Any-cases}
 use Rattle.grep_core.specs.declared.options.Options.{Options}
-use Rattle.grep_core.specs.declared.search.file.FileEnd.{FileEnd}
-use Rattle.grep_core.specs.declared.search.file.FileEnd.TheVariants.{Missing, Whole, Broken, Left}
+use Rattle.grep_core.specs.declared.status.FileEnd.{FileEnd}
+use Rattle.grep_core.specs.declared.status.FileEnd.TheVariants.{Missing, Whole, Broken, Left}
 use Rattle.grep_core.specs.Choose.{IfHolds, Chosen}
 use Rattle.grep_core.specs.Files.{File, whole, Selected, HasSelected}
 use Rattle.grep_core.specs.Output.{Form, nothing, names, counts, parts, lines, around, OutAs, CountOf, RowsOf, PartRowsOf, GroupsOf, SelectedLines}
 use Rattle.grep_core.specs.Run.{begun, first_lines}
-use Rattle.grep_core.specs.Working.Handed.{file_so_far}
+use Rattle.grep_io.specs.Working.Handed.{file_so_far}
 use Rattle.grep_core.specs.Working.Groups.{GroupedAs, behind_rows}
 use Rattle.grep_core.specs.Working.OneLine.{IsPlain, LineRowsOf, RowsOfSelected}
 use Rattle.grep_core.specs.Working.Searched.{ending_of, count_line, summary_as}
 use Rattle.grep_core.proofs.lemmas.ChooseLaws.{EachGives-one}
 use Rattle.grep_core.proofs.lemmas.Exist.{OutAs-exist}
-use Rattle.grep_core.proofs.lemmas.MoreLines.{file_with, SelectedLines-end, SelectedLines-passed, RowsOf-end, RowsOf-passed, RowsOf-front, PartRowsOf-end, PartRowsOf-passed, PartRowsOf-front}
+use Rattle.grep_io.proofs.lemmas.FileLaws.{file_with}
+use Rattle.grep_core.proofs.lemmas.MoreLines.{SelectedLines-end, SelectedLines-passed, RowsOf-end, RowsOf-passed, RowsOf-front, PartRowsOf-end, PartRowsOf-passed, PartRowsOf-front}
 use Rattle.grep_core.proofs.lemmas.Verdicts.{picked}
 
 -- a number that is greater than 0

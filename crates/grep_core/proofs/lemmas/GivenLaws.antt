@@ -6,7 +6,7 @@ use Rattle.grep_core.specs.declared.options.Options.{Options}
 use Rattle.grep_core.specs.declared.status.Status.{Status}
 use Rattle.grep_core.specs.declared.status.RunFault.{RunFault}
 use Rattle.grep_core.specs.declared.status.RunFault.TheVariants.{Write, MessageWrite, Memory}
-use Rattle.grep_core.specs.Reading.{Source}
+use Rattle.grep_io.specs.Reading.{Source}
 use Rattle.grep_core.specs.Run.{Devices, Finishes, BreaksOff, StopsBehind, RunGives}
 
 module _ (es : List Expression) (options : Options) (sources : List Source) (given other : List (Option Text) → Type 0) (more : (left : List (Option Text)) → given left → other left) (old new : Devices) where

@@ -10,17 +10,17 @@ use Rattle.re_syntax.specs.Expression.{Expression}
 use Rattle.re_search.specs.Meters.{Steps}
 use Rattle.re_search.specs.Working.Blocks.{HoldsOfMany}
 use Rattle.grep_core.specs.declared.options.Options.{Options}
-use Rattle.grep_core.specs.declared.input.lines.Stage.TheVariants.{Open}
-use Rattle.grep_core.specs.declared.search.file.FileEnd.TheVariants.{Whole, Broken, Left}
-use Rattle.grep_core.specs.Counted.{one_more}
-use Rattle.grep_core.specs.Working.Numbered.{Numbered, HasHanded, StandsAs}
+use Rattle.grep_io.specs.declared.input.lines.Stage.TheVariants.{Open}
+use Rattle.grep_core.specs.declared.status.FileEnd.TheVariants.{Whole, Broken, Left}
+use Rattle.grep_io.specs.Counted.{one_more}
+use Rattle.grep_io.specs.Working.Numbered.{Numbered, HasHanded}
 use Rattle.grep_core.specs.Files.{File, whole, broken, Selected, HasSelected}
 use Rattle.grep_core.specs.Output.{Form, nothing, names, counts, form, SelectedLines}
 use Rattle.grep_core.specs.Messages.{FaultMet}
-use Rattle.grep_core.specs.Reading.{open_source, file_of, failures_of, most_lines, OneLeft, IsOneLineAndFew, HasRead}
+use Rattle.grep_io.specs.Reading.{open_source, file_of, failures_of, most_lines, OneLeft, HasRead}
 use Rattle.grep_core.specs.Run.{Writer, TakesAll, TakesFront, first_lines}
 use Rattle.grep_core.specs.Working.Groups.{GroupedAs, behind_rows}
-use Rattle.grep_core.specs.Working.Handed.{StandsFor, BeginsWith, file_so_far}
+use Rattle.grep_io.specs.Working.Handed.{StandsFor, BeginsWith, file_so_far}
 use Rattle.grep_core.specs.Cost.{SearchesLine, SearchesLines}
 use Rattle.grep_core.specs.Working.Passed.{AddsCounted}
 use Rattle.grep_core.specs.Working.OneLine.{IsPlain, LineRowsOf, TakesLine, BreaksLine}
@@ -34,11 +34,10 @@ use Rattle.grep_core.proofs.lemmas.WriterLaws.{TakesAll-nothing, TakesAll-more, 
 use Rattle.grep_core.proofs.lemmas.OneLineLemmas.{line_passed, line_counted}
 use Rattle.grep_core.proofs.lemmas.CountedLines.{many_within}
 use Rattle.grep_core.proofs.lemmas.StretchLemmas.{found_within}
-use Rattle.grep_core.proofs.lemmas.OneFile.{whole-failures}
-use Rattle.grep_core.proofs.lemmas.FileLaws.{FaultMet-left}
+use Rattle.grep_core.proofs.lemmas.OneFile.{FaultMet-left, whole-failures}
 use Rattle.grep_core.proofs.lemmas.MoreLines.{SelectedLines-passed}
-use Rattle.grep_core.proofs.lemmas.HandedLemmas.{begins_with, has_read}
-use Rattle.grep_core.proofs.lemmas.NumberedLemmas.{has_handed_none}
+use Rattle.grep_io.proofs.lemmas.HandedLemmas.{begins_with}
+use Rattle.grep_io.proofs.lemmas.NumberedLemmas.{has_handed_none}
 use Rattle.grep_core.proofs.lemmas.FileOutput.{positive, chosen_tells, rows_line, chosen_line, chosen_count, output_all, output_left, output_front, rows_begun, plain_rows}
 
 -- where a file is left early, only its name is written, if that
@@ -170,7 +169,7 @@ module _ (es : List Expression) (options : Options) (many shown : Bool) (name : 
       (subst (λ ls. WritesLines ls old new (selected + others)) (append_assoc lines (line ∷ []) passed) (writes_counted plain asked passed (lines ++ line ∷ []) old new selected others (writes_line plain lines line old new new selected false w skipped) h))
 
   -- buffered output was sent
-  writes_sent : (lines : List Text) (old mid new : Writer) (selected : ℕ) → WritesLines lines old mid selected → TakesAll mid new [] → WritesLines lines old new selected
+  pub writes_sent : (lines : List Text) (old mid new : Writer) (selected : ℕ) → WritesLines lines old mid selected → TakesAll mid new [] → WritesLines lines old new selected
   writes_sent lines old mid new selected w sent =
       let wrote = subst (TakesAll old new) (append-nil w.rows) (TakesAll-more old mid new w.rows [] w.wrote sent) in
       record { rows = w.rows; of = w.of; wrote = wrote; chosen = w.chosen; are_chosen = w.are_chosen; counted = w.counted }
@@ -316,7 +315,7 @@ module _ (es : List Expression) (options : Options) (many shown : Bool) (name : 
         breaks_adding lines line broke.rows w (written_plain (form options) plain (lines ++ line ∷ []) (w.rows ++ broke.rows) rows) spent b broke.wrote broke.counted
 
     -- all rows so far were written, and buffered output could not be sent
-    breaks_behind : (lines : List Text) → WritesLines lines old mid selected → SearchesLines es options (length es) lines began ended → BeginsWith name known lines → TakesFront mid new [] → new.failures ≡ one_more mid.failures
+    pub breaks_behind : (lines : List Text) → WritesLines lines old mid selected → SearchesLines es options (length es) lines began ended → BeginsWith name known lines → TakesFront mid new [] → new.failures ≡ one_more mid.failures
         → BreaksSource es options many shown (open_source name known) (OneLeft rest) failed_before failed old new began ended
     breaks_behind lines w spent b front counted =
         breaks_in lines w.rows w.of (subst (TakesFront old new) (append-nil w.rows) (TakesFront-more old mid new w.rows [] w.wrote front)) (counted ∙ ap one_more w.wrote.none_failed) spent b
@@ -391,13 +390,6 @@ module _ {R : Type 0} (remaining : R → Option Text) (failures : R → ℕ) (es
     -- buffered output was sent
     pub searched_sent : TakesAll mid new [] → SearchedSoFar now old new began ended selected
     searched_sent sent = record { lines = s.lines; handed = s.handed; wrote = writes_sent es options many shown name s.lines old mid new selected s.wrote sent; few = s.few; none_early = s.none_early; steps = s.steps }
-
-    -- it could not be sent
-    pub breaks_sending : TakesFront mid new [] → new.failures ≡ one_more mid.failures
-        → BreaksSource es options many shown (open_source name (remaining reader)) (OneLeft (remaining now.lines.reader)) (failures reader) (failures now.lines.reader) old new began ended
-    breaks_sending front counted =
-        breaks_behind es options many shown name (remaining reader) (remaining now.lines.reader) old mid new began ended selected (failures reader) (failures now.lines.reader) s.handed.hands.none_failed
-        s.lines s.wrote s.steps (begins now s.lines s.handed) front counted
 
   -- lines that are held were searched at once
   module _ (before now : Numbered R) (old mid : Writer) (began amid : Steps) (selected : ℕ) (s : SearchedSoFar before old mid began amid selected) (all : List Text) (next : HasHanded remaining failures reader now (s.lines ++ all)) where
@@ -510,19 +502,3 @@ module _ {R : Type 0} (remaining : R → Option Text) (failures : R → ℕ) (es
       breaks_at plain broke one =
           breaks_within es options many shown name (remaining reader) (remaining now.lines.reader) old mid new began ended selected (failures reader) (failures now.lines.reader) next.hands.none_failed plain
           s.lines line s.wrote (spent one) (begins now (s.lines ++ line ∷ []) handed) (subst (λ n. BreaksLine es options many name n line mid new) number broke)
-
-  module _ (before now : Numbered R) (old new : Writer) (began ended : Steps) (selected : ℕ) (s : SearchedSoFar before old new began ended selected) where
-    -- no line is left
-    pub ends_whole : StandsAs remaining failures reader now s.lines whole → SearchesSource es options many shown (open_source name (remaining reader)) (OneLeft (remaining now.lines.reader)) (failures reader) (failures now.lines.reader) old new began ended Whole selected
-    ends_whole stands = searches_whole es options many shown name (remaining reader) (remaining now.lines.reader) old new began ended (failures reader) (failures now.lines.reader) s.lines selected s.wrote s.steps (stands name)
-
-    -- a read failed, or there is one line too many
-    pub ends_broken : StandsAs remaining failures reader now s.lines broken → SearchesSource es options many shown (open_source name (remaining reader)) (OneLeft (remaining now.lines.reader)) (failures reader) (failures now.lines.reader) old new began ended Broken selected
-    ends_broken stands = searches_broken es options many shown name (remaining reader) (remaining now.lines.reader) old new began ended (failures reader) (failures now.lines.reader) s.lines selected s.wrote s.steps (stands name) s.none_early
-
-    -- out of memory
-    pub runs_out : HasHanded remaining failures reader now s.lines → IsOneLineAndFew now.lines.ahead → (count : ℕ) → now.number ≡ count
-        → StopsSource es options many shown (open_source name (remaining reader)) (OneLeft (remaining now.lines.reader)) count (failures reader) (failures now.lines.reader) old new began ended
-    runs_out handed few count is_count =
-        stops_behind es options many shown name (remaining reader) (remaining now.lines.reader) old new began ended s.lines selected count s.wrote s.steps (begins now s.lines handed) (handed.counted ∙ is_count) (has_read remaining failures name reader now.lines s.lines handed.hands few)
-        (failures reader) (failures now.lines.reader) handed.hands.none_failed

@@ -3,7 +3,7 @@ use Rattle.std.proofs.Common.{◌≡◌, ℕ, [], ◌∷◌, ◌++◌, Option, N
 use Rattle.re_syntax.specs.Bytes.{Text}
 use Rattle.re_syntax.specs.Lines.{newline}
 use Rattle.grep_core.specs.Row.{colon, head, output_line}
-use Rattle.grep_core.specs.Written.{Writes}
+use Rattle.grep_io.specs.Written.{Writes}
 use Rattle.grep_core.specs.Messages.{cannot_open, read_error}
 
 -- a message of `grep: `, the file's name, a colon and some text

@@ -5,9 +5,10 @@ use Rattle.std.proofs.lemmas.List.{map-append}
 use Rattle.re_syntax.specs.Bytes.{Text}
 use Rattle.re_syntax.specs.Expression.{Expression}
 use Rattle.grep_core.specs.declared.options.Options.{Options}
-use Rattle.grep_core.specs.Files.{File, Ending, Selected}
+use Rattle.grep_core.specs.Files.{Ending, Selected}
 use Rattle.grep_core.specs.Choose.{Chosen}
 use Rattle.grep_core.specs.Output.{head_of, numbered, SelectedLines, RowsOf, PartsOfLine, PartRowsOf}
+use Rattle.grep_io.proofs.lemmas.FileLaws.{file_with}
 use Rattle.grep_core.proofs.lemmas.ChooseLaws.{EachGives-append, EachGives-end, EachGives-exist, Chosen-end, Chosen-passed, Chosen-exist}
 use Rattle.grep_core.proofs.lemmas.Decided.{dec_selected}
 use Rattle.grep_core.proofs.lemmas.Exist.{PartsOfLine-exist}
@@ -22,10 +23,6 @@ enumerate_from-append n (x ∷ xs) ys =
 -- the number of the next line is one more than there are lines before it
 pub numbered-end : (xs : List Text) (line : Text) → numbered (xs ++ line ∷ []) ≡ numbered xs ++ (length xs + 1, line) ∷ []
 numbered-end xs line = let e : 1 + length xs ≡ length xs + 1 = omega arith in enumerate_from-append 1 xs (line ∷ []) ∙ ap (λ m. numbered xs ++ (m, line) ∷ []) e
-
--- a file of this name with these lines
-abbrev pub file_with : Text → List Text → Ending → File
-file_with name lines ending = record { name = name; lines = lines; ending = ending }
 
 module _ (es : List Expression) (options : Options) (many : Bool) (name : Text) (ending : Ending) where
   -- one more line, which is selected

@@ -1,12 +1,13 @@
 -- A run over one source, by its lines: its output, messages, status and failures.
-use Rattle.std.proofs.Common.{◌≡◌, false, IsTrue, List, [], refl, ap, ◌∙◌, arith, inl, inr}
+use Rattle.std.proofs.Common.{◌≡◌, false, ◌⊎◌, ◌||◌, IsTrue, List, [], refl, ap, subst, ◌∙◌, arith, inl, inr}
 use Rattle.re_syntax.specs.Bytes.{Text}
 use Rattle.re_syntax.specs.Lines.{ended_lines_of}
 use Rattle.re_syntax.specs.Expression.{Expression}
 use Rattle.grep_core.specs.declared.options.Options.{Options}
-use Rattle.grep_core.specs.Files.{File, Ending, whole, broken}
-use Rattle.grep_core.specs.Reading.{Reading, not_opened, fails_after, ends_after, up_to_limit, file_of, failures_of}
-use Rattle.grep_core.proofs.lemmas.FileLaws.{up_to_limit-behind}
+use Rattle.grep_core.specs.Files.{File, Ending, whole, broken, HasSelected}
+use Rattle.grep_core.specs.Messages.{FaultMet, FaultMetBy}
+use Rattle.grep_io.specs.Reading.{Reading, not_opened, fails_after, ends_after, up_to_limit, file_of, failures_of}
+use Rattle.grep_io.proofs.lemmas.FileLaws.{up_to_limit-behind}
 
 -- ---- readings
 
@@ -20,6 +21,14 @@ pub whole-failures : (name : Text) (r : Reading) → (file_of name r).ending ≡
 whole-failures name not_opened e = absurd (let no : ⊥ = cc in no)
 whole-failures name (fails_after bytes) e = let is = not_whole name (ended_lines_of bytes) in absurd (let no : ⊥ = cc in no)
 whole-failures name (ends_after bytes) e = refl
+
+-- ---- a file that was left
+
+module _ (es : List Expression) (options : Options) where
+  -- under `-q` and `-l` no fault is met after a selected line
+  pub FaultMet-left : (file : File) → (file.ending ≡ whole) ⊎ (file.ending ≡ broken) → IsTrue (options.quiet || options.files_with_matches) → HasSelected es options file → FaultMet es options file → ⊥
+  FaultMet-left file (inl e) early has met = subst (λ end. FaultMetBy es options end file) e met
+  FaultMet-left file (inr e) early has met = subst (λ end. FaultMetBy es options end file) e met early has
 
 -- ---- one file, without `-q`
 

@@ -5,11 +5,11 @@ use Rattle.re_syntax.specs.Bytes.{Text}
 use Rattle.re_syntax.specs.Expression.{Expression}
 use Rattle.grep_core.specs.declared.options.Options.{Options}
 use Rattle.grep_core.specs.Row.{output_line}
-use Rattle.grep_core.specs.Written.{Writes}
+use Rattle.grep_io.specs.Written.{Writes}
 use Rattle.grep_core.specs.Files.{Matched, Selected}
 use Rattle.grep_core.specs.Output.{lines, counts, form, head_of}
 use Rattle.grep_core.specs.Run.{Writer, writer}
-use Rattle.grep_core.specs.Working.Handed.{file_so_far}
+use Rattle.grep_io.specs.Working.Handed.{file_so_far}
 use Rattle.grep_core.specs.Working.Wanted.{selects}
 use Rattle.grep_core.specs.Working.OneLine.{RowsOfSelected, WritesSelected, BreaksSelected, TakesLine, BreaksLine}
 use Rattle.grep_core.proofs.lemmas.PassLemmas.{TakesAll-line, TakesFront-line}

@@ -1,5 +1,5 @@
 -- A search of a source that was opened, by the search of its reader.
-use Rattle.std.proofs.Common.{◌≡◌, ℕ, zero, suc, ◌≤◌, ◌⊎◌, Bool, true, false, List, [], ◌∷◌, length, take, Option, Result, Ok, Err, IfSome, IfOk, refl, sym, ap, subst, ◌∙◌, inl, inr, arith}
+use Rattle.std.proofs.Common.{◌≡◌, ℕ, zero, suc, ◌≤◌, ◌⊎◌, Bool, true, false, List, [], ◌∷◌, length, take, Option, Result, Ok, Err, IfSome, refl, sym, ap, subst, ◌∙◌, inl, inr, arith}
 use Rattle.std.proofs.lemmas.Bool.{false≢true}
 use Rattle.std.proofs.KnownBytes.{Consumes-nil}
 use Rattle.std.specs.Io.KnownBytes.{Consumes}
@@ -9,24 +9,27 @@ use Rattle.re_syntax.proofs.lemmas.Decisions.{Any-none}
 use Rattle.re_syntax.proofs.lemmas.LinesLaws.{all_none, lines_of-terminated}
 use Rattle.re_search.specs.Meters.{Steps}
 use Rattle.grep_core.specs.declared.options.Options.{Options}
-use Rattle.grep_core.specs.declared.search.file.FileEnd.{FileEnd}
-use Rattle.grep_core.specs.declared.search.file.FileEnd.TheVariants.{Missing}
-use Rattle.grep_core.specs.declared.search.file.FileFound.{FileFound}
-use Rattle.grep_core.specs.Counted.{one_more}
+use Rattle.grep_core.specs.declared.status.FileEnd.{FileEnd}
+use Rattle.grep_core.specs.declared.status.FileEnd.TheVariants.{Missing}
+use Rattle.grep_core.specs.declared.status.FileFound.{FileFound}
+use Rattle.grep_core.specs.declared.status.SearchFault.{SearchFault}
+use Rattle.grep_core.specs.declared.status.SearchFault.TheVariants.{Write, Memory}
+use Rattle.grep_io.specs.Counted.{one_more}
 use Rattle.grep_core.specs.Around.{Groups}
 use Rattle.grep_core.specs.Choose.{Chosen}
-use Rattle.grep_core.specs.Working.LineReader.{LineReader}
+use Rattle.grep_io.specs.Working.LineReader.{LineReader}
 use Rattle.grep_core.specs.Files.{File, Selected}
 use Rattle.grep_core.specs.Output.{Form, nothing, names, counts, parts, lines, around, form, shown_name, shown_number, numbered}
-use Rattle.grep_core.specs.Reading.{Source, Reading, not_opened, fails_after, ends_after, open_source, IsReadingOf, file_of, failures_of, AreLeft, OneLeft, HasRead}
+use Rattle.grep_io.specs.Reading.{Source, Reading, not_opened, fails_after, ends_after, open_source, IsReadingOf, file_of, failures_of, AreLeft, OneLeft, HasRead}
 use Rattle.grep_core.specs.Run.{Writer, TakesAll, TakesFront, first_lines, count_more}
+use Rattle.grep_core.specs.Working.Given.{SearchGives}
 use Rattle.grep_core.specs.Working.Groups.{behind_rows}
 use Rattle.grep_core.specs.Working.OneLine.{IsPlain, LineRowsOf}
 use Rattle.grep_core.specs.Working.Searched.{CountsSource, BreaksSource, StopsSource, SearchesSource}
 use Rattle.grep_core.proofs.lemmas.Verdicts.{decided_yes, decided_no}
 use Rattle.grep_core.proofs.lemmas.CostLaws.{searched_no_line, searched_first_lines}
 use Rattle.grep_core.proofs.lemmas.WriterLaws.{TakesAll-nothing}
-use Rattle.grep_core.proofs.lemmas.WindowLemmas.{none_in_nothing}
+use Rattle.grep_io.proofs.lemmas.WindowLemmas.{none_in_nothing}
 use Rattle.grep_core.proofs.lemmas.Readings.{IsReadingOf-exists}
 use Rattle.grep_core.proofs.lemmas.FileOutput.{rows_none, output_all, rows_begun, plain_rows, behind_rows-none}
 
@@ -82,7 +85,7 @@ module _ (es : List Expression) (options : Options) (many shown : Bool) (source 
 module _ (es : List Expression) (options : Options) (many shown : Bool) (source : Source) (given : List (Option Text) → Type 0) (rest : Option Text) (gives : given (rest ∷ []))
     (opens : IfSome source.opens (λ b. b ≡ true)) (old new : Writer) (began ended : Steps) (before after failed : ℕ) (counted : after ≡ count_more before failed) where
   -- a search of its reader was a search of the source
-  pub source_searched : (end : FileEnd) (selected : ℕ) → SearchesSource es options many shown (open_source source.name source.bytes) (OneLeft rest) 0 failed old new began ended end selected
+  source_searched : (end : FileEnd) (selected : ℕ) → SearchesSource es options many shown (open_source source.name source.bytes) (OneLeft rest) 0 failed old new began ended end selected
       → SearchesSource es options many shown source given before after old new began ended end selected
   source_searched end selected s = record {
     reading = s.reading;
@@ -97,7 +100,7 @@ module _ (es : List Expression) (options : Options) (many shown : Bool) (source 
     steps = s.steps;
   }
 
-  pub source_broken : BreaksSource es options many shown (open_source source.name source.bytes) (OneLeft rest) 0 failed old new began ended → BreaksSource es options many shown source given before after old new began ended
+  source_broken : BreaksSource es options many shown (open_source source.name source.bytes) (OneLeft rest) 0 failed old new began ended → BreaksSource es options many shown source given before after old new began ended
   source_broken s = record {
     reading = s.reading;
     is_reading = opened source s.reading opens s.is_reading;
@@ -109,7 +112,7 @@ module _ (es : List Expression) (options : Options) (many shown : Bool) (source 
     steps = s.steps;
   }
 
-  pub source_stopped : (n : ℕ) → StopsSource es options many shown (open_source source.name source.bytes) (OneLeft rest) n 0 failed old new began ended → StopsSource es options many shown source given n before after old new began ended
+  source_stopped : (n : ℕ) → StopsSource es options many shown (open_source source.name source.bytes) (OneLeft rest) n 0 failed old new began ended → StopsSource es options many shown source given n before after old new began ended
   source_stopped n s = record {
     reading = s.reading;
     is_reading = opened source s.reading opens s.is_reading;
@@ -123,6 +126,12 @@ module _ (es : List Expression) (options : Options) (many shown : Bool) (source 
     wrote = s.wrote;
     steps = s.steps;
   }
+
+  -- so is what it gives
+  source_gives : (r : Result FileFound SearchFault) → SearchGives es options many shown (open_source source.name source.bytes) (OneLeft rest) 0 failed old new began ended r → SearchGives es options many shown source given before after old new began ended r
+  source_gives (Ok found) s = source_searched found.end found.selected s
+  source_gives (Err Write) s = source_broken s
+  source_gives (Err (Memory n)) s = source_stopped n s
 
 module _ (es : List Expression) (options : Options) (many shown : Bool) (source : Source) (given : List (Option Text) → Type 0) (w : Writer) (steps : Steps) where
   -- out of memory before a source was read
@@ -194,12 +203,7 @@ module _ (es : List Expression) (options : Options) (many : Bool) (plain : IsPla
       steps = s.steps;
     }
 
-    pub finds_anyway : {E : Type 0} (r : Result FileFound E) → IfOk r (λ found. SearchesSource es options many first source given failed_before failed old new began ended found.end found.selected)
-        → IfOk r (λ found. SearchesSource es options many shown source given failed_before failed old new began ended found.end found.selected)
-    finds_anyway (Err e) s = tt
-    finds_anyway (Ok found) s = searches_anyway found.end found.selected s
-
-    pub breaks_anyway : BreaksSource es options many first source given failed_before failed old new began ended → BreaksSource es options many shown source given failed_before failed old new began ended
+    breaks_anyway : BreaksSource es options many first source given failed_before failed old new began ended → BreaksSource es options many shown source given failed_before failed old new began ended
     breaks_anyway s = record {
       reading = s.reading;
       is_reading = s.is_reading;
@@ -211,7 +215,7 @@ module _ (es : List Expression) (options : Options) (many : Bool) (plain : IsPla
       steps = s.steps;
     }
 
-    pub stops_anyway : (n : ℕ) → StopsSource es options many first source given n failed_before failed old new began ended → StopsSource es options many shown source given n failed_before failed old new began ended
+    stops_anyway : (n : ℕ) → StopsSource es options many first source given n failed_before failed old new began ended → StopsSource es options many shown source given n failed_before failed old new began ended
     stops_anyway n s = record {
       reading = s.reading;
       is_reading = s.is_reading;
@@ -226,6 +230,11 @@ module _ (es : List Expression) (options : Options) (many : Bool) (plain : IsPla
       steps = s.steps;
     }
 
+    pub gives_anyway : (r : Result FileFound SearchFault) → SearchGives es options many first source given failed_before failed old new began ended r → SearchGives es options many shown source given failed_before failed old new began ended r
+    gives_anyway (Ok found) s = searches_anyway found.end found.selected s
+    gives_anyway (Err Write) s = breaks_anyway s
+    gives_anyway (Err (Memory n)) s = stops_anyway n s
+
 -- the reader that a source was opened with, and the lines made of it
 module _ {R : Type 0} (remaining : R → Option Text) (failures : R → ℕ) (es : List Expression) (options : Options) (many shown : Bool) (source : Source) (given : List (Option Text) → Type 0) (rest : Option Text) (gives : given (rest ∷ [])) (opens : IfSome source.opens (λ b. b ≡ true))
     (reader : R) (bytes : remaining reader ≡ source.bytes) (fresh : failures reader ≡ 0) (start : LineReader R) (holds : start.reader ≡ reader) (name : Text) (named : name ≡ source.name) (old new : Writer) (began ended : Steps) where
@@ -236,26 +245,9 @@ module _ {R : Type 0} (remaining : R → Option Text) (failures : R → ℕ) (es
   fresh_start = ap failures holds ∙ fresh
 
   module _ (before after failed : ℕ) (counted : after ≡ count_more before failed) where
-    -- the search of the lines found this
-    pub found_in : {E : Type 0} (r : Result FileFound E)
-        → IfOk r (λ found. SearchesSource es options many shown (open_source name (remaining start.reader)) (OneLeft rest) (failures start.reader) failed old new began ended found.end found.selected)
-        → IfOk r (λ found. SearchesSource es options many shown source given before after old new began ended found.end found.selected)
-    found_in (Err e) s = tt
-    found_in (Ok found) s =
-        let at_source = subst (λ src. SearchesSource es options many shown src (OneLeft rest) (failures start.reader) failed old new began ended found.end found.selected) same_source s in
-        let from_none = subst (λ n. SearchesSource es options many shown (open_source source.name source.bytes) (OneLeft rest) n failed old new began ended found.end found.selected) fresh_start at_source in
-        source_searched es options many shown source given rest gives opens old new began ended before after failed counted found.end found.selected from_none
-
-    -- a write failed in it
-    pub broken_in : BreaksSource es options many shown (open_source name (remaining start.reader)) (OneLeft rest) (failures start.reader) failed old new began ended → BreaksSource es options many shown source given before after old new began ended
-    broken_in s =
-        let at_source = subst (λ src. BreaksSource es options many shown src (OneLeft rest) (failures start.reader) failed old new began ended) same_source s in
-        let from_none = subst (λ n. BreaksSource es options many shown (open_source source.name source.bytes) (OneLeft rest) n failed old new began ended) fresh_start at_source in
-        source_broken es options many shown source given rest gives opens old new began ended before after failed counted from_none
-
-    -- out of memory after n lines
-    pub stopped_in : (n : ℕ) → StopsSource es options many shown (open_source name (remaining start.reader)) (OneLeft rest) n (failures start.reader) failed old new began ended → StopsSource es options many shown source given n before after old new began ended
-    stopped_in n s =
-        let at_source = subst (λ src. StopsSource es options many shown src (OneLeft rest) n (failures start.reader) failed old new began ended) same_source s in
-        let from_none = subst (λ m. StopsSource es options many shown (open_source source.name source.bytes) (OneLeft rest) n m failed old new began ended) fresh_start at_source in
-        source_stopped es options many shown source given rest gives opens old new began ended before after failed counted n from_none
+    -- what the search of the lines gives
+    pub given_in : (r : Result FileFound SearchFault) → SearchGives es options many shown (open_source name (remaining start.reader)) (OneLeft rest) (failures start.reader) failed old new began ended r → SearchGives es options many shown source given before after old new began ended r
+    given_in r s =
+        let at_source = subst (λ src. SearchGives es options many shown src (OneLeft rest) (failures start.reader) failed old new began ended r) same_source s in
+        let from_none = subst (λ n. SearchGives es options many shown (open_source source.name source.bytes) (OneLeft rest) n failed old new began ended r) fresh_start at_source in
+        source_gives es options many shown source given rest gives opens old new began ended before after failed counted r from_none

@@ -10,10 +10,10 @@ use Rattle.re_search.specs.Meters.{Steps}
 use Rattle.re_search.specs.Searching.{FindsPart, AddsAtMost}
 use Rattle.re_syntax.specs.declared.span.Span.{Span}
 use Rattle.grep_core.specs.declared.options.Options.{Options}
-use Rattle.grep_core.specs.Counted.{one_more}
+use Rattle.grep_io.specs.Counted.{one_more}
 use Rattle.grep_core.specs.Output.{parts, form, head_of}
 use Rattle.grep_core.specs.Run.{Writer, TakesAll, TakesFront}
-use Rattle.grep_core.specs.Working.Handed.{file_so_far}
+use Rattle.grep_io.specs.Working.Handed.{file_so_far}
 use Rattle.grep_core.specs.Working.OneLine.{RowsOfSelected, WritesSelected, BreaksSelected}
 use Rattle.grep_core.specs.Cost.{search_cost, PartsAsked, AsksParts}
 use Rattle.grep_core.proofs.lemmas.CostLaws.{adds_none, adds_once_more, adds_for_more}

@@ -3,7 +3,7 @@ use Rattle.std.proofs.Common.{ℕ, Bool, true, false, ◌||◌, Decides, [], ◌
 use Rattle.std.specs.Io.KnownBytes.{Appends}
 use Rattle.re_syntax.specs.Bytes.{Text}
 use Rattle.grep_core.specs.Row.{output_line}
-use Rattle.grep_core.specs.Written.{GoesOut, StopsWithin}
+use Rattle.grep_io.specs.Written.{GoesOut, StopsWithin}
 use Rattle.grep_core.specs.Run.{writer, TakesAll, TakesFront}
 
 -- ---- writers

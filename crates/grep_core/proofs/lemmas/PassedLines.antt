@@ -13,13 +13,13 @@ use Rattle.re_search.proofs.lemmas.CountedBlocks.{counts_same}
 use Rattle.grep_core.specs.declared.options.Options.{Options}
 use Rattle.grep_core.specs.Cost.{SearchesLines}
 use Rattle.grep_core.specs.Files.{Matched, Selected}
-use Rattle.grep_core.specs.Reading.{most_lines}
-use Rattle.grep_core.specs.Working.Numbered.{Numbered, AreAhead, HasHanded, PassesNext}
+use Rattle.grep_io.specs.Reading.{most_lines}
+use Rattle.grep_io.specs.Working.Numbered.{Numbered, AreAhead, HasHanded, PassesNext}
 use Rattle.grep_core.specs.Working.Passed.{AddsCounted}
 use Rattle.grep_core.specs.Working.Stretches.{IsNextOf}
 use Rattle.grep_core.proofs.lemmas.CostLaws.{searched_no_line, searched_bytes}
 use Rattle.grep_core.proofs.lemmas.CountedLines.{many_others}
-use Rattle.grep_core.proofs.lemmas.PassedLemmas.{HasHanded-pass, terminated-append}
+use Rattle.grep_io.proofs.lemmas.PassedLemmas.{HasHanded-pass, terminated-append}
 
 -- its lines are passed
 pub passed_block : {R : Type 0} (remaining : R → Option Text) (failures : R → ℕ) (reader : R) (handed : List Text) (old new : Numbered R) (block : Text) (count : ℕ) → AreAhead old block count → PassesNext remaining failures old new (lines_of (take (length block) old.lines.ahead))

@@ -1,7 +1,7 @@
 -- What a source did, from what its reads gave.
 use Rattle.std.proofs.Common.{Bool, true, false, List, [], ◌∷◌, Option, Some, None, refl}
 use Rattle.re_syntax.specs.Bytes.{Text}
-use Rattle.grep_core.specs.Reading.{Source, Reading, not_opened, ends_after, IsReadingOf}
+use Rattle.grep_io.specs.Reading.{Source, Reading, not_opened, ends_after, IsReadingOf}
 use Rattle.grep_core.specs.Run.{AreReadings}
 
 -- a source that was not looked at has done something

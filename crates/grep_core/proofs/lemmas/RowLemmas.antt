@@ -1,28 +1,10 @@
--- Writes one after another.
-use Rattle.std.proofs.Common.{◌≡◌, ℕ, ◌+◌, ◌≤◌, [], ◌∷◌, ◌++◌, Option, Result, Ok, Err, IsErr, length, take, drop, slice_range, refl, sym, ap, ◌∙◌, arith, append_assoc, append-nil, take-append-drop, subst}
-use Rattle.std.proofs.KnownBytes.{Appends-trans, Appends-nil}
-use Rattle.std.specs.Io.KnownBytes.{Appends}
-use Rattle.std.proofs.lemmas.Bool.{false≢true}
-use Rattle.std.proofs.lemmas.List.{take-take, drop-take, take_rest, take_all}
+-- An output line that is written part by part.
+use Rattle.std.proofs.Common.{◌≡◌, ℕ, [], ◌∷◌, ◌++◌, Option, Result, sym, ap, ◌∙◌, append_assoc, subst}
 use Rattle.re_syntax.specs.Bytes.{Text}
 use Rattle.re_syntax.specs.Lines.{newline}
-use Rattle.grep_core.specs.Counted.{one_more}
+use Rattle.grep_io.specs.Written.{GoesOut, Writes}
+pub use Rattle.grep_io.proofs.lemmas.WriteLemmas.{goes_nowhere, goes_on, stops_early, stops_later, writes_no_more, writes_last, writes_then_nothing}
 use Rattle.grep_core.specs.Row.{output_line}
-use Rattle.grep_core.specs.Written.{StopsWithin, GoesOut, Writes}
-
--- the first `at` bytes and n more are the first `at + n`
-take_further : (at n : ℕ) (bs : Text) → at + n ≤ length bs → take at bs ++ take n (slice_range bs at (length bs)) ≡ take (at + n) bs
-take_further at n bs h =
-    ap (λ l. take at bs ++ take n l) (take_rest bs at)
-    ∙ ap (λ l. take at bs ++ l) (sym (drop-take at n bs))
-    ∙ ap (λ l. l ++ drop at (take (at + n) bs)) (sym (take-take at (at + n) bs (omega arith)))
-    ∙ take-append-drop at (take (at + n) bs)
-
--- n more bytes were written
-pub written_further : (a b c : Option Text) (at n : ℕ) (bs : Text) → at + n ≤ length bs
-    → Appends a b (take at bs) → Appends b c (take n (slice_range bs at (length bs))) → Appends a c (take (at + n) bs)
-written_further a b c at n bs h first second =
-    subst (Appends a c) (take_further at n bs h) (Appends-trans a b c _ _ first second)
 
 -- the parts of an output line, grouped to the right
 output_line-parts : (margin front text : Text) → margin ++ (front ++ (text ++ newline ∷ [])) ≡ output_line margin (front ++ text)
@@ -30,76 +12,10 @@ output_line-parts margin front text =
     ap (λ l. margin ++ l) (sym (append_assoc front text (newline ∷ []))) ∙ sym (append_assoc margin (front ++ text) (newline ∷ []))
 
 module _ {W : Type 0} (contents : W → Option Text) (failures : W → ℕ) where
-  -- n of the bytes were written, and then a write failed
-  pub stops_at : (a b : W) (n : ℕ) (bytes : Text) → Appends (contents a) (contents b) (take n bytes) → failures b ≡ one_more (failures a)
-      → StopsWithin contents failures a b bytes
-  stops_at a b n bytes went more = record {
-    front = take n bytes;
-    rest = drop n bytes;
-    cut = sym (take-append-drop n bytes);
-    written = went;
-    counted = more;
-  }
-
-  -- all of the bytes were written
-  pub goes_whole : (a b : W) (n : ℕ) (bytes : Text) → length bytes ≤ n → Appends (contents a) (contents b) (take n bytes) → failures b ≡ failures a
-      → GoesOut contents failures a b bytes
-  goes_whole a b n bytes all went same = record {
-    written = subst (Appends (contents a) (contents b)) (take_all n bytes all) went;
-    none_failed = same;
-  }
-
-  -- nothing is written at once
-  pub goes_nowhere : (a : W) → GoesOut contents failures a a []
-  goes_nowhere a = record { written = Appends-nil (contents a); none_failed = refl }
-
-  -- the second bytes were written after the first
-  pub goes_on : (a b c : W) (xs ys : Text) → GoesOut contents failures a b xs → GoesOut contents failures b c ys → GoesOut contents failures a c (xs ++ ys)
-  goes_on a b c xs ys p q = record {
-    written = Appends-trans (contents a) (contents b) (contents c) xs ys p.written q.written;
-    none_failed = q.none_failed ∙ p.none_failed;
-  }
-
-  -- a write failed within the first bytes
-  pub stops_early : (a b : W) (xs ys : Text) → StopsWithin contents failures a b xs → StopsWithin contents failures a b (xs ++ ys)
-  stops_early a b xs ys p = record {
-    front = p.front;
-    rest = p.rest ++ ys;
-    cut = ap (λ l. l ++ ys) p.cut ∙ append_assoc p.front p.rest ys;
-    written = p.written;
-    counted = p.counted;
-  }
-
-  -- a write failed within the second bytes
-  pub stops_later : (a b c : W) (xs ys : Text) → GoesOut contents failures a b xs → StopsWithin contents failures b c ys → StopsWithin contents failures a c (xs ++ ys)
-  stops_later a b c xs ys p q = record {
-    front = xs ++ q.front;
-    rest = q.rest;
-    cut = ap (λ l. xs ++ l) q.cut ∙ sym (append_assoc xs q.front q.rest);
-    written = Appends-trans (contents a) (contents b) (contents c) xs q.front p.written q.written;
-    counted = q.counted ∙ ap one_more p.none_failed;
-  }
-
-  -- a write failed within the bytes, and this is returned
-  pub writes_no_more : {T E : Type 0} (a b : W) (bytes : Text) (r : Result T E) → IsErr r → StopsWithin contents failures a b bytes → Writes contents failures a b bytes r
-  writes_no_more a b bytes (Ok v) failed p = absurd (false≢true failed)
-  writes_no_more a b bytes (Err e) failed p = p
-
-  -- the first bytes were written, and the second as the last call returns
-  pub writes_last : {T E : Type 0} (a b c : W) (xs ys : Text) (r : Result T E) → GoesOut contents failures a b xs → Writes contents failures b c ys r → Writes contents failures a c (xs ++ ys) r
-  writes_last a b c xs ys (Ok v) p q = goes_on a b c xs ys p q
-  writes_last a b c xs ys (Err e) p q = stops_later a b c xs ys p q
-
-  -- the bytes were written, and nothing more
-  pub writes_then_nothing : {T E : Type 0} (a b c : W) (xs : Text) (r : Result T E) → GoesOut contents failures a b xs → Writes contents failures b c [] r → Writes contents failures a c xs r
-  writes_then_nothing a b c xs r p q = subst (λ bytes. Writes contents failures a c bytes r) (append-nil xs) (writes_last a b c xs [] r p q)
-
   -- the margin, and then the rest of an output line
   pub writes_row : {T E : Type 0} (a b c : W) (margin front text : Text) (r : Result T E) → GoesOut contents failures a b margin
       → Writes contents failures b c (front ++ (text ++ newline ∷ [])) r → Writes contents failures a c (output_line margin (front ++ text)) r
   writes_row a b c margin front text r p q =
-      subst (λ bytes. Writes contents failures a c bytes r) (output_line-parts margin front text) (writes_last a b c margin (front ++ (text ++ newline ∷ [])) r p q)
-
-pub ruleset pushing = (stops_at, goes_whole)
+      subst (λ bytes. Writes contents failures a c bytes r) (output_line-parts margin front text) (writes_last contents failures a b c margin (front ++ (text ++ newline ∷ [])) r p q)
 
 pub ruleset writing = (goes_nowhere, goes_on, stops_early, stops_later, writes_last, writes_row)

@@ -11,13 +11,13 @@ use Rattle.grep_core.specs.declared.status.Status.TheVariants.{Selected as selec
 use Rattle.grep_core.specs.declared.status.Status.{Status}
 use Rattle.grep_core.specs.declared.status.RunFault.{RunFault}
 use Rattle.grep_core.specs.declared.status.RunFault.TheVariants.{Write, MessageWrite, Memory}
-use Rattle.grep_core.specs.declared.search.file.FileEnd.{FileEnd}
-use Rattle.grep_core.specs.Counted.{one_more}
+use Rattle.grep_core.specs.declared.status.FileEnd.{FileEnd}
+use Rattle.grep_io.specs.Counted.{one_more}
 use Rattle.grep_core.specs.Choose.{IfHolds}
 use Rattle.grep_core.specs.Files.{File, missing, HasSelected}
 use Rattle.grep_core.specs.Output.{Form, nothing, names, counts, parts, lines, around, form, OutAs, Out, are_many}
 use Rattle.grep_core.specs.Messages.{FaultMet, Stops, Told, Messages, AnySelected, StatusOf}
-use Rattle.grep_core.specs.Reading.{Source, Reading, IsReadingOf, file_of, failures_of, AreLeft, HasRead}
+use Rattle.grep_io.specs.Reading.{Source, Reading, IsReadingOf, file_of, failures_of, AreLeft, HasRead}
 use Rattle.grep_core.specs.Run.{Writer, Devices, TakesAll, TakesFront, TakesPast, files_of, AreReadings, FailuresMet, LeftMet, begun, file_at, count_more, Finishes, BreaksOff, StopsBehind, RunGives}
 use Rattle.grep_core.specs.Sources.{source_at}
 use Rattle.grep_core.specs.Cost.{SearchesLines, SearchesFiles}

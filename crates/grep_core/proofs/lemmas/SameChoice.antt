@@ -20,7 +20,7 @@ use Rattle.grep_core.specs.Cost.{search_cost, PartsAsked, LinesCost, FilesCost, 
 use Rattle.grep_core.specs.Files.{File, Ending, whole, missing, broken, Matched, Selected, HasSelected}
 use Rattle.grep_core.specs.Messages.{FaultMetBy, FaultMet, Stops, Reached, Message, Messages, AnySelected, StatusOf}
 use Rattle.grep_core.specs.Output.{Form, nothing, names, counts, parts, lines, around, form, shown_name, shown_number, GroupsOf, SelectedLines, CountOf, RowsOf, PartsOfLine, PartRowsOf, OutAs}
-use Rattle.grep_core.specs.Reading.{Source, Reading, file_of}
+use Rattle.grep_io.specs.Reading.{Source, Reading, file_of}
 use Rattle.grep_core.specs.Run.{Devices, FailuresMet, LeftMet, Finishes, BreaksOff, StopsBehind, RunGives}
 use Rattle.grep_core.specs.Working.SameChoice.{IsSameChoice, ServesForOthers}
 

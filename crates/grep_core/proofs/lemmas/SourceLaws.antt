@@ -3,10 +3,10 @@ use Rattle.std.proofs.Common.{◌≡◌, ℕ, zero, suc, ◌+◌, List, [], ◌�
 use Rattle.re_syntax.specs.Expression.{Expression}
 use Rattle.re_syntax.proofs.lemmas.Decisions.{Any-first, Any-later}
 use Rattle.grep_core.specs.declared.options.Options.{Options}
-use Rattle.grep_core.specs.Counted.{one_more}
+use Rattle.grep_io.specs.Counted.{one_more}
 use Rattle.grep_core.specs.Choose.{IfHolds}
 use Rattle.grep_core.specs.Messages.{FaultMet, Stops}
-use Rattle.grep_core.specs.Reading.{Source, Reading, file_of, failures_of, AreLeft}
+use Rattle.grep_io.specs.Reading.{Source, Reading, file_of, failures_of, AreLeft}
 use Rattle.grep_core.specs.Run.{files_of, AreReadings, FailuresMet, LeftMet, count_more}
 use Rattle.grep_core.specs.Sources.{GivesBack}
 use Rattle.re_syntax.specs.Bytes.{Text}

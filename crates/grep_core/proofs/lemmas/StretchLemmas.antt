@@ -24,7 +24,7 @@ use Rattle.grep_core.specs.Working.Stretches.{IsDivided}
 use Rattle.grep_core.specs.declared.search.stretch.Stretch.{Stretch}
 use Rattle.re_search.specs.Meters.{Steps}
 use Rattle.re_search.specs.Searching.{AddsAtMost}
-use Rattle.grep_core.proofs.lemmas.PassedLemmas.{terminated-append}
+use Rattle.grep_io.proofs.lemmas.PassedLemmas.{terminated-append}
 use Rattle.grep_core.proofs.lemmas.Verdicts.{decided_yes, decided_no}
 
 -- ---- where the lines lie

@@ -6,14 +6,14 @@ use Rattle.re_syntax.specs.Lines.{lines_of, ended_lines_of}
 use Rattle.re_syntax.specs.Expression.{Expression}
 use Rattle.re_search.specs.Meters.{Steps}
 use Rattle.grep_core.specs.declared.options.Options.{Options}
-use Rattle.grep_core.specs.declared.search.file.FileEnd.{FileEnd}
-use Rattle.grep_core.specs.declared.search.file.FileEnd.TheVariants.{Missing, Whole, Broken, Left}
-use Rattle.grep_core.specs.Counted.{one_more}
+use Rattle.grep_core.specs.declared.status.FileEnd.{FileEnd}
+use Rattle.grep_core.specs.declared.status.FileEnd.TheVariants.{Missing, Whole, Broken, Left}
+use Rattle.grep_io.specs.Counted.{one_more}
 use Rattle.grep_core.specs.Choose.{EachGives}
 use Rattle.grep_core.specs.Files.{File, Ending, whole, broken}
 use Rattle.grep_core.specs.Output.{form}
 use Rattle.grep_core.specs.Messages.{message, FaultMet, Message, Told}
-use Rattle.grep_core.specs.Reading.{Source, Reading, not_opened, fails_after, ends_after, most_lines, up_to_limit, file_of}
+use Rattle.grep_io.specs.Reading.{Source, Reading, not_opened, fails_after, ends_after, most_lines, up_to_limit, file_of}
 use Rattle.grep_core.specs.Run.{Devices, Writer, TakesAll, TakesFront}
 use Rattle.grep_core.specs.Working.Groups.{behind_rows}
 use Rattle.grep_core.specs.Working.Searched.{is_fault, ending_of, summary_as, told_of, SearchesSource, FinishesSource, BreaksSource, BreaksMessage}

@@ -7,9 +7,15 @@ use Rattle.std.proofs.lemmas.List.{length-drop, length_push, drop-drop, drop-app
 use Rattle.re_syntax.specs.Bytes.{Text}
 use Rattle.grep_core.specs.declared.options.Options.{Options}
 use Rattle.grep_core.specs.declared.output.around.Progress.{Progress}
+use Rattle.grep_core.specs.declared.status.SearchFault.{SearchFault}
+use Rattle.grep_core.specs.declared.status.SearchFault.TheVariants.{Write}
+use Rattle.grep_core.specs.Run.{Writer}
+use Rattle.grep_core.specs.Working.LastLines.{LastLines}
+use Rattle.grep_core.specs.Working.ShownLines.{BreaksShown, ShowGives}
+use Rattle.std.specs.Result.{IsErrAnd}
 use Rattle.grep_core.specs.Row.{hyphen, output_line}
 use Rattle.grep_core.specs.Output.{written}
-use Rattle.grep_core.specs.Written.{GoesOut, StopsWithin, Writes}
+use Rattle.grep_io.specs.Written.{GoesOut, StopsWithin, Writes}
 use Rattle.grep_core.specs.Working.Progress.{next_shown, behind_line, with_waiting, last_of, row_with, rows_around}
 use Rattle.grep_core.proofs.lemmas.RowLemmas.{goes_nowhere, goes_on, stops_early, stops_later, writes_last}
 use Rattle.grep_core.proofs.lemmas.WriterLaws.{written-append}
@@ -141,3 +147,9 @@ module _ {W : Type 0} (contents : W → Option Text) (failures : W → ℕ) wher
     row_last itself e a b c d r g h w =
         subst (λ t. Writes contents failures a d (written [] t) r) (sym (ap all_at e)) (subst (λ t. Writes contents failures a d t r) (sym bytes_at)
         (writes_last contents failures a b d (written [] between) (written [] waiting ++ output_line [] row) r g (writes_last contents failures b c d (written [] waiting) (output_line [] row) r h w)))
+
+-- a write failed in what is shown at a line, and that is returned
+pub breaks_shown : (options : Options) (many : Bool) (name : Text) (found : Bool) (number : ℕ) (line : Text) (p q : Progress) (behind held : LastLines) (old new : Writer) → {T : Type 0} → (r : Result T SearchFault) → IsErrAnd r (λ fault. fault ≡ Write)
+    → BreaksShown options many name found number line p behind old new → ShowGives options many name found number line p q behind held old new r
+breaks_shown options many name found number line p q behind held old new {T} (Ok v) kept broke = absurd kept
+breaks_shown options many name found number line p q behind held old new {T} (Err fault) kept broke = subst (λ f. ShowGives options many name found number line {T = T} p q behind held old new (Err f)) (sym kept) broke

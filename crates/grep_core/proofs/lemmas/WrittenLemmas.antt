@@ -5,7 +5,7 @@ use Rattle.re_syntax.specs.Lines.{newline}
 use Rattle.grep_core.specs.Row.{output_line}
 use Rattle.grep_core.specs.Output.{written}
 use Rattle.grep_core.specs.Run.{writer, TakesAll, TakesFront}
-use Rattle.grep_core.specs.Written.{GoesOut, StopsWithin, Writes}
+use Rattle.grep_io.specs.Written.{GoesOut, StopsWithin, Writes}
 use Rattle.grep_core.proofs.lemmas.RowLemmas.{goes_nowhere, stops_early, writes_last}
 
 module _ {W : Type 0} (contents : W → Option Text) (failures : W → ℕ) where

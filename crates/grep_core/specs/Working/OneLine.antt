@@ -3,7 +3,7 @@ use Rattle.std.specs.Prelude.{◌≡◌, ℕ, ◌+◌, Bool, false, IsTrue, ◌�
 use Rattle.re_syntax.specs.Bytes.{Text}
 use Rattle.re_syntax.specs.Expression.{Expression}
 use Rattle.grep_core.specs.declared.options.Options.{Options}
-use Rattle.grep_core.specs.Counted.{one_more}
+use Rattle.grep_io.specs.Counted.{one_more}
 use Rattle.grep_core.specs.Choose.{IfHolds}
 use Rattle.grep_core.specs.Files.{File, Selected}
 use Rattle.grep_core.specs.Row.{colon, head}
@@ -11,7 +11,7 @@ use Rattle.grep_core.specs.Output.{Form, parts, lines, around, form, head_of, sh
 use Rattle.grep_core.specs.Output.{RowsOf, PartsOfLine}
 use Rattle.grep_core.specs.Output.{PartRowsOf, GroupsOf}
 use Rattle.grep_core.specs.Run.{Writer, TakesAll, TakesFront}
-use Rattle.grep_core.specs.Working.Handed.{file_so_far}
+use Rattle.grep_io.specs.Working.Handed.{file_so_far}
 use Rattle.grep_core.specs.Working.Wanted.{name_shown}
 
 -- no lines are shown around selected ones

@@ -9,7 +9,7 @@ use Rattle.re_search.specs.Meters.{Steps}
 use Rattle.re_search.specs.Working.Blocks.{HoldsOfMany}
 use Rattle.grep_core.specs.Cost.{SearchesLines}
 use Rattle.grep_core.specs.Files.{Selected}
-use Rattle.grep_core.specs.Working.Numbered.{Numbered, HasHanded}
+use Rattle.grep_io.specs.Working.Numbered.{Numbered, HasHanded}
 use Rattle.grep_core.specs.Working.LastLines.{LastLines, with_lines}
 use Rattle.grep_core.specs.Working.Progress.{with_waiting}
 

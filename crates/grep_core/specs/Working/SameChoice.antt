@@ -7,7 +7,7 @@ use Rattle.re_syntax.specs.Holds.{Holds}
 use Rattle.grep_core.specs.declared.options.Options.{Options}
 use Rattle.grep_core.specs.declared.status.RunFault.{RunFault}
 use Rattle.grep_core.specs.declared.status.Status.{Status}
-use Rattle.grep_core.specs.Reading.{Source}
+use Rattle.grep_io.specs.Reading.{Source}
 use Rattle.grep_core.specs.Run.{Devices, RunGives}
 
 -- some expression of the first list holds on a stretch where some of the second does

@@ -6,21 +6,21 @@ use Rattle.re_syntax.specs.Bytes.{Text}
 use Rattle.re_syntax.specs.Expression.{Expression}
 use Rattle.re_search.specs.Meters.{Steps}
 use Rattle.grep_core.specs.declared.options.Options.{Options}
-use Rattle.grep_core.specs.declared.search.file.FileEnd.{FileEnd}
-use Rattle.grep_core.specs.declared.search.file.FileEnd.TheVariants.{Missing, Whole, Broken, Left}
-use Rattle.grep_core.specs.declared.search.file.FileFound.{FileFound}
+use Rattle.grep_core.specs.declared.status.FileEnd.{FileEnd}
+use Rattle.grep_core.specs.declared.status.FileEnd.TheVariants.{Missing, Whole, Broken, Left}
+use Rattle.grep_core.specs.declared.status.FileFound.{FileFound}
 use Rattle.grep_core.specs.declared.status.RunFault.{RunFault}
 use Rattle.grep_core.specs.declared.status.RunFault.TheVariants.{Write, MessageWrite, Memory}
 use Rattle.grep_core.specs.declared.status.Status.{Status}
 use Rattle.grep_core.specs.declared.status.Status.TheVariants.{Selected, NoneSelected, Error}
-use Rattle.grep_core.specs.Counted.{one_more}
+use Rattle.grep_io.specs.Counted.{one_more}
 use Rattle.grep_core.specs.Choose.{IfHolds}
 use Rattle.grep_core.specs.Row.{colon, prefix}
 use Rattle.grep_core.specs.Files.{Ending, whole, missing, broken, HasSelected}
 use Rattle.grep_core.specs.Output.{Form, names, counts, form}
 use Rattle.grep_core.specs.Messages.{message, FaultMet, Told}
-use Rattle.grep_core.specs.Reading.{Source, Reading, IsReadingOf, file_of, failures_of, AreLeft}
-use Rattle.grep_core.specs.Reading.{HasRead}
+use Rattle.grep_io.specs.Reading.{Source, Reading, IsReadingOf, file_of, failures_of, AreLeft}
+use Rattle.grep_io.specs.Reading.{HasRead}
 use Rattle.grep_core.specs.Run.{Writer, Devices, TakesAll, TakesFront, begun, count_more}
 use Rattle.grep_core.specs.Working.Groups.{GroupedAs, behind_rows}
 use Rattle.grep_core.specs.Working.Wanted.{name_shown}

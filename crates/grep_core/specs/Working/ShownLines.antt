@@ -1,9 +1,11 @@
 -- What is written at a line where lines around selected ones are shown, and what is kept of it.
-use Rattle.std.specs.Prelude.{◌≡◌, ℕ, Bool, if◌then◌else◌, [], ◌∷◌, ◌++◌}
+use Rattle.std.specs.Prelude.{◌≡◌, ℕ, Bool, if◌then◌else◌, [], ◌∷◌, ◌++◌, Result, Ok, Err}
 use Rattle.re_syntax.specs.Bytes.{Text}
 use Rattle.grep_core.specs.declared.options.Options.{Options}
 use Rattle.grep_core.specs.declared.output.around.Progress.{Progress}
-use Rattle.grep_core.specs.Counted.{one_more}
+use Rattle.grep_core.specs.declared.status.SearchFault.{SearchFault}
+use Rattle.grep_core.specs.declared.status.SearchFault.TheVariants.{Write, Memory}
+use Rattle.grep_io.specs.Counted.{one_more}
 use Rattle.grep_core.specs.Run.{Writer, TakesAll, TakesFront}
 use Rattle.grep_core.specs.Working.LastLines.{LastLines}
 use Rattle.grep_core.specs.Working.Progress.{next_shown, behind_line, last_of, rows_at}
@@ -25,3 +27,16 @@ module _ (options : Options) (many : Bool) (name : Text) (selected : Bool) (numb
     pub wrote : TakesFront old new (rows_at options many name selected
         (next_shown before selected) behind.lines number line)
     pub counted : new.failures ≡ one_more old.failures
+
+  -- why a line is not done: a write failed, or what is shown was written and the line could not be
+  -- held
+  abbrev pub ShowStops : Progress → LastLines → Writer → Writer → SearchFault → Type 0
+  ShowStops before behind old new Write = BreaksShown before behind old new
+  ShowStops before behind old new (Memory n) = (number ≡ n) ×
+      TakesAll old new (rows_at options many name selected (next_shown before selected)
+      behind.lines number line)
+
+  abbrev pub ShowGives : {T : Type 0} → Progress → Progress → LastLines → LastLines → Writer →
+      Writer → Result T SearchFault → Type 0
+  ShowGives before after behind held old new (Ok v) = ShowsLine before after behind held old new
+  ShowGives before after behind held old new (Err fault) = ShowStops before behind old new fault

@@ -3,10 +3,10 @@ use Rattle.std.specs.Prelude.{◌≡◌, ◌+◌, ◌≤◌, List, [], ◌∷◌
 use Rattle.re_syntax.specs.Bytes.{Text}
 use Rattle.re_syntax.specs.Lines.{HasNoNewline, terminated}
 use Rattle.re_search.specs.Working.Sought.{Sought, IsSought}
-use Rattle.grep_core.specs.declared.input.lines.Stage.TheVariants.{Ended}
+use Rattle.grep_io.specs.declared.input.lines.Stage.TheVariants.{Ended}
 use Rattle.grep_core.specs.declared.search.stretch.Stretch.{Stretch}
-use Rattle.grep_core.specs.Reading.{most_lines}
-use Rattle.grep_core.specs.Working.Numbered.{Numbered}
+use Rattle.grep_io.specs.Reading.{most_lines}
+use Rattle.grep_io.specs.Working.Numbered.{Numbered}
 
 -- the stretch is all these lines: those before the first that is matched, and that line, if there
 -- is one

@@ -3,12 +3,11 @@ ghost use Rattle.std.specs.Prelude.{[], ◌∷◌, ◌++◌};
 ghost use Rattle.std.specs.Fmt.{decimal};
 ghost use Rattle.std.specs.Option.{option_copied};
 ghost use Rattle.grep_core.specs.Row.{colon, prefix, output_line};
-ghost use Rattle.grep_core.specs.Written.{Writes};
+ghost use Rattle.grep_io.specs.Written.{Writes};
 ghost use Rattle.re_syntax.specs.Lines.{newline};
 
-use crate::devices::counted::{CountedWrite, WriteFault};
-use crate::output::push::push_all;
 use crate::output::rows::{write_decimal, write_line_behind, write_prefix};
+use grep_io::{CountedWrite, WriteFault, push_all};
 
 fn write_decimal_line<W: CountedWrite>(out: &mut W, number: u64) -> Result<(), WriteFault>
     ensures { Writes W.contents W.failures out.old out.new (decimal number ++ newline ∷ []) result }

@@ -2,10 +2,10 @@
 ghost use Rattle.std.specs.Prelude.{[]};
 ghost use Rattle.grep_core.specs.Messages.{cannot_open, read_error};
 ghost use Rattle.grep_core.specs.Row.{output_line};
-ghost use Rattle.grep_core.specs.Written.{Writes};
+ghost use Rattle.grep_io.specs.Written.{Writes};
 
-use crate::devices::counted::{CountedWrite, WriteFault};
 use crate::output::rows::write_row;
+use grep_io::{CountedWrite, WriteFault};
 
 /// Writes the message on a file that could not be opened.
 ///

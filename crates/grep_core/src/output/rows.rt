@@ -4,11 +4,10 @@ ghost use Rattle.std.specs.Fmt.{decimal};
 ghost use Rattle.std.specs.Option.{option_copied};
 ghost use Rattle.grep_core.specs.Around.{group_separator};
 ghost use Rattle.grep_core.specs.Row.{prefix, number_part, head, output_line};
-ghost use Rattle.grep_core.specs.Written.{Writes};
+ghost use Rattle.grep_io.specs.Written.{Writes};
 ghost use Rattle.re_syntax.specs.Lines.{newline};
 
-use crate::devices::counted::{CountedWrite, WriteFault};
-use crate::output::push::push_all;
+use grep_io::{CountedWrite, WriteFault, push_all};
 use itoa::Buffer;
 
 /// Writes the name and the separator, where there is a name.

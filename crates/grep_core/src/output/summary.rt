@@ -5,16 +5,14 @@ ghost use Rattle.grep_core.specs.Messages.{cannot_open, read_error};
 ghost use Rattle.grep_core.specs.Output.{form, written};
 ghost use Rattle.grep_core.specs.Row.{output_line};
 ghost use Rattle.grep_core.specs.Working.Searched.{summary_as, told_of, status_by};
-ghost use Rattle.grep_core.specs.Written.{Writes};
+ghost use Rattle.grep_io.specs.Written.{Writes};
 
-use crate::devices::counted::{CountedWrite, WriteFault};
 use crate::options::Form;
 use crate::output::counts::{write_count, write_name};
 use crate::output::messages::{write_cannot_open, write_read_error};
-use crate::output::push::push_all;
 use crate::output::wanted::Wanted;
-use crate::search::file::{FileEnd, FileFound};
-use crate::status::Status;
+use crate::status::{FileEnd, FileFound, Status};
+use grep_io::{CountedWrite, WriteFault, push_all};
 
 /// Writes what follows the rows of a file's lines: under `-l` the file's name, if a line is
 /// selected, and under `-c` the number of its selected lines, if it could be opened.

@@ -5,11 +5,11 @@ ghost use Rattle.grep_core.specs.Output.{shown_number};
 ghost use Rattle.grep_core.specs.Row.{colon, hyphen, head, output_line};
 ghost use Rattle.grep_core.specs.Working.OneLine.{IsBare};
 ghost use Rattle.grep_core.specs.Working.Wanted.{name_shown};
-ghost use Rattle.grep_core.specs.Written.{Writes};
+ghost use Rattle.grep_io.specs.Written.{Writes};
 
-use crate::devices::counted::{CountedWrite, WriteFault};
 use crate::options::{Form, Options};
 use crate::output::rows::write_row;
+use grep_io::{CountedWrite, WriteFault};
 use re_search::Span;
 
 /// What is asked of one file.

@@ -7,29 +7,58 @@ ghost use Rattle.re_search.specs.Working.Blocks.{IsBlock};
 ghost use Rattle.grep_core.specs.Around.{group_separator};
 ghost use Rattle.grep_core.specs.Row.{output_line};
 ghost use Rattle.grep_core.specs.Output.{form, around, written};
-ghost use Rattle.grep_core.specs.Reading.{open_source, OneLeft};
+ghost use Rattle.grep_io.specs.Reading.{open_source, OneLeft};
 ghost use Rattle.grep_core.specs.Run.{writer, TakesAll};
-ghost use Rattle.grep_core.specs.Written.{Writes};
+ghost use Rattle.grep_io.specs.Written.{Writes};
 ghost use Rattle.grep_core.specs.Working.Passed.{Waits};
 ghost use Rattle.grep_core.specs.Working.Progress.{rows_around, row_by, rows_at, last_of};
-ghost use Rattle.grep_core.specs.Working.Progress.{next_shown};
-ghost use Rattle.grep_core.specs.Working.ShownLines.{ShowsLine, BreaksShown};
-ghost use Rattle.grep_core.specs.Working.Searched.{SearchesSource, BreaksSource, StopsSource};
+ghost use Rattle.grep_core.specs.Working.Progress.{next_shown, progress_from};
+ghost use Rattle.grep_core.specs.Working.ShownLines.{ShowGives};
+ghost use Rattle.grep_core.specs.Working.Given.{SearchGives};
 
-use crate::devices::counted::{CountedRead, CountedWrite, WriteFault};
-use crate::input::lines::{ReadFault, Stage};
-use crate::input::numbered::NumberedLines;
 use crate::options::Context;
 use crate::output::around::{Progress, Shown};
 use crate::output::rows::write_separator;
 use crate::output::wanted::Wanted;
 use crate::search::behind::Behind;
-use crate::search::file::{FileEnd, FileFound, SearchFault, count_found};
+use crate::search::file::count_found;
 use crate::search::held::next_held;
 use crate::search::matching::is_selected;
-use crate::search::sending::send_before_read;
+use crate::search::taking::take_next;
+use crate::status::{FileEnd, FileFound, SearchFault};
+use grep_io::{CountedRead, CountedWrite, Lines, ReadFault, Stage, WriteFault};
 use re_search::{LineMatch, Meter, Searchers};
-use std::alloc::AllocError;
+use std::alloc::{AllocError, Global};
+
+/// The lines around selected ones of a file: how far they are done, and the last that are not shown.
+#[derive(Drop)]
+pub struct Surroundings {
+    progress: Progress,
+    behind: Behind,
+}
+
+impl Surroundings {
+    /// Before the first line of a file; `shown` says whether a line of a file before it is shown.
+    pub fn new(alloc: Global, context: Context, shown: bool) -> Surroundings
+        ensures { result ≡ record {
+          progress = progress_from context shown;
+          behind = record { limit = context.before; lines = [] };
+        } }
+    {
+        Surroundings {
+            progress: Progress::new(context, shown),
+            behind: Behind::new(alloc, context.before),
+        }
+    }
+}
+
+// A line that was searched.
+#[derive(Clone, Copy)]
+struct SearchedLine<'a> {
+    selected: bool,
+    number: u64,
+    text: &'a [u8],
+}
 
 // Writes the separator, where a group begins after another.
 #[tactic(auto, using(crate::proofs::lemmas::WrittenLemmas::as_written))]
@@ -66,19 +95,18 @@ fn write_waiting<W: CountedWrite>(
 // Writes the row of a line that is selected or is shown around one that is.
 fn write_itself<W: CountedWrite>(
     wanted: &Wanted,
-    selected: bool,
-    number: u64,
-    line: &[u8],
+    line: &SearchedLine,
     out: &mut W,
 ) -> Result<(), WriteFault>
     ensures { Writes W.contents W.failures out.old out.new (output_line []
-        (row_by wanted.now.options wanted.now.many wanted.now.name.now selected number line.now))
+        (row_by wanted.now.options wanted.now.many wanted.now.name.now line.now.selected line.now.number
+        line.now.text.now))
         result }
 {
-    if selected {
-        wanted.write_text(number, line, out, b"")
+    if line.selected {
+        wanted.write_text(line.number, line.text, out, b"")
     } else {
-        wanted.write_around(number, line, out, b"")
+        wanted.write_around(line.number, line.text, out, b"")
     }
 }
 
@@ -87,22 +115,20 @@ fn write_shown<W: CountedWrite>(
     wanted: &Wanted,
     behind: &Behind,
     shown: Shown,
-    selected: bool,
-    number: u64,
-    line: &[u8],
+    line: &SearchedLine,
     out: &mut W,
 ) -> Result<(), WriteFault>
-    requires { length behind.now.lines ≤ number }
+    requires { length behind.now.lines ≤ line.now.number }
     ensures { Writes W.contents W.failures out.old out.new
-        (written [] (rows_at wanted.now.options wanted.now.many wanted.now.name.now selected
-        shown behind.now.lines number line.now)) result }
+        (written [] (rows_at wanted.now.options wanted.now.many wanted.now.name.now line.now.selected
+        shown behind.now.lines line.now.number line.now.text.now)) result }
 {
     write_between(shown.separated, out)?;
     if !shown.itself {
         return Ok(());
     }
-    write_waiting(wanted, behind, number, out)?;
-    write_itself(wanted, selected, number, line, out)
+    write_waiting(wanted, behind, line.number, out)?;
+    write_itself(wanted, line, out)
 }
 
 // Keeps a line that is not shown, and forgets all kept lines if it is shown.
@@ -119,68 +145,49 @@ fn keep(behind: &mut Behind, shown: bool, line: &[u8]) -> Result<(), AllocError>
 }
 
 // Lets whole lines wait that are not shown after a selected one; the last of them are held.
-fn wait(
-    block: &[u8],
-    count: u64,
-    progress: &mut Progress,
-    behind: &mut Behind,
-) -> Result<(), AllocError>
+fn wait(block: &[u8], count: u64, surroundings: &mut Surroundings) -> Result<(), AllocError>
     requires block { IsBlock block.now }
     requires counted { count ≡ length (lines_of block.now) }
-    requires few { progress.old.waiting ≤ progress.old.context.before }
-    requires due { (count ≡ 0) ⊎ (progress.old.left ≡ 0) }
-    ensures { IfOk result (λ _. Waits (lines_of block.now) progress.old progress.new behind.old
-        behind.new) }
+    requires few { surroundings.old.progress.waiting ≤ surroundings.old.progress.context.before }
+    requires due { (count ≡ 0) ⊎ (surroundings.old.progress.left ≡ 0) }
+    ensures { IfOk result (λ _. Waits (lines_of block.now) surroundings.old.progress
+        surroundings.new.progress surroundings.old.behind surroundings.new.behind) }
 {
     if count == 0 {
         return Ok(());
     }
-    behind.push_block(block)?;
-    progress.wait(count);
+    surroundings.behind.push_block(block)?;
+    surroundings.progress.wait(count);
     Ok(())
 }
 
 // Writes what is shown at a line, and keeps the line if it is not shown.
 fn show_line<W: CountedWrite>(
     wanted: &Wanted,
-    progress: &mut Progress,
-    behind: &mut Behind,
-    found: bool,
-    number: u64,
-    line: &[u8],
+    surroundings: &mut Surroundings,
+    line: &SearchedLine,
     out: &mut W,
 ) -> Result<(), SearchFault>
-    requires few { progress.old.waiting ≤ progress.old.context.before }
-    requires held { length behind.old.lines ≤ number }
-    ensures ok { IfOk result (λ _. ShowsLine wanted.now.options wanted.now.many
-        wanted.now.name.now found number line.now progress.old progress.new behind.old behind.new
-        (writer W.contents W.failures out.old) (writer W.contents W.failures out.new)) }
-    ensures write { result ≡ Err SearchFault.Write → BreaksShown wanted.now.options
-        wanted.now.many wanted.now.name.now found number line.now progress.old behind.old
-        (writer W.contents W.failures out.old) (writer W.contents W.failures out.new) }
-    ensures memory { (count : ℕ) → result ≡ Err (SearchFault.Memory count) → (number ≡ count)
-        × TakesAll (writer W.contents W.failures out.old) (writer W.contents W.failures out.new)
-        (rows_at wanted.now.options wanted.now.many wanted.now.name.now found
-        (next_shown progress.old found) behind.old.lines number line.now) }
+    requires few { surroundings.old.progress.waiting ≤ surroundings.old.progress.context.before }
+    requires held { length surroundings.old.behind.lines ≤ line.now.number }
+    ensures { ShowGives wanted.now.options wanted.now.many wanted.now.name.now line.now.selected
+        line.now.number line.now.text.now surroundings.old.progress surroundings.new.progress
+        surroundings.old.behind surroundings.new.behind (writer W.contents W.failures out.old)
+        (writer W.contents W.failures out.new) result }
 {
-    let at = progress.step(found);
-    write_shown(wanted, behind, at, found, number, line, out)?;
-    if keep(behind, at.itself, line).is_err() {
-        return Err(SearchFault::Memory(number));
+    let at = surroundings.progress.step(line.selected);
+    write_shown(wanted, &surroundings.behind, at, line, out)?;
+    if keep(&mut surroundings.behind, at.itself, line.text).is_err() {
+        return Err(SearchFault::Memory(line.number));
     }
     Ok(())
 }
 
 /// Searches the lines of a reader, from the first on: writes the rows of the selected lines and of
 /// those around them. Buffered output is sent before a read, which may wait.
-///
-/// `shown` says whether a line of an earlier source is selected. `behind` is for the lines that may
-/// be shown before the next selected one, and holds none yet.
 pub fn search_around<R: CountedRead, M: LineMatch, W: CountedWrite>(
-    context: Context,
-    shown: bool,
-    behind: &mut Behind,
-    lines: &mut NumberedLines<R>,
+    surroundings: &mut Surroundings,
+    lines: &mut Lines<R>,
     searchers: &mut Searchers<'_, '_, M>,
     wanted: &Wanted,
     out: &mut W,
@@ -189,67 +196,55 @@ pub fn search_around<R: CountedRead, M: LineMatch, W: CountedWrite>(
     requires none_ahead { lines.old.lines.ahead ≡ [] }
     requires still_open { lines.old.lines.stage ≡ Stage.Open }
     requires none_numbered { lines.old.number ≡ 0 }
-    requires is_asked { form wanted.now.options ≡ around context }
+    requires is_asked { form wanted.now.options ≡ around surroundings.old.progress.context }
     requires whole { asks_whole searchers.old ≡ wanted.now.options.line_regexp }
-    requires none_behind { behind.old ≡ record { limit = context.before; lines = [] } }
-    ensures ok { IfOk result
-        (λ found. SearchesSource (expressions_by M.expression searchers.old) wanted.now.options wanted.now.many
-        shown (open_source wanted.now.name.now (R.remaining lines.old.lines.reader))
+    requires none_done { surroundings.old.progress
+        ≡ progress_from surroundings.old.progress.context surroundings.old.progress.shown }
+    requires none_behind { surroundings.old.behind
+        ≡ record { limit = surroundings.old.progress.context.before; lines = [] } }
+    ensures given { SearchGives (expressions_by M.expression searchers.old) wanted.now.options
+        wanted.now.many surroundings.old.progress.shown
+        (open_source wanted.now.name.now (R.remaining lines.old.lines.reader))
         (OneLeft (R.remaining lines.new.lines.reader))
         (R.failures lines.old.lines.reader) (R.failures lines.new.lines.reader)
         (writer W.contents W.failures out.old) (writer W.contents W.failures out.new)
-        meter.old meter.new found.end found.selected) }
-    ensures write { result ≡ Err SearchFault.Write →
-        BreaksSource (expressions_by M.expression searchers.old) wanted.now.options wanted.now.many
-        shown (open_source wanted.now.name.now (R.remaining lines.old.lines.reader))
-        (OneLeft (R.remaining lines.new.lines.reader))
-        (R.failures lines.old.lines.reader) (R.failures lines.new.lines.reader)
-        (writer W.contents W.failures out.old) (writer W.contents W.failures out.new) meter.old
-        meter.new }
-    ensures memory { (count : ℕ) → result ≡ Err (SearchFault.Memory count) →
-        StopsSource (expressions_by M.expression searchers.old) wanted.now.options wanted.now.many
-        shown (open_source wanted.now.name.now (R.remaining lines.old.lines.reader))
-        (OneLeft (R.remaining lines.new.lines.reader)) count (R.failures lines.old.lines.reader)
-        (R.failures lines.new.lines.reader)
-        (writer W.contents W.failures out.old) (writer W.contents W.failures out.new) meter.old
-        meter.new }
+        meter.old meter.new result }
     ensures same { SameSearchers M.expression M.whole searchers.old searchers.new }
 {
-    let mut progress = Progress::new(context, shown);
     let mut selected: u64 = 0;
     'lines: loop {
-        let asked = (progress.left == 0) & !wanted.options.invert_match;
+        let asked = (surroundings.progress.left == 0) & !wanted.options.invert_match;
         let stretch = next_held(lines, searchers, asked, meter);
         let (bytes, count) = (stretch.bytes, stretch.count);
-        if wait(stretch.before, stretch.before_count, &mut progress, behind).is_err() {
+        if wait(stretch.before, stretch.before_count, surroundings).is_err() {
             return Err(SearchFault::Memory(lines.number()));
         }
-        if let Some(line) = stretch.line {
-            let number = lines.number() + count;
-            show_line(wanted, &mut progress, behind, true, number, line, out)?;
+        if let Some(text) = stretch.line {
+            let line = SearchedLine {
+                selected: true,
+                number: lines.number() + count,
+                text,
+            };
+            show_line(wanted, surroundings, &line, out)?;
             selected = count_found(selected, true);
             lines.pass(bytes, count);
             continue 'lines;
         }
         lines.pass(bytes, count);
-        send_before_read(lines, out)?;
-        match lines.next_line() {
-            Ok(true) => {
-                let number = lines.number();
-                let line = lines.line();
-                let found = is_selected(searchers, wanted.options, line, meter);
-                show_line(wanted, &mut progress, behind, found, number, line, out)?;
-                selected = count_found(selected, found);
-            }
-            Ok(false) => {
-                let end = FileEnd::Whole;
-                return Ok(FileFound { end, selected });
-            }
-            Err(ReadFault::Device) => {
-                let end = FileEnd::Broken;
-                return Ok(FileFound { end, selected });
-            }
-            Err(ReadFault::Memory) => return Err(SearchFault::Memory(lines.number())),
+        match take_next(lines, out) {
+            Ok(None) => {}
+            Ok(Some(end)) => return Ok(FileFound { end, selected }),
+            Err(fault) => return Err(fault),
         }
+        let number = lines.number();
+        let text = lines.line();
+        let found = is_selected(searchers, wanted.options, text, meter);
+        let line = SearchedLine {
+            selected: found,
+            number,
+            text,
+        };
+        show_line(wanted, surroundings, &line, out)?;
+        selected = count_found(selected, found);
     }
 }

@@ -6,7 +6,7 @@ ghost use Rattle.re_search.specs.Working.Blocks.{IsBlock};
 ghost use Rattle.grep_core.specs.Working.LastLines.{with_lines};
 ghost use Rattle.grep_core.specs.Working.Progress.{last_of};
 
-use crate::input::window::lines_end;
+use grep_io::lines_end;
 use re_syntax::split_file;
 use std::alloc::{AllocError, Global};
 use std::collections::VecDeque;

@@ -3,20 +3,19 @@ ghost use Rattle.std.specs.Prelude.{◌≡◌, ℕ, List, ◌-◌, ◌≤◌, []
 ghost use Rattle.re_syntax.specs.Bytes.{Text};
 ghost use Rattle.re_search.specs.Working.Asking.{SameSearchers, asks_whole, expressions_by};
 ghost use Rattle.grep_core.specs.Output.{counts, form};
-ghost use Rattle.grep_core.specs.Reading.{open_source, OneLeft};
+ghost use Rattle.grep_io.specs.Reading.{open_source, OneLeft};
 ghost use Rattle.grep_core.specs.Run.{writer};
-ghost use Rattle.grep_core.specs.Working.Numbered.{HasHanded};
+ghost use Rattle.grep_io.specs.Working.Numbered.{HasHanded};
 ghost use Rattle.grep_core.specs.Working.Passed.{AddsCounted};
-ghost use Rattle.grep_core.specs.Working.Searched.{SearchesSource, BreaksSource, StopsSource};
+ghost use Rattle.grep_core.specs.Working.Given.{SearchGives};
 
-use crate::devices::counted::{CountedRead, CountedWrite};
-use crate::input::lines::{ReadFault, Stage};
-use crate::input::numbered::NumberedLines;
 use crate::options::Options;
 use crate::output::wanted::Wanted;
-use crate::search::file::{FileEnd, FileFound, SearchFault, count_found};
+use crate::search::file::count_found;
 use crate::search::line::search_line;
-use crate::search::sending::send_before_read;
+use crate::search::taking::take_next;
+use crate::status::{FileEnd, FileFound, SearchFault};
+use grep_io::{CountedRead, CountedWrite, Lines, ReadFault, Stage};
 use re_search::{LineMatch, Meter, Searchers};
 
 // How many of `count` lines are selected, of which `matched` are matched (XCU grep, option `-v`).
@@ -34,7 +33,7 @@ fn count_selected(options: &Options, count: u64, matched: u64) -> u64
 // Passes the next lines, as far as they are held, and adds the number of the selected ones to the
 // count. None is passed where there are more than can be numbered.
 fn pass_counted<R: CountedRead, M: LineMatch>(
-    lines: &mut NumberedLines<R>,
+    lines: &mut Lines<R>,
     searchers: &mut Searchers<'_, '_, M>,
     options: &Options,
     selected: u64,
@@ -61,7 +60,7 @@ fn pass_counted<R: CountedRead, M: LineMatch>(
 /// Searches the lines of a reader, from the first on, where only the number of selected lines is
 /// written, and that after the last line. Buffered output is sent before a read, which may wait.
 pub fn count_lines<R: CountedRead, M: LineMatch, W: CountedWrite>(
-    lines: &mut NumberedLines<R>,
+    lines: &mut Lines<R>,
     searchers: &mut Searchers<'_, '_, M>,
     wanted: &Wanted,
     out: &mut W,
@@ -72,50 +71,25 @@ pub fn count_lines<R: CountedRead, M: LineMatch, W: CountedWrite>(
     requires none_numbered { lines.old.number ≡ 0 }
     requires is_asked { form wanted.now.options ≡ counts }
     requires whole { asks_whole searchers.old ≡ wanted.now.options.line_regexp }
-    ensures ok { IfOk result
-        (λ found. SearchesSource (expressions_by M.expression searchers.old) wanted.now.options wanted.now.many
-        false (open_source wanted.now.name.now (R.remaining lines.old.lines.reader))
+    ensures given { SearchGives (expressions_by M.expression searchers.old) wanted.now.options
+        wanted.now.many false (open_source wanted.now.name.now (R.remaining lines.old.lines.reader))
         (OneLeft (R.remaining lines.new.lines.reader))
         (R.failures lines.old.lines.reader) (R.failures lines.new.lines.reader)
         (writer W.contents W.failures out.old) (writer W.contents W.failures out.new)
-        meter.old meter.new found.end found.selected) }
-    ensures write { result ≡ Err SearchFault.Write →
-        BreaksSource (expressions_by M.expression searchers.old) wanted.now.options wanted.now.many false
-        (open_source wanted.now.name.now (R.remaining lines.old.lines.reader))
-        (OneLeft (R.remaining lines.new.lines.reader))
-        (R.failures lines.old.lines.reader) (R.failures lines.new.lines.reader)
-        (writer W.contents W.failures out.old) (writer W.contents W.failures out.new) meter.old
-        meter.new }
-    ensures memory { (count : ℕ) → result ≡ Err (SearchFault.Memory count) →
-        StopsSource (expressions_by M.expression searchers.old)
-        wanted.now.options wanted.now.many false
-        (open_source wanted.now.name.now (R.remaining lines.old.lines.reader))
-        (OneLeft (R.remaining lines.new.lines.reader)) count (R.failures lines.old.lines.reader)
-        (R.failures lines.new.lines.reader)
-        (writer W.contents W.failures out.old) (writer W.contents W.failures out.new) meter.old
-        meter.new }
+        meter.old meter.new result }
     ensures same { SameSearchers M.expression M.whole searchers.old searchers.new }
 {
     let options = &wanted.options;
     let mut selected: u64 = 0;
-    loop {
+    'lines: loop {
         selected = pass_counted(lines, searchers, options, selected, meter);
-        send_before_read(lines, out)?;
-        match lines.next_line() {
-            Ok(true) => {
-                let count = lines.number();
-                let found = search_line(searchers, wanted, count, lines.line(), out, meter)?;
-                selected = count_found(selected, found);
-            }
-            Ok(false) => {
-                let end = FileEnd::Whole;
-                return Ok(FileFound { end, selected });
-            }
-            Err(ReadFault::Device) => {
-                let end = FileEnd::Broken;
-                return Ok(FileFound { end, selected });
-            }
-            Err(ReadFault::Memory) => return Err(SearchFault::Memory(lines.number())),
+        match take_next(lines, out) {
+            Ok(None) => {}
+            Ok(Some(end)) => return Ok(FileFound { end, selected }),
+            Err(fault) => return Err(fault),
         }
+        let count = lines.number();
+        let found = search_line(searchers, wanted, count, lines.line(), out, meter)?;
+        selected = count_found(selected, found);
     }
 }

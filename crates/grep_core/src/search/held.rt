@@ -12,19 +12,16 @@ ghost use Rattle.grep_core.specs.Working.OneLine.{IsBare};
 ghost use Rattle.grep_core.specs.Working.Stretches.{IsDivided, IsNextOf};
 ghost use Rattle.grep_core.specs.Working.StretchRows.{TakesLines, BreaksLines};
 
-use crate::devices::counted::{CountedRead, CountedWrite, WriteFault};
-use crate::input::newlines::count_newlines;
-use crate::input::numbered::NumberedLines;
-use crate::output::push::push_all;
 use crate::output::wanted::Wanted;
 use crate::search::line::write_selected;
 use crate::search::stretch::Stretch;
+use grep_io::{CountedRead, CountedWrite, Lines, WriteFault, count_newlines, push_all};
 use re_search::{LineMatch, Meter, Searchers};
 
 /// Searches the lines that are held in one piece up to the first that some matcher matches. None is
 /// searched where that is not asked, and where not all of them can be numbered.
 pub fn next_held<'a, R: CountedRead, M: LineMatch>(
-    lines: &'a NumberedLines<R>,
+    lines: &'a Lines<R>,
     searchers: &mut Searchers<'_, '_, M>,
     asked: bool,
     meter: &mut Meter,

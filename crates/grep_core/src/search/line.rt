@@ -7,10 +7,10 @@ ghost use Rattle.grep_core.specs.Cost.{AsksParts, SearchesLine};
 ghost use Rattle.grep_core.specs.Working.OneLine.{WritesSelected, BreaksSelected, TakesLine};
 ghost use Rattle.grep_core.specs.Working.OneLine.{BreaksLine};
 
-use crate::devices::counted::{CountedWrite, WriteFault};
 use crate::options::Form;
 use crate::output::wanted::Wanted;
 use crate::search::matching::is_selected;
+use grep_io::{CountedWrite, WriteFault};
 use re_search::{LineMatch, Meter, Searchers};
 
 /// Writes the parts of a line, each after the line's head.

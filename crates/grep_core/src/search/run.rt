@@ -8,16 +8,16 @@ ghost use Rattle.grep_core.specs.Output.{form, written};
 ghost use Rattle.grep_core.specs.Run.{writer, RunGives, devices};
 ghost use Rattle.grep_core.specs.Sources.{source_at, GivesBack};
 ghost use Rattle.grep_core.specs.Working.Searched.{summary_as, SourceGives};
-ghost use Rattle.grep_core.specs.Written.{Writes};
+ghost use Rattle.grep_io.specs.Written.{Writes};
 
-use crate::devices::counted::{CountedWrite, WriteFault};
-use crate::input::sources::Sources;
 use crate::options::Options;
 use crate::output::summary::{status_of, tell_fault, write_summary};
 use crate::output::wanted::Wanted;
-use crate::search::file::{FileFound, SearchFault, search_file};
+use crate::search::file::search_file;
 use crate::search::setting::{Asked, Setting};
-use crate::status::{RunFault, Status};
+use crate::sources::Sources;
+use crate::status::{FileFound, RunFault, SearchFault, Status};
+use grep_io::{CountedWrite, WriteFault};
 use re_search::{Filter, LineMatch, Meter, Searchers};
 use std::alloc::Global;
 
@@ -43,21 +43,20 @@ fn end_output<W: CountedWrite>(
 fn search_source<S: Sources, M: LineMatch, W: CountedWrite, N: CountedWrite>(
     setting: &Setting,
     sources: &mut S,
-    k: usize,
     searchers: &mut Searchers<'_, '_, M>,
     out: &mut W,
     messages: &mut N,
     meter: &mut Meter,
 ) -> Result<FileFound, RunFault>
-    requires place { k < length (S.listed sources.old) }
-    requires in_order { S.stands_at sources.old k }
+    requires place { setting.now.place < length (S.listed sources.old) }
+    requires in_order { S.stands_at sources.old setting.now.place }
     requires whole { asks_whole searchers.old ≡ setting.now.asked.options.line_regexp }
     ensures listed { S.listed sources.new ≡ S.listed sources.old }
-    ensures next { S.stands_at sources.new (k + 1) }
+    ensures next { S.stands_at sources.new (setting.now.place + 1) }
     ensures same_loan { S.loan sources.new ≡ S.loan sources.old }
     ensures given { SourceGives (expressions_by M.expression searchers.old) setting.now.asked.options
-        setting.now.many setting.now.shown (source_at (S.listed sources.old) k)
-        (GivesBack S.given_back sources.old sources.new) k
+        setting.now.many setting.now.shown (source_at (S.listed sources.old) setting.now.place)
+        (GivesBack S.given_back sources.old sources.new) setting.now.place
         (devices (writer W.contents W.failures out.old) (writer N.contents N.failures messages.old)
         (S.failures sources.old) meter.old)
         (devices (writer W.contents W.failures out.new) (writer N.contents N.failures messages.new)
@@ -65,15 +64,18 @@ fn search_source<S: Sources, M: LineMatch, W: CountedWrite, N: CountedWrite>(
         result }
     ensures same { SameSearchers M.expression M.whole searchers.old searchers.new }
 {
-    let found = match search_file(setting, sources, k, searchers, out, meter) {
+    let found = match search_file(setting, sources, searchers, out, meter) {
         Ok(found) => found,
         Err(SearchFault::Write) => return Err(RunFault::Write),
-        Err(SearchFault::Memory(lines)) => return Err(RunFault::Memory { source: k, lines }),
+        Err(SearchFault::Memory(lines)) => return Err(RunFault::Memory {
+            source: setting.place,
+            lines,
+        }),
     };
     let wanted = Wanted {
         options: setting.asked.options,
         many: setting.many,
-        name: sources.name(k),
+        name: sources.name(setting.place),
     };
     match end_output(&wanted, found, out) {
         Ok(()) => {}
@@ -202,10 +204,11 @@ fn search_sources<S: Sources, M: LineMatch, W: CountedWrite, N: CountedWrite>(
     for k in 0..count {
         let setting = Setting {
             asked: *asked,
+            place: k,
             many,
             shown: some,
         };
-        let found = match search_source(&setting, sources, k, searchers, out, messages, meter) {
+        let found = match search_source(&setting, sources, searchers, out, messages, meter) {
             Ok(found) => found,
             Err(fault) => return Err(fault),
         };

@@ -20,6 +20,8 @@ pub struct Asked<'a> {
 pub struct Setting<'a> {
     /// What is asked of the search.
     pub asked: Asked<'a>,
+    /// The source's place among all, counted from 0.
+    pub place: usize,
     /// Whether there are two sources or more: rows and counts then begin with the source's name.
     pub many: bool,
     /// Whether a line of an earlier source is selected: where lines around selected ones are shown,

@@ -1,6 +1,6 @@
 use Rattle.std.proofs.Common.{◌≡◌, ◌-◌, ◌^◌, map}
 use Rattle.re_search.specs.Working.Asking.{SameSearchers}
-use Rattle.grep_core.specs.Reading.{IsOneLineAndFew}
+use Rattle.grep_io.specs.Reading.{IsOneLineAndFew}
 use Rattle.grep_core.specs.Run.{writer}
 use Rattle.grep_core.proofs.lemmas.AroundSearch.{FollowedSoFar}
 use Rattle.grep_core.proofs.search.around.search_around.Given as goal
@@ -8,9 +8,9 @@ use Rattle.grep_core.proofs.search.around.search_around.Given as goal
 -- what is shown of the lines that were handed out or passed was written
 abbrev pub invariant-lines : goal.invariant-lines
 invariant-lines g l = record {
-  so_far : FollowedSoFar g.R.CountedRead.remaining g.R.CountedRead.failures (map g.M.LineMatch.expression l.fn.searchers.matchers.now) l.wanted.options l.wanted.many l.shown l.wanted.name.now
-      l.fn.lines.lines.reader l.fn.context l.lines (writer g.W.CountedWrite.contents g.W.CountedWrite.failures l.fn.out) (writer g.W.CountedWrite.contents g.W.CountedWrite.failures l.out) l.fn.meter l.meter l.selected l.progress l.behind.lines;
-  limit : l.behind.limit ≡ l.fn.context.before;
+  so_far : FollowedSoFar g.R.CountedRead.remaining g.R.CountedRead.failures (map g.M.LineMatch.expression l.fn.searchers.matchers.now) l.wanted.options l.wanted.many l.fn.surroundings.progress.shown l.wanted.name.now
+      l.fn.lines.lines.reader l.fn.surroundings.progress.context l.lines (writer g.W.CountedWrite.contents g.W.CountedWrite.failures l.fn.out) (writer g.W.CountedWrite.contents g.W.CountedWrite.failures l.out) l.fn.meter l.meter l.selected l.surroundings.progress l.surroundings.behind.lines;
+  limit : l.surroundings.behind.limit ≡ l.fn.surroundings.progress.context.before;
   few_held : IsOneLineAndFew l.lines.lines.ahead;
   same : SameSearchers g.M.LineMatch.expression g.M.LineMatch.whole l.fn.searchers l.searchers;
 }

@@ -1,6 +1,6 @@
 use Rattle.std.proofs.Common.{◌-◌, [], length, take}
 use Rattle.grep_core.specs.Output.{written}
-use Rattle.grep_core.specs.Written.{GoesOut}
+use Rattle.grep_io.specs.Written.{GoesOut}
 use Rattle.grep_core.specs.Working.Progress.{rows_around}
 use Rattle.grep_core.proofs.search.around.write_waiting.Given as goal
 

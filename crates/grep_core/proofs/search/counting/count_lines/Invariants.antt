@@ -5,12 +5,12 @@ use Rattle.grep_core.proofs.lemmas.LinesLemmas.{SearchedSoFar}
 use Rattle.grep_core.proofs.search.counting.count_lines.Given as goal
 
 -- the lines that were handed out or passed were searched
-abbrev pub invariant-loop-lines : goal.invariant-loop-lines
-invariant-loop-lines g l = record {
+abbrev pub invariant-lines : goal.invariant-lines
+invariant-lines g l = record {
   so_far : SearchedSoFar g.R.CountedRead.remaining g.R.CountedRead.failures (map g.M.LineMatch.expression l.fn.searchers.matchers.now) l.wanted.options l.wanted.many false l.wanted.name.now
       l.fn.lines.lines.reader l.lines (writer g.W.CountedWrite.contents g.W.CountedWrite.failures l.fn.out) (writer g.W.CountedWrite.contents g.W.CountedWrite.failures l.out) l.fn.meter l.meter l.selected;
   same : SameSearchers g.M.LineMatch.expression g.M.LineMatch.whole l.fn.searchers l.searchers;
 }
 
-abbrev pub decreases-loop-lines : goal.decreases-loop-lines
-decreases-loop-lines g l = 2 ^ 64 - l.lines.number
+abbrev pub decreases-lines : goal.decreases-lines
+decreases-lines g l = 2 ^ 64 - l.lines.number

@@ -1,13 +1,12 @@
-use Rattle.std.proofs.Common.{◌≡◌, ◌∙◌, [], Bool, false, Result, Err, map, refl, sym, ap, subst, arith}
+use Rattle.std.proofs.Common.{◌∙◌, [], false, map, refl, sym, arith}
 use Rattle.re_search.proofs.lemmas.KeptMatchers.{unasked, asked_over, same_sought}
-use Rattle.grep_core.specs.declared.input.lines.ReadFault.{ReadFault}
-use Rattle.grep_core.specs.Working.Numbered.{NextIs}
 use Rattle.grep_core.specs.Working.Searched.{leaves_early}
-use Rattle.grep_core.proofs.lemmas.WrittenLemmas.{TakesAll-written, TakesFront-written}
+use Rattle.grep_core.proofs.lemmas.WrittenLemmas.{TakesAll-written}
 use Rattle.grep_core.proofs.lemmas.FileOutput.{rows_none}
 use Rattle.grep_core.proofs.lemmas.PassedLines.{are_ahead, passed_state, handed_with, handed_passed}
 use Rattle.grep_core.proofs.lemmas.StretchLemmas.{bare_if, divided_kept, stretch_spent, line_within}
-use Rattle.grep_core.proofs.lemmas.LinesLemmas.{written_plain, searched_none, searched_among, leaves_among, breaks_in_lines, numbers_further, numbers_on, searched_sent, breaks_sending, may_count, fewer_left, searched_line, goes_on, goes_on_with, leaves_with, leaves_at, breaks_at, ends_whole, ends_broken, runs_out}
+use Rattle.grep_core.proofs.lemmas.LinesLemmas.{written_plain, searched_none, searched_among, leaves_among, breaks_in_lines, numbers_further, numbers_on, searched_sent, may_count, fewer_left, searched_line, goes_on, goes_on_with, leaves_with, leaves_at, breaks_at}
+use Rattle.grep_core.proofs.lemmas.EndLemmas.{breaks_with, ends_as, stops_as}
 use Rattle.grep_core.proofs.search.file.search_lines.Goals as goal
 
 pub lines-init : goal.lines-init
@@ -32,8 +31,8 @@ pass-requires g c =
     let (before, all, d, n) = c.next_held-stretch.ensures.divided in
     are_ahead c.lines.lines all n d.free c.next_held-stretch.result.bytes c.next_held-stretch.result.count d.width d.counted
 
-pub returns-in_err-found-clause-write : goal.returns-in_err-found-clause-write
-returns-in_err-found-clause-write g c = λ is_write.
+pub returns-in_err-found-clause-given : goal.returns-in_err-found-clause-given
+returns-in_err-found-clause-given g c =
     let w = c.args.wanted.now in
     let es = map g.M.LineMatch.expression c.args.searchers.now.matchers.now in
     let reader = c.args.lines.now.lines.reader in
@@ -46,10 +45,11 @@ returns-in_err-found-clause-write g c = λ is_write.
     let spent = rw kept.same_matchers.same_expressions at (c.write_stretch.ensures.steps before all later c.lines.meter few) in
     let broke = rw (kept.same_matchers.same_expressions, c.number.ensures) at (c.in_err-found.ensures.err before all later) in
     let next = handed_with c.lines.lines all n d.free g.R.CountedRead.remaining g.R.CountedRead.failures reader i.so_far.lines i.so_far.handed in
-    breaks_in_lines g.R.CountedRead.remaining g.R.CountedRead.failures es w.options w.many false w.name.now reader c.lines.lines (passed_state c.lines.lines all n d.free) _ _ _ _ c.lines.selected i.so_far all next _ _ c.requires.plain spent broke
+    breaks_with g.R.CountedRead.remaining g.R.CountedRead.failures g.W.CountedWrite.contents g.W.CountedWrite.failures es w.options w.many false w.name.now reader c.lines.lines _ c.write_stretch.new.out _ _ c.from_residual.result c.from_residual.ensures.1
+    (breaks_in_lines g.R.CountedRead.remaining g.R.CountedRead.failures es w.options w.many false w.name.now reader c.lines.lines (passed_state c.lines.lines all n d.free) _ _ _ _ c.lines.selected i.so_far all next _ _ c.requires.plain spent broke)
 
-pub returns-then-found-early-clause-ok : goal.returns-then-found-early-clause-ok
-returns-then-found-early-clause-ok g c =
+pub returns-then-found-early-clause-given : goal.returns-then-found-early-clause-given
+returns-then-found-early-clause-given g c =
     let w = c.args.wanted.now in
     let es = map g.M.LineMatch.expression c.args.searchers.now.matchers.now in
     let reader = c.args.lines.now.lines.reader in
@@ -101,26 +101,6 @@ lines-smaller-then-goes_on g c =
     let on = numbers_on g.R.CountedRead.remaining g.R.CountedRead.failures es w.options w.many false w.name.now reader c.lines.lines c.pass.new.self _ _ _ _ c.lines.selected i.so_far all next in
     omega (arith, some, on, next.few, next.counted)
 
-pub returns-in_err-send_before_read-clause-write : goal.returns-in_err-send_before_read-clause-write
-returns-in_err-send_before_read-clause-write g c = λ is_write.
-    let w = c.args.wanted.now in
-    let es = map g.M.LineMatch.expression c.args.searchers.now.matchers.now in
-    let reader = c.args.lines.now.lines.reader in
-    let i = c.lines.invariant in
-    let held = c.next_held-stretch.ensures in
-    let (before, all, d, n) = held.divided in
-    let kept = asked_over held.same i.same in
-    let later = divided_kept (same_sought held.same) d in
-    let few = stretch_spent (map g.M.LineMatch.expression c.next_held-stretch.new.searchers.matchers.now) _ c.lines.meter c.next_held-stretch.new.meter (sym held.same.same_matchers.same_expressions) d held.steps in
-    let spent = rw kept.same_matchers.same_expressions at (c.write_stretch.ensures.steps before all later c.lines.meter few) in
-    let took = rw (kept.same_matchers.same_expressions, c.number.ensures) at (c.in_ok-found.ensures.ok before all later) in
-    let next = handed_passed c.lines.lines all n d.free g.R.CountedRead.remaining g.R.CountedRead.failures reader i.so_far.lines i.so_far.handed c.pass.new.self c.next_held-stretch.result.bytes d.width c.pass.ensures.passed in
-    let none = goes_on_with c.in_ok-found.found c.leaves_early-early.result (leaves_early w.options) i.is_early c.if-found-early.false in
-    let p = searched_among g.R.CountedRead.remaining g.R.CountedRead.failures es w.options w.many false w.name.now reader c.lines.lines c.pass.new.self _ _ _ _ c.lines.selected i.so_far all next _ _ c.requires.plain spent c.in_ok-found.found c.saturating_add-selected.result took c.saturating_add-selected.ensures none in
-    let unsent = c.in_err-send_before_read.ensures in
-    breaks_sending g.R.CountedRead.remaining g.R.CountedRead.failures es w.options w.many false w.name.now reader c.pass.new.self _ _ _ _ _ c.saturating_add-selected.result p
-    (TakesFront-written g.W.CountedWrite.contents g.W.CountedWrite.failures _ c.send_before_read.new.out [] unsent) unsent.counted
-
 pub search_line-requires : goal.search_line-requires
 search_line-requires g c =
     let held = c.next_held-stretch.ensures in
@@ -142,9 +122,9 @@ count_found-selected-requires g c =
     let next = handed_passed c.lines.lines all n d.free g.R.CountedRead.remaining g.R.CountedRead.failures reader i.so_far.lines i.so_far.handed c.pass.new.self c.next_held-stretch.result.bytes d.width c.pass.ensures.passed in
     let none = goes_on_with c.in_ok-found.found c.leaves_early-early.result (leaves_early w.options) i.is_early c.if-found-early.false in
     let p = searched_among g.R.CountedRead.remaining g.R.CountedRead.failures es w.options w.many false w.name.now reader c.lines.lines c.pass.new.self _ _ _ _ c.lines.selected i.so_far all next _ _ c.requires.plain spent c.in_ok-found.found c.saturating_add-selected.result took c.saturating_add-selected.ensures none in
-    let s = searched_sent g.R.CountedRead.remaining g.R.CountedRead.failures es w.options w.many false w.name.now reader c.pass.new.self _ _ _ _ _ c.saturating_add-selected.result p (TakesAll-written g.W.CountedWrite.contents g.W.CountedWrite.failures _ c.send_before_read.new.out [] c.in_ok-send_before_read.ensures) in
-    let next_line = rw c.in-Ok-true.field-0-test at c.in-Ok-true.ensures.next in
-    may_count g.R.CountedRead.remaining g.R.CountedRead.failures es w.options w.many false w.name.now reader c.pass.new.self c.next_line.new.self _ _ _ _ c.saturating_add-selected.result s (next_line reader s.lines s.handed)
+    let taken = rw c.in-Ok-None.field-0-is at c.in-Ok-None.ensures in
+    let s = searched_sent g.R.CountedRead.remaining g.R.CountedRead.failures es w.options w.many false w.name.now reader c.pass.new.self _ _ _ _ _ c.saturating_add-selected.result p (TakesAll-written g.W.CountedWrite.contents g.W.CountedWrite.failures _ c.take_next.new.out [] (taken reader p.lines p.handed).2) in
+    may_count g.R.CountedRead.remaining g.R.CountedRead.failures es w.options w.many false w.name.now reader c.pass.new.self c.take_next.new.lines _ _ _ _ c.saturating_add-selected.result s (taken reader s.lines s.handed).0
 
 pub lines-smaller : goal.lines-smaller
 lines-smaller g c =
@@ -162,10 +142,10 @@ lines-smaller g c =
     let next = handed_passed c.lines.lines all n d.free g.R.CountedRead.remaining g.R.CountedRead.failures reader i.so_far.lines i.so_far.handed c.pass.new.self c.next_held-stretch.result.bytes d.width c.pass.ensures.passed in
     let none = goes_on_with c.in_ok-found.found c.leaves_early-early.result (leaves_early w.options) i.is_early c.if-found-early.false in
     let p = searched_among g.R.CountedRead.remaining g.R.CountedRead.failures es w.options w.many false w.name.now reader c.lines.lines c.pass.new.self _ _ _ _ c.lines.selected i.so_far all next _ _ c.requires.plain spent c.in_ok-found.found c.saturating_add-selected.result took c.saturating_add-selected.ensures none in
-    let s = searched_sent g.R.CountedRead.remaining g.R.CountedRead.failures es w.options w.many false w.name.now reader c.pass.new.self _ _ _ _ _ c.saturating_add-selected.result p (TakesAll-written g.W.CountedWrite.contents g.W.CountedWrite.failures _ c.send_before_read.new.out [] c.in_ok-send_before_read.ensures) in
-    let next_line = rw c.in-Ok-true.field-0-test at c.in-Ok-true.ensures.next in
+    let taken = rw c.in-Ok-None.field-0-is at c.in-Ok-None.ensures in
+    let s = searched_sent g.R.CountedRead.remaining g.R.CountedRead.failures es w.options w.many false w.name.now reader c.pass.new.self _ _ _ _ _ c.saturating_add-selected.result p (TakesAll-written g.W.CountedWrite.contents g.W.CountedWrite.failures _ c.take_next.new.out [] (taken reader p.lines p.handed).2) in
     let further = numbers_further g.R.CountedRead.remaining g.R.CountedRead.failures es w.options w.many false w.name.now reader c.lines.lines c.pass.new.self _ _ _ _ c.lines.selected i.so_far all next in
-    omega (arith, further, fewer_left g.R.CountedRead.remaining g.R.CountedRead.failures es w.options w.many false w.name.now reader c.pass.new.self c.next_line.new.self _ _ _ _ c.saturating_add-selected.result s (next_line reader s.lines s.handed))
+    omega (arith, further, fewer_left g.R.CountedRead.remaining g.R.CountedRead.failures es w.options w.many false w.name.now reader c.pass.new.self c.take_next.new.lines _ _ _ _ c.saturating_add-selected.result s (taken reader s.lines s.handed).0)
 
 pub lines-preserved : goal.lines-preserved
 lines-preserved g c =
@@ -183,22 +163,22 @@ lines-preserved g c =
     let next = handed_passed c.lines.lines all n d.free g.R.CountedRead.remaining g.R.CountedRead.failures reader i.so_far.lines i.so_far.handed c.pass.new.self c.next_held-stretch.result.bytes d.width c.pass.ensures.passed in
     let none = goes_on_with c.in_ok-found.found c.leaves_early-early.result (leaves_early w.options) i.is_early c.if-found-early.false in
     let p = searched_among g.R.CountedRead.remaining g.R.CountedRead.failures es w.options w.many false w.name.now reader c.lines.lines c.pass.new.self _ _ _ _ c.lines.selected i.so_far all next _ _ c.requires.plain spent c.in_ok-found.found c.saturating_add-selected.result took c.saturating_add-selected.ensures none in
-    let s = searched_sent g.R.CountedRead.remaining g.R.CountedRead.failures es w.options w.many false w.name.now reader c.pass.new.self _ _ _ _ _ c.saturating_add-selected.result p (TakesAll-written g.W.CountedWrite.contents g.W.CountedWrite.failures _ c.send_before_read.new.out [] c.in_ok-send_before_read.ensures) in
-    let next_line = rw c.in-Ok-true.field-0-test at c.in-Ok-true.ensures.next in
+    let taken = rw c.in-Ok-None.field-0-is at c.in-Ok-None.ensures in
+    let s = searched_sent g.R.CountedRead.remaining g.R.CountedRead.failures es w.options w.many false w.name.now reader c.pass.new.self _ _ _ _ _ c.saturating_add-selected.result p (TakesAll-written g.W.CountedWrite.contents g.W.CountedWrite.failures _ c.take_next.new.out [] (taken reader p.lines p.handed).2) in
     let asked = asked_over c.write_stretch.ensures.same kept in
-    let took_line = rw asked.same_matchers.same_expressions at c.in_ok-found-in-Ok-true.ensures.ok in
-    let spent_line = rw asked.same_matchers.same_expressions at c.in_ok-found-in-Ok-true.ensures.steps in
-    let found = c.in_ok-found-in-Ok-true.found in
+    let took_line = rw asked.same_matchers.same_expressions at c.in_ok-found-2.ensures.ok in
+    let spent_line = rw asked.same_matchers.same_expressions at c.in_ok-found-2.ensures.steps in
+    let found = c.in_ok-found-2.found in
     record {
       so_far =
-          searched_line g.R.CountedRead.remaining g.R.CountedRead.failures es w.options w.many false w.name.now reader c.pass.new.self c.next_line.new.self _ _ _ _ c.saturating_add-selected.result s (next_line reader s.lines s.handed) _ _
+          searched_line g.R.CountedRead.remaining g.R.CountedRead.failures es w.options w.many false w.name.now reader c.pass.new.self c.take_next.new.lines _ _ _ _ c.saturating_add-selected.result s (taken reader s.lines s.handed).0 _ _
           c.line.result.now c.line.ensures c.number-count.result c.number-count.ensures c.requires.plain found c.count_found-selected.result took_line spent_line c.count_found-selected.ensures (goes_on found _ _ i.is_early c.if-found-early-2.false);
-      same = asked_over c.in_ok-found-in-Ok-true.ensures.same asked;
+      same = asked_over c.in_ok-found-2.ensures.same asked;
       is_early = i.is_early;
     }
 
-pub returns-then-found-early-2-clause-ok : goal.returns-then-found-early-2-clause-ok
-returns-then-found-early-2-clause-ok g c =
+pub returns-then-found-early-2-clause-given : goal.returns-then-found-early-2-clause-given
+returns-then-found-early-2-clause-given g c =
     let w = c.args.wanted.now in
     let es = map g.M.LineMatch.expression c.args.searchers.now.matchers.now in
     let reader = c.args.lines.now.lines.reader in
@@ -213,16 +193,16 @@ returns-then-found-early-2-clause-ok g c =
     let next = handed_passed c.lines.lines all n d.free g.R.CountedRead.remaining g.R.CountedRead.failures reader i.so_far.lines i.so_far.handed c.pass.new.self c.next_held-stretch.result.bytes d.width c.pass.ensures.passed in
     let none = goes_on_with c.in_ok-found.found c.leaves_early-early.result (leaves_early w.options) i.is_early c.if-found-early.false in
     let p = searched_among g.R.CountedRead.remaining g.R.CountedRead.failures es w.options w.many false w.name.now reader c.lines.lines c.pass.new.self _ _ _ _ c.lines.selected i.so_far all next _ _ c.requires.plain spent c.in_ok-found.found c.saturating_add-selected.result took c.saturating_add-selected.ensures none in
-    let s = searched_sent g.R.CountedRead.remaining g.R.CountedRead.failures es w.options w.many false w.name.now reader c.pass.new.self _ _ _ _ _ c.saturating_add-selected.result p (TakesAll-written g.W.CountedWrite.contents g.W.CountedWrite.failures _ c.send_before_read.new.out [] c.in_ok-send_before_read.ensures) in
-    let next_line = rw c.in-Ok-true.field-0-test at c.in-Ok-true.ensures.next in
+    let taken = rw c.in-Ok-None.field-0-is at c.in-Ok-None.ensures in
+    let s = searched_sent g.R.CountedRead.remaining g.R.CountedRead.failures es w.options w.many false w.name.now reader c.pass.new.self _ _ _ _ _ c.saturating_add-selected.result p (TakesAll-written g.W.CountedWrite.contents g.W.CountedWrite.failures _ c.take_next.new.out [] (taken reader p.lines p.handed).2) in
     let asked = asked_over c.write_stretch.ensures.same kept in
-    let took_line = rw asked.same_matchers.same_expressions at c.in_ok-found-in-Ok-true.ensures.ok in
-    let spent_line = rw asked.same_matchers.same_expressions at c.in_ok-found-in-Ok-true.ensures.steps in
-    leaves_at g.R.CountedRead.remaining g.R.CountedRead.failures es w.options w.many false w.name.now reader c.pass.new.self c.next_line.new.self _ _ _ _ c.saturating_add-selected.result s (next_line reader s.lines s.handed) _ _
-    c.line.result.now c.line.ensures c.number-count.result c.number-count.ensures c.requires.plain c.in_ok-found-in-Ok-true.found _ c.count_found-selected.result took_line spent_line c.count_found-selected.ensures i.is_early c.if-found-early-2.true
+    let took_line = rw asked.same_matchers.same_expressions at c.in_ok-found-2.ensures.ok in
+    let spent_line = rw asked.same_matchers.same_expressions at c.in_ok-found-2.ensures.steps in
+    leaves_at g.R.CountedRead.remaining g.R.CountedRead.failures es w.options w.many false w.name.now reader c.pass.new.self c.take_next.new.lines _ _ _ _ c.saturating_add-selected.result s (taken reader s.lines s.handed).0 _ _
+    c.line.result.now c.line.ensures c.number-count.result c.number-count.ensures c.requires.plain c.in_ok-found-2.found _ c.count_found-selected.result took_line spent_line c.count_found-selected.ensures i.is_early c.if-found-early-2.true
 
-pub returns-in_err-found-in-Ok-true-clause-write : goal.returns-in_err-found-in-Ok-true-clause-write
-returns-in_err-found-in-Ok-true-clause-write g c = λ is_write.
+pub returns-in_err-found-2-clause-given : goal.returns-in_err-found-2-clause-given
+returns-in_err-found-2-clause-given g c =
     let w = c.args.wanted.now in
     let es = map g.M.LineMatch.expression c.args.searchers.now.matchers.now in
     let reader = c.args.lines.now.lines.reader in
@@ -237,16 +217,17 @@ returns-in_err-found-in-Ok-true-clause-write g c = λ is_write.
     let next = handed_passed c.lines.lines all n d.free g.R.CountedRead.remaining g.R.CountedRead.failures reader i.so_far.lines i.so_far.handed c.pass.new.self c.next_held-stretch.result.bytes d.width c.pass.ensures.passed in
     let none = goes_on_with c.in_ok-found.found c.leaves_early-early.result (leaves_early w.options) i.is_early c.if-found-early.false in
     let p = searched_among g.R.CountedRead.remaining g.R.CountedRead.failures es w.options w.many false w.name.now reader c.lines.lines c.pass.new.self _ _ _ _ c.lines.selected i.so_far all next _ _ c.requires.plain spent c.in_ok-found.found c.saturating_add-selected.result took c.saturating_add-selected.ensures none in
-    let s = searched_sent g.R.CountedRead.remaining g.R.CountedRead.failures es w.options w.many false w.name.now reader c.pass.new.self _ _ _ _ _ c.saturating_add-selected.result p (TakesAll-written g.W.CountedWrite.contents g.W.CountedWrite.failures _ c.send_before_read.new.out [] c.in_ok-send_before_read.ensures) in
-    let next_line = rw c.in-Ok-true.field-0-test at c.in-Ok-true.ensures.next in
+    let taken = rw c.in-Ok-None.field-0-is at c.in-Ok-None.ensures in
+    let s = searched_sent g.R.CountedRead.remaining g.R.CountedRead.failures es w.options w.many false w.name.now reader c.pass.new.self _ _ _ _ _ c.saturating_add-selected.result p (TakesAll-written g.W.CountedWrite.contents g.W.CountedWrite.failures _ c.take_next.new.out [] (taken reader p.lines p.handed).2) in
     let asked = asked_over c.write_stretch.ensures.same kept in
-    let broke_line = rw asked.same_matchers.same_expressions at c.in_err-found-in-Ok-true.ensures.err in
-    let spent_line = rw asked.same_matchers.same_expressions at c.in_err-found-in-Ok-true.ensures.steps in
-    breaks_at g.R.CountedRead.remaining g.R.CountedRead.failures es w.options w.many false w.name.now reader c.pass.new.self c.next_line.new.self _ _ _ _ c.saturating_add-selected.result s (next_line reader s.lines s.handed) _ _
-    c.line.result.now c.line.ensures c.number-count.result c.number-count.ensures c.requires.plain broke_line spent_line
+    let broke_line = rw asked.same_matchers.same_expressions at c.in_err-found-2.ensures.err in
+    let spent_line = rw asked.same_matchers.same_expressions at c.in_err-found-2.ensures.steps in
+    breaks_with g.R.CountedRead.remaining g.R.CountedRead.failures g.W.CountedWrite.contents g.W.CountedWrite.failures es w.options w.many false w.name.now reader c.take_next.new.lines _ c.search_line.new.out _ _ c.from_residual-in_err-found-2.result c.from_residual-in_err-found-2.ensures.1
+    (breaks_at g.R.CountedRead.remaining g.R.CountedRead.failures es w.options w.many false w.name.now reader c.pass.new.self c.take_next.new.lines _ _ _ _ c.saturating_add-selected.result s (taken reader s.lines s.handed).0 _ _
+    c.line.result.now c.line.ensures c.number-count.result c.number-count.ensures c.requires.plain broke_line spent_line)
 
-pub returns-in-Ok-false-clause-ok : goal.returns-in-Ok-false-clause-ok
-returns-in-Ok-false-clause-ok g c =
+pub returns-in-Ok-Some-clause-given : goal.returns-in-Ok-Some-clause-given
+returns-in-Ok-Some-clause-given g c =
     let w = c.args.wanted.now in
     let es = map g.M.LineMatch.expression c.args.searchers.now.matchers.now in
     let reader = c.args.lines.now.lines.reader in
@@ -261,12 +242,11 @@ returns-in-Ok-false-clause-ok g c =
     let next = handed_passed c.lines.lines all n d.free g.R.CountedRead.remaining g.R.CountedRead.failures reader i.so_far.lines i.so_far.handed c.pass.new.self c.next_held-stretch.result.bytes d.width c.pass.ensures.passed in
     let none = goes_on_with c.in_ok-found.found c.leaves_early-early.result (leaves_early w.options) i.is_early c.if-found-early.false in
     let p = searched_among g.R.CountedRead.remaining g.R.CountedRead.failures es w.options w.many false w.name.now reader c.lines.lines c.pass.new.self _ _ _ _ c.lines.selected i.so_far all next _ _ c.requires.plain spent c.in_ok-found.found c.saturating_add-selected.result took c.saturating_add-selected.ensures none in
-    let s = searched_sent g.R.CountedRead.remaining g.R.CountedRead.failures es w.options w.many false w.name.now reader c.pass.new.self _ _ _ _ _ c.saturating_add-selected.result p (TakesAll-written g.W.CountedWrite.contents g.W.CountedWrite.failures _ c.send_before_read.new.out [] c.in_ok-send_before_read.ensures) in
-    let end = rw c.in-Ok-false.field-0-test at c.in-Ok-false.ensures.next in
-    ends_whole g.R.CountedRead.remaining g.R.CountedRead.failures es w.options w.many false w.name.now reader c.pass.new.self c.next_line.new.self _ _ _ _ c.saturating_add-selected.result s (end reader s.lines s.handed)
+    ends_as g.R.CountedRead.remaining g.R.CountedRead.failures g.W.CountedWrite.contents g.W.CountedWrite.failures es w.options w.many false w.name.now reader c.take_next.new.lines _ c.take_next.new.out _ _ c.write_stretch.new.out p.lines c.saturating_add-selected.result p.wrote p.none_early p.steps c.in-Ok-Some.end
+    ((rw c.in-Ok-Some.field-0-is at c.in-Ok-Some.ensures) reader p.lines p.handed)
 
-pub returns-in-Err-Device-clause-ok : goal.returns-in-Err-Device-clause-ok
-returns-in-Err-Device-clause-ok g c =
+pub returns-in-Err-clause-given : goal.returns-in-Err-clause-given
+returns-in-Err-clause-given g c =
     let w = c.args.wanted.now in
     let es = map g.M.LineMatch.expression c.args.searchers.now.matchers.now in
     let reader = c.args.lines.now.lines.reader in
@@ -281,27 +261,5 @@ returns-in-Err-Device-clause-ok g c =
     let next = handed_passed c.lines.lines all n d.free g.R.CountedRead.remaining g.R.CountedRead.failures reader i.so_far.lines i.so_far.handed c.pass.new.self c.next_held-stretch.result.bytes d.width c.pass.ensures.passed in
     let none = goes_on_with c.in_ok-found.found c.leaves_early-early.result (leaves_early w.options) i.is_early c.if-found-early.false in
     let p = searched_among g.R.CountedRead.remaining g.R.CountedRead.failures es w.options w.many false w.name.now reader c.lines.lines c.pass.new.self _ _ _ _ c.lines.selected i.so_far all next _ _ c.requires.plain spent c.in_ok-found.found c.saturating_add-selected.result took c.saturating_add-selected.ensures none in
-    let s = searched_sent g.R.CountedRead.remaining g.R.CountedRead.failures es w.options w.many false w.name.now reader c.pass.new.self _ _ _ _ _ c.saturating_add-selected.result p (TakesAll-written g.W.CountedWrite.contents g.W.CountedWrite.failures _ c.send_before_read.new.out [] c.in_ok-send_before_read.ensures) in
-    let end = subst (λ (r : Result Bool ReadFault). NextIs g.R.CountedRead.remaining g.R.CountedRead.failures reader s.lines c.next_line.new.self r) (ap Err c.in-Err-Device.field-0-is) (c.in-Err-Device.ensures.next reader s.lines s.handed) in
-    ends_broken g.R.CountedRead.remaining g.R.CountedRead.failures es w.options w.many false w.name.now reader c.pass.new.self c.next_line.new.self _ _ _ _ c.saturating_add-selected.result s end
-
-pub returns-in-Err-Memory-clause-memory : goal.returns-in-Err-Memory-clause-memory
-returns-in-Err-Memory-clause-memory g c = λ count is.
-    let same : c.next_line.new.self.number ≡ count = cc in
-    let w = c.args.wanted.now in
-    let es = map g.M.LineMatch.expression c.args.searchers.now.matchers.now in
-    let reader = c.args.lines.now.lines.reader in
-    let i = c.lines.invariant in
-    let held = c.next_held-stretch.ensures in
-    let (before, all, d, n) = held.divided in
-    let kept = asked_over held.same i.same in
-    let later = divided_kept (same_sought held.same) d in
-    let few = stretch_spent (map g.M.LineMatch.expression c.next_held-stretch.new.searchers.matchers.now) _ c.lines.meter c.next_held-stretch.new.meter (sym held.same.same_matchers.same_expressions) d held.steps in
-    let spent = rw kept.same_matchers.same_expressions at (c.write_stretch.ensures.steps before all later c.lines.meter few) in
-    let took = rw (kept.same_matchers.same_expressions, c.number.ensures) at (c.in_ok-found.ensures.ok before all later) in
-    let next = handed_passed c.lines.lines all n d.free g.R.CountedRead.remaining g.R.CountedRead.failures reader i.so_far.lines i.so_far.handed c.pass.new.self c.next_held-stretch.result.bytes d.width c.pass.ensures.passed in
-    let none = goes_on_with c.in_ok-found.found c.leaves_early-early.result (leaves_early w.options) i.is_early c.if-found-early.false in
-    let p = searched_among g.R.CountedRead.remaining g.R.CountedRead.failures es w.options w.many false w.name.now reader c.lines.lines c.pass.new.self _ _ _ _ c.lines.selected i.so_far all next _ _ c.requires.plain spent c.in_ok-found.found c.saturating_add-selected.result took c.saturating_add-selected.ensures none in
-    let s = searched_sent g.R.CountedRead.remaining g.R.CountedRead.failures es w.options w.many false w.name.now reader c.pass.new.self _ _ _ _ _ c.saturating_add-selected.result p (TakesAll-written g.W.CountedWrite.contents g.W.CountedWrite.failures _ c.send_before_read.new.out [] c.in_ok-send_before_read.ensures) in
-    let end = subst (λ (r : Result Bool ReadFault). NextIs g.R.CountedRead.remaining g.R.CountedRead.failures reader s.lines c.next_line.new.self r) (ap Err c.in-Err-Memory.field-0-is) (c.in-Err-Memory.ensures.next reader s.lines s.handed) in
-    runs_out g.R.CountedRead.remaining g.R.CountedRead.failures es w.options w.many false w.name.now reader c.pass.new.self c.next_line.new.self _ _ _ _ c.saturating_add-selected.result s end c.in-Err-Memory.ensures.held count same
+    stops_as g.R.CountedRead.remaining g.R.CountedRead.failures g.W.CountedWrite.contents g.W.CountedWrite.failures es w.options w.many false w.name.now reader c.take_next.new.lines _ c.take_next.new.out _ _ c.write_stretch.new.out p.lines c.saturating_add-selected.result p.wrote p.none_early p.steps c.in-Err.fault
+    (c.in-Err.ensures reader p.lines p.handed)

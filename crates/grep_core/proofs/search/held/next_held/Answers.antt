@@ -5,7 +5,7 @@ use Rattle.re_syntax.specs.Lines.{lines_of, terminated, HasNoNewline}
 use Rattle.re_search.specs.Working.Asking.{sought_by}
 use Rattle.re_search.specs.Working.Sought.{Sought, IsSought}
 use Rattle.re_search.proofs.lemmas.NextLines.{block_lines, free_lines}
-use Rattle.grep_core.proofs.lemmas.PassedLemmas.{count_block, count_lines}
+use Rattle.grep_io.proofs.lemmas.PassedLemmas.{count_block, count_lines}
 use Rattle.grep_core.proofs.lemmas.StretchLemmas.{lines_within, first_bytes, before_bytes, line_bytes, end_bytes, free_up_to, free_before}
 use Rattle.grep_core.proofs.search.held.next_held.Goals as goal
 

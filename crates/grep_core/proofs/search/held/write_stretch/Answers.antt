@@ -2,7 +2,7 @@ use Rattle.std.proofs.Common.{◌≡◌, ◌+◌, ◌∷◌, [], length, map, re
 use Rattle.grep_core.proofs.lemmas.CostLaws.{searched_bytes, searched_bytes_and_parts}
 use Rattle.grep_core.proofs.lemmas.OneLineLemmas.{err_with}
 use Rattle.grep_core.proofs.lemmas.StretchLemmas.{rows_unselected, rows_matched, stretch_inverted, selected_matched, unselected_unmatched}
-use Rattle.grep_core.specs.Written.{GoesOut, StopsWithin}
+use Rattle.grep_io.specs.Written.{GoesOut, StopsWithin}
 use Rattle.grep_core.specs.Working.StretchRows.{RowsOfLines}
 use Rattle.grep_core.proofs.lemmas.WriterLaws.{TakesAll-nothing}
 use Rattle.grep_core.proofs.lemmas.WrittenLemmas.{TakesAll-written, TakesFront-written}

@@ -1,0 +1,61 @@
+-- Where the search of the lines of a source ends: there is no next line, or the search is given up.
+use Rattle.std.proofs.Common.{◌≡◌, ℕ, Bool, IsTrue, List, [], Option, Some, Result, Ok, Err, length, sym, subst, ◌∙◌}
+use Rattle.std.specs.Result.{IsErrAnd}
+use Rattle.re_syntax.specs.Bytes.{Text}
+use Rattle.re_syntax.specs.Expression.{Expression}
+use Rattle.re_search.specs.Meters.{Steps}
+use Rattle.grep_io.specs.Reading.{open_source, OneLeft}
+use Rattle.grep_io.specs.Working.Handed.{BeginsWith}
+use Rattle.grep_io.specs.Working.Numbered.{Numbered, HasHanded}
+use Rattle.grep_io.specs.Written.{GoesOut}
+use Rattle.grep_io.proofs.lemmas.HandedLemmas.{begins_with, has_read}
+use Rattle.grep_core.specs.declared.options.Options.{Options}
+use Rattle.grep_core.specs.declared.status.FileEnd.{FileEnd}
+use Rattle.grep_core.specs.declared.status.FileEnd.TheVariants.{Missing, Whole, Broken, Left}
+use Rattle.grep_core.specs.declared.status.FileFound.{FileFound}
+use Rattle.grep_core.specs.declared.status.SearchFault.{SearchFault}
+use Rattle.grep_core.specs.declared.status.SearchFault.TheVariants.{Write, Memory}
+use Rattle.grep_core.specs.Cost.{SearchesLines}
+use Rattle.grep_core.specs.Run.{Writer, writer}
+use Rattle.grep_core.specs.Working.Given.{SearchGives}
+use Rattle.grep_core.specs.Working.Searched.{leaves_early, BreaksSource}
+use Rattle.grep_core.specs.Working.Taken.{NextTaken}
+use Rattle.grep_core.proofs.lemmas.LinesLemmas.{WritesLines, writes_sent, searches_whole, searches_broken, stops_behind, breaks_behind}
+use Rattle.grep_core.proofs.lemmas.WrittenLemmas.{TakesAll-written, TakesFront-written}
+
+module _ {R W : Type 0} (remaining : R → Option Text) (failures : R → ℕ) (contents : W → Option Text) (write_failures : W → ℕ) (es : List Expression) (options : Options) (many shown : Bool) (name : Text) (reader : R)
+    (now : Numbered R) (old : Writer) (new : W) (began ended : Steps) where
+  abbrev Gives : Result FileFound SearchFault → Type 0
+  Gives = SearchGives es options many shown (open_source name (remaining reader)) (OneLeft (remaining now.lines.reader)) (failures reader) (failures now.lines.reader) old (writer contents write_failures new) began ended
+
+  -- a write failed, and that is returned
+  pub breaks_with : (result : Result FileFound SearchFault) → IsErrAnd result (λ fault. fault ≡ Write)
+      → BreaksSource es options many shown (open_source name (remaining reader)) (OneLeft (remaining now.lines.reader)) (failures reader) (failures now.lines.reader) old (writer contents write_failures new) began ended → Gives result
+  breaks_with (Ok found) is broke = absurd is
+  breaks_with (Err fault) is broke = subst (λ f. Gives (Err f)) (sym is) broke
+
+  module _ (mid : W) (lines : List Text) (selected : ℕ) (wrote : WritesLines es options many shown name lines old (writer contents write_failures mid) selected) (none_early : IsTrue (leaves_early options) → selected ≡ 0) (spent : SearchesLines es options (length es) lines began ended) where
+    abbrev Taken : Result (Option FileEnd) SearchFault → Type 0
+    Taken = NextTaken remaining failures contents write_failures reader lines now mid new
+
+    sent : GoesOut contents write_failures mid new [] → WritesLines es options many shown name lines old (writer contents write_failures new) selected
+    sent went = writes_sent es options many shown name lines old _ _ selected wrote (TakesAll-written contents write_failures mid new [] went)
+
+    begun_with : HasHanded remaining failures reader now lines → BeginsWith name (remaining reader) lines
+    begun_with h = begins_with remaining failures name reader now.lines lines h.hands h.few
+
+    -- there is no next line
+    pub ends_as : (end : FileEnd) → Taken (Ok (Some end)) → Gives (Ok (record { end = end; selected = selected }))
+    ends_as Whole (stands, went) = searches_whole es options many shown name (remaining reader) (remaining now.lines.reader) old _ began ended (failures reader) (failures now.lines.reader) lines selected (sent went) spent (stands name)
+    ends_as Broken (stands, went) = searches_broken es options many shown name (remaining reader) (remaining now.lines.reader) old _ began ended (failures reader) (failures now.lines.reader) lines selected (sent went) spent (stands name) none_early
+    ends_as Missing none = absurd none
+    ends_as Left none = absurd none
+
+    -- buffered output could not be sent, or a growth was refused
+    pub stops_as : (fault : SearchFault) → Taken (Err fault) → Gives (Err fault)
+    stops_as Write (h, stopped) =
+        breaks_behind es options many shown name (remaining reader) (remaining now.lines.reader) old _ _ began ended selected (failures reader) (failures now.lines.reader) h.hands.none_failed
+        lines wrote spent (begun_with h) (TakesFront-written contents write_failures mid new [] stopped) stopped.counted
+    stops_as (Memory count) (h, few, is_count, went) =
+        stops_behind es options many shown name (remaining reader) (remaining now.lines.reader) old _ began ended lines selected count (sent went) spent (begun_with h) (h.counted ∙ is_count) (has_read remaining failures name reader now.lines lines h.hands few)
+        (failures reader) (failures now.lines.reader) h.hands.none_failed

@@ -1,0 +1,24 @@
+-- What a search of the lines of a source returns.
+use Rattle.std.specs.Prelude.{ℕ, Bool, List, Option, Result, Ok, Err}
+use Rattle.re_syntax.specs.Bytes.{Text}
+use Rattle.re_syntax.specs.Expression.{Expression}
+use Rattle.re_search.specs.Meters.{Steps}
+use Rattle.grep_io.specs.Reading.{Source}
+use Rattle.grep_core.specs.declared.options.Options.{Options}
+use Rattle.grep_core.specs.declared.status.FileFound.{FileFound}
+use Rattle.grep_core.specs.declared.status.SearchFault.{SearchFault}
+use Rattle.grep_core.specs.declared.status.SearchFault.TheVariants.{Write, Memory}
+use Rattle.grep_core.specs.Run.{Writer}
+use Rattle.grep_core.specs.Working.Searched.{SearchesSource, BreaksSource, StopsSource}
+
+module _ (es : List Expression) (options : Options) (many shown : Bool) (source : Source)
+    (given : List (Option Text) → Type 0) (failed_before failed : ℕ) (old new : Writer)
+    (began ended : Steps) where
+  -- the source was searched; or a write failed; or a growth was refused after n lines
+  abbrev pub SearchGives : Result FileFound SearchFault → Type 0
+  SearchGives (Ok found) = SearchesSource es options many shown source given failed_before failed
+      old new began ended found.end found.selected
+  SearchGives (Err Write) = BreaksSource es options many shown source given failed_before failed
+      old new began ended
+  SearchGives (Err (Memory n)) = StopsSource es options many shown source given n failed_before
+      failed old new began ended

@@ -1,0 +1,32 @@
+-- What a call for the next line of a search does.
+use Rattle.std.specs.Prelude.{◌≡◌, ℕ, List, [], ◌∷◌, ◌++◌, Option, None, Some, Result, Ok, Err}
+use Rattle.re_syntax.specs.Bytes.{Text}
+use Rattle.grep_io.specs.File.{whole, broken}
+use Rattle.grep_io.specs.Reading.{IsOneLineAndFew}
+use Rattle.grep_io.specs.Working.Numbered.{Numbered, HasHanded, StandsAs}
+use Rattle.grep_io.specs.Written.{GoesOut, StopsWithin}
+use Rattle.grep_core.specs.declared.status.FileEnd.{FileEnd}
+use Rattle.grep_core.specs.declared.status.FileEnd.TheVariants.{Missing, Whole, Broken, Left}
+use Rattle.grep_core.specs.declared.status.SearchFault.{SearchFault}
+use Rattle.grep_core.specs.declared.status.SearchFault.TheVariants.{Write, Memory}
+
+module _ {R W : Type 0} (remaining : R → Option Text) (failures : R → ℕ)
+    (contents : W → Option Text) (write_failures : W → ℕ) (reader : R) (handed : List Text)
+    (now : Numbered R) (old new : W) where
+  -- after these lines a line was handed out; or they are all; or a read failed, or there is one
+  -- more than can be numbered; or buffered output could not be sent before a read; or a growth was
+  -- refused, and nothing is lost
+  abbrev pub NextTaken : Result (Option FileEnd) SearchFault → Type 0
+  NextTaken (Ok None) = HasHanded remaining failures reader now (handed ++ now.lines.line ∷ []) ×
+      IsOneLineAndFew now.lines.ahead × GoesOut contents write_failures old new []
+  NextTaken (Ok (Some Whole)) = StandsAs remaining failures reader now handed whole ×
+      GoesOut contents write_failures old new []
+  NextTaken (Ok (Some Broken)) = StandsAs remaining failures reader now handed broken ×
+      GoesOut contents write_failures old new []
+  NextTaken (Ok (Some Missing)) = ⊥
+  NextTaken (Ok (Some Left)) = ⊥
+  NextTaken (Err Write) = HasHanded remaining failures reader now handed ×
+      StopsWithin contents write_failures old new []
+  NextTaken (Err (Memory n)) = HasHanded remaining failures reader now handed ×
+      IsOneLineAndFew now.lines.ahead × (now.number ≡ n) ×
+      GoesOut contents write_failures old new []

@@ -1,7 +1,0 @@
-//! Devices: what is read and written, with its failures counted.
-
-pub mod buffered;
-pub mod counted;
-pub mod limited;
-pub mod sending;
-pub mod whole_lines;

@@ -1,0 +1,7 @@
+use Rattle.std.proofs.Common.{◌≡◌, ◌≤◌, length}
+use Rattle.memchr.specs.Find.{is_byte, places_between}
+use Rattle.re_syntax.specs.Lines.{newline}
+use Rattle.grep_io.proofs.input.newlines.newlines_between.Given as goal
+
+abbrev pub invariant-places : goal.invariant-places
+invariant-places l = (l.from ≤ l.place) × (l.count ≡ length (places_between (is_byte newline) l.bytes l.from l.place))

@@ -1,0 +1,12 @@
+pub mod LimitedLemmas
+pub mod WindowLemmas
+pub mod WindowBlocks
+pub mod SentLemmas
+pub mod BufferLemmas
+pub mod LineSentLemmas
+pub mod FileLaws
+pub mod HandedLemmas
+pub mod NewlineLemmas
+pub mod NumberedLemmas
+pub mod PassedLemmas
+pub mod WriteLemmas

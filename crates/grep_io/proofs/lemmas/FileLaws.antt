@@ -1,0 +1,45 @@
+-- The file for which a source stands, from the lines that were read of it.
+use Rattle.std.proofs.Common.{◌≡◌, ◌+◌, ◌-◌, ◌≤◌, ◌⊎◌, inl, inr, nat_le, List, [], ◌∷◌, ◌++◌, All, refl, sym, ap, ◌∙◌, length, length-append, take, append_assoc, arith}
+use Rattle.std.proofs.Math.Seq.{take-append-add, take-append_seam}
+use Rattle.std.proofs.lemmas.Bool.{cases_Bool, cond-true, cond-false, le-leb, lt-leb}
+use Rattle.re_syntax.specs.Bytes.{Text}
+use Rattle.re_syntax.specs.Lines.{newline, lines_of, HasNoNewline, terminated}
+use Rattle.re_syntax.proofs.lemmas.LinesLaws.{lines_of-line, all_head, all_tail}
+use Rattle.grep_io.specs.File.{File, Ending, broken}
+use Rattle.grep_io.specs.Reading.{most_lines, up_to_limit}
+
+-- a file of this name with these lines
+abbrev pub file_with : Text → List Text → Ending → File
+file_with name lines ending = record { name = name; lines = lines; ending = ending }
+
+-- after lines that a newline ends the lines of the rest follow
+pub lines_of-behind : (ts : List Text) (rest : Text) → All HasNoNewline ts → lines_of (terminated ts ++ rest) ≡ ts ++ lines_of rest
+lines_of-behind [] rest h = refl
+lines_of-behind (t ∷ ts) rest h =
+    ap lines_of (append_assoc t (newline ∷ terminated ts) rest) ∙ lines_of-line t (terminated ts ++ rest) (all_head t ts h) ∙ ap (λ us. t ∷ us) (lines_of-behind ts rest (all_tail t ts h))
+
+-- no more lines than can be counted are all lines of the file
+pub up_to_limit-few : (name : Text) (lines : List Text) (ending : Ending) → length lines ≤ most_lines → up_to_limit name lines ending ≡ file_with name lines ending
+up_to_limit-few name lines ending few = cond-true _ _ _ (le-leb (length lines) most_lines few)
+
+-- where one more line begins, that is a read error after those that can be counted
+pub up_to_limit-over : (name : Text) (lines more : List Text) (line : Text) (ending : Ending) → length lines ≡ most_lines → up_to_limit name (lines ++ line ∷ more) ending ≡ file_with name lines broken
+up_to_limit-over name lines more line ending full =
+    let over : most_lines + 1 ≤ length (lines ++ line ∷ more) = rw (length-append lines (line ∷ more)) (omega (arith, full)) in
+    let kept : take most_lines (lines ++ line ∷ more) ≡ lines = ap (λ n. take n (lines ++ line ∷ more)) (sym full) ∙ take-append_seam lines (line ∷ more) in
+    cond-false _ _ _ (lt-leb (length (lines ++ line ∷ more)) most_lines (omega (arith, over))) ∙ ap (λ ls. file_with name ls broken) kept
+
+-- a file of which some lines were read begins with them, and a failed read is the only other ending
+-- that it can have
+pub up_to_limit-behind : (name : Text) (lines more : List Text) (ending : Ending) → length lines ≤ most_lines →
+    (kept : List Text) × (end : Ending) × (up_to_limit name (lines ++ more) ending ≡ file_with name (lines ++ kept) end) × ((end ≡ ending) ⊎ (end ≡ broken))
+up_to_limit-behind name lines more ending few =
+    elim (cases_Bool (nat_le (length (lines ++ more)) most_lines)) [
+      | inl within ↦ (more, ending, cond-true _ _ _ within, inl refl)
+      | inr over ↦ (take (most_lines - length lines) more, broken, cond-false _ _ _ over ∙ ap (λ ls. file_with name ls broken) kept, inr refl)
+    ]
+  where
+    kept : take most_lines (lines ++ more) ≡ lines ++ take (most_lines - length lines) more
+    kept =
+        let sum : most_lines ≡ length lines + (most_lines - length lines) = omega (arith, few) in
+        ap (λ n. take n (lines ++ more)) sum ∙ take-append-add lines more (most_lines - length lines)

@@ -1,0 +1,197 @@
+-- The lines that a reader of lines has handed out, one more at a time, and the file for which its
+-- source stands.
+use Rattle.std.proofs.Common.{◌≡◌, ◌≢◌, ℕ, ◌≤◌, List, [], ◌∷◌, ◌++◌, Option, None, Some, IfSome, length, All, inl, inr, refl, sym, ap, ◌∙◌, subst, append_assoc, append-nil}
+use Rattle.std.proofs.KnownBytes.{Consumes-nil, Consumes-trans, Consumes-kept, prepend_known-nil}
+use Rattle.std.proofs.lemmas.List.Elements.{All-push}
+use Rattle.std.specs.Io.KnownBytes.{prepend_known, Consumes, IsAtEnd}
+use Rattle.re_syntax.specs.Bytes.{Text}
+use Rattle.re_syntax.specs.Lines.{newline, lines_of, ended_lines_of, terminated, HasNoNewline}
+use Rattle.re_syntax.proofs.lemmas.LinesLaws.{all_none, lines_of-last, lines_of-terminated}
+use Rattle.re_syntax.proofs.lemmas.EndedLinesLaws.{ended_lines_of-unfinished}
+use Rattle.grep_io.specs.Counted.{one_more}
+use Rattle.grep_io.specs.Working.LineReader.{LineReader, to_come, IsLineOf, HandsOut, IsUsedUp, IsCutOff, RunsOutOfMemory}
+use Rattle.grep_io.specs.declared.input.lines.Stage.{Stage}
+use Rattle.grep_io.specs.declared.input.lines.Stage.TheVariants.{Open, Ended, Failed}
+use Rattle.grep_io.specs.File.{File, whole, broken}
+use Rattle.grep_io.specs.Reading.{fails_after, ends_after, most_lines, up_to_limit, file_of, open_source, IsOneLineAndFew, HasRead}
+use Rattle.grep_io.proofs.lemmas.FileLaws.{lines_of-behind, up_to_limit-few, up_to_limit-over, up_to_limit-behind}
+use Rattle.grep_io.specs.Working.Handed.{AreHanded, HandsLines, StandsFor, BeginsWith}
+
+-- ---- texts
+
+terminated-push : (ts : List Text) (t : Text) → terminated ts ++ (t ++ newline ∷ []) ≡ terminated (ts ++ t ∷ [])
+terminated-push [] t = refl
+terminated-push (u ∷ ts) t =
+    append_assoc u (newline ∷ terminated ts) (t ++ newline ∷ []) ∙ ap (λ l. u ++ newline ∷ l) (terminated-push ts t)
+
+one_line : (t : Text) → HasNoNewline t → t ≢ [] → lines_of t ≡ t ∷ []
+one_line [] h some = absurd (some refl)
+one_line (b ∷ t) h some = lines_of-last b t h
+
+-- ---- what was handed out
+
+-- what a source has, by what it gave and has left
+all_of : (known left : Option Text) (given : Text) → Consumes known left given → (rest : Text) × (IfSome known (λ all. all ≡ given ++ rest) × (IsAtEnd left → rest ≡ []))
+all_of None left given h = ([], (tt, λ e. refl))
+all_of (Some all) None given h = absurd h
+all_of (Some all) (Some rest) given h = (rest, (h, λ e. e))
+
+given_all : (known left : Option Text) (given : Text) → Consumes known left given → IsAtEnd left → IfSome known (λ all. all ≡ given)
+given_all None left given h e = tt
+given_all (Some all) None given h e = absurd h
+given_all (Some all) (Some rest) given h e = h ∙ ap (λ l. given ++ l) e ∙ append-nil given
+
+with_rest : (known : Option Text) (given rest : Text) → IfSome known (λ all. all ≡ given ++ rest) → IfSome known (λ all. (others : Text) × (all ≡ given ++ others))
+with_rest None given rest h = tt
+with_rest (Some all) given rest h = (rest, h)
+
+Consumes-front : (left : Option Text) (given : Text) → Consumes (prepend_known given left) left given
+Consumes-front None given = tt
+Consumes-front (Some rest) given = refl
+
+-- what the lines of a source begin with
+lines_front : (stage : Stage) (given : Text) (handed : List Text) (rest : Text) → AreHanded stage given handed → (stage ≡ Ended → rest ≡ []) → (more : List Text) × (lines_of (given ++ rest) ≡ handed ++ more)
+lines_front Open given handed rest h end = (lines_of rest, ap (λ l. lines_of (l ++ rest)) h.0 ∙ lines_of-behind handed rest h.1)
+lines_front Ended given handed rest h end = ([], ap (λ l. lines_of (given ++ l)) (end refl) ∙ ap lines_of (append-nil given) ∙ h ∙ sym (append-nil handed))
+lines_front Failed given handed rest h end = absurd h
+
+-- all that was given are these lines
+lines_given : (stage : Stage) (given : Text) (handed : List Text) → AreHanded stage given handed → lines_of given ≡ handed
+lines_given Open given handed h = ap lines_of h.0 ∙ lines_of-terminated handed h.1
+lines_given Ended given handed h = h
+lines_given Failed given handed h = absurd h
+
+-- what a reader of lines has handed out was given by its source, and the rest of it is held
+pub has_read : {R : Type 0} (remaining : R → Option Text) (failures : R → ℕ) (name : Text) (reader : R) (now : LineReader R) (handed : List Text) → HandsLines remaining failures reader now handed → IsOneLineAndFew now.ahead
+    → HasRead (open_source name (remaining reader)) (remaining now.reader) handed
+has_read remaining failures name reader now handed h few = record {
+  given = h.given;
+  are_given = lines_given now.stage h.given handed h.are_handed;
+  held = now.ahead;
+  few_held = few;
+  read = Consumes-trans (remaining reader) (to_come remaining failures now) (remaining now.reader) h.given now.ahead h.gave (Consumes-front (remaining now.reader) now.ahead);
+}
+
+-- a reader of lines that is not at its end is still open
+pub still_open : (stage : Stage) (given : Text) (handed : List Text) → AreHanded stage given handed → stage ≢ Ended → stage ≡ Open
+still_open Open given handed h apart = refl
+still_open Ended given handed h apart = absurd (apart refl)
+still_open Failed given handed h apart = absurd h
+
+module _ {R : Type 0} (remaining : R → Option Text) (failures : R → ℕ) where
+  -- nothing was read yet
+  pub HandsLines-none : (now : LineReader R) → now.ahead ≡ [] → now.stage ≡ Open → HandsLines remaining failures now.reader now []
+  HandsLines-none now none is_open = record {
+    given = [];
+    gave = rw none (rw prepend_known-nil (Consumes-nil (remaining now.reader)));
+    are_handed = rw is_open (refl, all_none);
+    all_given = λ e. absurd (let no : ⊥ = cc (is_open, e) in no);
+    none_failed = refl;
+  }
+
+  further : (reader : R) (old new : LineReader R) (given : Text) (handed : List Text) (stage : Stage) → IsLineOf remaining failures old new stage
+      → HasNoNewline new.line → given ≡ terminated handed → All HasNoNewline handed → Consumes (remaining reader) (to_come remaining failures old) given
+      → (more : Text) × (Consumes (remaining reader) (to_come remaining failures new) more × (AreHanded stage more (handed ++ new.line ∷ []) × (stage ≡ Ended → IsAtEnd (to_come remaining failures new))))
+  further reader old new given handed Open taken free is all gave = (
+    given ++ (new.line ++ newline ∷ []),
+    (
+      Consumes-trans _ (to_come remaining failures old) _ given (new.line ++ newline ∷ []) gave taken,
+      ((ap (λ l. l ++ (new.line ++ newline ∷ [])) is ∙ terminated-push handed new.line, All-push HasNoNewline handed new.line all free), λ e. absurd (let no : ⊥ = cc in no)),
+    ),
+  )
+  further reader old new given handed Ended taken free is all gave = (
+    given ++ new.line,
+    (
+      Consumes-trans _ (to_come remaining failures old) _ given new.line gave taken.0,
+      (
+        ap (λ l. lines_of (l ++ new.line)) is ∙ lines_of-behind handed new.line all ∙ ap (λ l. handed ++ l) (one_line new.line free taken.2),
+        λ e. taken.1,
+      ),
+    ),
+  )
+  further reader old new given handed Failed taken free is all gave = absurd taken
+
+  -- one more line was handed out
+  pub HandsLines-line : (reader : R) (old new : LineReader R) (handed : List Text) → HandsLines remaining failures reader old handed → HandsOut remaining failures old new
+      → HandsLines remaining failures reader new (handed ++ new.line ∷ [])
+  HandsLines-line reader old new handed s h =
+      let lines : AreHanded Open s.given handed = subst (λ stage. AreHanded stage s.given handed) h.was_open s.are_handed in
+      let next = further reader old new s.given handed new.stage h.taken h.no_newline lines.0 lines.1 s.gave in
+      record { given = next.0; gave = next.1.0; are_handed = next.1.1.0; all_given = next.1.1.1; none_failed = h.none_failed ∙ s.none_failed }
+
+  -- a call that lost nothing
+  pub HandsLines-stays : (reader : R) (old new : LineReader R) (handed : List Text) → HandsLines remaining failures reader old handed → old.stage ≡ Open → RunsOutOfMemory remaining failures old new
+      → HandsLines remaining failures reader new handed
+  HandsLines-stays reader old new handed s was_open h =
+      let lines : AreHanded Open s.given handed = subst (λ stage. AreHanded stage s.given handed) was_open s.are_handed in
+      record {
+        given = s.given;
+        gave = Consumes-kept (remaining reader) (to_come remaining failures old) (to_come remaining failures new) s.given s.gave h.kept;
+        are_handed = rw h.still_open lines;
+        all_given = λ e. absurd (let no : ⊥ = cc (h.still_open, e) in no);
+        none_failed = h.none_failed ∙ s.none_failed;
+      }
+
+  -- the source begins with the lines handed out
+  pub begins_with : (name : Text) (reader : R) (now : LineReader R) (handed : List Text) → HandsLines remaining failures reader now handed → length handed ≤ most_lines → BeginsWith name (remaining reader) handed
+  begins_with name reader now handed s few =
+      let left = all_of (remaining reader) (to_come remaining failures now) s.given s.gave in
+      let front = lines_front now.stage s.given handed left.0 s.are_handed (λ e. left.1.1 (s.all_given e)) in
+      let cut = up_to_limit-behind name handed front.0 whole few in
+      let same : file_of name (ends_after (s.given ++ left.0)) ≡ up_to_limit name (handed ++ front.0) whole = ap (λ ls. up_to_limit name ls whole) front.1 in
+      record {
+        reading = ends_after (s.given ++ left.0);
+        is_reading = (refl, left.1.0);
+        none_fails = refl;
+        is_left = λ rest. (rest, refl);
+        more = cut.0;
+        named = ap (λ (f : File). f.name) (same ∙ cut.2);
+        has_lines = ap (λ (f : File). f.lines) (same ∙ cut.2);
+        ends = elim cut.3 [ inl e ↦ inl (ap (λ (f : File). f.ending) (same ∙ cut.2) ∙ e) | inr e ↦ inr (ap (λ (f : File). f.ending) (same ∙ cut.2) ∙ e) ];
+      }
+
+  -- no line is left
+  pub stands_whole : (name : Text) (reader : R) (old new : LineReader R) (handed : List Text) → HandsLines remaining failures reader old handed → length handed ≤ most_lines
+      → IsUsedUp remaining failures old new → StandsFor name (remaining reader) (remaining new.reader) (failures reader) (failures new.reader) handed whole
+  stands_whole name reader old new handed s few h =
+      let gave = Consumes-kept (remaining reader) (to_come remaining failures old) (to_come remaining failures new) s.given s.gave h.kept in
+      record {
+        reading = ends_after s.given;
+        is_reading = (refl, given_all (remaining reader) (to_come remaining failures new) s.given gave h.none_left);
+        is_left = (remaining new.reader, refl);
+        file = ap (λ ls. up_to_limit name ls whole) (lines_given old.stage s.given handed s.are_handed) ∙ up_to_limit-few name handed whole few;
+        counted = h.none_failed ∙ s.none_failed;
+      }
+
+  -- a read failed after the lines
+  pub stands_broken : (name : Text) (reader : R) (old new : LineReader R) (handed : List Text) → HandsLines remaining failures reader old handed → length handed ≤ most_lines → old.stage ≡ Open
+      → IsCutOff remaining failures old new → StandsFor name (remaining reader) (remaining new.reader) (failures reader) (failures new.reader) handed broken
+  stands_broken name reader old new handed s few was_open h =
+      let lines : AreHanded Open s.given handed = subst (λ stage. AreHanded stage s.given handed) was_open s.are_handed in
+      let kept = Consumes-kept (remaining reader) (to_come remaining failures old) (to_come remaining failures new) s.given s.gave h.kept in
+      let gave = Consumes-trans (remaining reader) (to_come remaining failures new) (remaining new.reader) s.given new.ahead kept (Consumes-front (remaining new.reader) new.ahead) in
+      let rest = all_of (remaining reader) (remaining new.reader) (s.given ++ new.ahead) gave in
+      record {
+        reading = fails_after (s.given ++ new.ahead);
+        is_reading = (refl, with_rest (remaining reader) (s.given ++ new.ahead) rest.0 rest.1.0);
+        is_left = (remaining new.reader, refl, gave);
+        file =
+            ap (λ ls. up_to_limit name ls broken) (ap (λ l. ended_lines_of (l ++ new.ahead)) lines.0 ∙ ended_lines_of-unfinished handed new.ahead lines.1 h.unfinished)
+            ∙ up_to_limit-few name handed broken few;
+        counted = h.counted was_open ∙ ap one_more s.none_failed;
+      }
+
+  -- a line more than the limit allows was handed out
+  pub stands_cut : (name : Text) (reader : R) (now : LineReader R) (handed : List Text) (line : Text) → HandsLines remaining failures reader now (handed ++ line ∷ []) → length handed ≡ most_lines
+      → StandsFor name (remaining reader) (remaining now.reader) (failures reader) (failures now.reader) handed broken
+  stands_cut name reader now handed line s many =
+      let left = all_of (remaining reader) (to_come remaining failures now) s.given s.gave in
+      let front = lines_front now.stage s.given (handed ++ line ∷ []) left.0 s.are_handed (λ e. left.1.1 (s.all_given e)) in
+      let all : lines_of (s.given ++ left.0) ≡ handed ++ (line ∷ front.0) = front.1 ∙ append_assoc handed (line ∷ []) front.0 in
+      record {
+        reading = ends_after (s.given ++ left.0);
+        is_reading = (refl, left.1.0);
+        is_left = (remaining now.reader, refl);
+        file = ap (λ ls. up_to_limit name ls whole) all ∙ up_to_limit-over name handed front.0 line whole many;
+        counted = s.none_failed;
+      }

@@ -1,0 +1,158 @@
+-- Whole lines that are passed in one sweep.
+use Rattle.std.proofs.Common.{◌≡◌, ℕ, zero, suc, ◌+◌, ◌-◌, ◌≤◌, List, [], ◌∷◌, ◌++◌, All, Option, length, take, drop, get_or, refl, sym, ap, ◌∙◌, subst, arith, length-append, append_assoc}
+use Rattle.std.proofs.KnownBytes.{Consumes-trans, Keeps-refl, prepend_known-read}
+use Rattle.std.specs.Prelude.{⊤}
+use Rattle.std.proofs.Math.Seq.{take-append_seam}
+use Rattle.std.proofs.lemmas.Bool.{cond-true, cond-false}
+use Rattle.std.proofs.lemmas.List.{get_or-drop, drop-drop, append-nil, nil_from_length}
+use Rattle.std.proofs.lemmas.List.Elements.{All-append}
+use Rattle.std.specs.Io.KnownBytes.{prepend_known, Consumes, Keeps, IsAtEnd}
+use Rattle.re_syntax.specs.Bytes.{Text}
+use Rattle.re_syntax.specs.Lines.{newline, terminated, lines_of, HasNoNewline}
+use Rattle.re_syntax.proofs.lemmas.LinesLaws.{lines_of-terminated, first_differs, rest_has_none, all_head, all_tail}
+use Rattle.re_needle.specs.Working.Blocks.{IsBlock, PassesAll}
+use Rattle.memchr.specs.Find.{is_byte, places, places_from}
+use Rattle.grep_io.specs.declared.input.lines.Stage.{Stage}
+use Rattle.grep_io.specs.declared.input.lines.Stage.TheVariants.{Open, Ended, Failed}
+use Rattle.grep_io.specs.Reading.{most_lines}
+use Rattle.grep_io.specs.Working.Handed.{AreHanded, HandsLines}
+use Rattle.grep_io.specs.Working.LineReader.{LineReader, to_come, IsStageOf}
+use Rattle.grep_io.specs.Working.Numbered.{Numbered, AreAhead, HasHanded, PassesNext}
+
+-- ---- newlines are counted
+
+-- what follows the first of what is left
+after_first : (hay xs : Text) (i b : ℕ) → drop i hay ≡ b ∷ xs → drop (i + 1) hay ≡ xs
+after_first hay xs i b e = ap (λ n. drop n hay) (omega arith) ∙ sym (drop-drop 1 i hay) ∙ ap (drop 1) e
+
+first_byte : (hay xs : Text) (i b : ℕ) → drop i hay ≡ b ∷ xs → get_or hay i 0 ≡ b
+first_byte hay xs i b e = ap (λ n. get_or hay n 0) (omega arith) ∙ sym (get_or-drop i hay 0 0) ∙ ap (λ l. get_or l 0 0) e
+
+-- what follows a line and its newline
+drop_line : (t rest : Text) → drop (length t + 1) (t ++ newline ∷ rest) ≡ rest
+drop_line [] rest = refl
+drop_line (b ∷ t) rest =
+    let longer : suc (length t) + 1 ≡ suc (length t + 1) = omega arith in
+    ap (λ n. drop n (b ∷ (t ++ newline ∷ rest))) longer ∙ drop_line t rest
+
+module _ (hay : Text) where
+  abbrev newlines : ℕ → ℕ → List ℕ
+  newlines = places_from (is_byte newline) hay
+
+  -- a line and its newline hold one
+  in_line : (t rest : Text) (i n m p : ℕ) → HasNoNewline t → drop i hay ≡ t ++ newline ∷ rest → m ≡ length t + 1 + n → p ≡ i + length t + 1 → length (newlines i m) ≡ suc (length (newlines p n))
+  unfolding places_from
+  in_line [] rest i n zero p free e many far = absurd (omega (arith, many))
+  in_line [] rest i n (suc k) p free e many far =
+      let same : k ≡ n = omega (arith, many) in
+      let next : i + 1 ≡ p = omega (arith, far) in
+      ap length (cond-true _ _ _ (ap (is_byte newline) (first_byte hay rest i newline e))) ∙ ap (λ x. suc (length (newlines (i + 1) x))) same ∙ ap (λ x. suc (length (newlines x n))) next
+  in_line (b ∷ t) rest i n zero p free e many far = absurd (omega (arith, many))
+  in_line (b ∷ t) rest i n (suc k) p free e many far =
+      ap length (cond-false _ _ _ (ap (is_byte newline) (first_byte hay (t ++ newline ∷ rest) i b e) ∙ first_differs b t free))
+      ∙ in_line t rest (i + 1) n k p (rest_has_none b t free) (after_first hay (t ++ newline ∷ rest) i b e) (omega (arith, many)) (omega (arith, far))
+
+  -- there is one for each line
+  count_from : (ts : List Text) (i m : ℕ) → All HasNoNewline ts → drop i hay ≡ terminated ts → m ≡ length (terminated ts) → length (newlines i m) ≡ length ts
+  unfolding places_from
+  count_from [] i zero free e many = refl
+  count_from [] i (suc m) free e many = absurd (omega (arith, many))
+  count_from (t ∷ ts) i m free e many =
+      let rest : drop (i + length t + 1) hay ≡ terminated ts =
+      ap (λ n. drop n hay) (omega arith) ∙ sym (drop-drop (length t + 1) i hay) ∙ ap (drop (length t + 1)) e ∙ drop_line t (terminated ts) in
+      in_line t (terminated ts) i (length (terminated ts)) m (i + length t + 1) (all_head t ts free) e (omega (arith, many, length-append t (newline ∷ terminated ts))) refl
+      ∙ ap suc (count_from ts (i + length t + 1) (length (terminated ts)) (all_tail t ts free) rest refl)
+
+-- whole lines hold one newline each
+pub count_lines : (bytes : Text) (ts : List Text) → All HasNoNewline ts → bytes ≡ terminated ts → length (places (is_byte newline) bytes) ≡ length ts
+count_lines bytes ts free e = count_from bytes ts 0 (length bytes - 0) free e (omega (arith, ap length e))
+
+-- a block holds one newline for each line
+pub count_block : (block : Text) → IsBlock block → length (places (is_byte newline) block) ≡ length (lines_of block)
+count_block block h = count_lines block h.0 h.1 h.2 ∙ ap length (sym (ap lines_of h.2 ∙ lines_of-terminated h.0 h.1))
+
+-- ---- what was handed out and what is passed
+
+pub terminated-append : (ts us : List Text) → terminated (ts ++ us) ≡ terminated ts ++ terminated us
+terminated-append [] us = refl
+terminated-append (t ∷ ts) us = ap (λ l. t ++ newline ∷ l) (terminated-append ts us) ∙ sym (append_assoc t (newline ∷ terminated ts) (terminated us))
+
+no_lines : (ts : List Text) (rest : Text) → [] ≡ terminated ts ++ rest → ts ≡ []
+no_lines [] rest e = refl
+no_lines ([] ∷ ts) rest e = let no : ⊥ = cc e in absurd no
+no_lines ((b ∷ t) ∷ ts) rest e = let no : ⊥ = cc e in absurd no
+
+-- a text without newline has none in what follows its first bytes
+rest_free : (xs ys : Text) → HasNoNewline (xs ++ ys) → HasNoNewline ys
+rest_free [] ys h = h
+rest_free (x ∷ xs) ys h = rest_free xs ys (rest_has_none x (xs ++ ys) h)
+
+module _ {R : Type 0} (remaining : R → Option Text) (failures : R → ℕ) where
+  -- what is to come begins with the lines
+  lines_taken : (old new : LineReader R) (bytes : Text) → old.ahead ≡ bytes ++ new.ahead → new.reader ≡ old.reader → Consumes (to_come remaining failures old) (to_come remaining failures new) bytes
+  lines_taken old new bytes cut same =
+      (prepend_known-read (to_come remaining failures old) (remaining new.reader) old.ahead new.ahead bytes ⊥
+      (subst (λ r. Keeps (to_come remaining failures old) (prepend_known old.ahead (remaining r))) (sym same) (Keeps-refl (to_come remaining failures old))) cut (λ no. absurd no)).0
+
+  -- how far a reader of lines has read stays true of fewer bytes ahead
+  pub stage_stays : (stage : Stage) (old new : Text) (reader : R) (count : ℕ) → IsStageOf remaining failures stage old reader → old ≡ take count old ++ new → IsStageOf remaining failures stage new reader
+  stage_stays Open old new reader count h cut = tt
+  stage_stays Ended old new reader count h cut =
+      let long : length old ≡ length (take count old) + length new = ap length cut ∙ length-append (take count old) new in
+      (nil_from_length new (omega (arith, long, ap length h.0)), h.1)
+  stage_stays Failed old new reader count h cut = rest_free (take count old) new (subst HasNoNewline cut h)
+
+  -- at the end nothing is ahead
+  pub none_at_end : (stage : Stage) (ahead : Text) (reader : R) → IsStageOf remaining failures stage ahead reader → stage ≡ Ended → ahead ≡ []
+  none_at_end Open ahead reader h over = absurd (let no : ⊥ = cc in no)
+  none_at_end Ended ahead reader h over = h.0
+  none_at_end Failed ahead reader h over = absurd (let no : ⊥ = cc in no)
+
+  handed_too : (stage : Stage) (given : Text) (handed lines : List Text) → AreHanded stage given handed → (stage ≡ Ended → lines ≡ []) → All HasNoNewline lines → AreHanded stage (given ++ terminated lines) (handed ++ lines)
+  handed_too Open given handed lines h none free =
+      (ap (λ l. l ++ terminated lines) h.0 ∙ sym (terminated-append handed lines), All-append HasNoNewline handed lines h.1 free)
+  handed_too Ended given handed lines h none free =
+      rw (none refl) (ap lines_of (append-nil given) ∙ h ∙ sym (append-nil handed))
+  handed_too Failed given handed lines h none free = absurd h
+
+  -- the next whole lines are passed
+  pub HandsLines-pass : (reader : R) (old new : LineReader R) (handed lines : List Text) → HandsLines remaining failures reader old handed → (old.stage ≡ Ended → old.ahead ≡ []) → All HasNoNewline lines
+      → old.ahead ≡ terminated lines ++ new.ahead → new.reader ≡ old.reader → new.stage ≡ old.stage → HandsLines remaining failures reader new (handed ++ lines)
+  HandsLines-pass reader old new handed lines s none_ahead free cut same still =
+      let none : old.stage ≡ Ended → lines ≡ [] = λ ended. no_lines lines new.ahead (sym (none_ahead ended) ∙ cut) in
+      record {
+        given = s.given ++ terminated lines;
+        gave = Consumes-trans (remaining reader) (to_come remaining failures old) (to_come remaining failures new) s.given (terminated lines) s.gave (lines_taken old new (terminated lines) cut same);
+        are_handed = subst (λ stage. AreHanded stage (s.given ++ terminated lines) (handed ++ lines)) (sym still) (handed_too old.stage s.given handed lines s.are_handed none free);
+        all_given = λ ended.
+            let was : old.stage ≡ Ended = sym still ∙ ended in
+            let left : new.ahead ≡ old.ahead = sym (cut ∙ ap (λ ts. terminated ts ++ new.ahead) (none was)) in
+            subst (λ r. IsAtEnd (prepend_known new.ahead (remaining r))) (sym same) (subst (λ a. IsAtEnd (prepend_known a (remaining old.reader))) (sym left) (s.all_given was));
+        none_failed = ap failures same ∙ s.none_failed;
+      }
+
+  -- the next whole lines are passed of a reader of numbered lines, no more than can be numbered
+  pub HasHanded-pass : (reader : R) (old new : Numbered R) (handed lines : List Text) → HasHanded remaining failures reader old handed → (old.lines.stage ≡ Ended → old.lines.ahead ≡ []) → All HasNoNewline lines
+      → old.lines.ahead ≡ terminated lines ++ new.lines.ahead → new.lines.reader ≡ old.lines.reader → new.lines.stage ≡ old.lines.stage → new.number ≡ old.number + length lines → new.number ≤ most_lines
+      → HasHanded remaining failures reader new (handed ++ lines)
+  HasHanded-pass reader old new handed lines s none_ahead free cut same still more few = record {
+    hands = HandsLines-pass reader old.lines new.lines handed lines s.hands none_ahead free cut same still;
+    counted = length-append handed lines ∙ ap (λ n. n + length lines) s.counted ∙ sym more;
+    few = omega (arith, length-append handed lines, s.counted, more, few);
+  }
+
+  -- the lines of a block that is ahead
+  pub all_ahead : (now : Numbered R) (block : Text) (bytes count : ℕ) → bytes ≡ length block → AreAhead now block count → PassesAll (λ _. ⊤) now.lines.ahead bytes
+  all_ahead now block bytes count width h =
+      (h.whole.0, h.rest, h.whole.1, λ i d below. tt, h.ahead ∙ ap (λ l. l ++ h.rest) h.whole.2, width ∙ ap length h.whole.2)
+
+  -- they are passed
+  pub passes_block : (old new : Numbered R) (block : Text) (bytes count : ℕ) → bytes ≡ length block → AreAhead old block count → (old.lines.stage ≡ Ended → old.lines.ahead ≡ []) → old.lines.ahead ≡ take bytes old.lines.ahead ++ new.lines.ahead
+      → new.lines.reader ≡ old.lines.reader → new.lines.stage ≡ old.lines.stage → new.number ≡ old.number + count → PassesNext remaining failures old new (lines_of (take bytes old.lines.ahead))
+  passes_block old new block bytes count width h none_ahead cut same still more = λ reader handed s.
+      let lines = h.whole.0 in
+      let is : lines_of block ≡ lines = ap lines_of h.whole.2 ∙ lines_of-terminated lines h.whole.1 in
+      let taken : take bytes old.lines.ahead ≡ block = ap (λ n. take n old.lines.ahead) width ∙ ap (take (length block)) h.ahead ∙ take-append_seam block h.rest in
+      let long : old.number + count ≡ old.number + length lines = ap (λ n. old.number + n) (h.counted ∙ ap length is) in
+      subst (λ ls. HasHanded remaining failures reader new (handed ++ ls)) (sym (ap lines_of taken ∙ is))
+      (HasHanded-pass reader old new handed lines s none_ahead h.whole.1 (cut ∙ ap (λ l. l ++ new.lines.ahead) (taken ∙ h.whole.2)) same still (more ∙ long) (omega (arith, more, h.few)))

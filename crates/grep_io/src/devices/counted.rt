@@ -1,0 +1,197 @@
+// Readers and writers that count their failures.
+ghost use Rattle.std.specs.Prelude.{◌≡◌, ℕ, ◌<◌, ◌≤◌, List, [], Option, None, length, IfSome, IfOk};
+ghost use Rattle.grep_io.specs.Counted.{PullConsumes, PushAppends, Counts, one_more};
+ghost use Rattle.grep_io.specs.Written.{Writes};
+
+use std::io::{Read, Write};
+use std::marker::Model;
+
+/// A reader of which each read that fails is counted, and is not tried again.
+pub trait CountedRead {
+    /// The bytes that reads will give from here on, where they are known.
+    ghost remaining: { Self → Option (List ℕ) } = { λ _. None };
+
+    /// How many reads have failed.
+    ghost failures: { Self → ℕ };
+
+    /// Which loan a reader that is a `&mut` is, by the name of its referent's value in proofs. All
+    /// other readers have the same value. What takes a `&mut` and returns it can state with this
+    /// that it is the same one.
+    ghost loan: { Self → ℕ } = { λ _. 0 };
+
+    /// One read into a slice that is not empty. `Some(0)` says that no byte is left, `None` that
+    /// the read failed.
+    fn pull(&mut self, into: &mut [u8]) -> Option<usize>
+        requires { 0 < length into.old }
+        ensures bound { IfSome result (λ n. n ≤ length into.new) }
+        ensures bytes { PullConsumes (remaining self.old) (remaining self.new) result into.new }
+        ensures counted { Counts (failures self.old) (failures self.new) result }
+        ensures same_loan { loan self.new ≡ loan self.old };
+
+    /// How many reads have failed. The count stays at the greatest `u64`.
+    fn failures(&self) -> u64
+        ensures { result ≡ failures self.now };
+}
+
+/// A write failed; the writer has counted it. A beginning of the bytes was written.
+#[derive(Clone, Copy, Debug, PartialEq, Eq)]
+pub struct WriteFault;
+
+/// A writer of which each write that fails is counted, and is not tried again.
+pub trait CountedWrite {
+    /// The bytes that the writer holds, where they are known.
+    ghost contents: { Self → Option (List ℕ) } = { λ _. None };
+
+    /// How many writes have failed.
+    ghost failures: { Self → ℕ };
+
+    /// How many of the bytes are buffered and not yet sent to the device.
+    ghost waiting: { Self → ℕ } = { λ _. 0 };
+
+    /// One write of bytes of which there is at least one. It takes at least one of them, in order
+    /// from the first, and says how many; `None` says that it failed and took none.
+    fn push(&mut self, from: &[u8]) -> Option<usize>
+        requires { 0 < length from.now }
+        ensures some_taken { IfSome result (λ n. 0 < n) }
+        ensures bound { IfSome result (λ n. n ≤ length from.now) }
+        ensures bytes { PushAppends (contents self.old) (contents self.new) result from.now }
+        ensures counted { Counts (failures self.old) (failures self.new) result };
+
+    /// Sends the buffered bytes to the device.
+    ///
+    /// Returns `WriteFault` if a write fails. What was not sent keeps waiting.
+    fn flush(&mut self) -> Result<(), WriteFault>
+        ensures kept { Writes contents failures self.old self.new [] result }
+        ensures sent { IfOk result (λ _. waiting self.new ≡ 0) };
+
+    /// How many writes have failed. The count stays at the greatest `u64`.
+    fn failures(&self) -> u64
+        ensures { result ≡ failures self.now };
+}
+
+impl<R: CountedRead> CountedRead for &mut R {
+    ghost remaining = { λ r. R.remaining r.now };
+
+    ghost failures = { λ r. R.failures r.now };
+
+    ghost loan = { λ r. r.ghost_name };
+
+    fn pull(&mut self, into: &mut [u8]) -> Option<usize> {
+        CountedRead::pull(&mut **self, into)
+    }
+
+    fn failures(&self) -> u64 {
+        CountedRead::failures(&**self)
+    }
+}
+
+impl<W: CountedWrite> CountedWrite for &mut W {
+    ghost contents = { λ w. W.contents w.now };
+
+    ghost failures = { λ w. W.failures w.now };
+
+    ghost waiting = { λ w. W.waiting w.now };
+
+    fn push(&mut self, from: &[u8]) -> Option<usize> {
+        CountedWrite::push(&mut **self, from)
+    }
+
+    fn flush(&mut self) -> Result<(), WriteFault> {
+        CountedWrite::flush(&mut **self)
+    }
+
+    fn failures(&self) -> u64 {
+        CountedWrite::failures(&**self)
+    }
+}
+
+/// Any reader or writer of std with a count of its failures. Contracts see it as the device and
+/// the count.
+#[derive(Drop)]
+pub struct Tally<T> {
+    device: T,
+    failed: u64,
+}
+
+impl<T> Model for Tally<T> {
+    ghost use Rattle.grep_io.specs.Counted.{Tallied};
+
+    ghost Value = { Tallied T };
+
+    ghost view = { λ t. record { device = t.device; failed = t.failed } };
+}
+
+impl<T> Tally<T> {
+    /// The device, of which nothing has failed yet.
+    pub fn new(device: T) -> Tally<T>
+        ensures { result ≡ record { device = device; failed = 0 } }
+    {
+        Tally { device, failed: 0 }
+    }
+
+    /// The device without the count.
+    pub fn into_inner(self) -> T
+        ensures { result ≡ self.device }
+    {
+        let Tally { device, failed: _ } = self;
+        device
+    }
+}
+
+// One more, unless the count is the greatest `u64`.
+fn one_more(count: u64) -> u64
+    ensures { result ≡ one_more count }
+{
+    count.saturating_add(1)
+}
+
+impl<T: Read> CountedRead for Tally<T> {
+    ghost remaining = { λ t. T.remaining t.device };
+
+    ghost failures = { λ t. t.failed };
+
+    fn pull(&mut self, into: &mut [u8]) -> Option<usize> {
+        match self.device.read(into) {
+            Ok(n) => Some(n),
+            Err(_) => {
+                self.failed = one_more(self.failed);
+                None
+            }
+        }
+    }
+
+    fn failures(&self) -> u64 {
+        self.failed
+    }
+}
+
+/// A write that takes none of the bytes that it was given is a failure.
+impl<T: Write> CountedWrite for Tally<T> {
+    ghost contents = { λ t. T.contents t.device };
+
+    ghost failures = { λ t. t.failed };
+
+    fn push(&mut self, from: &[u8]) -> Option<usize> {
+        match self.device.write(from) {
+            Ok(n) if n > 0 => Some(n),
+            _ => {
+                self.failed = one_more(self.failed);
+                None
+            }
+        }
+    }
+
+    fn flush(&mut self) -> Result<(), WriteFault> {
+        match self.device.flush() {
+            Ok(()) => Ok(()),
+            Err(_) => {
+                self.failed = one_more(self.failed);
+                Err(WriteFault)
+            }
+        }
+    }
+
+    fn failures(&self) -> u64 {
+        self.failed
+    }
+}

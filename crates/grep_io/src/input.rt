@@ -1,0 +1,5 @@
+//! The lines of a reader.
+
+pub mod lines;
+pub mod newlines;
+pub mod window;

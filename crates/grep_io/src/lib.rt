@@ -1,0 +1,15 @@
+//! Input and output: the devices that are read and written, with their failures counted, and the
+//! lines of a reader.
+#![tactic(auto)]
+
+mod devices;
+mod input;
+
+pub use devices::buffered::Buffered;
+pub use devices::counted::{CountedRead, CountedWrite, Tally, WriteFault};
+pub use devices::limited::Limited;
+pub use devices::push::push_all;
+pub use devices::whole_lines::WholeLines;
+pub use input::lines::{Lines, ReadFault, Stage};
+pub use input::newlines::count_newlines;
+pub use input::window::lines_end;
