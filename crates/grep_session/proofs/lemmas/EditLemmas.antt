@@ -14,20 +14,19 @@ use Rattle.re_syntax.specs.Lines.{HasNoNewline}
 use Rattle.re_search.specs.declared.matcher.Matcher.{Matcher}
 use Rattle.re_search.specs.Working.Matchers.{matched_expression, wants_whole}
 use Rattle.re_search.specs.Searching.{AllAnswer}
-use Rattle.grep_core.specs.Meters.{Steps}
 use Rattle.grep_core.specs.declared.options.Options.{Options}
 use Rattle.grep_core.specs.Files.{File, Inputs, AreMeant, whole, missing}
 use Rattle.grep_core.specs.Run.{file_at}
 use Rattle.grep_core.proofs.lemmas.CostLaws.{same_length}
 use Rattle.grep_session.specs.declared.kept.KeptFile.{KeptFile}
 use Rattle.grep_session.specs.declared.kept.KeptLine.{KeptLine}
-use Rattle.grep_session.specs.Edits.{Edit, Splice, Applies, with_files, spliced}
-use Rattle.grep_session.specs.Working.Kept.{IsKept, IsFileKept, SearchesAllKept, kept_file, kept_lines, file_with, line_text}
+use Rattle.grep_session.specs.Edits.{Splice, Applies, with_files, spliced}
+use Rattle.grep_session.specs.Working.Kept.{IsKept, IsFileKept, kept_file, kept_lines, file_with, line_text}
 use Rattle.grep_core.specs.Working.MatcherLists.{AreMatchers}
 use Rattle.grep_session.specs.Edits.{HasPlace}
 use Rattle.grep_session.specs.declared.fault.EditFault.{EditFault}
 use Rattle.grep_session.specs.declared.fault.EditFault.TheVariants.{LineHasNewline, Memory}
-use Rattle.grep_session.specs.Touched.{TakesSteps, Touches, searched_by, pairs_cost, NeedsNoMemory}
+use Rattle.grep_session.specs.Touched.{NeedsNoMemory}
 use Rattle.grep_session.proofs.lemmas.SessionLemmas.{map-splice}
 
 -- ---- matchers
@@ -40,30 +39,6 @@ AreMatchers-same syntax options texts old new s e w = record {
   wholes = subst (AllAnswer options.line_regexp) (sym w) s.wholes;
   readable = s.readable;
   counted = same_length matched_expression new old e ∙ s.counted;
-}
-
--- ---- steps
-
--- the lines that an edit puts in were searched
-pub takes_lines : (edit : Edit) (old : Inputs) (files : List File) (es : List Expression) (matchers : ℕ) (lines : List Text) (begun ended : Steps) → Applies edit old (Ok (with_files files old)) → Touches edit old (searched_by (length old.patterns) lines)
-    → AreMeant old.syntax old.options old.patterns es → matchers ≡ length old.patterns → SearchesAllKept es old.options matchers lines begun ended → TakesSteps edit old begun ended
-takes_lines edit old files es matchers lines begun ended applies touches meant many s = record {
-  most = pairs_cost matchers lines + s.parts;
-  is_most =
-      inr (
-        Ok (with_files files old),
-        applies,
-        record {
-          es = es;
-          are_meant = meant;
-          touched = searched_by (length old.patterns) lines;
-          are_touched = touches;
-          parts = s.parts;
-          are_parts = s.are_parts;
-          is_sum = ap (λ n. pairs_cost n lines + s.parts) many;
-        },
-      );
-  few = s.few;
 }
 
 -- ---- lines that are replaced

@@ -1,5 +1,5 @@
 -- Patterns are added: the matchers after that, and the steps that it takes.
-use Rattle.std.proofs.Common.{◌≡◌, ℕ, ◌+◌, ◌<◌, List, [], ◌∷◌, ◌++◌, Ok, Err, All, inl, inr, length, map, take, drop, refl, sym, ap, subst, ◌∙◌}
+use Rattle.std.proofs.Common.{◌≡◌, ℕ, ◌+◌, ◌<◌, List, [], ◌∷◌, ◌++◌, Err, All, inl, inr, length, map, take, drop, refl, sym, ap, subst, ◌∙◌}
 use Rattle.std.proofs.lemmas.List.{map-append, length-append}
 use Rattle.std.proofs.lemmas.List.Elements.{All-append}
 use Rattle.std.specs.List.{take-map, drop-map}
@@ -22,7 +22,7 @@ use Rattle.re_syntax.specs.Profile.{most_patterns}
 use Rattle.grep_core.specs.Working.MatcherLists.{AreMatchers}
 use Rattle.grep_session.specs.Working.Reading.{RefusesFirst}
 use Rattle.grep_session.specs.Touched.{TakesSteps, all_lines, pairs_cost}
-use Rattle.grep_session.proofs.lemmas.ChangeLemmas.{CostOfEach-sum}
+use Rattle.grep_session.proofs.lemmas.StepLemmas.{CostOfEach-sum, takes_touched}
 use Rattle.grep_core.proofs.lemmas.MatcherLemmas.{AllZip-append}
 
 -- the first elements of two lists joined, and the others
@@ -72,21 +72,5 @@ module _ (list : Text) (old : Inputs) (few : most_patterns < length old.patterns
       → length changed ≡ length (list_of list) → SearchesEach (ChangeCost (Added first) changed es old.options) (all_lines old) begun ended → TakesSteps (AddPatterns list) old begun ended
   takes_new first es changed begun ended readable meant new many s =
       let sum = CostOfEach-sum (Added first) changed es old.options (all_lines old) s.cost s.is_cost in
-      record {
-        most = s.cost;
-        is_most =
-            inr (
-              Ok (with_patterns (old.patterns ++ list_of list) old),
-              inr (few, inl (readable, refl)),
-              record {
-                es = es;
-                are_meant = meant;
-                touched = record { patterns = length (list_of list); paired = all_lines old; lines = sum.0 };
-                are_touched = (changed, new, sum.0, sum.2, refl);
-                parts = sum.1;
-                are_parts = sum.3;
-                is_sum = sum.4 ∙ ap (λ n. pairs_cost n (all_lines old) + sum.1) many;
-              },
-            );
-        few = s.few;
-      }
+      takes_touched (AddPatterns list) old (with_patterns (old.patterns ++ list_of list) old) es (record { patterns = length (list_of list); paired = all_lines old; lines = sum.0 }) s.cost sum.1 begun ended (inr (few, inl (readable, refl))) (changed, new, sum.0, sum.2, refl) meant sum.3
+      (sum.4 ∙ ap (λ n. pairs_cost n (all_lines old) + sum.1) many) s.few

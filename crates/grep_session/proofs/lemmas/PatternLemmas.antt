@@ -1,5 +1,5 @@
 -- A pattern is removed where parts are kept: the steps that this takes, and how it is put back.
-use Rattle.std.proofs.Common.{◌≡◌, ℕ, zero, suc, ◌+◌, ◌<◌, List, [], ◌∷◌, ◌++◌, Ok, inl, inr, length, map, take, drop, get_or, refl, sym, ap, subst, ◌∙◌, arith}
+use Rattle.std.proofs.Common.{◌≡◌, ℕ, zero, suc, ◌+◌, ◌<◌, List, [], ◌∷◌, ◌++◌, inl, inr, length, map, take, drop, get_or, refl, sym, ap, subst, ◌∙◌, arith}
 use Rattle.std.proofs.lemmas.List.{map-append, length-map, get_or-map}
 use Rattle.std.specs.List.{AllZip, remove, insert, take-map, drop-map}
 use Rattle.re_syntax.specs.Expression.{Expression}
@@ -13,9 +13,8 @@ use Rattle.re_search.proofs.lemmas.SomeOfJoined.{Any-single}
 use Rattle.grep_session.specs.declared.change.Change.TheVariants.{Dropped}
 use Rattle.grep_session.specs.Working.Changed.{HasChanged, ChangeCost, SearchesEach}
 use Rattle.grep_session.specs.Edits.{DropPattern, with_patterns}
-use Rattle.grep_session.specs.Touched.{TakesSteps, parts_alone, all_lines, pairs_cost}
-use Rattle.grep_session.proofs.lemmas.AllPatternsRead.{pairs_cost-none}
-use Rattle.grep_session.proofs.lemmas.ChangeLemmas.{CostOfEach-sum}
+use Rattle.grep_session.specs.Touched.{TakesSteps, parts_alone, all_lines}
+use Rattle.grep_session.proofs.lemmas.StepLemmas.{CostOfEach-sum, pairs_cost-none, takes_touched}
 use Rattle.grep_session.proofs.lemmas.DroppingLemmas.{AllZip-remove}
 
 -- two lists at one place
@@ -37,27 +36,10 @@ pub takes_drop : (p : ℕ) (old : Inputs) (es before : List Expression) (e : Exp
     → SearchesEach (ChangeCost (Dropped p) (e ∷ []) es old.options) (all_lines old) begun ended → TakesSteps (DropPattern p) old begun ended
 takes_drop p old es before e begun ended within meant h is s =
     let sum = CostOfEach-sum (Dropped p) (e ∷ []) es old.options (all_lines old) s.cost s.is_cost in
-    let none : pairs_cost 0 (all_lines old) ≡ 0 = pairs_cost-none (all_lines old) in
     let one = AllZip-at (λ text e. IsMeant old.syntax old.options.ignore_case text e) old.patterns before p [] e meant within in
     let chosen = Chosen-as (Matched (e ∷ []) old.options) (λ line. Matches e line old.options.line_regexp) (λ line m. Any-single (λ e. Matches e line old.options.line_regexp) e m) (λ line m. Any-first (λ e. Matches e line old.options.line_regexp) e [] m) (all_lines old) sum.0 sum.2 in
-    record {
-      most = s.cost;
-      is_most =
-          inr (
-            Ok (with_patterns (remove old.patterns p) old),
-            inl (within, refl),
-            record {
-              es = es;
-              are_meant = subst (AreMeant old.syntax old.options (remove old.patterns p)) (sym h.3) (AllZip-remove (λ text e. IsMeant old.syntax old.options.ignore_case text e) old.patterns before p meant);
-              touched = parts_alone sum.0;
-              are_touched = (e, subst (IsMeant old.syntax old.options.ignore_case (get_or old.patterns p [])) (sym is) one, sum.0, chosen, refl);
-              parts = sum.1;
-              are_parts = sum.3;
-              is_sum = sum.4 ∙ ap (λ n. n + sum.1) none;
-            },
-          );
-      few = s.few;
-    }
+    takes_touched (DropPattern p) old (with_patterns (remove old.patterns p) old) es (parts_alone sum.0) s.cost sum.1 begun ended (inl (within, refl)) (e, subst (IsMeant old.syntax old.options.ignore_case (get_or old.patterns p [])) (sym is) one, sum.0, chosen, refl)
+    (subst (AreMeant old.syntax old.options (remove old.patterns p)) (sym h.3) (AllZip-remove (λ text e. IsMeant old.syntax old.options.ignore_case text e) old.patterns before p meant)) sum.3 (sum.4 ∙ ap (λ n. n + sum.1) (pairs_cost-none (all_lines old))) s.few
 
 -- an element that was removed is put back
 insert_first : {X : Type 0} (xs : List X) (y : X) → insert xs 0 y ≡ y ∷ xs

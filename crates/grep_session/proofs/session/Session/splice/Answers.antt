@@ -6,8 +6,9 @@ use Rattle.grep_session.specs.Edits.{Splice, Applies, spliced, with_files}
 use Rattle.re_syntax.specs.Profile.{most_patterns}
 use Rattle.grep_session.specs.Working.Kept.{IsKept, IsFileKept, kept_lines, line_text}
 use Rattle.grep_session.specs.Working.Sessions.{inputs_of}
-use Rattle.grep_session.proofs.lemmas.EditLemmas.{AreMatchers-same, takes_lines, applies_splice, in_kept, put, kept_put, files_put, files_same, files_kept, refuses_splice, needs_for_lines, newline_not_memory, empty_map}
+use Rattle.grep_session.proofs.lemmas.EditLemmas.{AreMatchers-same, applies_splice, in_kept, put, kept_put, files_put, files_same, files_kept, refuses_splice, needs_for_lines, newline_not_memory, empty_map}
 use Rattle.grep_session.proofs.lemmas.RoomLemmas.{keep_same}
+use Rattle.grep_session.proofs.lemmas.StepLemmas.{takes_lines}
 use Rattle.grep_session.proofs.session.Session.splice.Goals as goal
 
 pub returns-in-Err-search_new-clause-steps : goal.returns-in-Err-search_new-clause-steps
@@ -17,7 +18,7 @@ returns-in-Err-search_new-clause-steps c =
     let lines = map (λ line. line.items) c.args.lines.items in
     let none = rw c.deref-2.ensures.value at c.if-any_newline.ensures in
     let place = rw c.deref.ensures.value at c.in-Ok.ensures.place in
-    rw (← c.self.view_is) (takes_lines (Splice c.args.k c.args.start c.args.count lines) old (spliced old.files c.args.k c.args.start c.args.count lines) (map matched_expression s.matchers.items) _ lines _ _ (applies_splice old _ _ _ lines place none) refl c.self.invariant.matchers.meant c.self.invariant.matchers.counted c.search_new.ensures.steps)
+    rw (← c.self.view_is) (takes_lines (Splice c.args.k c.args.start c.args.count lines) old (with_files (spliced old.files c.args.k c.args.start c.args.count lines) old) s.matchers.items lines _ _ (applies_splice old _ _ _ lines place none) refl c.self.invariant.matchers refl c.search_new.ensures.steps)
 
 pub returns-in-Err-put_in-clause-steps : goal.returns-in-Err-put_in-clause-steps
 returns-in-Err-put_in-clause-steps c =
@@ -26,7 +27,7 @@ returns-in-Err-put_in-clause-steps c =
     let lines = map (λ line. line.items) c.args.lines.items in
     let none = rw c.deref-2.ensures.value at c.if-any_newline.ensures in
     let place = rw c.deref.ensures.value at c.in-Ok.ensures.place in
-    rw (← c.self.view_is) (takes_lines (Splice c.args.k c.args.start c.args.count lines) old (spliced old.files c.args.k c.args.start c.args.count lines) (map matched_expression s.matchers.items) _ lines _ _ (applies_splice old _ _ _ lines place none) refl c.self.invariant.matchers.meant c.self.invariant.matchers.counted c.search_new.ensures.steps)
+    rw (← c.self.view_is) (takes_lines (Splice c.args.k c.args.start c.args.count lines) old (with_files (spliced old.files c.args.k c.args.start c.args.count lines) old) s.matchers.items lines _ _ (applies_splice old _ _ _ lines place none) refl c.self.invariant.matchers refl c.search_new.ensures.steps)
 
 pub returns-clause-steps : goal.returns-clause-steps
 returns-clause-steps c =
@@ -35,7 +36,7 @@ returns-clause-steps c =
     let lines = map (λ line. line.items) c.args.lines.items in
     let none = rw c.deref-2.ensures.value at c.if-any_newline.ensures in
     let place = rw c.deref.ensures.value at c.in-Ok.ensures.place in
-    rw (← c.self.view_is) (takes_lines (Splice c.args.k c.args.start c.args.count lines) old (spliced old.files c.args.k c.args.start c.args.count lines) (map matched_expression s.matchers.items) _ lines _ _ (applies_splice old _ _ _ lines place none) refl c.self.invariant.matchers.meant c.self.invariant.matchers.counted c.search_new.ensures.steps)
+    rw (← c.self.view_is) (takes_lines (Splice c.args.k c.args.start c.args.count lines) old (with_files (spliced old.files c.args.k c.args.start c.args.count lines) old) s.matchers.items lines _ _ (applies_splice old _ _ _ lines place none) refl c.self.invariant.matchers refl c.search_new.ensures.steps)
 
 pub returns-in-Err-put_in-clause-gives : goal.returns-in-Err-put_in-clause-gives
 returns-in-Err-put_in-clause-gives c =
