@@ -1,5 +1,5 @@
 -- How an edit changes a session's inputs, and what is kept.
-use Rattle.std.proofs.Common.{◌≡◌, ◌≢◌, ℕ, suc, ◌+◌, ◌<◌, List, [], ◌∷◌, ◌++◌, length, map, take, drop, Option, Some, None, Ok, Err, IfSome, inl, inr, refl, sym, ap, subst, ◌∙◌, All, get_or, slice_set, arith}
+use Rattle.std.proofs.Common.{◌≡◌, ◌≢◌, ℕ, suc, ◌+◌, ◌<◌, ◌≤◌, List, [], ◌∷◌, ◌++◌, length, map, take, drop, Option, Some, None, Ok, Err, IfSome, inl, inr, refl, sym, ap, subst, ◌∙◌, All, get_or, slice_set, arith}
 use Rattle.std.proofs.Math.ListN.{set}
 use Rattle.std.proofs.Math.Seq.{map-set_same}
 use Rattle.std.proofs.lemmas.List.{map-set, get_or-map, length-map}
@@ -12,13 +12,18 @@ use Rattle.re_syntax.specs.Bytes.{Text}
 use Rattle.re_syntax.specs.Expression.{Expression}
 use Rattle.re_syntax.specs.Lines.{HasNoNewline}
 use Rattle.re_search.specs.declared.matcher.Matcher.{Matcher}
-use Rattle.re_search.specs.Working.Matchers.{matched_expression, wants_whole}
+use Rattle.re_search.specs.Working.Matchers.{matched_expression, wants_whole, room_of}
 use Rattle.re_search.specs.Searching.{AllAnswer}
 use Rattle.grep_core.specs.declared.options.Options.{Options}
 use Rattle.grep_core.specs.Files.{File, Inputs, AreMeant, whole, missing}
 use Rattle.grep_core.specs.Run.{file_at}
 use Rattle.grep_core.proofs.lemmas.CostLaws.{same_length}
+use Rattle.re_syntax.specs.Profile.{most_patterns}
 use Rattle.grep_session.specs.declared.kept.KeptFile.{KeptFile}
+use Rattle.grep_session.specs.declared.session.Session.TheInside.{Inside}
+use Rattle.grep_session.specs.Working.Rooms.{SameBounded}
+use Rattle.grep_session.specs.Working.Sessions.{IsSession}
+use Rattle.grep_session.proofs.lemmas.RoomLemmas.{keep_same}
 use Rattle.grep_session.specs.declared.kept.KeptLine.{KeptLine}
 use Rattle.grep_session.specs.Edits.{Splice, Applies, with_files, spliced}
 use Rattle.grep_session.specs.Working.Kept.{IsKept, IsFileKept, kept_file, kept_lines, file_with, line_text}
@@ -40,6 +45,18 @@ AreMatchers-same syntax options texts old new s e w = record {
   readable = s.readable;
   counted = same_length matched_expression new old e ∙ s.counted;
 }
+
+-- a session whose matchers were asked, and whose files are as right as before
+pub asked_session : (s t : Inside) → t ≡ record s { texts = t.texts; matchers = t.matchers; files = t.files } → t.texts.items ≡ s.texts.items → IsSession s → SameBounded matched_expression wants_whole room_of s.matchers.items t.matchers.items
+    → All (IsFileKept (map matched_expression s.matchers.items) s.options) t.files.items → IsSession t
+asked_session s t is texts old same kept = subst IsSession (sym is) (record {
+  matchers = subst (λ ts. AreMatchers s.syntax s.options (map (λ text. text.items) ts) t.matchers.items) (sym texts) (AreMatchers-same s.syntax s.options _ s.matchers.items t.matchers.items old.matchers same.same_expressions same.same_wholes);
+  few = subst (λ n. n ≤ most_patterns) (sym (same_length matched_expression _ _ same.same_expressions)) old.few;
+  kept = subst (λ es. All (IsFileKept es s.options) t.files.items) (sym same.same_expressions) kept;
+  rooms = keep_same s.states s.matchers.items t.matchers.items same.same_rooms old.rooms;
+  some_states = old.some_states;
+  few_states = old.few_states;
+})
 
 -- ---- lines that are replaced
 

@@ -8,7 +8,7 @@ use Rattle.re_syntax.specs.Profile.{most_patterns}
 use Rattle.grep_session.specs.Working.Kept.{IsFileKept}
 use Rattle.grep_session.specs.Working.Sessions.{inputs_of}
 use Rattle.grep_session.specs.Touched.{all_lines}
-use Rattle.grep_session.proofs.lemmas.EditLemmas.{AreMatchers-same}
+use Rattle.grep_session.proofs.lemmas.EditLemmas.{AreMatchers-same, asked_session}
 use Rattle.grep_session.proofs.lemmas.AllPatternsRead.{ready_files, AreMatchers-options}
 use Rattle.grep_session.proofs.lemmas.RoomLemmas.{keep_same}
 use Rattle.grep_session.proofs.lemmas.StepLemmas.{takes_parts}
@@ -65,12 +65,4 @@ returns-clause-gives c =
 pub invariant_of-self : goal.invariant_of-self
 invariant_of-self c =
     let s = c.self.inside in
-    let same = c.find_columns.ensures.same_matchers.same_expressions in
-    record {
-      matchers = AreMatchers-same s.syntax s.options _ s.matchers.items _ c.self.invariant.matchers same c.find_columns.ensures.same_matchers.same_wholes;
-      few = subst (λ n. n ≤ most_patterns) (sym (same_length matched_expression _ _ same)) c.self.invariant.few;
-      kept = subst (All (IsFileKept (map matched_expression c.find_columns.new.matchers.items) s.options)) (sym c.in-Err.ensures.err) (subst (λ es. All (IsFileKept es s.options) s.files.items) (sym same) c.self.invariant.kept);
-      rooms = keep_same s.states s.matchers.items _ c.find_columns.ensures.same_matchers.same_rooms c.self.invariant.rooms;
-      some_states = c.self.invariant.some_states;
-      few_states = c.self.invariant.few_states;
-    }
+    asked_session s _ refl refl c.self.invariant c.find_columns.ensures.same_matchers (subst (All (IsFileKept (map matched_expression s.matchers.items) s.options)) (sym c.in-Err.ensures.err) c.self.invariant.kept)

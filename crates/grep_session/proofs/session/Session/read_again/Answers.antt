@@ -6,11 +6,11 @@ use Rattle.re_syntax.specs.Profile.{most_patterns}
 use Rattle.grep_session.specs.Working.Kept.{IsFileKept}
 use Rattle.grep_session.specs.Working.Sessions.{inputs_of}
 use Rattle.grep_session.specs.Touched.{all_lines}
-use Rattle.grep_session.proofs.lemmas.EditLemmas.{AreMatchers-same}
+use Rattle.grep_session.proofs.lemmas.EditLemmas.{AreMatchers-same, asked_session}
 use Rattle.grep_session.proofs.lemmas.AllPatternsRead.{refuses_again}
 use Rattle.grep_session.proofs.lemmas.ChangeLemmas.{anew_files}
 use Rattle.grep_session.proofs.lemmas.StepLemmas.{takes_lines}
-use Rattle.grep_session.proofs.lemmas.RoomLemmas.{keep_same}
+use Rattle.grep_session.proofs.lemmas.RoomLemmas.{keep_same, none_asked}
 use Rattle.grep_session.proofs.session.Session.read_again.Goals as goal
 
 pub returns-in-Err-clause-gives : goal.returns-in-Err-clause-gives
@@ -54,11 +54,4 @@ returns-clause-gives c =
 pub invariant_of-self : goal.invariant_of-self
 invariant_of-self c =
     let s = c.self.inside in
-    record {
-      matchers = c.self.invariant.matchers;
-      few = c.self.invariant.few;
-      kept = subst (All (IsFileKept (map matched_expression s.matchers.items) s.options)) (sym c.in-Err-find_columns.ensures.err) c.self.invariant.kept;
-      rooms = c.self.invariant.rooms;
-      some_states = c.self.invariant.some_states;
-      few_states = c.self.invariant.few_states;
-    }
+    asked_session s _ refl refl c.self.invariant none_asked (subst (All (IsFileKept (map matched_expression s.matchers.items) s.options)) (sym c.in-Err-find_columns.ensures.err) c.self.invariant.kept)
