@@ -179,7 +179,7 @@ pub fn find_anew<M: Bounded>(
 }
 
 /// The line with all that the matchers find in it.
-pub fn search_line<M: Bounded>(
+fn search_line<M: Bounded>(
     search: &Search,
     matchers: &mut [M],
     text: Vec<u8>,
@@ -198,7 +198,7 @@ pub fn search_line<M: Bounded>(
 }
 
 /// The lines with all that the matchers find in them.
-pub fn search_lines<M: Bounded>(
+fn search_lines<M: Bounded>(
     search: &Search,
     matchers: &mut [M],
     texts: Vec<Vec<u8>>,

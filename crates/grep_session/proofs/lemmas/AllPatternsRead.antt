@@ -106,7 +106,7 @@ sets_flag flag on old new (Err TooManyPatterns) h = h
 sets_flag flag on old new (Err Memory) h = h
 
 -- the value that an option has
-with_same : (flag : Flag) (options : Options) → with_option flag (option_of flag options) options ≡ options
+pub with_same : (flag : Flag) (options : Options) → with_option flag (option_of flag options) options ≡ options
 with_same Count options = refl
 with_same IgnoreCase options = refl
 with_same FilesWithMatches options = refl

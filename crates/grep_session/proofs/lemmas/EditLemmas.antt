@@ -14,6 +14,7 @@ use Rattle.re_syntax.specs.Lines.{HasNoNewline}
 use Rattle.re_search.specs.declared.matcher.Matcher.{Matcher}
 use Rattle.re_search.specs.Working.Matchers.{matched_expression, wants_whole, room_of}
 use Rattle.re_search.specs.Searching.{AllAnswer}
+use Rattle.grep_core.specs.Meters.{Steps}
 use Rattle.grep_core.specs.declared.options.Options.{Options}
 use Rattle.grep_core.specs.Files.{File, Inputs, AreMeant, whole, missing}
 use Rattle.grep_core.specs.Run.{file_at}
@@ -22,16 +23,18 @@ use Rattle.re_syntax.specs.Profile.{most_patterns}
 use Rattle.grep_session.specs.declared.kept.KeptFile.{KeptFile}
 use Rattle.grep_session.specs.declared.session.Session.TheInside.{Inside}
 use Rattle.grep_session.specs.Working.Rooms.{SameBounded}
-use Rattle.grep_session.specs.Working.Sessions.{IsSession}
+use Rattle.grep_session.specs.Working.Changed.{CostAnew, SearchesEach}
+use Rattle.grep_session.specs.Working.Sessions.{IsSession, inputs_of}
 use Rattle.grep_session.proofs.lemmas.RoomLemmas.{keep_same}
+use Rattle.grep_session.proofs.lemmas.StepLemmas.{takes_lines}
 use Rattle.grep_session.specs.declared.kept.KeptLine.{KeptLine}
-use Rattle.grep_session.specs.Edits.{Splice, Applies, with_files, spliced}
+use Rattle.grep_session.specs.Edits.{AddFile, Splice, Applies, spliced, whole_file, with_files}
 use Rattle.grep_session.specs.Working.Kept.{IsKept, IsFileKept, kept_file, kept_lines, file_with, line_text}
 use Rattle.grep_core.specs.Working.MatcherLists.{AreMatchers}
 use Rattle.grep_session.specs.Edits.{HasPlace}
 use Rattle.grep_session.specs.declared.fault.EditFault.{EditFault}
 use Rattle.grep_session.specs.declared.fault.EditFault.TheVariants.{LineHasNewline, Memory}
-use Rattle.grep_session.specs.Touched.{NeedsNoMemory}
+use Rattle.grep_session.specs.Touched.{TakesSteps, NeedsNoMemory}
 use Rattle.grep_session.proofs.lemmas.SessionLemmas.{map-splice}
 
 -- ---- matchers
@@ -63,6 +66,15 @@ asked_session s t is texts old same kept = subst IsSession (sym is) (record {
 pub applies_splice : (old : Inputs) (k start count : ℕ) (lines : List Text) → HasPlace old.files k start count → All HasNoNewline lines → Applies (Splice k start count lines) old (Ok (with_files (spliced old.files k start count lines) old))
 applies_splice old k start count lines p none =
     inr ((λ h. absurd (let false : ⊥ = omega (arith, h, p.in_files) in false)), inr (p.opens, inr ((λ h. absurd (let false : ⊥ = omega (arith, h, p.in_file) in false)), inl (none, refl))))
+
+-- the new lines of a splice, and those of a file that is added, were searched
+module _ (s : Inside) (old : IsSession s) (lines : List Text) (none : All HasNoNewline lines) (begun ended : Steps) (steps : SearchesEach (CostAnew (map matched_expression s.matchers.items) s.options) lines begun ended) where
+  pub splice_steps : (k start count : ℕ) → HasPlace (inputs_of s).files k start count → TakesSteps (Splice k start count lines) (inputs_of s) begun ended
+  splice_steps k start count place =
+      takes_lines (Splice k start count lines) (inputs_of s) (with_files (spliced (inputs_of s).files k start count lines) (inputs_of s)) s.matchers.items lines begun ended (applies_splice (inputs_of s) k start count lines place none) refl old.matchers refl steps
+
+  pub file_steps : (name : Text) → TakesSteps (AddFile name lines) (inputs_of s) begun ended
+  file_steps name = takes_lines (AddFile name lines) (inputs_of s) (with_files ((inputs_of s).files ++ whole_file name lines ∷ []) (inputs_of s)) s.matchers.items lines begun ended (inl (none, refl)) refl old.matchers refl steps
 
 -- some line that is put in has a newline in it
 pub refuses_splice : (old : Inputs) (k start count : ℕ) (lines : List Text) → HasPlace old.files k start count → (All HasNoNewline lines → ⊥) → Applies (Splice k start count lines) old (Err LineHasNewline)

@@ -5,33 +5,18 @@ use Rattle.re_search.specs.Working.Matchers.{matched_expression}
 use Rattle.grep_session.specs.Edits.{AddFile, whole_file, with_files}
 use Rattle.grep_session.specs.Working.Kept.{IsFileKept, kept_file}
 use Rattle.grep_session.specs.Working.Sessions.{inputs_of}
-use Rattle.grep_session.proofs.lemmas.EditLemmas.{asked_session, newline_not_memory}
-use Rattle.grep_session.proofs.lemmas.StepLemmas.{takes_lines, takes_none}
+use Rattle.grep_session.proofs.lemmas.EditLemmas.{asked_session, file_steps, newline_not_memory}
+use Rattle.grep_session.proofs.lemmas.StepLemmas.{takes_none}
 use Rattle.grep_session.proofs.session.Session.add_file.Goals as goal
 
 pub returns-in-Err-clause-steps : goal.returns-in-Err-clause-steps
-returns-in-Err-clause-steps c =
-    let s = c.self.inside in
-    let old = inputs_of s in
-    let lines = map (λ line. line.items) c.args.lines.items in
-    let none = rw c.deref.ensures.value at c.if-any_newline.ensures in
-    rw (← c.self.view_is) (takes_lines (AddFile c.args.name.items lines) old (with_files (old.files ++ whole_file c.args.name.items lines ∷ []) old) s.matchers.items lines _ _ (inl (none, refl)) refl c.self.invariant.matchers refl c.search_new.ensures.steps)
+returns-in-Err-clause-steps c = rw (← c.self.view_is) (file_steps c.self.inside c.self.invariant _ (rw c.deref.ensures.value at c.if-any_newline.ensures) _ _ c.search_new.ensures.steps c.args.name.items)
 
 pub returns-in-Err-push-clause-steps : goal.returns-in-Err-push-clause-steps
-returns-in-Err-push-clause-steps c =
-    let s = c.self.inside in
-    let old = inputs_of s in
-    let lines = map (λ line. line.items) c.args.lines.items in
-    let none = rw c.deref.ensures.value at c.if-any_newline.ensures in
-    rw (← c.self.view_is) (takes_lines (AddFile c.args.name.items lines) old (with_files (old.files ++ whole_file c.args.name.items lines ∷ []) old) s.matchers.items lines _ _ (inl (none, refl)) refl c.self.invariant.matchers refl c.search_new.ensures.steps)
+returns-in-Err-push-clause-steps c = rw (← c.self.view_is) (file_steps c.self.inside c.self.invariant _ (rw c.deref.ensures.value at c.if-any_newline.ensures) _ _ c.search_new.ensures.steps c.args.name.items)
 
 pub returns-clause-steps : goal.returns-clause-steps
-returns-clause-steps c =
-    let s = c.self.inside in
-    let old = inputs_of s in
-    let lines = map (λ line. line.items) c.args.lines.items in
-    let none = rw c.deref.ensures.value at c.if-any_newline.ensures in
-    rw (← c.self.view_is) (takes_lines (AddFile c.args.name.items lines) old (with_files (old.files ++ whole_file c.args.name.items lines ∷ []) old) s.matchers.items lines _ _ (inl (none, refl)) refl c.self.invariant.matchers refl c.search_new.ensures.steps)
+returns-clause-steps c = rw (← c.self.view_is) (file_steps c.self.inside c.self.invariant _ (rw c.deref.ensures.value at c.if-any_newline.ensures) _ _ c.search_new.ensures.steps c.args.name.items)
 
 pub invariant_of-self : goal.invariant_of-self
 invariant_of-self c = asked_session c.self.inside _ refl refl c.self.invariant c.search_new.ensures.same_matchers c.self.invariant.kept

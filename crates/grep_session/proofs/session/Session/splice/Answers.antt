@@ -4,36 +4,17 @@ use Rattle.grep_session.specs.declared.kept.KeptFile.{KeptFile}
 use Rattle.grep_session.specs.Edits.{Splice, Applies, spliced, with_files}
 use Rattle.grep_session.specs.Working.Kept.{IsKept, IsFileKept, kept_lines, line_text}
 use Rattle.grep_session.specs.Working.Sessions.{inputs_of}
-use Rattle.grep_session.proofs.lemmas.EditLemmas.{asked_session, applies_splice, in_kept, put, kept_put, files_put, files_same, files_kept, refuses_splice, needs_for_lines, newline_not_memory, empty_map}
-use Rattle.grep_session.proofs.lemmas.StepLemmas.{takes_lines}
+use Rattle.grep_session.proofs.lemmas.EditLemmas.{asked_session, splice_steps, applies_splice, in_kept, put, kept_put, files_put, files_same, files_kept, refuses_splice, needs_for_lines, newline_not_memory, empty_map}
 use Rattle.grep_session.proofs.session.Session.splice.Goals as goal
 
 pub returns-in-Err-search_new-clause-steps : goal.returns-in-Err-search_new-clause-steps
-returns-in-Err-search_new-clause-steps c =
-    let s = c.self.inside in
-    let old = inputs_of s in
-    let lines = map (λ line. line.items) c.args.lines.items in
-    let none = rw c.deref-2.ensures.value at c.if-any_newline.ensures in
-    let place = rw c.deref.ensures.value at c.in-Ok.ensures.place in
-    rw (← c.self.view_is) (takes_lines (Splice c.args.k c.args.start c.args.count lines) old (with_files (spliced old.files c.args.k c.args.start c.args.count lines) old) s.matchers.items lines _ _ (applies_splice old _ _ _ lines place none) refl c.self.invariant.matchers refl c.search_new.ensures.steps)
+returns-in-Err-search_new-clause-steps c = rw (← c.self.view_is) (splice_steps c.self.inside c.self.invariant _ (rw c.deref-2.ensures.value at c.if-any_newline.ensures) _ _ c.search_new.ensures.steps _ _ _ (rw c.deref.ensures.value at c.in-Ok.ensures.place))
 
 pub returns-in-Err-put_in-clause-steps : goal.returns-in-Err-put_in-clause-steps
-returns-in-Err-put_in-clause-steps c =
-    let s = c.self.inside in
-    let old = inputs_of s in
-    let lines = map (λ line. line.items) c.args.lines.items in
-    let none = rw c.deref-2.ensures.value at c.if-any_newline.ensures in
-    let place = rw c.deref.ensures.value at c.in-Ok.ensures.place in
-    rw (← c.self.view_is) (takes_lines (Splice c.args.k c.args.start c.args.count lines) old (with_files (spliced old.files c.args.k c.args.start c.args.count lines) old) s.matchers.items lines _ _ (applies_splice old _ _ _ lines place none) refl c.self.invariant.matchers refl c.search_new.ensures.steps)
+returns-in-Err-put_in-clause-steps c = rw (← c.self.view_is) (splice_steps c.self.inside c.self.invariant _ (rw c.deref-2.ensures.value at c.if-any_newline.ensures) _ _ c.search_new.ensures.steps _ _ _ (rw c.deref.ensures.value at c.in-Ok.ensures.place))
 
 pub returns-clause-steps : goal.returns-clause-steps
-returns-clause-steps c =
-    let s = c.self.inside in
-    let old = inputs_of s in
-    let lines = map (λ line. line.items) c.args.lines.items in
-    let none = rw c.deref-2.ensures.value at c.if-any_newline.ensures in
-    let place = rw c.deref.ensures.value at c.in-Ok.ensures.place in
-    rw (← c.self.view_is) (takes_lines (Splice c.args.k c.args.start c.args.count lines) old (with_files (spliced old.files c.args.k c.args.start c.args.count lines) old) s.matchers.items lines _ _ (applies_splice old _ _ _ lines place none) refl c.self.invariant.matchers refl c.search_new.ensures.steps)
+returns-clause-steps c = rw (← c.self.view_is) (splice_steps c.self.inside c.self.invariant _ (rw c.deref-2.ensures.value at c.if-any_newline.ensures) _ _ c.search_new.ensures.steps _ _ _ (rw c.deref.ensures.value at c.in-Ok.ensures.place))
 
 pub returns-in-Err-put_in-clause-gives : goal.returns-in-Err-put_in-clause-gives
 returns-in-Err-put_in-clause-gives c =
