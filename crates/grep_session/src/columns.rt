@@ -1,7 +1,7 @@
 //! What is found in all lines after a change of the patterns. Where patterns were added or removed,
 //! only the added ones are searched for, and the parts of the lines that one of these matches.
-ghost use Rattle.std.specs.Prelude.{◌≡◌, ℕ, ◌-◌, ◌≤◌, ◌++◌, List, [], length, map, drop, MatchBool};
-ghost use Rattle.std.specs.Prelude.{All, IfOk, OnErr, ◌∷◌, nat_eq, nat_lt, vec_capacity};
+ghost use Rattle.std.specs.Prelude.{◌≡◌, ℕ, ◌-◌, ◌≤◌, List, length, map, drop, MatchBool};
+ghost use Rattle.std.specs.Prelude.{All, IfOk, OnErr, nat_eq, nat_lt, vec_capacity};
 ghost use Rattle.std.specs.List.{AllZip, list_any};
 ghost use Rattle.re_syntax.specs.Expression.{Expression};
 ghost use Rattle.re_syntax.specs.Profile.{most_patterns};

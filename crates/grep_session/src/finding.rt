@@ -1,8 +1,8 @@
 //! What is found in lines, and kept.
-ghost use Rattle.std.specs.Prelude.{◌≡◌, ℕ, List, ◌+◌, ◌*◌, ◌≤◌, ◌<◌, ◌++◌, length, map, IfOk};
-ghost use Rattle.std.specs.Prelude.{IfErr, IfSome, true, [], ◌∷◌, All};
+ghost use Rattle.std.specs.Prelude.{◌≡◌, ℕ, ◌+◌, ◌*◌, ◌≤◌, ◌<◌, length, map, IfOk};
+ghost use Rattle.std.specs.Prelude.{IfErr, true, [], ◌∷◌, All};
 ghost use Rattle.re_search.specs.Working.Matchers.{matched_expression, wants_whole, room_of};
-ghost use Rattle.re_search.specs.Searching.{AllAnswer, AddsAtMost, FindsPart};
+ghost use Rattle.re_search.specs.Searching.{AllAnswer, AddsAtMost};
 ghost use Rattle.grep_session.specs.Working.Rooms.{SameBounded};
 ghost use Rattle.re_syntax.specs.Parts.{AreParts};
 ghost use Rattle.grep_core.specs.Cost.{search_cost};

@@ -1,5 +1,5 @@
 //! How what is found in all lines replaces what is kept of them.
-ghost use Rattle.std.specs.Prelude.{◌≡◌, ◌≤◌, ◌++◌, List, [], map, length, drop, IfOk, IfErr, All};
+ghost use Rattle.std.specs.Prelude.{◌≡◌, List, [], map, length, drop, All};
 ghost use Rattle.std.specs.List.{AllZip};
 ghost use Rattle.re_syntax.specs.Expression.{Expression};
 ghost use Rattle.grep_core.specs.declared.options.Options.{Options};

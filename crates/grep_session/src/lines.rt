@@ -1,5 +1,5 @@
 //! What is written for the lines of one file.
-ghost use Rattle.std.specs.Prelude.{◌≡◌, IfOk, All, length, if◌then◌else◌};
+ghost use Rattle.std.specs.Prelude.{◌≡◌, IfOk, All, if◌then◌else◌};
 ghost use Rattle.grep_core.specs.Output.{form, parts, written};
 ghost use Rattle.grep_core.specs.Written.{Writes};
 ghost use Rattle.grep_session.specs.Working.Report.{line_rows, part_rows, rows_from};

@@ -1,5 +1,5 @@
 //! The texts of a pattern list, and their place in a session.
-ghost use Rattle.std.specs.Prelude.{◌≡◌, ◌≤◌, ◌<◌, ◌+◌, ◌++◌, ◌∷◌, [], length, map, vec_len};
+ghost use Rattle.std.specs.Prelude.{◌≡◌, ◌≤◌, ◌<◌, ◌+◌, ◌++◌, length, map, vec_len};
 ghost use Rattle.std.specs.Prelude.{vec_capacity, MatchBool, IfOk, OnErr};
 ghost use Rattle.re_syntax.specs.Lines.{list_of};
 ghost use Rattle.re_syntax.specs.Profile.{most_patterns};

@@ -1,5 +1,5 @@
 //! The matchers of patterns.
-ghost use Rattle.std.specs.Prelude.{◌≡◌, ◌≤◌, ◌⊎◌, ◌++◌, ◌∷◌, [], map, IfOk, IfErr};
+ghost use Rattle.std.specs.Prelude.{◌≡◌, ◌≤◌, map, IfOk, IfErr};
 ghost use Rattle.re_syntax.specs.Profile.{most_states};
 ghost use Rattle.grep_core.specs.Working.MatcherLists.{AreMatchers};
 ghost use Rattle.grep_session.specs.Working.Reading.{RefusesFirst, told_at};
@@ -10,7 +10,7 @@ use crate::pushing::push;
 use grep_core::Options;
 use re_search::{Matcher, Syntax};
 use re_syntax::{FaultKind, PatternFault};
-use std::alloc::{AllocError, Global};
+use std::alloc::Global;
 
 /// The fault of the pattern at a place. Out of memory is no fault of the pattern.
 fn fault_at(place: usize, fault: PatternFault) -> EditFault
