@@ -12,28 +12,27 @@ ghost use Rattle.grep_live.specs.Working.Fits.{AreFit};
 ghost use Rattle.grep_live.specs.Working.Listing.{Mean, HitsBetween};
 ghost use Rattle.grep_live.specs.Working.Ranks.{AreRanks, AreRanked, marks_of, ranks_of};
 
+use crate::counting::Stretch;
 use crate::ranks::{Rank, count_between};
 use crate::rows::{write_hit_row, write_number_row};
 use crate::watch::Watch;
 use grep_core::{CountedWrite, WriteFault};
 use grep_session::Session;
 
-/// Writes a row for each hit among the lines of file `k` from place `from` to place `to`.
+/// Writes a row for each hit among some lines.
 fn write_hits<W: CountedWrite>(
     session: &Session,
-    k: usize,
-    from: usize,
-    to: usize,
+    stretch: Stretch,
     margin: &[u8],
     out: &mut W,
 ) -> Result<(), WriteFault>
-    requires { to ≤ length (file_at session.now.files k).lines }
+    requires { stretch.to ≤ length (file_at session.now.files stretch.k).lines }
     ensures { (es : List Expression) → Mean session.now es → (hits : List Hit) →
-        HitsBetween es session.now k from to hits → Writes W.contents W.failures out.old out.new
+        HitsBetween es session.now stretch.k stretch.from stretch.to hits → Writes W.contents W.failures out.old out.new
         (written margin.now (map hit_row hits)) result }
 {
-    for place in from..to {
-        let Some(hit) = session.hit(k, place) else {
+    for place in stretch.from..stretch.to {
+        let Some(hit) = session.hit(stretch.k, place) else {
             continue;
         };
         write_hit_row(out, margin, b"r", &[place], hit)?;
@@ -48,34 +47,33 @@ fn is_idle(removed: usize, added: usize) -> bool
     (removed == 0) & (added == 0)
 }
 
-/// Writes the rows of a change of file `k`: from place `front` on `removed` lines were replaced by
-/// those up to place `end`, and a row for each hit among the new ones.
+/// Writes the rows of a change of a file: `removed` lines were replaced by those of the stretch, and
+/// a row for each hit among the new ones.
 fn write_rows<W: CountedWrite>(
     session: &Session,
-    k: usize,
     ranks: &[Rank],
     removed: usize,
-    front: usize,
-    end: usize,
+    stretch: Stretch,
     margin: &[u8],
     out: &mut W,
 ) -> Result<(), WriteFault>
-    requires are_ranks { AreRanks session.now (file_at session.now.files k) ranks.now }
-    requires order { front ≤ end }
-    requires within { end ≤ length (file_at session.now.files k).lines }
+    requires are_ranks { AreRanks session.now (file_at session.now.files stretch.k) ranks.now }
+    requires order { stretch.from ≤ stretch.to }
+    requires within { stretch.to ≤ length (file_at session.now.files stretch.k).lines }
     ensures { (es : List Expression) → Mean session.now es → (hits : List Hit) →
-        HitsBetween es session.now k front end hits → Writes W.contents W.failures out.old out.new
-        (written margin.now (change_row k (record {
-          front = front;
+        HitsBetween es session.now stretch.k stretch.from stretch.to hits → Writes W.contents W.failures out.old out.new
+        (written margin.now (change_row stretch.k (record {
+          front = stretch.from;
           removed = removed;
-          added = end - front;
+          added = stretch.to - stretch.from;
           come = hits;
         }) ∷ map hit_row hits)) result }
 {
-    let count = count_between(session, k, ranks, front, end);
-    let numbers = [k, front, removed, end - front, count];
+    let Stretch { k, from, to } = stretch;
+    let count = count_between(session, k, ranks, from, to);
+    let numbers = [k, from, removed, to - from, count];
     write_number_row(out, margin, b"h", &numbers)?;
-    write_hits(session, k, front, end, margin, out)
+    write_hits(session, stretch, margin, out)
 }
 
 /// Writes what changed of file `k`, by its mark.
@@ -98,17 +96,10 @@ fn write_change<W: CountedWrite>(
     if is_idle(removed, added) {
         return Ok(());
     }
-    let front = watch.mark.front;
-    write_rows(
-        session,
-        k,
-        &watch.ranks,
-        removed,
-        front,
-        front + added,
-        margin,
-        out,
-    )
+    let from = watch.mark.front;
+    let to = from + added;
+    let stretch = Stretch { k, from, to };
+    write_rows(session, &watch.ranks, removed, stretch, margin, out)
 }
 
 /// Writes what changed of each file, by its mark.

@@ -7,6 +7,17 @@ ghost use Rattle.grep_live.specs.Working.Listing.{Mean, HitsBetween};
 
 use grep_session::Session;
 
+/// Some lines of a file: those of file `k` from place `from` to place `to`.
+#[derive(Clone, Copy, Drop)]
+pub struct Stretch {
+    /// The number of the file.
+    pub k: usize,
+    /// The place of the first line.
+    pub from: usize,
+    /// The place after the last line.
+    pub to: usize,
+}
+
 /// The number of hits among the lines of file `k` from place `from` to place `to`.
 pub fn count_hits(session: &Session, k: usize, from: usize, to: usize) -> usize
     requires { to ≤ length (file_at session.now.files k).lines }

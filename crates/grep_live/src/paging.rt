@@ -10,6 +10,7 @@ ghost use Rattle.grep_live.specs.Working.Listing.{Mean, HitsBetween};
 ghost use Rattle.grep_live.specs.Working.Paging.{IsRest};
 ghost use Rattle.grep_live.specs.Working.Ranks.{AreRanks, AreRanked, ranks_of};
 
+use crate::counting::Stretch;
 use crate::page::{Page, show_hit};
 use crate::ranks::{FIRST, Rank, count_file};
 use crate::rows::write_number_row;
@@ -32,35 +33,32 @@ pub fn count_all(session: &Session, watches: &[Watch]) -> usize
     total
 }
 
-/// Writes the rows of those hits that are on the page, of the lines of file `k` from place `from`
-/// to place `to`.
+/// Writes the rows of those hits among some lines that are on the page.
 fn show_lines<W: CountedWrite>(
     session: &Session,
-    k: usize,
-    from: usize,
-    to: usize,
+    stretch: Stretch,
     page: &mut Page,
     margin: &[u8],
     out: &mut W,
 ) -> Result<(), WriteFault>
-    requires within { to ≤ length (file_at session.now.files k).lines }
+    requires within { stretch.to ≤ length (file_at session.now.files stretch.k).lines }
     requires some { 0 < page.old.left }
     ensures wrote { (es : List Expression) → Mean session.now es → (hits : List Hit) →
-        HitsBetween es session.now k from to hits →
+        HitsBetween es session.now stretch.k stretch.from stretch.to hits →
         Writes W.contents W.failures out.old out.new (written margin.now
-        (page_rows page.old.skip page.old.left (map (λ hit. (k, hit)) hits))) result }
+        (page_rows page.old.skip page.old.left (map (λ hit. (stretch.k, hit)) hits))) result }
     ensures rest { IfOk result (λ _. (es : List Expression) → Mean session.now es →
-        (hits : List Hit) → HitsBetween es session.now k from to hits →
+        (hits : List Hit) → HitsBetween es session.now stretch.k stretch.from stretch.to hits →
         IsRest page.old (length hits) page.new) }
 {
-    for place in from..to {
+    for place in stretch.from..stretch.to {
         if page.left == 0 {
             return Ok(());
         }
-        let Some(hit) = session.hit(k, place) else {
+        let Some(hit) = session.hit(stretch.k, place) else {
             continue;
         };
-        show_hit(page, k, place, hit, margin, out)?;
+        show_hit(page, stretch.k, place, hit, margin, out)?;
     }
     Ok(())
 }
@@ -69,23 +67,21 @@ fn show_lines<W: CountedWrite>(
 /// nor any where the page is full.
 fn show_counted<W: CountedWrite>(
     session: &Session,
-    k: usize,
-    from: usize,
-    to: usize,
+    stretch: Stretch,
     count: usize,
     page: &mut Page,
     margin: &[u8],
     out: &mut W,
 ) -> Result<(), WriteFault>
-    requires within { to ≤ length (file_at session.now.files k).lines }
+    requires within { stretch.to ≤ length (file_at session.now.files stretch.k).lines }
     requires counted { (es : List Expression) → Mean session.now es → (hits : List Hit) →
-        HitsBetween es session.now k from to hits → count ≡ length hits }
+        HitsBetween es session.now stretch.k stretch.from stretch.to hits → count ≡ length hits }
     ensures wrote { (es : List Expression) → Mean session.now es → (hits : List Hit) →
-        HitsBetween es session.now k from to hits →
+        HitsBetween es session.now stretch.k stretch.from stretch.to hits →
         Writes W.contents W.failures out.old out.new (written margin.now
-        (page_rows page.old.skip page.old.left (map (λ hit. (k, hit)) hits))) result }
+        (page_rows page.old.skip page.old.left (map (λ hit. (stretch.k, hit)) hits))) result }
     ensures rest { IfOk result (λ _. (es : List Expression) → Mean session.now es →
-        (hits : List Hit) → HitsBetween es session.now k from to hits →
+        (hits : List Hit) → HitsBetween es session.now stretch.k stretch.from stretch.to hits →
         IsRest page.old (length hits) page.new) }
 {
     if count <= page.skip {
@@ -96,7 +92,7 @@ fn show_counted<W: CountedWrite>(
         page.skip = 0;
         return Ok(());
     }
-    show_lines(session, k, from, to, page, margin, out)
+    show_lines(session, stretch, page, margin, out)
 }
 
 /// Writes the rows of the hits of file `k` that are on the page, from rank to rank.
@@ -125,14 +121,23 @@ fn show_file<W: CountedWrite>(
             continue;
         }
         let count = rank.before.saturating_sub(last.before);
-        show_counted(session, k, last.place, rank.place, count, page, margin, out)?;
+        let stretch = Stretch {
+            k,
+            from: last.place,
+            to: rank.place,
+        };
+        show_counted(session, stretch, count, page, margin, out)?;
         last = *rank;
     }
     if page.left == 0 {
         return Ok(());
     }
-    let lines = session.line_count(k);
-    show_lines(session, k, last.place, lines, page, margin, out)?;
+    let rest = Stretch {
+        k,
+        from: last.place,
+        to: session.line_count(k),
+    };
+    show_lines(session, rest, page, margin, out)?;
     Ok(())
 }
 

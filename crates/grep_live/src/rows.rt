@@ -1,5 +1,5 @@
 //! Rows of numbers and of hits.
-ghost use Rattle.std.specs.Prelude.{◌≡◌, ◌++◌, [], map, codes};
+ghost use Rattle.std.specs.Prelude.{◌++◌, [], map, codes};
 ghost use Rattle.std.specs.Fmt.{decimal};
 ghost use Rattle.grep_core.specs.Row.{output_line};
 ghost use Rattle.grep_core.specs.Written.{Writes};

@@ -10,6 +10,7 @@ pub mod DroppingLemmas
 pub mod AddingLemmas
 pub mod SurvivingLemmas
 pub mod FindsLemmas
+pub mod StepLemmas
 pub mod ChangeLemmas
 pub mod PatternLemmas
 pub mod NewPatternLemmas

@@ -9,8 +9,9 @@ ghost use Rattle.grep_session.specs.Working.Kept.{line_text};
 ghost use Rattle.grep_session.specs.Working.Report.{shown_rows, around_rows, selected_count};
 
 use crate::kept::KeptLine;
+use crate::layout::Layout;
 use grep_core::{
-    Context, CountedWrite, Progress, Shown, Wanted, WriteFault, count_found, write_line_behind,
+    Context, CountedWrite, Progress, Shown, WriteFault, count_found, write_line_behind,
 };
 
 /// Writes the separator, if there is one.
@@ -30,88 +31,90 @@ fn write_separator<W: CountedWrite>(
 
 /// Writes the last `count` of these first lines of a file, as lines around others.
 fn write_waiting<W: CountedWrite>(
-    wanted: &Wanted,
+    layout: &Layout,
     lines: &[KeptLine],
     count: usize,
     out: &mut W,
-    margin: &[u8],
 ) -> Result<(), WriteFault>
     requires few { count ≤ length lines.now }
-    ensures { Writes W.contents W.failures out.old out.new (written margin.now
-        (rows_around wanted.now.options wanted.now.many wanted.now.name.now
+    ensures { Writes W.contents W.failures out.old out.new (written layout.now.margin.now
+        (rows_around layout.now.wanted.options layout.now.wanted.many layout.now.wanted.name.now
         (length lines.now - count + 1) (last_of count (map line_text lines.now)))) result }
 {
     for k in lines.len() - count..lines.len() {
-        wanted.write_around(k as u64 + 1, &lines[k].text, out, margin)?;
+        layout
+            .wanted
+            .write_around(k as u64 + 1, &lines[k].text, out, layout.margin)?;
     }
     Ok(())
 }
 
 /// Writes the row of a line that is shown.
 fn write_itself<W: CountedWrite>(
-    wanted: &Wanted,
+    layout: &Layout,
     number: u64,
     line: &KeptLine,
     found: bool,
     out: &mut W,
-    margin: &[u8],
 ) -> Result<(), WriteFault>
-    ensures { Writes W.contents W.failures out.old out.new (output_line margin.now
-        (row_by wanted.now.options wanted.now.many wanted.now.name.now found number
+    ensures { Writes W.contents W.failures out.old out.new (output_line layout.now.margin.now
+        (row_by layout.now.wanted.options layout.now.wanted.many layout.now.wanted.name.now found number
         (line_text line.now))) result }
 {
     if found {
-        return wanted.write_text(number, &line.text, out, margin);
+        return layout
+            .wanted
+            .write_text(number, &line.text, out, layout.margin);
     }
-    wanted.write_around(number, &line.text, out, margin)
+    layout
+        .wanted
+        .write_around(number, &line.text, out, layout.margin)
 }
 
 /// Writes what is shown at a line, selected or not, that follows the lines before it.
 fn write_shown<W: CountedWrite>(
-    wanted: &Wanted,
+    layout: &Layout,
     before: &[KeptLine],
     line: &KeptLine,
     found: bool,
     shown: Shown,
     out: &mut W,
-    margin: &[u8],
 ) -> Result<(), WriteFault>
     requires few { shown.before ≤ length before.now }
-    ensures { Writes W.contents W.failures out.old out.new (written margin.now
-        (shown_rows wanted.now.options wanted.now.many wanted.now.name.now found shown
+    ensures { Writes W.contents W.failures out.old out.new (written layout.now.margin.now
+        (shown_rows layout.now.wanted.options layout.now.wanted.many layout.now.wanted.name.now found shown
         (map line_text before.now) line.now)) result }
 {
-    write_separator(shown.separated, out, margin)?;
+    write_separator(shown.separated, out, layout.margin)?;
     if !shown.itself {
         return Ok(());
     }
-    write_waiting(wanted, before, shown.before as usize, out, margin)?;
-    write_itself(wanted, before.len() as u64 + 1, line, found, out, margin)
+    write_waiting(layout, before, shown.before as usize, out)?;
+    write_itself(layout, before.len() as u64 + 1, line, found, out)
 }
 
 /// Writes the selected lines of a file and those around them, and returns how many of its lines are
 /// selected. `some` says whether a line of an earlier file was shown.
 pub fn write_lines_around<W: CountedWrite>(
-    wanted: &Wanted,
+    layout: &Layout,
     context: Context,
     some: bool,
     lines: &[KeptLine],
     out: &mut W,
-    margin: &[u8],
 ) -> Result<u64, WriteFault>
-    ensures rows { Writes W.contents W.failures out.old out.new (written margin.now
-        (around_rows wanted.now.options wanted.now.many wanted.now.name.now
+    ensures rows { Writes W.contents W.failures out.old out.new (written layout.now.margin.now
+        (around_rows layout.now.wanted.options layout.now.wanted.many layout.now.wanted.name.now
         (progress_from context some) [] lines.now)) result }
     ensures told { IfOk result
-        (λ selected. selected ≡ selected_count wanted.now.options lines.now) }
+        (λ selected. selected ≡ selected_count layout.now.wanted.options lines.now) }
 {
     let mut progress = Progress::new(context, some);
     let mut selected: u64 = 0;
     for k in 0..lines.len() {
         let line = &lines[k];
-        let found = line.is_selected(&wanted.options);
+        let found = line.is_selected(&layout.wanted.options);
         let shown = progress.step(found);
-        write_shown(wanted, &lines[..k], line, found, shown, out, margin)?;
+        write_shown(layout, &lines[..k], line, found, shown, out)?;
         selected = count_found(selected, found);
     }
     Ok(selected)

@@ -1,8 +1,12 @@
 //! How the patterns changed.
 
-/// Patterns that were added, or one that was removed.
+/// After which change of the patterns lines are searched again.
 #[derive(Clone, Copy, Drop)]
 pub enum Change {
+    /// All patterns are others, and all is searched anew.
+    Anew,
+    /// The patterns stay, and the parts of all lines are searched.
+    PartsAlone,
     /// The patterns from this number on were added.
     Added(usize),
     /// The pattern with this number was removed.

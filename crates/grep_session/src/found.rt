@@ -1,5 +1,5 @@
 //! How what is found in all lines replaces what is kept of them.
-ghost use Rattle.std.specs.Prelude.{◌≡◌, ◌≤◌, ◌++◌, List, [], map, length, drop, IfOk, IfErr, All};
+ghost use Rattle.std.specs.Prelude.{◌≡◌, List, [], map, length, drop, All};
 ghost use Rattle.std.specs.List.{AllZip};
 ghost use Rattle.re_syntax.specs.Expression.{Expression};
 ghost use Rattle.grep_core.specs.declared.options.Options.{Options};
@@ -48,7 +48,7 @@ fn put_found_in(file: &mut KeptFile, found: &mut IntoIter<Findings>)
 }
 
 /// Replaces what is kept of all lines of the files, in order, with what was found in them.
-pub fn put_all(files: &mut [KeptFile], found: Vec<Findings>)
+fn put_all(files: &mut [KeptFile], found: Vec<Findings>)
     ensures same { map kept_file files.new ≡ map kept_file files.old }
     ensures right { (es : List Expression) (options : Options) →
         AllZip (IsRight es options) (lines_of_files (map kept_file files.old)) found.items →

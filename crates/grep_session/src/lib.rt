@@ -2,12 +2,10 @@
 //! verdicts.
 #![tactic(auto)]
 
-mod adding;
 mod around;
 mod bounded;
 mod caches;
 mod change;
-mod changing;
 mod choosing;
 mod columns;
 mod dropping;
@@ -18,9 +16,11 @@ mod found;
 mod hit;
 mod kept;
 mod laws;
+mod layout;
 mod lines;
 mod numbers;
 mod patterns;
+mod pushing;
 mod reading;
 mod report;
 mod session;

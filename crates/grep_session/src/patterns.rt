@@ -1,20 +1,13 @@
 //! The texts of a pattern list, and their place in a session.
-ghost use Rattle.std.specs.Prelude.{◌≡◌, ◌≤◌, ◌<◌, ◌+◌, ◌++◌, ◌∷◌, [], length, map, vec_len};
+ghost use Rattle.std.specs.Prelude.{◌≡◌, ◌≤◌, ◌<◌, ◌+◌, ◌++◌, length, map, vec_len};
 ghost use Rattle.std.specs.Prelude.{vec_capacity, MatchBool, IfOk, OnErr};
 ghost use Rattle.re_syntax.specs.Lines.{list_of};
 ghost use Rattle.re_syntax.specs.Profile.{most_patterns};
 
+use crate::pushing::push;
 use re_search::Matcher;
 use re_syntax::{MOST_PATTERNS, split_list};
 use std::alloc::{AllocError, Global};
-
-/// Adds a text.
-fn push_text(texts: &mut Vec<Vec<u8>>, text: Vec<u8>) -> Result<(), AllocError>
-    ensures { IfOk result (λ _. texts.new.items ≡ texts.old.items ++ text ∷ []) }
-{
-    texts.push(text)?;
-    Ok(())
-}
 
 /// The texts of a pattern list.
 pub fn texts_of(alloc: Global, list: &[u8]) -> Result<Vec<Vec<u8>>, AllocError>
@@ -23,7 +16,7 @@ pub fn texts_of(alloc: Global, list: &[u8]) -> Result<Vec<Vec<u8>>, AllocError>
     let mut texts = Vec::new(alloc);
     for part in split_list(list) {
         let text = Vec::from_slice(alloc, part)?;
-        push_text(&mut texts, text)?;
+        push(&mut texts, text)?;
     }
     Ok(texts)
 }

@@ -1,23 +1,16 @@
 //! The matchers of patterns.
-ghost use Rattle.std.specs.Prelude.{◌≡◌, ◌≤◌, ◌⊎◌, ◌++◌, ◌∷◌, [], map, IfOk, IfErr};
+ghost use Rattle.std.specs.Prelude.{◌≡◌, ◌≤◌, map, IfOk, IfErr};
 ghost use Rattle.re_syntax.specs.Profile.{most_states};
 ghost use Rattle.grep_core.specs.Working.MatcherLists.{AreMatchers};
 ghost use Rattle.grep_session.specs.Working.Reading.{RefusesFirst, told_at};
 ghost use Rattle.grep_session.specs.Working.Rooms.{KeepAtMost};
 
 use crate::fault::EditFault;
+use crate::pushing::push;
 use grep_core::Options;
 use re_search::{Matcher, Syntax};
 use re_syntax::{FaultKind, PatternFault};
-use std::alloc::{AllocError, Global};
-
-/// Adds a matcher.
-fn push_matcher(matchers: &mut Vec<Matcher>, matcher: Matcher) -> Result<(), AllocError>
-    ensures { IfOk result (λ _. matchers.new.items ≡ matchers.old.items ++ matcher ∷ []) }
-{
-    matchers.push(matcher)?;
-    Ok(())
-}
+use std::alloc::Global;
 
 /// The fault of the pattern at a place. Out of memory is no fault of the pattern.
 fn fault_at(place: usize, fault: PatternFault) -> EditFault
@@ -59,7 +52,7 @@ pub fn read_matchers(
             Ok(matcher) => matcher,
             Err(fault) => return Err(fault_at(matchers.len(), fault)),
         };
-        match push_matcher(&mut matchers, matcher) {
+        match push(&mut matchers, matcher) {
             Ok(()) => {}
             Err(_) => return Err(EditFault::Memory),
         }

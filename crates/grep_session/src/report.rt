@@ -1,9 +1,7 @@
 //! What grep writes for the kept files, and its status. No line is searched and no memory is asked
 //! for: all is computed from what is kept.
 ghost use Rattle.std.specs.Prelude.{◌≡◌, All, List, map, length, nat_le, IfOk};
-ghost use Rattle.std.specs.Bool.{Decides};
 ghost use Rattle.re_syntax.specs.Expression.{Expression};
-ghost use Rattle.grep_core.specs.Messages.{AnySelected, StatusOf};
 ghost use Rattle.grep_core.specs.Output.{written};
 ghost use Rattle.grep_core.specs.Written.{Writes};
 ghost use Rattle.grep_session.specs.Working.Kept.{kept_lines, kept_file, IsFileKept};
@@ -11,9 +9,10 @@ ghost use Rattle.grep_session.specs.Working.Report.{FileFits, rows_with, report_
 ghost use Rattle.grep_session.specs.Working.Report.{any_selected, any_missing, status_by_files};
 ghost use Rattle.grep_session.specs.Working.Report.{status_given};
 ghost use Rattle.grep_session.specs.Working.Report.{has_selected_in};
-ghost use Rattle.grep_session.specs.Working.Report.{Reports, TellsMessages};
+ghost use Rattle.grep_session.specs.Working.Report.{Reports};
 
 use crate::kept::KeptFile;
+use crate::layout::Layout;
 use crate::lines::write_lines;
 use grep_core::{
     CountedWrite, FileEnd, FileFound, Options, Status, Wanted, WriteFault, status_of, tell_fault,
@@ -23,27 +22,36 @@ use grep_core::{
 /// Writes the output for one file, and returns whether a line of it is selected. `some` says
 /// whether a line of an earlier file is selected.
 fn write_file<W: CountedWrite>(
-    wanted: &Wanted,
+    layout: &Layout,
     some: bool,
     file: &KeptFile,
     out: &mut W,
-    margin: &[u8],
 ) -> Result<bool, WriteFault>
-    requires { FileFits wanted.now.options file.now }
-    ensures rows { Writes W.contents W.failures out.old out.new (written margin.now
-        (rows_with wanted.now.options wanted.now.many wanted.now.name.now some
+    requires { FileFits layout.now.wanted.options file.now }
+    ensures rows { Writes W.contents W.failures out.old out.new (written layout.now.margin.now
+        (rows_with layout.now.wanted.options layout.now.wanted.many layout.now.wanted.name.now some
         (kept_lines file.now))) result }
     ensures told { IfOk result
-        (λ found. found ≡ has_selected_in wanted.now.options (kept_lines file.now)) }
+        (λ found. found ≡ has_selected_in layout.now.wanted.options (kept_lines file.now)) }
 {
     let Some(lines) = &file.lines else {
         let end = FileEnd::Missing;
-        write_summary(wanted, FileFound { end, selected: 0 }, out, margin)?;
+        write_summary(
+            &layout.wanted,
+            FileFound { end, selected: 0 },
+            out,
+            layout.margin,
+        )?;
         return Ok(false);
     };
-    let selected = write_lines(wanted, some, lines, out, margin)?;
+    let selected = write_lines(layout, some, lines, out)?;
     let end = FileEnd::Whole;
-    write_summary(wanted, FileFound { end, selected }, out, margin)?;
+    write_summary(
+        &layout.wanted,
+        FileFound { end, selected },
+        out,
+        layout.margin,
+    )?;
     Ok(selected > 0)
 }
 
@@ -66,14 +74,18 @@ fn write_files<W: CountedWrite>(
             many,
             name: &file.name,
         };
-        let found = write_file(&wanted, some, file, out, margin)?;
+        let found = write_file(&Layout { wanted, margin }, some, file, out)?;
         some |= found;
     }
     Ok(())
 }
 
-/// Writes the messages about files, up to the file at which a run stops under `-q`.
-fn tell_files<W: CountedWrite>(
+/// Writes what grep writes to standard error about the files (XCU grep, STDERR), each line after the
+/// margin: the messages up to the file at which a run stops under `-q`.
+///
+/// If a write fails, `WriteFault` is returned, and a beginning of the messages was written. The
+/// write is not tried again.
+pub fn write_messages<W: CountedWrite>(
     files: &[KeptFile],
     options: &Options,
     margin: &[u8],
@@ -105,9 +117,10 @@ fn any_missing(files: &[KeptFile]) -> bool
     files.iter().any(|file| file.end().is_fault())
 }
 
-/// The status, where it is known whether some line is selected.
+/// The status of grep for the files (XCU grep, EXIT STATUS), where it is known whether some line is
+/// selected.
 #[tactic(auto, using(crate::proofs::lemmas::KeptLaws::status_in_turn))]
-fn status_where(files: &[KeptFile], options: &Options, some: bool) -> Status
+pub fn status_given(files: &[KeptFile], options: &Options, some: bool) -> Status
     ensures { result ≡ status_given options.now files.now some }
 {
     if options.quiet & some {
@@ -116,29 +129,11 @@ fn status_where(files: &[KeptFile], options: &Options, some: bool) -> Status
     status_of(some, any_missing(files))
 }
 
-/// The status, computed from what is kept.
-fn status_by_files(files: &[KeptFile], options: &Options) -> Status
+/// The status of grep for the files.
+pub fn status(files: &[KeptFile], options: &Options) -> Status
     ensures { result ≡ status_by_files options.now files.now }
 {
-    status_where(files, options, any_selected(files, options))
-}
-
-/// The status of grep for the files (XCU grep, EXIT STATUS), if what is kept of them is right,
-/// where it is known whether some line is selected.
-pub fn status_given(files: &[KeptFile], options: &Options, some: bool) -> Status
-    ensures { (es : List Expression) → All (IsFileKept es options.now) files.now →
-        Decides some (AnySelected es options.now (map kept_file files.now)) →
-        StatusOf es options.now (map kept_file files.now) result }
-{
-    status_where(files, options, some)
-}
-
-/// The status of grep for the files (XCU grep, EXIT STATUS), if what is kept of them is right.
-pub fn status(files: &[KeptFile], options: &Options) -> Status
-    ensures { (es : List Expression) → All (IsFileKept es options.now) files.now →
-        StatusOf es options.now (map kept_file files.now) result }
-{
-    status_by_files(files, options)
+    status_given(files, options, any_selected(files, options))
 }
 
 /// Writes what grep writes to standard output for the files (XCU grep, STDOUT), each line after the
@@ -159,22 +154,4 @@ pub fn write_report<W: CountedWrite>(
 {
     write_files(files, options, margin, out)?;
     Ok(status(files, options))
-}
-
-/// Writes what grep writes to standard error about the files (XCU grep, STDERR), each line after
-/// the margin, if what is kept of them is right.
-///
-/// If a write fails, `WriteFault` is returned, and a beginning of the messages was written. The
-/// write is not tried again.
-pub fn write_messages<W: CountedWrite>(
-    files: &[KeptFile],
-    options: &Options,
-    margin: &[u8],
-    out: &mut W,
-) -> Result<(), WriteFault>
-    ensures { (es : List Expression) → All (IsFileKept es options.now) files.now
-        → TellsMessages W.contents W.failures es options.now (map kept_file files.now) margin.now
-        out.old out.new result }
-{
-    tell_files(files, options, margin, out)
 }

@@ -1,6 +1,6 @@
 //! A session.
-ghost use Rattle.std.specs.Prelude.{◌≡◌, ◌≢◌, ◌≤◌, ◌<◌, Ok, false, length, ◌++◌, ◌∷◌, [], map};
-ghost use Rattle.std.specs.Prelude.{IsTrue, IfOk, IfErr, OnErr};
+ghost use Rattle.std.specs.Prelude.{◌≡◌, ◌≢◌, ◌≤◌, ◌<◌, Ok, false, length, map};
+ghost use Rattle.std.specs.Prelude.{IsTrue, IfErr};
 ghost use Rattle.grep_session.specs.declared.fault.EditFault.TheVariants.{Memory};
 ghost use Rattle.grep_session.specs.Edits.{Edit, AddFile, AddMissing, DropFile, Splice};
 ghost use Rattle.grep_session.specs.Edits.{AddPatterns, DropPattern, SetFlag, SetSyntax};
@@ -16,7 +16,6 @@ mod looking;
 mod reporting;
 
 use crate::change::Change;
-use crate::changing::change_columns;
 use crate::choosing::{Effect, effect_of, is_same, option_of, with_option};
 use crate::columns::find_columns;
 use crate::dropping::{drop_column, put_back};
@@ -24,6 +23,7 @@ use crate::fault::EditFault;
 use crate::finding::search_new;
 use crate::kept::KeptFile;
 use crate::patterns::{add_matchers, add_texts, reserve_texts, texts_of, too_many};
+use crate::pushing::push;
 use crate::reading::read_matchers;
 use crate::splicing::{any_newline, find_place, put_in};
 use grep_core::{Context, Flag, Options};
@@ -103,7 +103,7 @@ impl Session {
             IfErr result (λ fault. fault ≢ Memory) }
     {
         let file = KeptFile { name, lines: None };
-        match push_file(&mut self.files, file) {
+        match push(&mut self.files, file) {
             Ok(()) => {}
             Err(_) => return Err(EditFault::Memory),
         }
@@ -139,7 +139,7 @@ impl Session {
             name,
             lines: Some(kept),
         };
-        match push_file(&mut self.files, file) {
+        match push(&mut self.files, file) {
             Ok(()) => {}
             Err(_) => return Err(EditFault::Memory),
         }
@@ -214,7 +214,7 @@ impl Session {
             self.alloc,
             &mut matchers,
             &options,
-            true,
+            Change::Anew,
             &mut self.files,
             meter,
         ) {
@@ -259,7 +259,7 @@ impl Session {
             self.alloc,
             &mut self.matchers,
             &options,
-            false,
+            Change::PartsAlone,
             &mut self.files,
             meter,
         ) {
@@ -361,7 +361,7 @@ impl Session {
             Err(_) => return Err(EditFault::Memory),
         }
         let change = Change::Added(first);
-        match change_columns(
+        match find_columns(
             self.alloc,
             &mut self.matchers,
             &self.options,
@@ -409,7 +409,7 @@ impl Session {
     {
         let gone = self.matchers.remove(p);
         let change = Change::Dropped(p);
-        match change_columns(
+        match find_columns(
             self.alloc,
             &mut self.matchers,
             &self.options,
@@ -437,13 +437,4 @@ impl Session {
         self.matchers.remove(p);
         self.texts.remove(p);
     }
-}
-
-/// Adds a file after the others.
-fn push_file(files: &mut Vec<KeptFile>, file: KeptFile) -> Result<(), AllocError>
-    ensures ok { IfOk result (λ _. files.new.items ≡ files.old.items ++ file ∷ []) }
-    ensures err { OnErr result (files.new.items ≡ files.old.items) }
-{
-    files.push(file)?;
-    Ok(())
 }

@@ -4,7 +4,7 @@ use Rattle.std.proofs.Math.ListN.{set}
 use Rattle.std.proofs.lemmas.List.{drop_all, append-nil, length-append}
 use Rattle.std.proofs.lemmas.List.Edits.{remove-append_right}
 use Rattle.std.proofs.lemmas.Bool.{cases_lt}
-use Rattle.std.specs.Prelude.{slice_set}
+use Rattle.std.specs.Prelude.{Option, slice_set}
 use Rattle.std.specs.List.{remove, splice}
 use Rattle.re_syntax.specs.declared.syntax.Syntax.{Syntax}
 use Rattle.re_syntax.specs.Bytes.{Text}
@@ -12,6 +12,7 @@ use Rattle.re_syntax.specs.Lines.{list_of}
 use Rattle.re_syntax.specs.Expression.{Expression}
 use Rattle.grep_core.specs.declared.options.Flag.{Flag}
 use Rattle.grep_core.specs.declared.options.Flag.TheVariants.{Count, IgnoreCase, FilesWithMatches, LineNumber, OnlyMatching, Quiet, NoMessages, InvertMatch, LineRegexp}
+use Rattle.grep_core.specs.declared.options.Context.{Context}
 use Rattle.grep_core.specs.declared.options.Options.{Options}
 use Rattle.grep_core.specs.Choose.{IfHolds}
 use Rattle.grep_core.specs.Files.{File, Inputs, AreMeant, Selected}
@@ -20,6 +21,7 @@ use Rattle.grep_session.specs.declared.fault.EditFault.{EditFault}
 use Rattle.grep_session.specs.declared.fault.EditFault.TheVariants.{NoSuchFile, FileIsMissing, OutOfRange, LineHasNewline, NoSuchPattern, Pattern, TooManyPatterns, Memory}
 use Rattle.grep_session.specs.Edits.{Edit, AddFile, AddMissing, DropFile, Splice, AddPatterns, DropPattern, SetFlag, SetSyntax, SetContext, Applies, EditGives, Reads, option_of, with_option, with_files, with_patterns, with_context, whole_file, missing_file, spliced}
 use Rattle.grep_session.specs.Listed.{ListedParts}
+use Rattle.grep_session.proofs.lemmas.AllPatternsRead.{with_same}
 use Rattle.grep_live.specs.declared.mark.Mark.{Mark}
 use Rattle.grep_live.specs.Lists.{AllThree}
 use Rattle.grep_live.specs.Hits.{Hit, View, HitsFrom}
@@ -34,37 +36,75 @@ use Rattle.grep_live.proofs.lemmas.MarkLemmas.{fits_touched, length-splice, spli
 -- ---- outcomes
 
 -- two new inputs that are the same outcome
-pub same_inputs : {E : Type 0} (a b : Inputs) → ◌≡◌ {A = Result Inputs E} (Ok a) (Ok b) → a ≡ b
+same_inputs : {E : Type 0} (a b : Inputs) → ◌≡◌ {A = Result Inputs E} (Ok a) (Ok b) → a ≡ b
 same_inputs a b e = cc
 
 not_refused : {E : Type 0} (a : Inputs) (f : E) → ◌≡◌ {A = Result Inputs E} (Ok a) (Err f) → ⊥
 not_refused a f e = cc
 
 -- an accepted edit that is refused where P does not hold
-pub accepted_if : {E P : Type 0} (a b : Inputs) (f : E) → IfHolds P (◌≡◌ {A = Result Inputs E} (Ok a) (Ok b)) (◌≡◌ {A = Result Inputs E} (Ok a) (Err f)) → P × (a ≡ b)
+accepted_if : {E P : Type 0} (a b : Inputs) (f : E) → IfHolds P (◌≡◌ {A = Result Inputs E} (Ok a) (Ok b)) (◌≡◌ {A = Result Inputs E} (Ok a) (Err f)) → P × (a ≡ b)
 accepted_if a b f (inl (p, e)) = (p, same_inputs a b e)
 accepted_if a b f (inr (p, e)) = absurd (not_refused a f e)
 
 -- an accepted edit that is refused where P holds
-pub accepted_unless : {E P Q : Type 0} (a : Inputs) (f : E) → IfHolds P (◌≡◌ {A = Result Inputs E} (Ok a) (Err f)) Q → (P → ⊥) × Q
+accepted_unless : {E P Q : Type 0} (a : Inputs) (f : E) → IfHolds P (◌≡◌ {A = Result Inputs E} (Ok a) (Err f)) Q → (P → ⊥) × Q
 accepted_unless a f (inl (p, e)) = absurd (not_refused a f e)
 accepted_unless a f (inr (p, q)) = (p, q)
 
-pub accepted_read : (syntax : Syntax) (fold : Bool) (texts : List Text) (a b : Inputs) → Reads syntax fold texts b (Ok a) → a ≡ b
+accepted_read : (syntax : Syntax) (fold : Bool) (texts : List Text) (a b : Inputs) → Reads syntax fold texts b (Ok a) → a ≡ b
 accepted_read syntax fold texts a b (inl (readable, e)) = same_inputs a b e
 accepted_read syntax fold texts a b (inr (unreadable, (place, fault, first, e))) = absurd (not_refused a (Pattern place fault) e)
 
--- the value that an option has
-with_same : (flag : Flag) (options : Options) → with_option flag (option_of flag options) options ≡ options
-with_same Count options = refl
-with_same IgnoreCase options = refl
-with_same FilesWithMatches options = refl
-with_same LineNumber options = refl
-with_same OnlyMatching options = refl
-with_same Quiet options = refl
-with_same NoMessages options = refl
-with_same InvertMatch options = refl
-with_same LineRegexp options = refl
+-- ---- the new inputs of an accepted edit
+
+-- a file that is removed, or in which lines are replaced, is there
+pub dropped_inside : (k : ℕ) (old new : Inputs) → Applies (DropFile k) old (Ok new) → k < length old.files
+dropped_inside k old new a = (accepted_if new (with_files (remove old.files k) old) NoSuchFile a).0
+
+pub file_dropped : (k : ℕ) (old new : Inputs) → Applies (DropFile k) old (Ok new) → new ≡ with_files (remove old.files k) old
+file_dropped k old new a = (accepted_if new (with_files (remove old.files k) old) NoSuchFile a).1
+
+-- the files after one was added
+pub added_file : (name : Text) (lines : List Text) (old new : Inputs) → Applies (AddFile name lines) old (Ok new) → new ≡ with_files (old.files ++ whole_file name lines ∷ []) old
+added_file name lines old new a = (accepted_if new (with_files (old.files ++ whole_file name lines ∷ []) old) LineHasNewline a).1
+
+pub added_missing : (name : Text) (old new : Inputs) → Applies (AddMissing name) old (Ok new) → new ≡ with_files (old.files ++ missing_file name ∷ []) old
+added_missing name old new a = same_inputs new (with_files (old.files ++ missing_file name ∷ []) old) a
+
+pub added_patterns : (list : Text) (old new : Inputs) → Applies (AddPatterns list) old (Ok new) → new ≡ with_patterns (old.patterns ++ list_of list) old
+added_patterns list old new a =
+    accepted_read old.syntax old.options.ignore_case (list_of list) new (with_patterns (old.patterns ++ list_of list) old) (accepted_unless new TooManyPatterns a).1
+
+pub dropped_pattern : (p : ℕ) (old new : Inputs) → Applies (DropPattern p) old (Ok new) → new ≡ with_patterns (remove old.patterns p) old
+dropped_pattern p old new a = (accepted_if new (with_patterns (remove old.patterns p) old) NoSuchPattern a).1
+
+pub option_set : (flag : Flag) (on : Bool) (old new : Inputs) → Applies (SetFlag flag on) old (Ok new) → new ≡ record old { options = with_option flag on old.options }
+option_set flag on old new a =
+    accepted_read old.syntax (with_option flag on old.options).ignore_case old.patterns new (record old { options = with_option flag on old.options }) a
+
+pub syntax_set : (syntax : Syntax) (old new : Inputs) → Applies (SetSyntax syntax) old (Ok new) → new ≡ record old { syntax = syntax }
+syntax_set syntax old new a = accepted_read syntax old.options.ignore_case old.patterns new (record old { syntax = syntax }) a
+
+pub context_set : (context : Option Context) (old new : Inputs) → Applies (SetContext context) old (Ok new) → new ≡ with_context context old
+context_set context old new a = same_inputs new (with_context context old) a
+
+-- the new inputs of a splice, and that there is a place for it
+pub record Spliced (k start count : ℕ) (lines : List Text) (old new : Inputs) : Type 0 where
+  pub inside : k < length old.files
+  pub within : start + count ≤ length (file_at old.files k).lines
+  pub is : new ≡ with_files (spliced old.files k start count lines) old
+
+pub splice_accepted : (k start count : ℕ) (lines : List Text) (old new : Inputs) → Applies (Splice k start count lines) old (Ok new) → Spliced k start count lines old new
+splice_accepted k start count lines old new a =
+    let file = accepted_unless new NoSuchFile a in
+    let opened = accepted_unless new FileIsMissing file.1 in
+    let place = accepted_unless new OutOfRange opened.1 in
+    record {
+      inside = elim (cases_lt k (length old.files)) [ inl h ↦ h | inr h ↦ absurd (file.0 h) ];
+      within = elim (cases_lt (length (file_at old.files k).lines) (start + count)) [ inl h ↦ absurd (place.0 h) | inr h ↦ h ];
+      is = (accepted_if new (with_files (spliced old.files k start count lines) old) LineHasNewline place.1).1;
+    }
 
 -- ---- one file
 
@@ -197,36 +237,30 @@ module _ (old : Watched) (fit : AreFit old.inputs.files old.marks) where
   left_accepted : (edit : Edit) (new : Watched) → Applies edit old.inputs (Ok new.inputs) → MarksAfter edit old new.marks → IsLeft old new (view_after edit)
   left_accepted (AddFile name lines) new a m =
       let file = whole_file name lines in
-      as_these new (record { inputs = with_files (old.inputs.files ++ file ∷ []) old.inputs; marks = old.marks ++ new_mark ∷ [] }) (λ view. view ++ [] ∷ []) (accepted_if new.inputs (with_files (old.inputs.files ++ file ∷ []) old.inputs) LineHasNewline a).1 m (left_added file)
+      as_these new (record { inputs = with_files (old.inputs.files ++ file ∷ []) old.inputs; marks = old.marks ++ new_mark ∷ [] }) (λ view. view ++ [] ∷ []) (added_file name lines old.inputs new.inputs a) m (left_added file)
   left_accepted (AddMissing name) new a m =
       let file = missing_file name in
-      as_these new (record { inputs = with_files (old.inputs.files ++ file ∷ []) old.inputs; marks = old.marks ++ new_mark ∷ [] }) (λ view. view ++ [] ∷ []) (same_inputs new.inputs (with_files (old.inputs.files ++ file ∷ []) old.inputs) a) m (left_added file)
+      as_these new (record { inputs = with_files (old.inputs.files ++ file ∷ []) old.inputs; marks = old.marks ++ new_mark ∷ [] }) (λ view. view ++ [] ∷ []) (added_missing name old.inputs new.inputs a) m (left_added file)
   left_accepted (DropFile k) new a m =
-      as_these new (record { inputs = with_files (remove old.inputs.files k) old.inputs; marks = remove old.marks k }) (λ view. remove view k) (accepted_if new.inputs (with_files (remove old.inputs.files k) old.inputs) NoSuchFile a).1 m (left_dropped k)
+      as_these new (record { inputs = with_files (remove old.inputs.files k) old.inputs; marks = remove old.marks k }) (λ view. remove view k) (file_dropped k old.inputs new.inputs a) m (left_dropped k)
   left_accepted (Splice k start count lines) new a m =
-      let file = accepted_unless new.inputs NoSuchFile a in
-      let opened = accepted_unless new.inputs FileIsMissing file.1 in
-      let place = accepted_unless new.inputs OutOfRange opened.1 in
-      let put = accepted_if new.inputs (with_files (spliced old.inputs.files k start count lines) old.inputs) LineHasNewline place.1 in
-      let inside : k < length old.inputs.files = elim (cases_lt k (length old.inputs.files)) [ inl h ↦ h | inr h ↦ absurd (file.0 h) ] in
-      let within : start + count ≤ length (file_at old.inputs.files k).lines = elim (cases_lt (length (file_at old.inputs.files k).lines) (start + count)) [ inl h ↦ absurd (place.0 h) | inr h ↦ h ] in
-      as_these new (record { inputs = with_files (spliced old.inputs.files k start count lines) old.inputs; marks = slice_set old.marks k (touched start (length (file_at old.inputs.files k).lines - (start + count)) (mark_at old.marks k)) }) (λ view. view) put.1 m (left_spliced k start count lines inside within)
+      let put = splice_accepted k start count lines old.inputs new.inputs a in
+      as_these new (record { inputs = with_files (spliced old.inputs.files k start count lines) old.inputs; marks = slice_set old.marks k (touched start (length (file_at old.inputs.files k).lines - (start + count)) (mark_at old.marks k)) }) (λ view. view) put.is m (left_spliced k start count lines put.inside put.within)
   left_accepted (AddPatterns list) new a m =
-      let few = accepted_unless new.inputs TooManyPatterns a in
       let inputs = with_patterns (old.inputs.patterns ++ list_of list) old.inputs in
-      as_these new (record { inputs = inputs; marks = map lost old.marks }) (λ view. view) (accepted_read old.inputs.syntax old.inputs.options.ignore_case (list_of list) new.inputs inputs few.1) m (left_lost inputs refl)
+      as_these new (record { inputs = inputs; marks = map lost old.marks }) (λ view. view) (added_patterns list old.inputs new.inputs a) m (left_lost inputs refl)
   left_accepted (DropPattern p) new a m =
       let inputs = with_patterns (remove old.inputs.patterns p) old.inputs in
-      as_these new (record { inputs = inputs; marks = map lost old.marks }) (λ view. view) (accepted_if new.inputs inputs NoSuchPattern a).1 m (left_lost inputs refl)
+      as_these new (record { inputs = inputs; marks = map lost old.marks }) (λ view. view) (dropped_pattern p old.inputs new.inputs a) m (left_lost inputs refl)
   left_accepted (SetFlag flag on) new a m =
       let inputs = record old.inputs { options = with_option flag on old.inputs.options } in
-      as_these new (record { inputs = inputs; marks = new.marks }) (λ view. view) (accepted_read old.inputs.syntax (with_option flag on old.inputs.options).ignore_case old.inputs.patterns new.inputs inputs a) refl (left_flag flag on new.marks m)
+      as_these new (record { inputs = inputs; marks = new.marks }) (λ view. view) (option_set flag on old.inputs new.inputs a) refl (left_flag flag on new.marks m)
   left_accepted (SetSyntax syntax) new a m =
       let inputs = record old.inputs { syntax = syntax } in
-      as_these new (record { inputs = inputs; marks = new.marks }) (λ view. view) (accepted_read syntax old.inputs.options.ignore_case old.inputs.patterns new.inputs inputs a) refl (left_syntax syntax new.marks m)
+      as_these new (record { inputs = inputs; marks = new.marks }) (λ view. view) (syntax_set syntax old.inputs new.inputs a) refl (left_syntax syntax new.marks m)
   left_accepted (SetContext context) new a m =
       let inputs = with_context context old.inputs in
-      as_these new (record { inputs = inputs; marks = old.marks }) (λ view. view) (same_inputs new.inputs inputs a) m
+      as_these new (record { inputs = inputs; marks = old.marks }) (λ view. view) (context_set context old.inputs new.inputs a) m
       (fit, same_views inputs (λ es m. m) (λ es n l hits x. x))
 
 -- a refused edit leaves the inputs
@@ -252,20 +286,6 @@ carried T edit old new (Err fault) fit g m =
 
 -- ---- what the code needs besides
 
--- a file that is removed, or in which lines are replaced, is there
-pub dropped_inside : (k : ℕ) (old new : Inputs) → Applies (DropFile k) old (Ok new) → k < length old.files
-dropped_inside k old new a = (accepted_if new (with_files (remove old.files k) old) NoSuchFile a).0
-
-pub file_dropped : (k : ℕ) (old new : Inputs) → Applies (DropFile k) old (Ok new) → new ≡ with_files (remove old.files k) old
-file_dropped k old new a = (accepted_if new (with_files (remove old.files k) old) NoSuchFile a).1
-
--- the files after one was added
-pub added_file : (name : Text) (lines : List Text) (old new : Inputs) → Applies (AddFile name lines) old (Ok new) → new ≡ with_files (old.files ++ whole_file name lines ∷ []) old
-added_file name lines old new a = (accepted_if new (with_files (old.files ++ whole_file name lines ∷ []) old) LineHasNewline a).1
-
-pub added_missing : (name : Text) (old new : Inputs) → Applies (AddMissing name) old (Ok new) → new ≡ with_files (old.files ++ missing_file name ∷ []) old
-added_missing name old new a = same_inputs new (with_files (old.files ++ missing_file name ∷ []) old) a
-
 -- the last file is removed again
 pub taken_back : (file : File) (old between after : Inputs) → between ≡ with_files (old.files ++ file ∷ []) old → after ≡ with_files (remove between.files (length between.files - 1)) between → after ≡ old
 taken_back file old between after b a =
@@ -274,38 +294,6 @@ taken_back file old between after b a =
     let zeroed : n - n ≡ 0 = omega arith in
     let gone : remove (old.files ++ file ∷ []) n ≡ old.files = remove-append_right old.files (file ∷ []) n n refl (omega arith) ∙ ap (λ i. old.files ++ remove (file ∷ []) i) zeroed ∙ append-nil old.files in
     a ∙ (λ i. with_files (remove (b i).files (length (b i).files - 1)) (b i)) ∙ ap (λ i. with_files (remove (old.files ++ file ∷ []) i) old) last ∙ ap (λ files. with_files files old) gone
-
--- the new inputs of an edit of patterns, of an option or of the syntax
-pub added_patterns : (list : Text) (old new : Inputs) → Applies (AddPatterns list) old (Ok new) → new ≡ with_patterns (old.patterns ++ list_of list) old
-added_patterns list old new a =
-    accepted_read old.syntax old.options.ignore_case (list_of list) new (with_patterns (old.patterns ++ list_of list) old) (accepted_unless new TooManyPatterns a).1
-
-pub dropped_pattern : (p : ℕ) (old new : Inputs) → Applies (DropPattern p) old (Ok new) → new ≡ with_patterns (remove old.patterns p) old
-dropped_pattern p old new a = (accepted_if new (with_patterns (remove old.patterns p) old) NoSuchPattern a).1
-
-pub option_set : (flag : Flag) (on : Bool) (old new : Inputs) → Applies (SetFlag flag on) old (Ok new) → new ≡ record old { options = with_option flag on old.options }
-option_set flag on old new a =
-    accepted_read old.syntax (with_option flag on old.options).ignore_case old.patterns new (record old { options = with_option flag on old.options }) a
-
-pub syntax_set : (syntax : Syntax) (old new : Inputs) → Applies (SetSyntax syntax) old (Ok new) → new ≡ record old { syntax = syntax }
-syntax_set syntax old new a = accepted_read syntax old.options.ignore_case old.patterns new (record old { syntax = syntax }) a
-
--- the new inputs of a splice, and that there is a place for it
-pub record Spliced (k start count : ℕ) (lines : List Text) (old new : Inputs) : Type 0 where
-  pub inside : k < length old.files
-  pub within : start + count ≤ length (file_at old.files k).lines
-  pub is : new ≡ with_files (spliced old.files k start count lines) old
-
-pub splice_accepted : (k start count : ℕ) (lines : List Text) (old new : Inputs) → Applies (Splice k start count lines) old (Ok new) → Spliced k start count lines old new
-splice_accepted k start count lines old new a =
-    let file = accepted_unless new NoSuchFile a in
-    let opened = accepted_unless new FileIsMissing file.1 in
-    let place = accepted_unless new OutOfRange opened.1 in
-    record {
-      inside = elim (cases_lt k (length old.files)) [ inl h ↦ h | inr h ↦ absurd (file.0 h) ];
-      within = elim (cases_lt (length (file_at old.files k).lines) (start + count)) [ inl h ↦ absurd (place.0 h) | inr h ↦ h ];
-      is = (accepted_if new (with_files (spliced old.files k start count lines) old) LineHasNewline place.1).1;
-    }
 
 pub same_option : (flag : Flag) (on : Bool) (options : Options) → option_of flag options ≡ on → with_option flag on options ≡ options
 same_option flag on options e = ap (λ b. with_option flag b options) (sym e) ∙ with_same flag options

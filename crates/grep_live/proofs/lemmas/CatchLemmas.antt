@@ -32,9 +32,6 @@ use Rattle.grep_live.proofs.lemmas.MarkLemmas.{after_change, fits_front}
 
 -- ---- marks of reported files
 
-whole_of : File → Mark
-whole_of file = whole_mark (length file.lines)
-
 -- a mark's untouched front is of the file's lines
 pub marked_front : (files : List File) (marks : List Mark) (k : ℕ) → AreFit files marks → k < length marks → (mark_at marks k).front ≤ length (file_at files k).lines
 marked_front files marks k fit inside =

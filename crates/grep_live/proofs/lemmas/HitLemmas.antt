@@ -28,7 +28,7 @@ from_place from hits = filter (λ hit. nat_le from hit.place) hits
 from_yes : (b : ℕ) (hit : Hit) (more : List Hit) → b ≤ hit.place → from_place b (hit ∷ more) ≡ hit ∷ from_place b more
 from_yes b hit more h = ap (λ t. cond t (hit ∷ from_place b more) (from_place b more)) (le-leb b hit.place h)
 
-lt-leb : (a b : ℕ) → b < a → nat_le a b ≡ false
+pub lt-leb : (a b : ℕ) → b < a → nat_le a b ≡ false
 lt-leb a b h = grind (arith, nat_tests)
 
 from_no : (b : ℕ) (hit : Hit) (more : List Hit) → hit.place < b → from_place b (hit ∷ more) ≡ from_place b more

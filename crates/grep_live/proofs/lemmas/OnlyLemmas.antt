@@ -1,7 +1,7 @@
 -- Only what changed is reported.
 use Rattle.std.proofs.Common.{◌≡◌, ℕ, zero, suc, ◌+◌, ◌-◌, ◌<◌, ◌≤◌, Bool, List, [], ◌∷◌, ◌++◌, length, map, take, drop, get_or, Result, Ok, Err, ◌⊎◌, refl, sym, ap, subst, ◌∙◌, inl, inr, arith}
 use Rattle.std.proofs.Math.ListN.{set}
-use Rattle.std.proofs.lemmas.Bool.{cases_lt, cases_eq}
+use Rattle.std.proofs.lemmas.Bool.{cases_eq}
 use Rattle.std.proofs.lemmas.List.{append-nil, length-append, length-map, length-set, length-take, get_or-map, get_or-take, get_or-set_same, get_or-set_other, get_or_append_left}
 use Rattle.std.specs.Prelude.{slice_range, slice_set, nat_eq, ◌&&◌}
 use Rattle.std.specs.Result.{IfOk}
@@ -14,8 +14,7 @@ use Rattle.grep_core.specs.declared.options.Options.{Options}
 use Rattle.grep_core.specs.Files.{File, Inputs, Selected}
 use Rattle.grep_core.specs.Run.{file_at}
 use Rattle.grep_session.specs.declared.fault.EditFault.{EditFault}
-use Rattle.grep_session.specs.declared.fault.EditFault.TheVariants.{NoSuchFile, FileIsMissing, OutOfRange, LineHasNewline}
-use Rattle.grep_session.specs.Edits.{Edit, AddFile, AddMissing, DropFile, Splice, AddPatterns, DropPattern, SetFlag, SetSyntax, SetContext, Applies, EditGives, with_option, with_files, with_context, whole_file, missing_file, spliced}
+use Rattle.grep_session.specs.Edits.{Edit, AddFile, AddMissing, DropFile, Splice, AddPatterns, DropPattern, SetFlag, SetSyntax, SetContext, Applies, EditGives, whole_file, missing_file, spliced}
 use Rattle.grep_session.specs.Headline.{Attempt}
 use Rattle.grep_session.specs.Listed.{ListedParts}
 use Rattle.grep_live.specs.declared.mark.Mark.{Mark}
@@ -29,7 +28,7 @@ use Rattle.grep_live.specs.Laws.{change_at, IsBetween, OneSplice, LeavesHits, Le
 use Rattle.grep_live.proofs.lemmas.ListLemmas.{three-at}
 use Rattle.grep_live.proofs.lemmas.HitLemmas.{within_wider, by_within}
 use Rattle.grep_live.proofs.lemmas.MarkLemmas.{length-splice}
-use Rattle.grep_live.proofs.lemmas.CarryLemmas.{same_inputs, accepted_if, accepted_unless, accepted_read, refused_same}
+use Rattle.grep_live.proofs.lemmas.CarryLemmas.{added_file, added_missing, context_set, file_dropped, option_set, refused_same, splice_accepted, syntax_set}
 use Rattle.grep_live.proofs.lemmas.TwiceLemmas.{one_silent, all_silent}
 
 -- ---- hits in the order of their places
@@ -107,26 +106,13 @@ rows_of_one es options n (suc k) (first ∷ files) (change ∷ changes) file mar
     ∙ rows_of_one es options (n + 1) k files changes file mark (omega arith) c.1
     ∙ ap (λ m. change_rows m (change_at changes k)) same
 
--- the place of an accepted splice, and what it leaves
-spliced_at : (k start count : ℕ) (lines : List Text) (old new : Inputs) → Applies (Splice k start count lines) old (Ok new) →
-    (k < length old.files) × (start + count ≤ length (file_at old.files k).lines) × (new ≡ with_files (spliced old.files k start count lines) old)
-spliced_at k start count lines old new a =
-    let file = accepted_unless new NoSuchFile a in
-    let opened = accepted_unless new FileIsMissing file.1 in
-    let place = accepted_unless new OutOfRange opened.1 in
-    let put = accepted_if new (with_files (spliced old.files k start count lines) old) LineHasNewline place.1 in (
-      elim (cases_lt k (length old.files)) [ inl h ↦ h | inr h ↦ absurd (file.0 h) ],
-      elim (cases_lt (length (file_at old.files k).lines) (start + count)) [ inl h ↦ absurd (place.0 h) | inr h ↦ h ],
-      put.1,
-    )
-
 -- the mark of a file that was reported as it is
 known_at : (files : List File) (k : ℕ) → k < length files → mark_at (map (λ file. whole_mark (length file.lines)) files) k ≡ whole_mark (length (file_at files k).lines)
 known_at files k inside = get_or-map (λ (file : File). whole_mark (length file.lines)) files k (file_at [] k) new_mark inside
 
 pub one_splice : OneSplice
 one_splice old new k start count lines es changes applies marked are =
-    let put = spliced_at k start count lines old.inputs new.inputs applies in
+    let put = splice_accepted k start count lines old.inputs new.inputs applies in
     let files = old.inputs.files in
     let marks = (all_known old).marks in
     let options = old.inputs.options in
@@ -135,17 +121,17 @@ one_splice old new k start count lines es changes applies marked are =
     let new_file = record file { lines = splice file.lines start (start + count) lines } in
     let mark = touched start left (mark_at marks k) in
     let here : AllThree (IsChange es options) (set files k new_file) (set marks k mark) changes =
-    subst (λ (w : Watched). AllThree (IsChange es w.inputs.options) w.inputs.files w.marks changes) (λ i. record { inputs = put.2 i; marks = marked i }) are in
-    let there = three-at (IsChange es options) (set files k new_file) (set marks k mark) changes k (file_at [] k) new_mark (change_at [] k) (omega (arith, put.0, length-set files k new_file)) here in
-    let is_file : get_or (set files k new_file) k (file_at [] k) ≡ new_file = get_or-set_same files k new_file (file_at [] k) put.0 in
+    subst (λ (w : Watched). AllThree (IsChange es w.inputs.options) w.inputs.files w.marks changes) (λ i. record { inputs = put.is i; marks = marked i }) are in
+    let there = three-at (IsChange es options) (set files k new_file) (set marks k mark) changes k (file_at [] k) new_mark (change_at [] k) (omega (arith, put.inside, length-set files k new_file)) here in
+    let is_file : get_or (set files k new_file) k (file_at [] k) ≡ new_file = get_or-set_same files k new_file (file_at [] k) put.inside in
     let is_mark : get_or (set marks k mark) k new_mark ≡ touched start left (whole_mark (length file.lines)) =
-    get_or-set_same marks k mark new_mark (omega (arith, put.0, length-map files (λ (file : File). whole_mark (length file.lines)))) ∙ ap (touched start left) (known_at files k put.0) in
+    get_or-set_same marks k mark new_mark (omega (arith, put.inside, length-map files (λ (file : File). whole_mark (length file.lines)))) ∙ ap (touched start left) (known_at files k put.inside) in
     let change : IsChange es options new_file (touched start left (whole_mark (length file.lines))) (change_at changes k) =
     subst (λ (m : Mark). IsChange es options new_file m (change_at changes k)) is_mark (subst (λ (f : File). IsChange es options f (get_or (set marks k mark) k new_mark) (change_at changes k)) is_file there) in
-    let is = splice_change es options file start count lines (change_at changes k) put.1 change in
+    let is = splice_change es options file start count lines (change_at changes k) put.within change in
     let same : 0 + k ≡ k = omega arith in
     record {
-      of_one_file = rows_of_one es options 0 k files changes new_file mark put.0 here ∙ ap (λ m. change_rows m (change_at changes k)) same;
+      of_one_file = rows_of_one es options 0 k files changes new_file mark put.inside here ∙ ap (λ m. change_rows m (change_at changes k)) same;
       is_front = is.0;
       is_removed = is.1;
       is_added = is.2;
@@ -241,7 +227,7 @@ module _ (k front back known : ℕ) where
       EndsUntouched k front back known old.inputs.files old.marks → EndsUntouched k front back known new.inputs.files new.marks
   ends_spliced other start count come old new h a m u =
       as_these (spliced old.inputs.files other start count come) new.inputs.files (slice_set old.marks other (touched start (length (file_at old.inputs.files other).lines - (start + count)) (mark_at old.marks other))) new.marks
-      (ap (λ (i : Inputs). i.files) (spliced_at other start count come old.inputs new.inputs a).2) m (by_file h (cases_eq other k))
+      (ap (λ (i : Inputs). i.files) (splice_accepted other start count come old.inputs new.inputs a).is) m (by_file h (cases_eq other k))
     where
       apart : (other ≡ k → ⊥) → EndsUntouched k front back known (spliced old.inputs.files other start count come) (slice_set old.marks other (touched start (length (file_at old.inputs.files other).lines - (start + count)) (mark_at old.marks other)))
       apart e = ends_apart old.inputs.files old.marks other (record (file_at old.inputs.files other) { lines = splice (file_at old.inputs.files other).lines start (start + count) come }) (touched start (length (file_at old.inputs.files other).lines - (start + count)) (mark_at old.marks other)) e u
@@ -257,28 +243,27 @@ module _ (k front back known : ℕ) where
   ends_accepted : (edit : Edit) (old new : Watched) → LeavesEnds k front back edit old.inputs → Applies edit old.inputs (Ok new.inputs) → MarksAfter edit old new.marks → EndsUntouched k front back known old.inputs.files old.marks → EndsUntouched k front back known new.inputs.files new.marks
   ends_accepted (AddFile name lines) old new h a m u =
       let file = whole_file name lines in
-      let is = (accepted_if new.inputs (with_files (old.inputs.files ++ file ∷ []) old.inputs) LineHasNewline a).1 in
+      let is = added_file name lines old.inputs new.inputs a in
       as_these (old.inputs.files ++ file ∷ []) new.inputs.files (old.marks ++ new_mark ∷ []) new.marks (ap (λ (i : Inputs). i.files) is) m (ends_added old.inputs.files old.marks file new_mark u)
   ends_accepted (AddMissing name) old new h a m u =
       let file = missing_file name in
-      let is = same_inputs new.inputs (with_files (old.inputs.files ++ file ∷ []) old.inputs) a in
+      let is = added_missing name old.inputs new.inputs a in
       as_these (old.inputs.files ++ file ∷ []) new.inputs.files (old.marks ++ new_mark ∷ []) new.marks (ap (λ (i : Inputs). i.files) is) m (ends_added old.inputs.files old.marks file new_mark u)
   ends_accepted (DropFile other) old new h a m u =
-      let is = (accepted_if new.inputs (with_files (remove old.inputs.files other) old.inputs) NoSuchFile a).1 in
+      let is = file_dropped other old.inputs new.inputs a in
       as_these (remove old.inputs.files other) new.inputs.files (remove old.marks other) new.marks (ap (λ (i : Inputs). i.files) is) m (ends_dropped old.inputs.files old.marks other h u)
   ends_accepted (Splice other start count lines) old new h a m u = ends_spliced other start count lines old new h a m u
   ends_accepted (AddPatterns list) old new h a m u = absurd h
   ends_accepted (DropPattern p) old new h a m u = absurd h
   ends_accepted (SetFlag flag on) old new h a m u =
-      let inputs = record old.inputs { options = with_option flag on old.inputs.options } in
-      let is = accepted_read old.inputs.syntax (with_option flag on old.inputs.options).ignore_case old.inputs.patterns new.inputs inputs a in
+      let is = option_set flag on old.inputs new.inputs a in
       as_these old.inputs.files new.inputs.files old.marks new.marks (ap (λ (i : Inputs). i.files) is) (flag_leaves k front back flag on old new.marks h m) u
   ends_accepted (SetSyntax syntax) old new h a m u =
-      let is = accepted_read syntax old.inputs.options.ignore_case old.inputs.patterns new.inputs (record old.inputs { syntax = syntax }) a in
+      let is = syntax_set syntax old.inputs new.inputs a in
       let same : new.marks ≡ old.marks = elim m [ inl e ↦ e.1 | inr e ↦ absurd (e.0 h) ] in
       as_these old.inputs.files new.inputs.files old.marks new.marks (ap (λ (i : Inputs). i.files) is) same u
   ends_accepted (SetContext context) old new h a m u =
-      as_these old.inputs.files new.inputs.files old.marks new.marks (ap (λ (i : Inputs). i.files) (same_inputs new.inputs (with_context context old.inputs) a)) m u
+      as_these old.inputs.files new.inputs.files old.marks new.marks (ap (λ (i : Inputs). i.files) (context_set context old.inputs new.inputs a)) m u
 
   ends_given : (edit : Edit) (answer : Result (Unit {0}) EditFault) (old new : Watched) → EditGives edit old.inputs new.inputs answer → MarksGiven edit old new.marks answer → IfOk answer (λ _. LeavesEnds k front back edit old.inputs) →
       EndsUntouched k front back known old.inputs.files old.marks → EndsUntouched k front back known new.inputs.files new.marks

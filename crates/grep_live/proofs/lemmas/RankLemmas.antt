@@ -15,6 +15,7 @@ use Rattle.grep_live.specs.declared.cut.Cut.{Cut}
 use Rattle.grep_live.specs.declared.ranks.Rank.{Rank}
 use Rattle.grep_live.specs.Working.Listing.{Mean}
 use Rattle.grep_live.specs.Working.Ranks.{HaveHits, IsRank, AreRanks, IsCut, WasCut, is_outside, moved_rank}
+use Rattle.grep_live.proofs.lemmas.HitLemmas.{lt-leb}
 use Rattle.grep_live.proofs.lemmas.NumberLemmas.{number, number_cut, number_up_to, number_of, have_hits, Between, number_between, between_number}
 
 module _ (inputs : Inputs) (file : File) where
@@ -59,9 +60,6 @@ module _ (inputs : Inputs) (k : ℕ) where
       omega (arith, before, after, all, e))
 
 -- ---- lines are replaced
-
-lt-leb : (a b : ℕ) → b < a → nat_le a b ≡ false
-lt-leb a b h = grind (arith, nat_tests)
 
 outside-before : (a b c : ℕ) → (nat_le a b || nat_le c a) ≡ true → a < c → a ≤ b
 outside-before a b c h k = grind (arith, nat_tests)

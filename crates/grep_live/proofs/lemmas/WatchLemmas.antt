@@ -16,7 +16,7 @@ use Rattle.grep_core.specs.Files.{File, Inputs}
 use Rattle.grep_core.specs.Run.{file_at}
 use Rattle.grep_session.specs.declared.fault.EditFault.{EditFault}
 use Rattle.grep_session.specs.declared.fault.EditFault.TheVariants.{Memory}
-use Rattle.grep_session.specs.Edits.{Edit, Splice, SetFlag, SetSyntax, SetContext, Applies, EditGives, with_option, with_files, with_context, option_of}
+use Rattle.grep_session.specs.Edits.{Edit, Splice, SetFlag, SetSyntax, SetContext, Applies, EditGives, with_option, with_files, option_of}
 use Rattle.grep_live.specs.declared.cut.Cut.{Cut}
 use Rattle.grep_live.specs.declared.mark.Mark.{Mark}
 use Rattle.grep_live.specs.declared.ranks.Rank.{Rank}
@@ -28,7 +28,7 @@ use Rattle.grep_live.specs.Working.Ranks.{AreRanks, AreRanked, IsCut, WasCut, Ra
 use Rattle.grep_live.proofs.lemmas.ListLemmas.{zip-append, zip-remove, zip-set, zip-at, zip-length, zip-from, map-remove}
 use Rattle.grep_live.proofs.lemmas.CatchLemmas.{marked_more}
 use Rattle.grep_live.proofs.lemmas.LostLemmas.{mapped_to, mapped_more, mapped_all}
-use Rattle.grep_live.proofs.lemmas.CarryLemmas.{carried, refused_same, taken_back, splice_accepted, option_set, syntax_set, same_option, same_inputs}
+use Rattle.grep_live.proofs.lemmas.CarryLemmas.{carried, refused_same, taken_back, splice_accepted, option_set, syntax_set, same_option, context_set}
 
 -- ---- how many there are
 
@@ -178,7 +178,7 @@ ranked_syntax old new syntax all a e ranked =
     subst (λ (i : Inputs). AreRanked i i.files all) (sym same) ranked
 
 pub ranked_context : (context : Option Context) (old new : Inputs) (all : List (List Rank)) → Applies (SetContext context) old (Ok new) → AreRanked old old.files all → AreRanked new new.files all
-ranked_context context old new all a ranked = subst (λ (i : Inputs). AreRanked i i.files all) (sym (same_inputs new (with_context context old) a)) ranked
+ranked_context context old new all a ranked = subst (λ (i : Inputs). AreRanked i i.files all) (sym (context_set context old new a)) ranked
 
 -- a refused edit leaves the ranks
 pub ranked_refused : (T : Type 0) (edit : Edit) (old new : Inputs) (fault : EditFault) (all : List (List Rank)) → EditGives {T = T} edit old new (Err fault) → AreRanked old old.files all → AreRanked new new.files all

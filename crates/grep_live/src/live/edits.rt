@@ -6,7 +6,7 @@ ghost use Rattle.std.specs.Prelude.{IfErr, IfOk};
 ghost use Rattle.std.specs.List.{remove};
 ghost use Rattle.grep_core.specs.Run.{file_at};
 ghost use Rattle.grep_session.specs.declared.fault.EditFault.TheVariants.{Memory};
-ghost use Rattle.grep_session.specs.Edits.{Edit, AddFile, AddMissing, DropFile, Splice};
+ghost use Rattle.grep_session.specs.Edits.{AddFile, AddMissing, DropFile, Splice};
 ghost use Rattle.grep_session.specs.Edits.{AddPatterns, DropPattern, SetFlag, SetSyntax};
 ghost use Rattle.grep_session.specs.Edits.{SetContext, EditGives, with_files};
 ghost use Rattle.grep_session.specs.Touched.{TakesSteps, NeedsNoMemory};

@@ -1,5 +1,5 @@
 -- All patterns were read again.
-use Rattle.std.proofs.Common.{◌≡◌, ℕ, ◌+◌, Bool, true, false, IsTrue, MatchBool, List, [], ◌∷◌, length, map, Option, None, Some, IfSome, Result, Ok, Err, All, inl, inr, refl, sym, ap, subst, ◌∙◌, arith}
+use Rattle.std.proofs.Common.{◌≡◌, Bool, true, false, IsTrue, MatchBool, List, [], map, Option, None, Some, IfSome, Result, Ok, Err, All, inl, inr, refl, sym, ap, subst, ◌∙◌}
 use Rattle.std.specs.Bool.{⊤}
 use Rattle.std.proofs.lemmas.Bool.{false≢true}
 use Rattle.std.proofs.lemmas.List.Elements.{All-weaker}
@@ -11,48 +11,25 @@ use Rattle.re_search.specs.Matcher.{Matcher}
 use Rattle.re_search.specs.Searching.{AllAnswer}
 use Rattle.grep_session.specs.declared.kept.KeptFile.{KeptFile}
 use Rattle.grep_session.specs.declared.kept.KeptLine.{KeptLine}
-use Rattle.grep_session.specs.Working.Found.{IsReady}
+use Rattle.grep_session.specs.declared.change.Change.TheVariants.{PartsAlone}
+use Rattle.grep_session.specs.Working.Changed.{WasKept, WasFileKept}
 use Rattle.re_syntax.specs.declared.syntax.Syntax.{Syntax}
 use Rattle.re_syntax.specs.Expression.{Expression}
 use Rattle.re_search.specs.Reading.{IsReadable}
 use Rattle.re_search.specs.Working.Matchers.{matched_expression, wants_whole}
-use Rattle.grep_core.specs.Meters.{Steps}
 use Rattle.grep_core.specs.declared.options.Flag.{Flag}
 use Rattle.grep_core.specs.declared.options.Flag.TheVariants.{Count, IgnoreCase, FilesWithMatches, LineNumber, OnlyMatching, Quiet, NoMessages, InvertMatch, LineRegexp}
 use Rattle.grep_core.specs.declared.options.Options.{Options}
-use Rattle.grep_core.proofs.lemmas.CostLaws.{adds_none}
-use Rattle.grep_core.specs.Files.{Inputs, AreMeant}
+use Rattle.grep_core.specs.Files.{Inputs}
 use Rattle.grep_session.specs.declared.fault.EditFault.{EditFault}
 use Rattle.grep_session.specs.declared.fault.EditFault.TheVariants.{NoSuchFile, FileIsMissing, OutOfRange, LineHasNewline, NoSuchPattern, Pattern, TooManyPatterns, Memory}
 use Rattle.grep_session.specs.Working.Again.{ReadsAgain, read_as}
-use Rattle.grep_session.specs.Edits.{Edit, SetFlag, SetSyntax, Applies, EditGives, option_of, with_option}
+use Rattle.grep_session.specs.Edits.{SetFlag, SetSyntax, Applies, EditGives, option_of, with_option}
 use Rattle.grep_session.specs.Working.Effects.{ChangesVerdicts}
-use Rattle.grep_session.specs.Working.Kept.{AreMatching, IsKept, IsFileKept, SearchesAllKept, kept_lines, span_places}
+use Rattle.grep_session.specs.Working.Kept.{AreMatching, IsKept, IsFileKept, kept_lines, span_places}
 use Rattle.grep_core.specs.Working.MatcherLists.{AreMatchers}
 use Rattle.grep_session.specs.Working.Reading.{RefusesFirst}
-use Rattle.grep_session.specs.Touched.{TakesSteps, Touches, searched_by, parts_alone, all_lines, pairs_cost, NeedsNoMemory, is_of_output}
-
--- all lines were searched anew
-pub takes_all : (edit : Edit) (old new : Inputs) (es : List Expression) (matchers : ℕ) (begun ended : Steps) → Applies edit old (Ok new) → Touches edit old (searched_by (length old.patterns) (all_lines old)) → AreMeant new.syntax new.options new.patterns es
-    → matchers ≡ length old.patterns → SearchesAllKept es new.options matchers (all_lines old) begun ended → TakesSteps edit old begun ended
-takes_all edit old new es matchers begun ended applies touches meant many s = record {
-  most = pairs_cost matchers (all_lines old) + s.parts;
-  is_most =
-      inr (
-        Ok new,
-        applies,
-        record {
-          es = es;
-          are_meant = meant;
-          touched = searched_by (length old.patterns) (all_lines old);
-          are_touched = touches;
-          parts = s.parts;
-          are_parts = s.are_parts;
-          is_sum = ap (λ n. pairs_cost n (all_lines old) + s.parts) many;
-        },
-      );
-  few = s.few;
-}
+use Rattle.grep_session.specs.Touched.{NeedsNoMemory, is_of_output}
 
 -- some pattern was refused, or memory ran out
 pub refuses_again : (T : Type 0) (syntax : Syntax) (options : Options) (old : Inputs) (fault : EditFault) → RefusesFirst syntax options.ignore_case old.patterns fault → ReadsAgain {T = T} syntax options old old (Err fault)
@@ -73,31 +50,17 @@ sets_syntax syntax old new (Err (Pattern place fault)) h = h
 sets_syntax syntax old new (Err TooManyPatterns) h = h
 sets_syntax syntax old new (Err Memory) h = h
 
--- no pattern, no pair
-pub pairs_cost-none : (lines : List Text) → pairs_cost 0 lines ≡ 0
-pairs_cost-none [] = refl
-pairs_cost-none (line ∷ lines) = let rest : pairs_cost 0 lines ≡ 0 = pairs_cost-none lines in omega (arith, rest)
-
--- the parts of all lines were searched
-pub takes_parts : (edit : Edit) (old new : Inputs) (es : List Expression) (begun ended : Steps) → Applies edit old (Ok new) → Touches edit old (parts_alone (all_lines old)) → AreMeant new.syntax new.options new.patterns es
-    → SearchesAllKept es new.options 0 (all_lines old) begun ended → TakesSteps edit old begun ended
-takes_parts edit old new es begun ended applies touches meant s = record {
-  most = pairs_cost 0 (all_lines old) + s.parts;
-  is_most = inr (Ok new, applies, record { es = es; are_meant = meant; touched = parts_alone (all_lines old); are_touched = touches; parts = s.parts; are_parts = s.are_parts; is_sum = ap (λ n. n + s.parts) (pairs_cost-none (all_lines old)) });
-  few = s.few;
-}
-
 module _ (es : List Expression) (old new : Options) (same : new.line_regexp ≡ old.line_regexp) where
   -- what is kept of a line says which expressions match it
-  ready_line : (line : KeptLine) → IsKept es old line → IsReady false es new line
+  ready_line : (line : KeptLine) → IsKept es old line → WasKept PartsAlone es new line
   ready_line line k = subst (λ w. AreMatching line.text.items w 0 es line.found.numbers) (sym same) k.matching
 
-  pub ready_files : (files : List KeptFile) → All (IsFileKept es old) files → All (λ file. IfSome (kept_lines file) (All (IsReady false es new))) files
-  ready_files files all = All-weaker (IsFileKept es old) (λ file. IfSome (kept_lines file) (All (IsReady false es new))) (λ file. one (kept_lines file)) files all
+  pub ready_files : (files : List KeptFile) → All (IsFileKept es old) files → All (WasFileKept PartsAlone es new) files
+  ready_files files all = All-weaker (IsFileKept es old) (WasFileKept PartsAlone es new) (λ file. one (kept_lines file)) files all
     where
-      one : (lines : Option (List KeptLine)) → IfSome lines (All (IsKept es old)) → IfSome lines (All (IsReady false es new))
+      one : (lines : Option (List KeptLine)) → IfSome lines (All (IsKept es old)) → IfSome lines (All (WasKept PartsAlone es new))
       one None h = tt
-      one (Some lines) h = All-weaker (IsKept es old) (IsReady false es new) ready_line lines h
+      one (Some lines) h = All-weaker (IsKept es old) (WasKept PartsAlone es new) ready_line lines h
 
   -- under options that ask for no more parts, what is kept of a line stays right
   module _ (less : IsTrue new.only_matching → IsTrue old.only_matching) where
@@ -143,7 +106,7 @@ sets_flag flag on old new (Err TooManyPatterns) h = h
 sets_flag flag on old new (Err Memory) h = h
 
 -- the value that an option has
-with_same : (flag : Flag) (options : Options) → with_option flag (option_of flag options) options ≡ options
+pub with_same : (flag : Flag) (options : Options) → with_option flag (option_of flag options) options ≡ options
 with_same Count options = refl
 with_same IgnoreCase options = refl
 with_same FilesWithMatches options = refl
@@ -164,10 +127,6 @@ pub applies_same : (flag : Flag) (on : Bool) (old : Inputs) → option_of flag o
 applies_same flag on old same readable =
     let options : with_option flag on old.options ≡ old.options = ap (λ b. with_option flag b old.options) (sym same) ∙ with_same flag old.options in
     inl (subst (λ (o : Options). All (IsReadable old.syntax o.ignore_case) old.patterns) (sym options) readable, ap (λ o. Ok (record old { options = o })) (sym options))
-
--- no step was taken
-pub takes_none : (edit : Edit) (old : Inputs) (steps : Steps) → TakesSteps edit old steps steps
-takes_none edit old steps = record { most = 0; is_most = inl refl; few = adds_none 0 steps }
 
 -- memory is needed
 pub needs_for_verdicts : (flag : Flag) (on : Bool) (old : Inputs) → ChangesVerdicts flag → (option_of flag old.options ≡ on → ⊥) → NeedsNoMemory (SetFlag flag on) old → ⊥

@@ -1,38 +1,30 @@
--- Patterns are added or removed: what is found in a line, and the steps that its search takes.
-use Rattle.std.proofs.Common.{◌≡◌, ℕ, zero, suc, ◌+◌, ◌<◌, ◌≤◌, Bool, true, false, ◌||◌, List, [], ◌∷◌, ◌++◌, inl, inr, length, map, take, drop, length-take, length-drop, ◌-◌, nat_eq, nat_lt, get_or, MatchBool, Decides, Any, refl, sym, ap, subst, ◌∙◌, append_assoc, append-nil, All, Result, Ok, Err, IfOk, arith}
+-- What is found in a line after a change of the patterns.
+use Rattle.std.proofs.Common.{◌≡◌, ℕ, zero, suc, ◌+◌, ◌<◌, ◌≤◌, Bool, true, false, ◌||◌, List, [], ◌∷◌, ◌++◌, inl, inr, length, map, take, drop, length-take, nat_eq, nat_lt, get_or, MatchBool, Decides, Any, refl, sym, ap, subst, ◌∙◌, All, Option, None, Some, IfSome, Result, Ok, Err, IfOk, arith}
 use Rattle.std.specs.Bool.{⊤}
 use Rattle.std.specs.List.{remove, list_any}
-use Rattle.std.proofs.lemmas.List.{length-append, length-map}
+use Rattle.std.proofs.lemmas.List.{length-append}
 use Rattle.std.proofs.lemmas.Bool.{false≢true}
 use Rattle.re_syntax.specs.Bytes.{Text}
 use Rattle.re_syntax.specs.Expression.{Expression}
 use Rattle.re_syntax.specs.Holds.{Holds, Matches}
 use Rattle.re_syntax.specs.Parts.{IsFound, ArePartsFrom, AreParts}
 use Rattle.re_syntax.proofs.lemmas.Decisions.{Any-first, Any-later, Any-cases, Any-none}
-use Rattle.re_search.specs.Searching.{AddsAtMost}
-use Rattle.grep_core.specs.Meters.{Steps}
 use Rattle.grep_core.specs.declared.options.Options.{Options}
-use Rattle.grep_core.specs.Choose.{IfHolds, Chosen}
-use Rattle.grep_core.specs.Cost.{search_cost}
 use Rattle.grep_core.specs.Files.{Matched}
 use Rattle.re_syntax.proofs.lemmas.SomeOfJoined.{Any-single}
-use Rattle.grep_core.proofs.lemmas.CostLaws.{adds_none, adds_within}
-use Rattle.grep_core.proofs.lemmas.Decided.{dec_matched}
 use Rattle.grep_core.proofs.lemmas.Verdicts.{decided_yes, decided_no}
-use Rattle.grep_session.specs.declared.change.Change.{Change}
-use Rattle.grep_session.specs.declared.change.Change.TheVariants.{Added, Dropped}
+use Rattle.grep_session.specs.declared.change.Change.TheVariants.{Anew, PartsAlone, Added, Dropped}
 use Rattle.grep_session.specs.Working.Finds.{Finds}
+use Rattle.grep_session.specs.declared.kept.KeptFile.{KeptFile}
 use Rattle.grep_session.specs.declared.kept.KeptLine.{KeptLine}
 use Rattle.grep_session.specs.Working.Dropping.{without}
-use Rattle.grep_session.specs.Working.Found.{IsRight, IsFoundAgain, AddsRight}
+use Rattle.grep_session.specs.Working.Found.{IsRight, IsFoundAgain}
 use Rattle.grep_session.proofs.lemmas.DroppingLemmas.{AreMatching-drop, eq_same, eq_other, lt_yes, lt_no}
 use Rattle.grep_session.proofs.lemmas.ColumnLemmas.{front_and_rest}
-use Rattle.grep_session.specs.Working.Changed.{HasChanged, searched_for, ChangeCost, CostOfEach, SearchesEach, SearchesOne}
-use Rattle.grep_session.specs.Working.Kept.{AreMatching, AddsMatching, ArePartsKept, IsKept, span_places}
-use Rattle.grep_session.specs.Touched.{PartsCostOf, PartsCost, pairs_cost}
-use Rattle.grep_session.proofs.lemmas.FindingLemmas.{parts_cost_exists, AreMatching-append}
+use Rattle.grep_session.specs.Working.Changed.{HasChanged, WasKept, WasFileKept}
+use Rattle.grep_session.specs.Working.Kept.{kept_lines, AreMatching, AddsMatching, ArePartsKept, IsKept, span_places}
+use Rattle.grep_session.proofs.lemmas.FindingLemmas.{AreMatching-append}
 use Rattle.grep_session.proofs.lemmas.FindsLemmas.{finds_right_as}
-use Rattle.grep_core.proofs.lemmas.CostLaws.{adds_both}
 use Rattle.grep_session.proofs.lemmas.SurvivingLemmas.{same_parts, found_matches, none_match, parts_survive}
 
 -- ---- the numbers of those that match
@@ -110,87 +102,6 @@ module _ (options : Options) where
       by_flag : (asked : Bool) → MatchBool asked (AreParts es line.text.items options.line_regexp (map span_places line.found.spans)) ⊤ → MatchBool asked (AreParts fs line.text.items options.line_regexp (map span_places line.found.spans)) ⊤
       by_flag true p = stay refl (map span_places line.found.spans) p
       by_flag false p = tt
-
--- a decided question
-pub IfHolds-decided : {P A B : Type 0} (verdict : Bool) → Decides verdict P → MatchBool verdict A B → IfHolds P A B
-IfHolds-decided true d h = inl (d.0 refl, h)
-IfHolds-decided false d h = inr ((λ p. false≢true (d.1 p)), h)
-
--- ---- steps
-
--- a line has a cost
-pub ChangeCost-exists : (change : Change) (changed es : List Expression) (options : Options) (line : Text) → (cost : ℕ) × ChangeCost change changed es options line cost
-ChangeCost-exists change changed es options line = by_verdict (dec_matched changed options line)
-  where
-    by_verdict : Dec (Matched changed options line) → (cost : ℕ) × ChangeCost change changed es options line cost
-    by_verdict (yes m) = let own = parts_cost_exists es options line in (search_cost (searched_for change changed) line + own.0, (own.0, inl (m, own.1), refl))
-    by_verdict (no m) = (search_cost (searched_for change changed) line + 0, (0, inr (m, refl), refl))
-
-module _ (change : Change) (changed es : List Expression) (options : Options) (line : Text) where
-  -- a line that was not searched for its parts
-  pub changed_before_parts : (begun ended : Steps) → AddsAtMost (search_cost (searched_for change changed) line) begun ended → SearchesOne (ChangeCost change changed es options) line begun ended
-  changed_before_parts begun ended few =
-      let cost = ChangeCost-exists change changed es options line in
-      let own = cost.1 in
-      record { own = cost.0; is_own = cost.1; few = adds_within (search_cost (searched_for change changed) line) cost.0 begun ended (omega (arith, own.2)) few }
-
-  -- a line that was searched for its parts, if that is needed
-  pub changed_with_parts : (verdict : Bool) (begun mid ended : Steps) → Decides verdict (Matched changed options line) → AddsAtMost (search_cost (searched_for change changed) line) begun mid
-      → (own : ℕ) × MatchBool verdict (PartsCostOf es options line own) (own ≡ 0) × AddsAtMost own mid ended → SearchesOne (ChangeCost change changed es options) line begun ended
-  changed_with_parts verdict begun mid ended d few parts = record {
-    own = search_cost (searched_for change changed) line + parts.0;
-    is_own = (parts.0, IfHolds-decided verdict d parts.1, refl);
-    few = adds_both (search_cost (searched_for change changed) line) parts.0 begun mid ended few parts.2;
-  }
-
-module _ (C : Text → ℕ → Type 0) where
-  CostOfEach-append : (lines more : List Text) (a b : ℕ) → CostOfEach C lines a → CostOfEach C more b → CostOfEach C (lines ++ more) (a + b)
-  CostOfEach-append [] more a b p q = let same : b ≡ a + b = omega (arith, p) in subst (CostOfEach C more) same q
-  CostOfEach-append (line ∷ lines) more a b p q = (p.0, p.1 + b, p.2, CostOfEach-append lines more p.1 b p.3 q, omega (arith, p.4))
-
-  -- no line
-  pub each_none : (steps : Steps) → SearchesEach C [] steps steps
-  each_none steps = record { cost = 0; is_cost = refl; few = adds_none 0 steps }
-
-  -- lines and more lines
-  pub each_both : (lines more all : List Text) (begun mid ended : Steps) → all ≡ lines ++ more → SearchesEach C lines begun mid → SearchesEach C more mid ended → SearchesEach C all begun ended
-  each_both lines more all begun mid ended both a b =
-      subst (λ l. SearchesEach C l begun ended) (sym both) (record { cost = a.cost + b.cost; is_cost = CostOfEach-append lines more a.cost b.cost a.is_cost b.is_cost; few = adds_both a.cost b.cost begun mid ended a.few b.few })
-
-  -- one more line
-  pub each_one : (lines : List Text) (line : Text) (all : List Text) (begun mid ended : Steps) → all ≡ lines ++ line ∷ [] → SearchesEach C lines begun mid → SearchesOne C line mid ended → SearchesEach C all begun ended
-  each_one lines line all begun mid ended both a b = each_both lines (line ∷ []) all begun mid ended both a (record { cost = b.own; is_cost = (b.own, 0, b.is_own, refl, omega arith); few = b.few })
-
-  module _ (exists : (line : Text) → (cost : ℕ) × C line cost) where
-    CostOfEach-exists : (lines : List Text) → (cost : ℕ) × CostOfEach C lines cost
-    CostOfEach-exists [] = (0, refl)
-    CostOfEach-exists (line ∷ lines) =
-        let own = exists line in
-        let rest = CostOfEach-exists lines in
-        (own.0 + rest.0, (own.0, rest.0, own.1, rest.1, refl))
-
-    -- the steps for the first lines are within the cost of all
-    pub each_front : (lines more all : List Text) (begun ended : Steps) → lines ++ more ≡ all → SearchesEach C lines begun ended → SearchesEach C all begun ended
-    each_front lines more all begun ended both a =
-        let rest = CostOfEach-exists more in
-        subst (λ l. SearchesEach C l begun ended) both (record { cost = a.cost + rest.0; is_cost = CostOfEach-append lines more a.cost rest.0 a.is_cost rest.1; few = adds_within a.cost (a.cost + rest.0) begun ended (omega arith) a.few })
-
-    -- so are the steps for the first lines and the next one
-    pub each_next : (lines : List Text) (line : Text) (more all : List Text) (begun mid ended : Steps) → lines ++ (line ∷ more) ≡ all → SearchesEach C lines begun mid → SearchesOne C line mid ended → SearchesEach C all begun ended
-    each_next lines line more all begun mid ended both a b =
-        each_front (lines ++ line ∷ []) more all begun ended (append_assoc lines (line ∷ []) more ∙ both) (each_one lines line (lines ++ line ∷ []) begun mid ended refl a b)
-
--- the cost of lines, in the form of the cost of an edit
-pub CostOfEach-sum : (change : Change) (changed es : List Expression) (options : Options) (lines : List Text) (cost : ℕ) → CostOfEach (ChangeCost change changed es options) lines cost
-    → (chosen : List Text) × (parts : ℕ) × Chosen (Matched changed options) lines chosen × PartsCost es options chosen parts × (cost ≡ pairs_cost (searched_for change changed) lines + parts)
-CostOfEach-sum change changed es options [] cost c = ([], 0, refl, refl, omega (arith, c))
-CostOfEach-sum change changed es options (line ∷ lines) cost c =
-    let rest = CostOfEach-sum change changed es options lines c.1 c.3 in
-    let own = c.2 in
-    elim own.1 [
-      | inl m ↦ (line ∷ rest.0, own.0 + rest.1, (line ∷ [], rest.0, inl (m.0, refl), rest.2, refl), (own.0, rest.1, m.1, rest.3, refl), omega (arith, c.4, own.2, rest.4))
-      | inr m ↦ (rest.0, rest.1, ([], rest.0, inr (m.0, refl), rest.2, refl), rest.3, omega (arith, c.4, own.2, rest.4, m.1))
-    ]
 
 -- ---- a line without an expression
 
@@ -281,19 +192,24 @@ pub comes_right : {E : Type 0} (first : ℕ) (es : List Expression) (options : O
 comes_right first es options line new (Ok found) within a again = λ before changed h k. came_right first es before changed options line h k new a within found again
 comes_right first es options line new (Err fault) within a again = tt
 
--- ---- lines and files
+-- a line whose parts were searched anew
+pub parts_right : {E : Type 0} (es : List Expression) (options : Options) (line : KeptLine) (r : Result Finds E) → IfOk r (λ found. AreMatching line.text.items options.line_regexp 0 es line.found.numbers → IsRight es options line.text.items found)
+    → IfOk r (λ found. (before changed : List Expression) → HasChanged PartsAlone es before changed → WasKept PartsAlone before options line → IsRight es options line.text.items found)
+parts_right es options line (Ok found) right = λ before changed h k. right (subst (λ fs. AreMatching line.text.items options.line_regexp 0 fs line.found.numbers) h k)
+parts_right es options line (Err fault) right = tt
 
--- what holds of all holds of the next
-pub kept_at : {X : Type 0} (P : X → Type 0) (xs : List X) (i : ℕ) (x : X) → i < length xs → x ≡ get_or xs i x → All P xs → P x
-kept_at P xs i x within is all = subst P (sym is) (all i x within)
+-- a line that was searched anew
+pub anew_right : {E : Type 0} (es : List Expression) (options : Options) (line : KeptLine) (r : Result Finds E) → IfOk r (IsRight es options line.text.items)
+    → IfOk r (λ found. (before changed : List Expression) → HasChanged Anew es before changed → WasKept Anew before options line → IsRight es options line.text.items found)
+anew_right es options line (Ok found) right = λ before changed h k. right
+anew_right es options line (Err fault) right = tt
 
--- nothing was added
-pub adds_right_none : (es : List Expression) (options : Options) (old : List Finds) → AddsRight es options [] old old
-adds_right_none es options old = record { found = []; are_right = tt; added = sym (append-nil old) }
+-- ---- files before a change
 
--- one search by each of the added matchers
-pub came_steps : {M : Type 0} (expression : M → Expression) (matchers : List M) (first : ℕ) (changed : List Expression) (line : Text) (begun ended : Steps) → changed ≡ drop first (map expression matchers)
-    → AddsAtMost (search_cost (length matchers - first) line) begun ended → AddsAtMost (search_cost (length changed) line) begun ended
-came_steps expression matchers first changed line begun ended is few =
-    let many : length matchers - first ≡ length changed = sym (ap length is ∙ length-drop first (map expression matchers) ∙ ap (λ n. n - first) (length-map matchers expression)) in
-    subst (λ n. AddsAtMost (search_cost n line) begun ended) many few
+-- nothing has to be known of lines that are searched anew
+pub anew_files : (before : List Expression) (options : Options) (files : List KeptFile) → All (WasFileKept Anew before options) files
+anew_files before options files = λ k d h. one (kept_lines (get_or files k d))
+  where
+    one : (lines : Option (List KeptLine)) → IfSome lines (All (WasKept Anew before options))
+    one None = tt
+    one (Some lines) = λ k d h. tt

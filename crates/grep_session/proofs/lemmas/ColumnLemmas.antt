@@ -1,22 +1,16 @@
 -- What is found in all lines, one line or one file more at a time.
-use Rattle.std.proofs.Common.{◌≡◌, ℕ, suc, ◌+◌, ◌<◌, Bool, List, [], ◌∷◌, ◌++◌, length, map, take, drop, get_or, refl, sym, ap, subst, ◌∙◌, append_assoc, append-nil, zero, add-one, drop-cons, if◌then◌else◌, arith}
+use Rattle.std.proofs.Common.{All, ◌≡◌, ℕ, suc, ◌+◌, ◌<◌, List, [], ◌∷◌, ◌++◌, length, map, take, drop, get_or, refl, sym, ap, subst, ◌∙◌, append_assoc, append-nil, zero, add-one, drop-cons}
 use Rattle.std.proofs.Math.Seq.{take-suc}
 use Rattle.std.proofs.lemmas.List.{map-append}
 use Rattle.std.proofs.lemmas.List.Concat.{flat_map-append}
 use Rattle.std.specs.List.{AllZip}
 use Rattle.re_syntax.specs.Bytes.{Text}
 use Rattle.re_syntax.specs.Expression.{Expression}
-use Rattle.grep_core.specs.Meters.{Steps}
 use Rattle.grep_core.specs.declared.options.Options.{Options}
 use Rattle.grep_core.specs.Files.{File}
-use Rattle.grep_core.proofs.lemmas.CostLaws.{adds_none, adds_within, same_length}
 use Rattle.grep_core.proofs.lemmas.MatcherLemmas.{AllZip-append}
 use Rattle.grep_session.specs.Working.Finds.{Finds}
-use Rattle.grep_session.specs.Working.Kept.{SearchesKept, SearchesAllKept}
 use Rattle.grep_session.specs.Working.Found.{IsRight, AddsRight, lines_of_files}
-use Rattle.grep_session.specs.Touched.{pairs_cost}
-use Rattle.grep_session.proofs.lemmas.FindingLemmas.{parts_cost_exists, PartsCost-append, pairs_cost-append}
-use Rattle.grep_core.proofs.lemmas.CostLaws.{adds_both}
 
 -- ---- lists by their first elements and the rest
 
@@ -36,7 +30,15 @@ module _ {X Y : Type 0} (f : X → Y) (xs : List X) (i : ℕ) (x : X) (h : i < l
   map_parted =
       ap (λ y. map f (take i xs) ++ (f y ∷ map f (drop (suc i) xs))) is ∙ sym (map-append f (take i xs) (get_or xs i x ∷ drop (suc i) xs)) ∙ ap (λ l. map f (take i xs ++ l)) (sym (drop-cons xs i x h)) ∙ ap (map f) (front_and_rest i xs)
 
+-- what holds of all holds of the next
+pub kept_at : {X : Type 0} (P : X → Type 0) (xs : List X) (i : ℕ) (x : X) → i < length xs → x ≡ get_or xs i x → All P xs → P x
+kept_at P xs i x within is all = subst P (sym is) (all i x within)
+
 module _ (es : List Expression) (options : Options) where
+  -- nothing was added
+  pub adds_right_none : (old : List Finds) → AddsRight es options [] old old
+  adds_right_none old = record { found = []; are_right = tt; added = sym (append-nil old) }
+
   -- one more line
   pub adds_right_next : (lines : List Text) (line : Text) (all : List Text) (old mid new : List Finds) (one : Finds) → all ≡ lines ++ line ∷ [] → new ≡ mid ++ one ∷ [] → AddsRight es options lines old mid → IsRight es options line one
       → AddsRight es options all old new
@@ -50,32 +52,6 @@ module _ (es : List Expression) (options : Options) where
   pub right_more : (lines more all : List Text) (old new : List Finds) → all ≡ lines ++ more → AllZip (IsRight es options) lines old → AddsRight es options more old new → AllZip (IsRight es options) all new
   right_more lines more all old new both s r =
       subst (λ l. AllZip (IsRight es options) l new) (sym both) (subst (AllZip (IsRight es options) (lines ++ more)) (sym r.added) (AllZip-append (IsRight es options) lines more old r.found s r.are_right))
-
-  -- a line that was not searched
-  pub searched_nothing : (line : Text) (matchers : ℕ) (steps : Steps) → SearchesKept es options matchers line steps steps
-  searched_nothing line matchers steps = let parts = parts_cost_exists es options line in record { own = parts.0; is_own = parts.1; few = adds_none _ _ }
-
-  -- lines were searched, and then more
-  pub searched_both : (matchers : ℕ) (lines more all : List Text) (begun mid ended : Steps) → all ≡ lines ++ more → SearchesAllKept es options matchers lines begun mid → SearchesAllKept es options matchers more mid ended → SearchesAllKept es options matchers all begun ended
-  searched_both matchers lines more all begun mid ended both a b =
-      let pairs : pairs_cost matchers (lines ++ more) ≡ pairs_cost matchers lines + pairs_cost matchers more = pairs_cost-append matchers lines more in
-      let few = adds_both (pairs_cost matchers lines + a.parts) (pairs_cost matchers more + b.parts) begun mid ended a.few b.few in
-      subst (λ l. SearchesAllKept es options matchers l begun ended) (sym both) (record {
-        parts = a.parts + b.parts;
-        are_parts = PartsCost-append es options lines more a.parts b.parts a.are_parts b.are_parts;
-        few = adds_within _ (pairs_cost matchers (lines ++ more) + (a.parts + b.parts)) begun ended (omega (arith, pairs)) few;
-      })
-
--- ---- steps of matchers that have the same expressions as before
-
-module _ {M : Type 0} (expression : M → Expression) (now old : List M) (options : Options) (anew : Bool) (same : map expression now ≡ map expression old) where
-  pub line_steps_as : (line : Text) (begun ended : Steps) → SearchesKept (map expression now) options (if anew then length now else 0) line begun ended → SearchesKept (map expression old) options (if anew then length old else 0) line begun ended
-  line_steps_as line begun ended s =
-      subst (λ n. SearchesKept (map expression old) options (if anew then n else 0) line begun ended) (same_length expression now old same) (subst (λ es. SearchesKept es options (if anew then length now else 0) line begun ended) same s)
-
-  pub lines_steps_as : (lines : List Text) (begun ended : Steps) → SearchesAllKept (map expression now) options (if anew then length now else 0) lines begun ended → SearchesAllKept (map expression old) options (if anew then length old else 0) lines begun ended
-  lines_steps_as lines begun ended s =
-      subst (λ n. SearchesAllKept (map expression old) options (if anew then n else 0) lines begun ended) (same_length expression now old same) (subst (λ es. SearchesAllKept es options (if anew then length now else 0) lines begun ended) same s)
 
 -- ---- files
 

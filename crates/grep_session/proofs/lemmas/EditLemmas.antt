@@ -1,5 +1,5 @@
 -- How an edit changes a session's inputs, and what is kept.
-use Rattle.std.proofs.Common.{◌≡◌, ◌≢◌, ℕ, suc, ◌+◌, ◌<◌, List, [], ◌∷◌, ◌++◌, length, map, take, drop, Option, Some, None, Ok, Err, IfSome, inl, inr, refl, sym, ap, subst, ◌∙◌, All, get_or, slice_set, arith}
+use Rattle.std.proofs.Common.{◌≡◌, ◌≢◌, ℕ, suc, ◌+◌, ◌<◌, ◌≤◌, List, [], ◌∷◌, ◌++◌, length, map, take, drop, Option, Some, None, Ok, Err, IfSome, inl, inr, refl, sym, ap, subst, ◌∙◌, All, get_or, slice_set, arith}
 use Rattle.std.proofs.Math.ListN.{set}
 use Rattle.std.proofs.Math.Seq.{map-set_same}
 use Rattle.std.proofs.lemmas.List.{map-set, get_or-map, length-map}
@@ -12,22 +12,29 @@ use Rattle.re_syntax.specs.Bytes.{Text}
 use Rattle.re_syntax.specs.Expression.{Expression}
 use Rattle.re_syntax.specs.Lines.{HasNoNewline}
 use Rattle.re_search.specs.Matcher.{Matcher}
-use Rattle.re_search.specs.Working.Matchers.{matched_expression, wants_whole}
+use Rattle.re_search.specs.Working.Matchers.{matched_expression, wants_whole, room_of}
 use Rattle.re_search.specs.Searching.{AllAnswer}
 use Rattle.grep_core.specs.Meters.{Steps}
 use Rattle.grep_core.specs.declared.options.Options.{Options}
 use Rattle.grep_core.specs.Files.{File, Inputs, AreMeant, whole, missing}
 use Rattle.grep_core.specs.Run.{file_at}
 use Rattle.grep_core.proofs.lemmas.CostLaws.{same_length}
+use Rattle.re_syntax.specs.Profile.{most_patterns}
 use Rattle.grep_session.specs.declared.kept.KeptFile.{KeptFile}
+use Rattle.grep_session.specs.declared.session.Session.TheInside.{Inside}
+use Rattle.grep_session.specs.Working.Rooms.{SameBounded}
+use Rattle.grep_session.specs.Working.Changed.{CostAnew, SearchesEach}
+use Rattle.grep_session.specs.Working.Sessions.{IsSession, inputs_of}
+use Rattle.grep_session.proofs.lemmas.RoomLemmas.{keep_same}
+use Rattle.grep_session.proofs.lemmas.StepLemmas.{takes_lines}
 use Rattle.grep_session.specs.declared.kept.KeptLine.{KeptLine}
-use Rattle.grep_session.specs.Edits.{Edit, Splice, Applies, with_files, spliced}
-use Rattle.grep_session.specs.Working.Kept.{IsKept, IsFileKept, SearchesAllKept, kept_file, kept_lines, file_with, line_text}
+use Rattle.grep_session.specs.Edits.{AddFile, Splice, Applies, spliced, whole_file, with_files}
+use Rattle.grep_session.specs.Working.Kept.{IsKept, IsFileKept, kept_file, kept_lines, file_with, line_text}
 use Rattle.grep_core.specs.Working.MatcherLists.{AreMatchers}
 use Rattle.grep_session.specs.Edits.{HasPlace}
 use Rattle.grep_session.specs.declared.fault.EditFault.{EditFault}
 use Rattle.grep_session.specs.declared.fault.EditFault.TheVariants.{LineHasNewline, Memory}
-use Rattle.grep_session.specs.Touched.{TakesSteps, Touches, searched_by, pairs_cost, NeedsNoMemory}
+use Rattle.grep_session.specs.Touched.{TakesSteps, NeedsNoMemory}
 use Rattle.grep_session.proofs.lemmas.SessionLemmas.{map-splice}
 
 -- ---- matchers
@@ -42,35 +49,32 @@ AreMatchers-same syntax options texts old new s e w = record {
   counted = same_length matched_expression new old e ∙ s.counted;
 }
 
--- ---- steps
-
--- the lines that an edit puts in were searched
-pub takes_lines : (edit : Edit) (old : Inputs) (files : List File) (es : List Expression) (matchers : ℕ) (lines : List Text) (begun ended : Steps) → Applies edit old (Ok (with_files files old)) → Touches edit old (searched_by (length old.patterns) lines)
-    → AreMeant old.syntax old.options old.patterns es → matchers ≡ length old.patterns → SearchesAllKept es old.options matchers lines begun ended → TakesSteps edit old begun ended
-takes_lines edit old files es matchers lines begun ended applies touches meant many s = record {
-  most = pairs_cost matchers lines + s.parts;
-  is_most =
-      inr (
-        Ok (with_files files old),
-        applies,
-        record {
-          es = es;
-          are_meant = meant;
-          touched = searched_by (length old.patterns) lines;
-          are_touched = touches;
-          parts = s.parts;
-          are_parts = s.are_parts;
-          is_sum = ap (λ n. pairs_cost n lines + s.parts) many;
-        },
-      );
-  few = s.few;
-}
+-- a session whose matchers were asked, and whose files are as right as before
+pub asked_session : (s t : Inside) → t ≡ record s { texts = t.texts; matchers = t.matchers; files = t.files } → t.texts.items ≡ s.texts.items → IsSession s → SameBounded matched_expression wants_whole room_of s.matchers.items t.matchers.items
+    → All (IsFileKept (map matched_expression s.matchers.items) s.options) t.files.items → IsSession t
+asked_session s t is texts old same kept = subst IsSession (sym is) (record {
+  matchers = subst (λ ts. AreMatchers s.syntax s.options (map (λ text. text.items) ts) t.matchers.items) (sym texts) (AreMatchers-same s.syntax s.options _ s.matchers.items t.matchers.items old.matchers same.same_expressions same.same_wholes);
+  few = subst (λ n. n ≤ most_patterns) (sym (same_length matched_expression _ _ same.same_expressions)) old.few;
+  kept = subst (λ es. All (IsFileKept es s.options) t.files.items) (sym same.same_expressions) kept;
+  rooms = keep_same s.states s.matchers.items t.matchers.items same.same_rooms old.rooms;
+  some_states = old.some_states;
+  few_states = old.few_states;
+})
 
 -- ---- lines that are replaced
 
 pub applies_splice : (old : Inputs) (k start count : ℕ) (lines : List Text) → HasPlace old.files k start count → All HasNoNewline lines → Applies (Splice k start count lines) old (Ok (with_files (spliced old.files k start count lines) old))
 applies_splice old k start count lines p none =
     inr ((λ h. absurd (let false : ⊥ = omega (arith, h, p.in_files) in false)), inr (p.opens, inr ((λ h. absurd (let false : ⊥ = omega (arith, h, p.in_file) in false)), inl (none, refl))))
+
+-- the new lines of a splice, and those of a file that is added, were searched
+module _ (s : Inside) (old : IsSession s) (lines : List Text) (none : All HasNoNewline lines) (begun ended : Steps) (steps : SearchesEach (CostAnew (map matched_expression s.matchers.items) s.options) lines begun ended) where
+  pub splice_steps : (k start count : ℕ) → HasPlace (inputs_of s).files k start count → TakesSteps (Splice k start count lines) (inputs_of s) begun ended
+  splice_steps k start count place =
+      takes_lines (Splice k start count lines) (inputs_of s) (with_files (spliced (inputs_of s).files k start count lines) (inputs_of s)) s.matchers.items lines begun ended (applies_splice (inputs_of s) k start count lines place none) refl old.matchers refl steps
+
+  pub file_steps : (name : Text) → TakesSteps (AddFile name lines) (inputs_of s) begun ended
+  file_steps name = takes_lines (AddFile name lines) (inputs_of s) (with_files ((inputs_of s).files ++ whole_file name lines ∷ []) (inputs_of s)) s.matchers.items lines begun ended (inl (none, refl)) refl old.matchers refl steps
 
 -- some line that is put in has a newline in it
 pub refuses_splice : (old : Inputs) (k start count : ℕ) (lines : List Text) → HasPlace old.files k start count → (All HasNoNewline lines → ⊥) → Applies (Splice k start count lines) old (Err LineHasNewline)

@@ -13,9 +13,9 @@ use Rattle.grep_core.specs.Meters.{Steps}
 use Rattle.grep_core.specs.declared.options.Options.{Options}
 use Rattle.grep_core.specs.Choose.{IfHolds}
 use Rattle.grep_core.specs.Cost.{search_cost}
-use Rattle.grep_core.proofs.lemmas.CostLaws.{adds_both, adds_none, adds_once_more, adds_for_more, adds_within, same_length}
-use Rattle.grep_session.specs.Working.Kept.{AreMatching, AddsMatching, span_places, SearchesKept, SearchesAllKept}
-use Rattle.grep_session.specs.Touched.{PartsCostOf, PartsCost, pairs_cost}
+use Rattle.grep_core.proofs.lemmas.CostLaws.{adds_once_more, adds_for_more}
+use Rattle.grep_session.specs.Working.Kept.{AreMatching, AddsMatching, span_places}
+use Rattle.grep_session.specs.Touched.{PartsCostOf}
 
 -- ---- the numbers of the expressions that match a line
 
@@ -117,79 +117,6 @@ module _ (es : List Expression) (options : Options) (line : Text) where
       by_flag : (asked : Bool) → (own : ℕ) × MatchBool asked ((parts : List (ℕ × ℕ)) × AreParts es line options.line_regexp parts × (own ≡ (length parts + 1) * search_cost (length es) line)) (own ≡ 0)
       by_flag true = let ps = AreParts-exist es line options.line_regexp in ((length ps.0 + 1) * search_cost (length es) line, (ps.0, ps.1, refl))
       by_flag false = (0, refl)
-
-  -- a line was searched, and its parts were not asked for
-  pub searched_for_match : (matchers : ℕ) (begun ended : Steps) → AddsAtMost (search_cost matchers line) begun ended → SearchesKept es options matchers line begun ended
-  searched_for_match matchers begun ended few =
-      let parts = parts_cost_exists in
-      record { own = parts.0; is_own = parts.1; few = adds_within (search_cost matchers line) (search_cost matchers line + parts.0) begun ended (omega arith) few }
-
-  -- a line was searched, and then its parts were searched
-  pub searched_for_parts : (matchers : ℕ) (begun mid ended : Steps) → AddsAtMost (search_cost matchers line) begun mid → (own : ℕ) × PartsCostOf es options line own × AddsAtMost own mid ended → SearchesKept es options matchers line begun ended
-  searched_for_parts matchers begun mid ended few parts =
-      record { own = parts.0; is_own = parts.1; few = adds_both (search_cost matchers line) parts.0 begun mid ended few parts.2 }
-
--- ---- lines
-
-module _ (es : List Expression) (options : Options) where
-  -- the parts of lines have a cost
-  pub PartsCost-exists : (lines : List Text) → (cost : ℕ) × PartsCost es options lines cost
-  PartsCost-exists [] = (0, refl)
-  PartsCost-exists (line ∷ lines) =
-      let own = parts_cost_exists es options line in
-      let rest = PartsCost-exists lines in
-      (own.0 + rest.0, (own.0, rest.0, own.1, rest.1, refl))
-
-  -- the cost of lines and more lines
-  pub PartsCost-append : (lines more : List Text) (a b : ℕ) → PartsCost es options lines a → PartsCost es options more b → PartsCost es options (lines ++ more) (a + b)
-  PartsCost-append [] more a b p q = let same : b ≡ a + b = omega (arith, p) in subst (PartsCost es options more) same q
-  PartsCost-append (line ∷ lines) more a b p q = (p.0, p.1 + b, p.2, PartsCost-append lines more p.1 b p.3 q, omega (arith, p.4))
-
--- the pairs of lines and more lines
-pub pairs_cost-append : (matchers : ℕ) (lines more : List Text) → pairs_cost matchers (lines ++ more) ≡ pairs_cost matchers lines + pairs_cost matchers more
-pairs_cost-append matchers [] more = omega arith
-pairs_cost-append matchers (line ∷ lines) more = let rest : pairs_cost matchers (lines ++ more) ≡ pairs_cost matchers lines + pairs_cost matchers more = pairs_cost-append matchers lines more in omega (arith, rest)
-
-module _ (es : List Expression) (options : Options) (matchers : ℕ) where
-  -- no line was searched
-  pub searched_none : (lines : List Text) (steps : Steps) → lines ≡ [] → SearchesAllKept es options matchers lines steps steps
-  searched_none lines steps none = subst (λ l. SearchesAllKept es options matchers l steps steps) (sym none) (record { parts = 0; are_parts = refl; few = adds_none 0 steps })
-
-  -- one more line was searched
-  pub searched_one : (lines : List Text) (line : Text) (all : List Text) (begun mid ended : Steps) → all ≡ lines ++ line ∷ [] → SearchesAllKept es options matchers lines begun mid → SearchesKept es options matchers line mid ended
-      → SearchesAllKept es options matchers all begun ended
-  searched_one lines line all begun mid ended both a b =
-      let one : PartsCost es options (line ∷ []) b.own = (b.own, 0, b.is_own, refl, omega arith) in
-      let pairs : pairs_cost matchers (lines ++ line ∷ []) ≡ pairs_cost matchers lines + (search_cost matchers line + 0) = pairs_cost-append matchers lines (line ∷ []) in
-      let few = adds_both (pairs_cost matchers lines + a.parts) (search_cost matchers line + b.own) begun mid ended a.few b.few in
-      subst (λ l. SearchesAllKept es options matchers l begun ended) (sym both) (record {
-        parts = a.parts + b.own;
-        are_parts = PartsCost-append es options lines (line ∷ []) a.parts b.own a.are_parts one;
-        few = adds_within _ (pairs_cost matchers (lines ++ line ∷ []) + (a.parts + b.own)) begun ended (omega (arith, pairs)) few;
-      })
-
-  -- the steps for the first lines are within the cost of all
-  pub searched_front : (lines more all : List Text) (begun ended : Steps) → lines ++ more ≡ all → SearchesAllKept es options matchers lines begun ended → SearchesAllKept es options matchers all begun ended
-  searched_front lines more all begun ended both a =
-      let rest = PartsCost-exists es options more in
-      let pairs : pairs_cost matchers (lines ++ more) ≡ pairs_cost matchers lines + pairs_cost matchers more = pairs_cost-append matchers lines more in
-      subst (λ l. SearchesAllKept es options matchers l begun ended) both (record {
-        parts = a.parts + rest.0;
-        are_parts = PartsCost-append es options lines more a.parts rest.0 a.are_parts rest.1;
-        few = adds_within _ (pairs_cost matchers (lines ++ more) + (a.parts + rest.0)) begun ended (omega (arith, pairs)) a.few;
-      })
-
-  -- so are the steps for the first lines and the next one
-  pub searched_next : (lines : List Text) (line : Text) (more all : List Text) (begun mid ended : Steps) → lines ++ (line ∷ more) ≡ all → SearchesAllKept es options matchers lines begun mid → SearchesKept es options matchers line mid ended
-      → SearchesAllKept es options matchers all begun ended
-  searched_next lines line more all begun mid ended both a b =
-      searched_front (lines ++ line ∷ []) more all begun ended (append_assoc lines (line ∷ []) more ∙ both) (searched_one lines line (lines ++ line ∷ []) begun mid ended refl a b)
-
--- the steps of matchers that have the same expressions as before
-pub steps_as : {M : Type 0} (expression : M → Expression) (now old : List M) (options : Options) (line : Text) (begun ended : Steps) → map expression now ≡ map expression old
-    → SearchesKept (map expression now) options (length now) line begun ended → SearchesKept (map expression old) options (length old) line begun ended
-steps_as expression now old options line begun ended same s =
-    subst (λ n. SearchesKept (map expression old) options n line begun ended) (same_length expression now old same) (subst (λ es. SearchesKept es options (length now) line begun ended) same s)
 
 -- an element moves from what is left to what is done
 pub one_taken : {X Y Z : Type 0} (f : Y → Z) (g : X → Z) (done new : List Y) (y : Y) (x : X) (left rest : List X) (all : List Z) → map f done ++ map g left ≡ all → left ≡ x ∷ rest → f y ≡ g x → new ≡ done ++ y ∷ [] → map f new ++ map g rest ≡ all

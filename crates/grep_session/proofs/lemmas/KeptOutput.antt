@@ -43,11 +43,6 @@ asks_parts options e = by_flags options.quiet options.files_with_matches options
 
 -- ---- groups that are written one after the other
 
--- the beginning of an empty list is empty
-begins_nothing : {A : Type 0} (xs ys zs : List A) → zs ≡ xs ++ ys → zs ≡ [] → xs ≡ []
-begins_nothing [] ys zs is none = refl
-begins_nothing (x ∷ xs) ys zs is none = absurd (let e : x ∷ (xs ++ ys) ≡ [] = sym is ∙ none in let no : ⊥ = cc in no)
-
 -- after files without a selected line, the first group of two files has no separator before it
 two_behind : (context : Context) (found : Bool) (groups more : List Text) → (found ≡ true → groups ≡ [] → ⊥) → (found ≡ false → groups ≡ [])
     → drop 1 groups ++ behind_rows (around context) found more ≡ drop 1 (groups ++ more)

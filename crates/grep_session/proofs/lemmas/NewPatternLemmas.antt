@@ -1,6 +1,6 @@
 -- Patterns are added: the matchers after that, and the steps that it takes.
-use Rattle.std.proofs.Common.{◌≡◌, ℕ, ◌+◌, ◌<◌, List, [], ◌∷◌, ◌++◌, Ok, Err, All, inl, inr, length, map, take, drop, refl, sym, ap, subst, ◌∙◌}
-use Rattle.std.proofs.lemmas.List.{map-append, length-append}
+use Rattle.std.proofs.Common.{◌≡◌, ℕ, ◌+◌, ◌<◌, ◌≤◌, List, [], ◌∷◌, ◌++◌, Err, All, inl, inr, length, map, take, drop, refl, sym, ap, subst, ◌∙◌, arith}
+use Rattle.std.proofs.lemmas.List.{map-append, length-append, length-map}
 use Rattle.std.proofs.lemmas.List.Elements.{All-append}
 use Rattle.std.specs.List.{take-map, drop-map}
 use Rattle.re_syntax.specs.declared.syntax.Syntax.{Syntax}
@@ -10,19 +10,22 @@ use Rattle.re_syntax.specs.Lines.{list_of}
 use Rattle.re_syntax.specs.Spelled.{IsMeant}
 use Rattle.re_search.specs.Matcher.{Matcher}
 use Rattle.re_search.specs.Reading.{IsReadable}
-use Rattle.re_search.specs.Working.Matchers.{matched_expression, wants_whole}
+use Rattle.re_search.specs.Working.Matchers.{matched_expression, room_of, wants_whole}
 use Rattle.grep_core.specs.Meters.{Steps}
 use Rattle.grep_core.specs.declared.options.Options.{Options}
 use Rattle.grep_core.specs.Files.{Inputs, AreMeant}
 use Rattle.grep_session.specs.declared.change.Change.TheVariants.{Added}
 use Rattle.grep_session.specs.declared.fault.EditFault.{EditFault}
-use Rattle.grep_session.specs.Working.Changed.{ChangeCost, SearchesEach}
+use Rattle.grep_session.specs.Working.Changed.{ChangeCost, HasChanged, SearchesEach}
+use Rattle.grep_session.specs.Working.Rooms.{SameBounded}
+use Rattle.grep_session.specs.Working.Sessions.{IsSession, inputs_of}
+use Rattle.grep_session.specs.declared.session.Session.TheInside.{Inside}
 use Rattle.grep_session.specs.Edits.{AddPatterns, EditGives, with_patterns}
 use Rattle.re_syntax.specs.Profile.{most_patterns}
 use Rattle.grep_core.specs.Working.MatcherLists.{AreMatchers}
 use Rattle.grep_session.specs.Working.Reading.{RefusesFirst}
 use Rattle.grep_session.specs.Touched.{TakesSteps, all_lines, pairs_cost}
-use Rattle.grep_session.proofs.lemmas.ChangeLemmas.{CostOfEach-sum}
+use Rattle.grep_session.proofs.lemmas.StepLemmas.{CostOfEach-sum, takes_touched}
 use Rattle.grep_core.proofs.lemmas.MatcherLemmas.{AllZip-append}
 
 -- the first elements of two lists joined, and the others
@@ -38,14 +41,14 @@ drop_front (x ∷ xs) ys = drop_front xs ys
 
 -- f of the old elements, and of the added ones
 module _ {X Y : Type 0} (f : X → Y) (xs ys all : List X) (first : ℕ) (both : all ≡ xs ++ ys) (at : first ≡ length xs) where
-  pub were_there : map f xs ≡ take first (map f all)
+  were_there : map f xs ≡ take first (map f all)
   were_there = sym (ap (λ n. take n (map f all)) at ∙ take-map f (length xs) all ∙ ap (λ l. map f (take (length xs) l)) both ∙ ap (map f) (take_front xs ys))
 
-  pub have_come : map f ys ≡ drop first (map f all)
+  have_come : map f ys ≡ drop first (map f all)
   have_come = sym (ap (λ n. drop n (map f all)) at ∙ drop-map f (length xs) all ∙ ap (λ l. map f (drop (length xs) l)) both ∙ ap (map f) (drop_front xs ys))
 
   -- the added elements are removed again
-  pub taken_off : (now new : List X) → map f now ≡ map f all → new ≡ take first now → map f new ≡ map f xs
+  taken_off : (now new : List X) → map f now ≡ map f all → new ≡ take first now → map f new ≡ map f xs
   taken_off now new same put = ap (map f) put ∙ sym (take-map f first now) ∙ ap (take first) same ∙ sym were_there
 
 -- the matchers of more patterns after others
@@ -58,6 +61,43 @@ AreMatchers-append syntax options texts others old more all both a b = subst (Ar
   readable = All-append (IsReadable syntax options.ignore_case) texts others a.readable b.readable;
   counted = length-append old more ∙ (λ i. a.counted i + b.counted i) ∙ sym (length-append texts others);
 })
+
+module _ (s : Inside) (list : Text) (old : IsSession s) (first : ℕ) (at : first ≡ length s.matchers.items) (room : first + length (list_of list) ≤ most_patterns) where
+  -- there is room for the patterns of the list
+  pub not_too_many : most_patterns < length (inputs_of s).patterns + length (list_of list) → ⊥
+  not_too_many many = let counted : length s.matchers.items ≡ length (inputs_of s).patterns = old.matchers.counted in
+      let false : ⊥ = omega (arith, counted, at, room, many) in
+      false
+
+  -- what is known of all matchers after `more` were added, those of the list
+  pub record AreAdded (more all : List Matcher) : Type 0 where
+    pub changed : HasChanged (Added first) (map matched_expression all) (map matched_expression s.matchers.items) (map matched_expression more)
+    pub are_matchers : AreMatchers s.syntax s.options ((inputs_of s).patterns ++ list_of list) all
+    pub are_new : AreMatchers s.syntax s.options (list_of list) more
+    pub as_many : length (map matched_expression more) ≡ length (list_of list)
+    pub few : length all ≤ most_patterns
+    pub within : first ≤ length all
+
+  pub are_added : (texts : List Text) (more all : List Matcher) → texts ≡ list_of list → AreMatchers s.syntax s.options texts more → all ≡ s.matchers.items ++ more → AreAdded more all
+  are_added texts more all is made both =
+      let new = subst (λ ts. AreMatchers s.syntax s.options ts more) is made in
+      let sum : length all ≡ length s.matchers.items + length more = ap length both ∙ length-append s.matchers.items more in
+      record {
+        changed = (were_there matched_expression s.matchers.items more all first both at, have_come matched_expression s.matchers.items more all first both at);
+        are_matchers = AreMatchers-append s.syntax s.options (inputs_of s).patterns (list_of list) s.matchers.items more all both old.matchers new;
+        are_new = new;
+        as_many = length-map more matched_expression ∙ new.counted;
+        few = omega (arith, sum, new.counted, at, room);
+        within = omega (arith, sum, at);
+      }
+
+  -- the added matchers are removed again
+  pub bounded_off : (more all now new : List Matcher) → all ≡ s.matchers.items ++ more → SameBounded matched_expression wants_whole room_of all now → new ≡ take first now → SameBounded matched_expression wants_whole room_of s.matchers.items new
+  bounded_off more all now new both same put = record {
+    same_expressions = taken_off matched_expression s.matchers.items more all first both at now new same.same_expressions put;
+    same_wholes = taken_off wants_whole s.matchers.items more all first both at now new same.same_wholes put;
+    same_rooms = taken_off room_of s.matchers.items more all first both at now new same.same_rooms put;
+  }
 
 module _ (list : Text) (old : Inputs) (few : most_patterns < length old.patterns + length (list_of list) → ⊥) where
   -- some pattern was refused, or memory ran out
@@ -72,21 +112,5 @@ module _ (list : Text) (old : Inputs) (few : most_patterns < length old.patterns
       → length changed ≡ length (list_of list) → SearchesEach (ChangeCost (Added first) changed es old.options) (all_lines old) begun ended → TakesSteps (AddPatterns list) old begun ended
   takes_new first es changed begun ended readable meant new many s =
       let sum = CostOfEach-sum (Added first) changed es old.options (all_lines old) s.cost s.is_cost in
-      record {
-        most = s.cost;
-        is_most =
-            inr (
-              Ok (with_patterns (old.patterns ++ list_of list) old),
-              inr (few, inl (readable, refl)),
-              record {
-                es = es;
-                are_meant = meant;
-                touched = record { patterns = length (list_of list); paired = all_lines old; lines = sum.0 };
-                are_touched = (changed, new, sum.0, sum.2, refl);
-                parts = sum.1;
-                are_parts = sum.3;
-                is_sum = sum.4 ∙ ap (λ n. pairs_cost n (all_lines old) + sum.1) many;
-              },
-            );
-        few = s.few;
-      }
+      takes_touched (AddPatterns list) old (with_patterns (old.patterns ++ list_of list) old) es (record { patterns = length (list_of list); paired = all_lines old; lines = sum.0 }) s.cost sum.1 begun ended (inr (few, inl (readable, refl))) (changed, new, sum.0, sum.2, refl) meant sum.3
+      (sum.4 ∙ ap (λ n. pairs_cost n (all_lines old) + sum.1) many) s.few

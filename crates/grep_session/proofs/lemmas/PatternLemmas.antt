@@ -1,5 +1,5 @@
 -- A pattern is removed where parts are kept: the steps that this takes, and how it is put back.
-use Rattle.std.proofs.Common.{◌≡◌, ℕ, zero, suc, ◌+◌, ◌<◌, List, [], ◌∷◌, ◌++◌, Ok, inl, inr, length, map, take, drop, get_or, refl, sym, ap, subst, ◌∙◌, arith}
+use Rattle.std.proofs.Common.{◌≡◌, ℕ, zero, suc, ◌+◌, ◌<◌, List, [], ◌∷◌, ◌++◌, inl, inr, length, map, take, drop, get_or, refl, sym, ap, subst, ◌∙◌, arith}
 use Rattle.std.proofs.lemmas.List.{map-append, length-map, get_or-map}
 use Rattle.std.specs.List.{AllZip, remove, insert, take-map, drop-map}
 use Rattle.re_syntax.specs.Expression.{Expression}
@@ -9,13 +9,18 @@ use Rattle.re_syntax.proofs.lemmas.Decisions.{Any-first}
 use Rattle.grep_core.specs.Meters.{Steps}
 use Rattle.grep_core.specs.Choose.{IfHolds, Chosen}
 use Rattle.grep_core.specs.Files.{Inputs, AreMeant, Matched}
+use Rattle.re_search.specs.Matcher.{Matcher}
+use Rattle.re_search.specs.Working.Matchers.{matched_expression, room_of, wants_whole}
 use Rattle.re_syntax.proofs.lemmas.SomeOfJoined.{Any-single}
 use Rattle.grep_session.specs.declared.change.Change.TheVariants.{Dropped}
 use Rattle.grep_session.specs.Working.Changed.{HasChanged, ChangeCost, SearchesEach}
+use Rattle.grep_session.specs.Working.Rooms.{SameBounded}
 use Rattle.grep_session.specs.Edits.{DropPattern, with_patterns}
-use Rattle.grep_session.specs.Touched.{TakesSteps, parts_alone, all_lines, pairs_cost}
-use Rattle.grep_session.proofs.lemmas.AllPatternsRead.{pairs_cost-none}
-use Rattle.grep_session.proofs.lemmas.ChangeLemmas.{CostOfEach-sum}
+use Rattle.grep_session.specs.Touched.{TakesSteps, parts_alone, all_lines}
+use Rattle.grep_session.specs.declared.session.Session.TheInside.{Inside}
+use Rattle.grep_session.specs.Working.Sessions.{IsSession, inputs_of}
+use Rattle.grep_session.proofs.lemmas.SessionLemmas.{map-remove}
+use Rattle.grep_session.proofs.lemmas.StepLemmas.{CostOfEach-sum, pairs_cost-none, takes_touched}
 use Rattle.grep_session.proofs.lemmas.DroppingLemmas.{AllZip-remove}
 
 -- two lists at one place
@@ -32,32 +37,27 @@ Chosen-as {A} P Q there back (x ∷ xs) ys c =
     let one : IfHolds (Q x) (c.0 ≡ x ∷ []) (c.0 ≡ []) = elim c.2 [ inl h ↦ inl (there x h.0, h.1) | inr h ↦ inr ((λ q. h.0 (back x q)), h.1) ] in
     (c.0, c.1, one, Chosen-as P Q there back xs c.1 c.3, c.4)
 
+-- a matcher is removed from those of a session
+module _ (s : Inside) (p : ℕ) (old : IsSession s) (inside : p < length (inputs_of s).patterns) where
+  pub has_matcher : p < length s.matchers.items
+  has_matcher = let counted : length s.matchers.items ≡ length (inputs_of s).patterns = old.matchers.counted in omega (arith, inside, counted)
+
+  pub has_dropped : (gone : Matcher) (left : List Matcher) → gone ≡ get_or s.matchers.items p gone → left ≡ remove s.matchers.items p → HasChanged (Dropped p) (map matched_expression left) (map matched_expression s.matchers.items) (matched_expression gone ∷ [])
+  has_dropped gone left at rest =
+      let among : p < length (map matched_expression s.matchers.items) = omega (arith, has_matcher, length-map s.matchers.items matched_expression) in
+      (matched_expression gone, among, ap matched_expression at ∙ sym (get_or-map matched_expression s.matchers.items p gone (matched_expression gone) has_matcher), map-remove matched_expression s.matchers.items left p rest, refl)
+
 -- the parts of the lines that the removed pattern matched were searched
-pub takes_drop : (p : ℕ) (old : Inputs) (es before : List Expression) (e : Expression) (begun ended : Steps) → p < length old.patterns → AreMeant old.syntax old.options old.patterns before → HasChanged (Dropped p) es before (e ∷ []) → e ≡ get_or before p e
+pub takes_drop : (p : ℕ) (old : Inputs) (es before : List Expression) (e : Expression) (begun ended : Steps) → p < length old.patterns → AreMeant old.syntax old.options old.patterns before → HasChanged (Dropped p) es before (e ∷ [])
     → SearchesEach (ChangeCost (Dropped p) (e ∷ []) es old.options) (all_lines old) begun ended → TakesSteps (DropPattern p) old begun ended
-takes_drop p old es before e begun ended within meant h is s =
+takes_drop p old es before e begun ended within meant h s =
+    let same : e ≡ h.0 = ap (λ (l : List Expression). get_or l 0 e) h.4 in
+    let is : e ≡ get_or before p e = subst (λ d. d ≡ get_or before p d) (sym same) h.2 in
     let sum = CostOfEach-sum (Dropped p) (e ∷ []) es old.options (all_lines old) s.cost s.is_cost in
-    let none : pairs_cost 0 (all_lines old) ≡ 0 = pairs_cost-none (all_lines old) in
     let one = AllZip-at (λ text e. IsMeant old.syntax old.options.ignore_case text e) old.patterns before p [] e meant within in
     let chosen = Chosen-as (Matched (e ∷ []) old.options) (λ line. Matches e line old.options.line_regexp) (λ line m. Any-single (λ e. Matches e line old.options.line_regexp) e m) (λ line m. Any-first (λ e. Matches e line old.options.line_regexp) e [] m) (all_lines old) sum.0 sum.2 in
-    record {
-      most = s.cost;
-      is_most =
-          inr (
-            Ok (with_patterns (remove old.patterns p) old),
-            inl (within, refl),
-            record {
-              es = es;
-              are_meant = subst (AreMeant old.syntax old.options (remove old.patterns p)) (sym h.3) (AllZip-remove (λ text e. IsMeant old.syntax old.options.ignore_case text e) old.patterns before p meant);
-              touched = parts_alone sum.0;
-              are_touched = (e, subst (IsMeant old.syntax old.options.ignore_case (get_or old.patterns p [])) (sym is) one, sum.0, chosen, refl);
-              parts = sum.1;
-              are_parts = sum.3;
-              is_sum = sum.4 ∙ ap (λ n. n + sum.1) none;
-            },
-          );
-      few = s.few;
-    }
+    takes_touched (DropPattern p) old (with_patterns (remove old.patterns p) old) es (parts_alone sum.0) s.cost sum.1 begun ended (inl (within, refl)) (e, subst (IsMeant old.syntax old.options.ignore_case (get_or old.patterns p [])) (sym is) one, sum.0, chosen, refl)
+    (subst (AreMeant old.syntax old.options (remove old.patterns p)) (sym h.3) (AllZip-remove (λ text e. IsMeant old.syntax old.options.ignore_case text e) old.patterns before p meant)) sum.3 (sum.4 ∙ ap (λ n. n + sum.1) (pairs_cost-none (all_lines old))) s.few
 
 -- an element that was removed is put back
 insert_first : {X : Type 0} (xs : List X) (y : X) → insert xs 0 y ≡ y ∷ xs
@@ -73,7 +73,15 @@ map-insert : {X Y : Type 0} (f : X → Y) (xs : List X) (p : ℕ) (y : X) → ma
 map-insert f xs p y = map-append f (take p xs) (y ∷ drop p xs) ∙ (λ i. sym (take-map f p xs) i ++ (f y ∷ sym (drop-map f p xs) i))
 
 -- f of all elements, where f of the others did not change
-pub put_back_same : {X Y : Type 0} (f : X → Y) (xs now new : List X) (p : ℕ) (gone : X) → p < length xs → gone ≡ get_or xs p gone → map f now ≡ remove (map f xs) p → new ≡ insert now p gone → map f new ≡ map f xs
+put_back_same : {X Y : Type 0} (f : X → Y) (xs now new : List X) (p : ℕ) (gone : X) → p < length xs → gone ≡ get_or xs p gone → map f now ≡ remove (map f xs) p → new ≡ insert now p gone → map f new ≡ map f xs
 put_back_same f xs now new p gone h is left put =
     let at : f gone ≡ get_or (map f xs) p (f gone) = ap f is ∙ sym (get_or-map f xs p gone (f gone) h) in
     ap (map f) put ∙ map-insert f now p gone ∙ ap (λ l. insert l p (f gone)) left ∙ insert_remove (map f xs) p (f gone) (omega (arith, h, length-map xs f)) at
+
+-- matchers that are the same but for one that was removed, after it is put back
+pub bounded_back : (xs left now new : List Matcher) (p : ℕ) (gone : Matcher) → p < length xs → gone ≡ get_or xs p gone → left ≡ remove xs p → SameBounded matched_expression wants_whole room_of left now → new ≡ insert now p gone → SameBounded matched_expression wants_whole room_of xs new
+bounded_back xs left now new p gone h is rest same put = record {
+  same_expressions = put_back_same matched_expression xs now new p gone h is (same.same_expressions ∙ map-remove matched_expression xs left p rest) put;
+  same_wholes = put_back_same wants_whole xs now new p gone h is (same.same_wholes ∙ map-remove wants_whole xs left p rest) put;
+  same_rooms = put_back_same room_of xs now new p gone h is (same.same_rooms ∙ map-remove room_of xs left p rest) put;
+}

@@ -66,7 +66,3 @@ module _ (line : Text) (entire : Bool) where
     -- patterns that do not match the line are added
     pub parts_survive : (from : ℕ) (ps : List (ℕ × ℕ)) → ArePartsFrom es line entire from ps → ArePartsFrom (es ++ fs) line entire from ps
     parts_survive from ps p = same_parts es (es ++ fs) line entire more_found no_more_found from ps p
-
-    -- patterns that do not match the line are removed
-    pub parts_remain : (from : ℕ) (ps : List (ℕ × ℕ)) → ArePartsFrom (es ++ fs) line entire from ps → ArePartsFrom es line entire from ps
-    parts_remain from ps p = same_parts (es ++ fs) es line entire no_more_found more_found from ps p

@@ -1,6 +1,5 @@
 -- Lines that are written one after another, by the lines that are left.
 use Rattle.std.proofs.Common.{◌≡◌, ℕ, ◌+◌, ◌<◌, List, [], ◌∷◌, ◌++◌, length, drop, get_or, map, Option, Result, Ok, Err, IfOk, refl, sym, ap, subst, ◌∙◌, add-one, append_assoc, append-nil}
-use Rattle.std.specs.List.{flat_map}
 use Rattle.std.specs.Result.{IsErr}
 use Rattle.std.proofs.Math.Seq.{drop-cons}
 use Rattle.std.proofs.lemmas.Bool.{false≢true}
@@ -84,14 +83,3 @@ module _ {W : Type 0} (contents : W → Option Text) (failures : W → ℕ) (mar
 
     pub row_stops : StopsWithin contents failures b c (output_line margin (f (get_or xs i d))) → StopsWithin contents failures a c (written margin (map f all))
     row_stops g = broken_off a b c (map f all) (map f (drop i xs)) (f (get_or xs i d) ∷ []) (map f (drop (i + 1) xs)) next_row s (one_stopped b c (f (get_or xs i d)) g)
-
-  -- some lines for each element: the next ones
-  module _ {A : Type 0} (f : A → List Text) (all xs : List A) (i : ℕ) (d : A) (inside : i < length xs) (a b c : W) (s : WrittenUpTo a b (flat_map f all) (flat_map f (drop i xs))) where
-    next_rows : flat_map f (drop i xs) ≡ f (get_or xs i d) ++ flat_map f (drop (i + 1) xs)
-    next_rows = ap (flat_map f) (drop-next xs i d inside)
-
-    pub rows_on : GoesOut contents failures b c (written margin (f (get_or xs i d))) → WrittenUpTo a c (flat_map f all) (flat_map f (drop (i + 1) xs))
-    rows_on g = written_on a b c (flat_map f all) (flat_map f (drop i xs)) (f (get_or xs i d)) (flat_map f (drop (i + 1) xs)) next_rows s g
-
-    pub rows_stop : StopsWithin contents failures b c (written margin (f (get_or xs i d))) → StopsWithin contents failures a c (written margin (flat_map f all))
-    rows_stop g = broken_off a b c (flat_map f all) (flat_map f (drop i xs)) (f (get_or xs i d)) (flat_map f (drop (i + 1) xs)) next_rows s g

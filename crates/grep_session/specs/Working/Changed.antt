@@ -1,5 +1,6 @@
--- What becomes of what is kept when patterns are added or removed, and how many steps that takes.
+-- What becomes of what is kept when patterns change, and how many steps that takes.
 use Rattle.std.specs.Prelude.{◌≡◌, ℕ, ◌+◌, ◌<◌, ◌≤◌, ⊤, List, [], ◌∷◌, length, take, drop, get_or}
+use Rattle.std.specs.Prelude.{All, IfSome}
 use Rattle.std.specs.List.{remove}
 use Rattle.re_syntax.specs.Bytes.{Text}
 use Rattle.re_syntax.specs.Expression.{Expression}
@@ -10,32 +11,61 @@ use Rattle.grep_core.specs.Choose.{IfHolds}
 use Rattle.grep_core.specs.Cost.{search_cost}
 use Rattle.grep_core.specs.Files.{Matched}
 use Rattle.grep_session.specs.declared.change.Change.{Change}
-use Rattle.grep_session.specs.declared.change.Change.TheVariants.{Added, Dropped}
+use Rattle.grep_session.specs.declared.change.Change.TheVariants.{Anew, PartsAlone, Added, Dropped}
+use Rattle.grep_session.specs.declared.kept.KeptFile.{KeptFile}
+use Rattle.grep_session.specs.declared.kept.KeptLine.{KeptLine}
 use Rattle.grep_session.specs.Touched.{PartsCostOf}
+use Rattle.grep_session.specs.Working.Kept.{AreMatching, IsKept, kept_lines}
 
--- the expressions after a change, those before it, and those that were added or removed
+-- the expressions after a change, those before it, and those that are new or were removed
 abbrev pub HasChanged : Change → List Expression → List Expression → List Expression → Type 0
+HasChanged Anew es before changed = changed ≡ es
+HasChanged PartsAlone es before changed = before ≡ es
 HasChanged (Added first) es before changed = (before ≡ take first es) × (changed ≡ drop first es)
 HasChanged (Dropped p) es before changed =
     (e : Expression) × (p < length before) × (e ≡ get_or before p e) × (es ≡ remove before p) ×
     (changed ≡ e ∷ [])
 
+-- what has to be known of a line before a change, by the expressions before it: nothing if the line
+-- is searched anew, which expressions match it if its parts are, and otherwise all that is kept
+abbrev pub WasKept : Change → List Expression → Options → KeptLine → Type 0
+WasKept Anew before options line = ⊤
+WasKept PartsAlone before options line =
+    AreMatching line.text.items options.line_regexp 0 before line.found.numbers
+WasKept _ before options line = IsKept before options line
+
+abbrev pub WasFileKept : Change → List Expression → Options → KeptFile → Type 0
+WasFileKept change before options file =
+    IfSome (kept_lines file) (All (WasKept change before options))
+
 -- the patterns that a change names are among this number of patterns
 abbrev pub IsWithin : Change → ℕ → Type 0
 IsWithin (Added first) many = first ≤ many
-IsWithin (Dropped p) many = ⊤
+IsWithin _ many = ⊤
 
 -- the number of expressions by which each line is searched
 abbrev pub searched_for : Change → List Expression → ℕ
+searched_for Anew changed = length changed
+searched_for PartsAlone changed = 0
 searched_for (Added first) changed = length changed
 searched_for (Dropped p) changed = 0
 
--- the cost of a line: its search by the added expressions, and that for its parts where an added
--- or removed expression matches it
+-- the parts of the line are searched: if patterns were added or removed, where one of them matches
+abbrev pub HasNewParts : Change → List Expression → Options → Text → Type 0
+HasNewParts (Added first) changed options line = Matched changed options line
+HasNewParts (Dropped p) changed options line = Matched changed options line
+HasNewParts _ changed options line = ⊤
+
+-- the cost of a line: its search by the new expressions, and that for its parts
 abbrev pub ChangeCost : Change → List Expression → List Expression → Options → Text → ℕ → Type 0
 ChangeCost change changed es options line cost =
-    (own : ℕ) × IfHolds (Matched changed options line) (PartsCostOf es options line own) (own ≡ 0)
+    (own : ℕ) ×
+    IfHolds (HasNewParts change changed options line) (PartsCostOf es options line own) (own ≡ 0)
     × (cost ≡ search_cost (searched_for change changed) line + own)
+
+-- the cost of a line that is searched anew
+abbrev pub CostAnew : List Expression → Options → Text → ℕ → Type 0
+CostAnew es options line cost = ChangeCost Anew es es options line cost
 
 -- the sum of the lines' costs
 abbrev pub CostOfEach : (Text → ℕ → Type 0) → List Text → ℕ → Type 0

@@ -1,5 +1,5 @@
 -- What was found replaces what is kept.
-use Rattle.std.specs.Prelude.{◌≡◌, ℕ, Bool, true, false, List, [], ◌∷◌, ◌++◌, ⊤}
+use Rattle.std.specs.Prelude.{◌≡◌, ℕ, Bool, true, false, List, [], ◌∷◌, ◌++◌}
 use Rattle.std.specs.List.{AllZip, flat_map}
 use Rattle.re_syntax.specs.Bytes.{Text}
 use Rattle.re_syntax.specs.Expression.{Expression}
@@ -29,13 +29,6 @@ pub record IsRight (es : List Expression) (options : Options) (line : Text)
     (found : Finds) : Type 0 where
   pub matching : AreMatching line options.line_regexp 0 es found.numbers
   pub parts : ArePartsKept es options line found.spans
-
--- what has to be known of a line before it is searched: nothing if it is searched anew, otherwise
--- which expressions match it
-abbrev pub IsReady : Bool → List Expression → Options → KeptLine → Type 0
-IsReady true es options line = ⊤
-IsReady false es options line =
-    AreMatching line.text.items options.line_regexp 0 es line.found.numbers
 
 -- what these expressions find in a line that those of these numbers match: its parts were searched,
 -- or the kept ones stay

@@ -1,21 +1,17 @@
 -- What a session keeps of its patterns and files, and the inputs that it represents.
-use Rattle.std.specs.Prelude.{◌≡◌, ℕ, suc, ◌+◌, Bool, List, [], ◌∷◌, ◌++◌, map, Option, None, Some}
+use Rattle.std.specs.Prelude.{◌≡◌, ℕ, suc, Bool, List, [], ◌∷◌, ◌++◌, map, Option, None, Some}
 use Rattle.std.specs.Prelude.{IfSome, MatchBool, All, ⊤}
 use Rattle.std.specs.Option.{option_map}
 use Rattle.re_syntax.specs.Bytes.{Text}
 use Rattle.re_syntax.specs.Expression.{Expression}
 use Rattle.re_syntax.specs.Holds.{Matches}
 use Rattle.re_syntax.specs.Parts.{AreParts}
-use Rattle.re_search.specs.Searching.{AddsAtMost}
 use Rattle.re_syntax.specs.declared.span.Span.{Span}
-use Rattle.grep_core.specs.Meters.{Steps}
 use Rattle.grep_core.specs.declared.options.Options.{Options}
 use Rattle.grep_core.specs.Choose.{IfHolds}
-use Rattle.grep_core.specs.Cost.{search_cost}
 use Rattle.grep_core.specs.Files.{File, whole, missing}
 use Rattle.grep_session.specs.declared.kept.KeptLine.{KeptLine}
 use Rattle.grep_session.specs.declared.kept.KeptFile.{KeptFile}
-use Rattle.grep_session.specs.Touched.{PartsCostOf, PartsCost, pairs_cost}
 
 -- ---- what is found in a line
 
@@ -58,18 +54,6 @@ module _ (es : List Expression) (options : Options) where
 
   abbrev pub IsFileKept : KeptFile → Type 0
   IsFileKept file = IfSome (kept_lines file) (All IsKept)
-
-  -- the steps of a search of one line: by each of this number of matchers, and for its parts
-  pub record SearchesKept (matchers : ℕ) (line : Text) (begun ended : Steps) : Type 0 where
-    pub own : ℕ
-    pub is_own : PartsCostOf es options line own
-    pub few : AddsAtMost (search_cost matchers line + own) begun ended
-
-  -- the steps of a search of lines
-  pub record SearchesAllKept (matchers : ℕ) (lines : List Text) (begun ended : Steps) : Type 0 where
-    pub parts : ℕ
-    pub are_parts : PartsCost es options lines parts
-    pub few : AddsAtMost (pairs_cost matchers lines + parts) begun ended
 
 -- ---- the inputs that it represents
 

@@ -13,12 +13,12 @@ use Rattle.grep_session.proofs.around.write_lines_around.Goals as goal
 
 pub loop-k-init : goal.loop-k-init
 loop-k-init g c =
-    let w = c.args.wanted.now in
+    let w = c.args.layout.now.wanted in
     let rows = around_rows w.options w.many w.name.now in
     let all = rows (progress_from c.args.context c.args.some) [] c.args.lines.now in
     let same = sym c.new-progress.ensures in
     record {
-      wrote = subst (λ p. WrittenUpTo g.W.CountedWrite.contents g.W.CountedWrite.failures c.args.margin.now c.args.out.now c.args.out.now all (rows p [] c.args.lines.now)) same (none_written g.W.CountedWrite.contents g.W.CountedWrite.failures c.args.margin.now c.args.out.now all);
+      wrote = subst (λ p. WrittenUpTo g.W.CountedWrite.contents g.W.CountedWrite.failures c.args.layout.now.margin.now c.args.out.now c.args.out.now all (rows p [] c.args.lines.now)) same (none_written g.W.CountedWrite.contents g.W.CountedWrite.failures c.args.layout.now.margin.now c.args.out.now all);
       few = subst (λ (p : Progress). p.waiting ≤ p.context.before) same (omega arith);
       within = subst (λ (p : Progress). p.waiting ≤ 0) same (omega arith);
       counted = omega arith;
@@ -35,18 +35,18 @@ write_shown-requires g c =
 
 pub returns-in_err-write_shown-clause-rows : goal.returns-in_err-write_shown-clause-rows
 returns-in_err-write_shown-clause-rows g c =
-    let w = c.args.wanted.now in
+    let w = c.args.layout.now.wanted in
     let lines = c.args.lines.now in
     let k = c.loop-k.k in
     let found = c.is_selected-found.result in
-    let stops = subst (λ s. StopsWithin g.W.CountedWrite.contents g.W.CountedWrite.failures c.loop-k.out c.write_shown.new.out (written c.args.margin.now (shown_rows w.options w.many w.name.now found s (map line_text (take k lines)) c.index-lines-k.result))) c.step-shown.ensures.shown c.in_err-write_shown.ensures in
-    writes_err g.W.CountedWrite.contents g.W.CountedWrite.failures c.args.margin.now _ _ _ c.from_residual.result c.from_residual.ensures.0
-    (around_stops w.options w.many w.name.now g.W.CountedWrite.contents g.W.CountedWrite.failures c.args.margin.now lines k c.index-lines-k.result c.loop-k-test.true c.index-lines-k.is c.loop-k.progress found c.is_selected-found.ensures
+    let stops = subst (λ s. StopsWithin g.W.CountedWrite.contents g.W.CountedWrite.failures c.loop-k.out c.write_shown.new.out (written c.args.layout.now.margin.now (shown_rows w.options w.many w.name.now found s (map line_text (take k lines)) c.index-lines-k.result))) c.step-shown.ensures.shown c.in_err-write_shown.ensures in
+    writes_err g.W.CountedWrite.contents g.W.CountedWrite.failures c.args.layout.now.margin.now _ _ _ c.from_residual.result c.from_residual.ensures.0
+    (around_stops w.options w.many w.name.now g.W.CountedWrite.contents g.W.CountedWrite.failures c.args.layout.now.margin.now lines k c.index-lines-k.result c.loop-k-test.true c.index-lines-k.is c.loop-k.progress found c.is_selected-found.ensures
     c.args.out.now c.loop-k.out c.write_shown.new.out _ c.loop-k.invariant.wrote stops)
 
 pub loop-k-preserved : goal.loop-k-preserved
 loop-k-preserved g c =
-    let w = c.args.wanted.now in
+    let w = c.args.layout.now.wanted in
     let lines = c.args.lines.now in
     let k = c.loop-k.k in
     let i = c.loop-k.invariant in
@@ -54,11 +54,11 @@ loop-k-preserved g c =
     let rows = around_rows w.options w.many w.name.now in
     let all = rows (progress_from c.args.context c.args.some) [] lines in
     let same = sym c.step-shown.ensures.now in
-    let went = subst (λ s. GoesOut g.W.CountedWrite.contents g.W.CountedWrite.failures c.loop-k.out c.write_shown.new.out (written c.args.margin.now (shown_rows w.options w.many w.name.now found s (map line_text (take k lines)) c.index-lines-k.result))) c.step-shown.ensures.shown c.in_ok-write_shown.ensures in
+    let went = subst (λ s. GoesOut g.W.CountedWrite.contents g.W.CountedWrite.failures c.loop-k.out c.write_shown.new.out (written c.args.layout.now.margin.now (shown_rows w.options w.many w.name.now found s (map line_text (take k lines)) c.index-lines-k.result))) c.step-shown.ensures.shown c.in_ok-write_shown.ensures in
     record {
       wrote =
-          subst (λ p. WrittenUpTo g.W.CountedWrite.contents g.W.CountedWrite.failures c.args.margin.now c.args.out.now c.write_shown.new.out all (rows p (map line_text (take (k + 1) lines)) (drop (k + 1) lines))) same
-          (around_on w.options w.many w.name.now g.W.CountedWrite.contents g.W.CountedWrite.failures c.args.margin.now lines k c.index-lines-k.result c.loop-k-test.true c.index-lines-k.is c.loop-k.progress found c.is_selected-found.ensures
+          subst (λ p. WrittenUpTo g.W.CountedWrite.contents g.W.CountedWrite.failures c.args.layout.now.margin.now c.args.out.now c.write_shown.new.out all (rows p (map line_text (take (k + 1) lines)) (drop (k + 1) lines))) same
+          (around_on w.options w.many w.name.now g.W.CountedWrite.contents g.W.CountedWrite.failures c.args.layout.now.margin.now lines k c.index-lines-k.result c.loop-k-test.true c.index-lines-k.is c.loop-k.progress found c.is_selected-found.ensures
           c.args.out.now c.loop-k.out c.write_shown.new.out all i.wrote went);
       few = subst (λ (p : Progress). p.waiting ≤ p.context.before) same (few_wait c.loop-k.progress found i.few);
       within = subst (λ (p : Progress). p.waiting ≤ k + 1) same (wait_within c.loop-k.progress found k i.within);
@@ -68,5 +68,5 @@ loop-k-preserved g c =
 
 pub returns-clause-rows : goal.returns-clause-rows
 returns-clause-rows g c =
-    let w = c.args.wanted.now in
-    around_all w.options w.many w.name.now g.W.CountedWrite.contents g.W.CountedWrite.failures c.args.margin.now c.args.lines.now c.args.out.now c.loop-k.out _ _ c.loop-k.progress c.loop-k.k (omega (arith, c.loop-k-test.false)) c.loop-k.invariant.wrote
+    let w = c.args.layout.now.wanted in
+    around_all w.options w.many w.name.now g.W.CountedWrite.contents g.W.CountedWrite.failures c.args.layout.now.margin.now c.args.lines.now c.args.out.now c.loop-k.out _ _ c.loop-k.progress c.loop-k.k (omega (arith, c.loop-k-test.false)) c.loop-k.invariant.wrote

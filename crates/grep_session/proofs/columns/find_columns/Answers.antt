@@ -19,9 +19,9 @@ returns-clause-same_matchers c =
     subst (SameBounded matched_expression wants_whole room_of c.args.matchers.now.items) (sym (all_back c.args.matchers.now.len c.args.matchers.now.items c.find_all.new.matchers c.args.matchers.now.ok.0 (same_length matched_expression _ _ same.same_expressions))) same
 
 pub returns-clause-ok : goal.returns-clause-ok
-returns-clause-ok c =
+returns-clause-ok c = λ before changed h k.
     let same = rw c.deref_mut.ensures.value at c.find_all.ensures.same_matchers in
     let right = rw (c.deref_mut.ensures.value, c.deref.ensures.value) at c.in_ok-found.ensures.ok in
     let es = map matched_expression c.find_all.new.matchers in
-    let kept = c.put_columns.ensures.right es c.args.options.now (subst (λ es. AllZip (IsRight es c.args.options.now) (lines_of_files (map kept_file c.args.files.now.items)) c.in_ok-found.found.items) (sym same.same_expressions) right) in
+    let kept = c.put_columns.ensures.right es c.args.options.now (subst (λ es. AllZip (IsRight es c.args.options.now) (lines_of_files (map kept_file c.args.files.now.items)) c.in_ok-found.found.items) (sym same.same_expressions) (right before changed h k)) in
     subst (λ matchers. All (IsFileKept (map matched_expression matchers) c.args.options.now) c.put_columns.new.files.items) (sym (all_back c.args.matchers.now.len c.args.matchers.now.items c.find_all.new.matchers c.args.matchers.now.ok.0 (same_length matched_expression _ _ same.same_expressions))) kept

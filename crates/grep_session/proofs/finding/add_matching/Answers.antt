@@ -23,7 +23,7 @@ note_matching-requires g c =
     let d = c.matcher-item.result in
     let ws = c.loop-matcher.invariant.same_matchers.same_wholes in
     let h = c.loop-matcher-test.true in
-    let answer = c.args.options.now.line_regexp in
+    let answer = c.args.search.now.options.line_regexp in
     sym (value_at whole old now ws i d h answer) ∙ c.requires.whole i answer (within whole old now ws i d h).1
 
 pub loop-matcher-preserved : goal.loop-matcher-preserved

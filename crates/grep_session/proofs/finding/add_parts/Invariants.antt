@@ -8,7 +8,7 @@ use Rattle.grep_session.proofs.finding.add_parts.Given as goal
 -- the parts up to here are known
 abbrev pub invariant-loop-part : goal.invariant-loop-part
 invariant-loop-part g l = record {
-  parts : SpansSoFar (map g.M.LineMatch.expression l.fn.matchers) l.options l.line l.from l.spans.items;
+  parts : SpansSoFar (map g.M.LineMatch.expression l.fn.matchers) l.search.options l.line l.from l.spans.items;
   steps : AddsAtMost (length l.spans.items * search_cost (length l.fn.matchers) l.line) l.fn.meter l.meter;
   same_matchers : SameBounded g.M.LineMatch.expression g.M.LineMatch.whole g.M.Bounded.room l.fn.matchers l.matchers;
 }

@@ -11,10 +11,10 @@ pub returns-then-is_empty-clause-ok : goal.returns-then-is_empty-clause-ok
 returns-then-is_empty-clause-ok g c = λ matching.
     let es = map g.M.LineMatch.expression c.args.matchers.now in
     let empty : length c.args.numbers.items ≡ 0 = grind (arith, nat_tests, c.is_empty.ensures, c.if-is_empty.true, c.args.numbers.ok.0) in
-    subst (IsRight es c.args.options.now c.args.line.now) (sym c.none.ensures) (none_right es c.args.options.now c.args.line.now c.args.numbers.items (nil_from_length c.args.numbers.items empty) matching)
+    subst (IsRight es c.args.search.now.options c.args.line.now) (sym c.none.ensures) (none_right es c.args.search.now.options c.args.line.now c.args.numbers.items (nil_from_length c.args.numbers.items empty) matching)
 
 pub returns-then-is_empty-clause-steps : goal.returns-then-is_empty-clause-steps
-returns-then-is_empty-clause-steps g c = let own = parts_cost_exists (map g.M.LineMatch.expression c.args.matchers.now) c.args.options.now c.args.line.now in (own.0, own.1, adds_none _ _)
+returns-then-is_empty-clause-steps g c = let own = parts_cost_exists (map g.M.LineMatch.expression c.args.matchers.now) c.args.search.now.options c.args.line.now in (own.0, own.1, adds_none _ _)
 
 pub returns-clause-ok : goal.returns-clause-ok
-returns-clause-ok g c = right_where (map g.M.LineMatch.expression c.args.matchers.now) c.args.options.now c.args.line.now c.args.numbers.items c.in_ok-spans.spans.items c.new.result c.new.ensures c.in_ok-spans.ensures.ok
+returns-clause-ok g c = right_where (map g.M.LineMatch.expression c.args.matchers.now) c.args.search.now.options c.args.line.now c.args.numbers.items c.in_ok-spans.spans.items c.new.result c.new.ensures c.in_ok-spans.ensures.ok

@@ -19,8 +19,8 @@ loop-text-preserved c =
     let next = map_next (λ text. text.items) c.args.texts.now c.loop-text.text-index c.text-item.result c.loop-text-test.true c.text-item.is in
     let meant = rw c.deref.ensures.value at c.in-Ok.ensures.meant in
     record {
-      read = AreMatchers-push c.args.syntax c.args.options.now _ c.loop-text.matchers.items c.text-item.result.items c.loop-text.invariant.read _ c.push_matcher.new.matchers.items c.in-Ok.matcher next c.in-Ok-push_matcher.ensures meant c.in-Ok.ensures.whole c.in-Ok.ensures.small;
-      rooms = keep_one c.args.states c.loop-text.matchers.items c.in-Ok.matcher _ c.in-Ok-push_matcher.ensures c.loop-text.invariant.rooms c.in-Ok.ensures.room;
+      read = AreMatchers-push c.args.syntax c.args.options.now _ c.loop-text.matchers.items c.text-item.result.items c.loop-text.invariant.read _ c.push.new.all.items c.in-Ok.matcher next c.in-Ok-push.ensures.ok meant c.in-Ok.ensures.whole c.in-Ok.ensures.small;
+      rooms = keep_one c.args.states c.loop-text.matchers.items c.in-Ok.matcher _ c.in-Ok-push.ensures.ok c.loop-text.invariant.rooms c.in-Ok.ensures.room;
     }
 
 pub returns-in-Err-clause-err : goal.returns-in-Err-clause-err

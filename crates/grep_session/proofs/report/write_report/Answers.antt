@@ -1,7 +1,8 @@
-use Rattle.std.proofs.Common.{nat_le, length, map}
+use Rattle.std.proofs.Common.{nat_le, length, map, sym, subst}
 use Rattle.grep_core.specs.Messages.{StatusOf}
 use Rattle.grep_session.specs.Working.Kept.{kept_file}
 use Rattle.grep_session.specs.Working.Report.{report_rows}
+use Rattle.grep_session.proofs.lemmas.KeptLaws.{kept_status}
 use Rattle.grep_session.proofs.lemmas.KeptOutput.{kept_output}
 use Rattle.grep_session.proofs.lemmas.Writing.{writes_err, if_ok}
 use Rattle.grep_session.proofs.report.write_report.Goals as goal
@@ -23,5 +24,5 @@ returns g c = λ es kept.
       out = report_rows options (nat_le 2 (length c.args.files.now)) c.args.files.now;
       is_output = kept_output es options c.args.files.now kept;
       wrote = c.in_ok-write_files.ensures;
-      is_status = c.status.ensures es kept;
+      is_status = subst (StatusOf es options (map kept_file c.args.files.now)) (sym c.status.ensures) (kept_status es options c.args.files.now kept);
     }

@@ -1,85 +1,42 @@
-use Rattle.std.proofs.Common.{◌≡◌, ◌≤◌, Ok, All, map, inl, inr, refl, ap, ◌∙◌, sym, subst, ◌++◌, ◌∷◌, []}
+use Rattle.std.proofs.Common.{◌≡◌, Ok, All, map, inl, inr, refl, ap, ◌∙◌, sym, subst, ◌++◌, ◌∷◌, []}
 use Rattle.std.proofs.lemmas.List.{map-append}
 use Rattle.std.proofs.lemmas.List.Elements.{All-push}
 use Rattle.re_search.specs.Working.Matchers.{matched_expression}
-use Rattle.re_syntax.specs.Profile.{most_patterns}
-use Rattle.grep_core.proofs.lemmas.CostLaws.{same_length}
 use Rattle.grep_session.specs.Edits.{AddFile, whole_file, with_files}
 use Rattle.grep_session.specs.Working.Kept.{IsFileKept, kept_file}
 use Rattle.grep_session.specs.Working.Sessions.{inputs_of}
-use Rattle.grep_session.proofs.lemmas.EditLemmas.{AreMatchers-same, takes_lines, newline_not_memory}
-use Rattle.grep_session.proofs.lemmas.AllPatternsRead.{takes_none}
-use Rattle.grep_session.proofs.lemmas.RoomLemmas.{keep_same}
+use Rattle.grep_session.proofs.lemmas.EditLemmas.{asked_session, file_steps, newline_not_memory}
+use Rattle.grep_session.proofs.lemmas.StepLemmas.{takes_none}
 use Rattle.grep_session.proofs.session.Session.add_file.Goals as goal
 
 pub returns-in-Err-clause-steps : goal.returns-in-Err-clause-steps
-returns-in-Err-clause-steps c =
-    let s = c.self.inside in
-    let old = inputs_of s in
-    let lines = map (λ line. line.items) c.args.lines.items in
-    let none = rw c.deref.ensures.value at c.if-any_newline.ensures in
-    rw (← c.self.view_is) (takes_lines (AddFile c.args.name.items lines) old (old.files ++ whole_file c.args.name.items lines ∷ []) (map matched_expression s.matchers.items) _ lines _ _ (inl (none, refl)) refl c.self.invariant.matchers.meant c.self.invariant.matchers.counted c.search_new.ensures.steps)
+returns-in-Err-clause-steps c = rw (← c.self.view_is) (file_steps c.self.inside c.self.invariant _ (rw c.deref.ensures.value at c.if-any_newline.ensures) _ _ c.search_new.ensures.steps c.args.name.items)
 
-pub returns-in-Err-push_file-clause-steps : goal.returns-in-Err-push_file-clause-steps
-returns-in-Err-push_file-clause-steps c =
-    let s = c.self.inside in
-    let old = inputs_of s in
-    let lines = map (λ line. line.items) c.args.lines.items in
-    let none = rw c.deref.ensures.value at c.if-any_newline.ensures in
-    rw (← c.self.view_is) (takes_lines (AddFile c.args.name.items lines) old (old.files ++ whole_file c.args.name.items lines ∷ []) (map matched_expression s.matchers.items) _ lines _ _ (inl (none, refl)) refl c.self.invariant.matchers.meant c.self.invariant.matchers.counted c.search_new.ensures.steps)
+pub returns-in-Err-push-clause-steps : goal.returns-in-Err-push-clause-steps
+returns-in-Err-push-clause-steps c = rw (← c.self.view_is) (file_steps c.self.inside c.self.invariant _ (rw c.deref.ensures.value at c.if-any_newline.ensures) _ _ c.search_new.ensures.steps c.args.name.items)
 
 pub returns-clause-steps : goal.returns-clause-steps
-returns-clause-steps c =
-    let s = c.self.inside in
-    let old = inputs_of s in
-    let lines = map (λ line. line.items) c.args.lines.items in
-    let none = rw c.deref.ensures.value at c.if-any_newline.ensures in
-    rw (← c.self.view_is) (takes_lines (AddFile c.args.name.items lines) old (old.files ++ whole_file c.args.name.items lines ∷ []) (map matched_expression s.matchers.items) _ lines _ _ (inl (none, refl)) refl c.self.invariant.matchers.meant c.self.invariant.matchers.counted c.search_new.ensures.steps)
+returns-clause-steps c = rw (← c.self.view_is) (file_steps c.self.inside c.self.invariant _ (rw c.deref.ensures.value at c.if-any_newline.ensures) _ _ c.search_new.ensures.steps c.args.name.items)
 
 pub invariant_of-self : goal.invariant_of-self
-invariant_of-self c =
-    let s = c.self.inside in
-    let same = c.search_new.ensures.same_matchers in
-    record {
-      matchers = AreMatchers-same s.syntax s.options _ s.matchers.items _ c.self.invariant.matchers same.same_expressions same.same_wholes;
-      few = subst (λ n. n ≤ most_patterns) (sym (same_length matched_expression _ _ same.same_expressions)) c.self.invariant.few;
-      kept = subst (λ es. All (IsFileKept es s.options) s.files.items) (sym same.same_expressions) c.self.invariant.kept;
-      rooms = keep_same s.states s.matchers.items _ same.same_rooms c.self.invariant.rooms;
-      some_states = c.self.invariant.some_states;
-      few_states = c.self.invariant.few_states;
-    }
+invariant_of-self c = asked_session c.self.inside _ refl refl c.self.invariant c.search_new.ensures.same_matchers c.self.invariant.kept
 
-pub invariant_of-self-in-Err-push_file : goal.invariant_of-self-in-Err-push_file
-invariant_of-self-in-Err-push_file c =
+pub invariant_of-self-in-Err-push : goal.invariant_of-self-in-Err-push
+invariant_of-self-in-Err-push c =
     let s = c.self.inside in
-    let same = c.search_new.ensures.same_matchers in
-    record {
-      matchers = AreMatchers-same s.syntax s.options _ s.matchers.items _ c.self.invariant.matchers same.same_expressions same.same_wholes;
-      few = subst (λ n. n ≤ most_patterns) (sym (same_length matched_expression _ _ same.same_expressions)) c.self.invariant.few;
-      kept = subst (λ es. All (IsFileKept es s.options) c.push_file.new.files.items) (sym same.same_expressions) (subst (All (IsFileKept (map matched_expression s.matchers.items) s.options)) (sym c.in-Err-push_file.ensures.err) c.self.invariant.kept);
-      rooms = keep_same s.states s.matchers.items _ same.same_rooms c.self.invariant.rooms;
-      some_states = c.self.invariant.some_states;
-      few_states = c.self.invariant.few_states;
-    }
+    asked_session s _ refl refl c.self.invariant c.search_new.ensures.same_matchers (subst (All (IsFileKept (map matched_expression s.matchers.items) s.options)) (sym c.in-Err-push.ensures.err) c.self.invariant.kept)
 
 pub invariant_of-self-2 : goal.invariant_of-self-2
 invariant_of-self-2 c =
     let s = c.self.inside in
-    let same = c.search_new.ensures.same_matchers in
-    record {
-      matchers = AreMatchers-same s.syntax s.options _ s.matchers.items _ c.self.invariant.matchers same.same_expressions same.same_wholes;
-      few = subst (λ n. n ≤ most_patterns) (sym (same_length matched_expression _ _ same.same_expressions)) c.self.invariant.few;
-      kept = subst (λ es. All (IsFileKept es s.options) c.push_file.new.files.items) (sym same.same_expressions) (subst (All (IsFileKept (map matched_expression s.matchers.items) s.options)) (sym c.in-Ok-push_file.ensures.ok) (All-push (IsFileKept (map matched_expression s.matchers.items) s.options) s.files.items _ c.self.invariant.kept c.in-Ok.ensures.ok));
-      rooms = keep_same s.states s.matchers.items _ same.same_rooms c.self.invariant.rooms;
-      some_states = c.self.invariant.some_states;
-      few_states = c.self.invariant.few_states;
-    }
+    let Kept = IsFileKept (map matched_expression s.matchers.items) s.options in
+    asked_session s _ refl refl c.self.invariant c.search_new.ensures.same_matchers (subst (All Kept) (sym c.in-Ok-push.ensures.ok) (All-push Kept s.files.items _ c.self.invariant.kept c.in-Ok.ensures.ok))
 
 pub returns-in-Err-clause-memory : goal.returns-in-Err-clause-memory
 returns-in-Err-clause-memory c = λ newline. absurd (newline (rw c.deref.ensures.value at c.if-any_newline.ensures))
 
-pub returns-in-Err-push_file-clause-memory : goal.returns-in-Err-push_file-clause-memory
-returns-in-Err-push_file-clause-memory c = λ newline. absurd (newline (rw c.deref.ensures.value at c.if-any_newline.ensures))
+pub returns-in-Err-push-clause-memory : goal.returns-in-Err-push-clause-memory
+returns-in-Err-push-clause-memory c = λ newline. absurd (newline (rw c.deref.ensures.value at c.if-any_newline.ensures))
 
 pub returns-then-any_newline-clause-gives : goal.returns-then-any_newline-clause-gives
 returns-then-any_newline-clause-gives c = (inr (rw c.deref.ensures.value at c.if-any_newline.ensures, refl), refl)
@@ -93,8 +50,8 @@ returns-clause-gives c =
     let old = inputs_of s in
     let name = c.args.name.items in
     let none = rw c.deref.ensures.value at c.if-any_newline.ensures in
-    let files : map kept_file c.push_file.new.files.items ≡ old.files ++ whole_file name (map (λ line. line.items) c.args.lines.items) ∷ [] =
-    ap (map kept_file) c.in-Ok-push_file.ensures.ok ∙ map-append kept_file s.files.items _ ∙ ap (λ lines. old.files ++ whole_file name lines ∷ []) c.in-Ok.ensures.texts in
+    let files : map kept_file c.push.new.all.items ≡ old.files ++ whole_file name (map (λ line. line.items) c.args.lines.items) ∷ [] =
+    ap (map kept_file) c.in-Ok-push.ensures.ok ∙ map-append kept_file s.files.items _ ∙ ap (λ lines. old.files ++ whole_file name lines ∷ []) c.in-Ok.ensures.texts in
     rw (← c.self.view_is) (inl (none, ap (λ fs. Ok (with_files fs old)) files))
 
 pub returns-then-any_newline-clause-memory : goal.returns-then-any_newline-clause-memory

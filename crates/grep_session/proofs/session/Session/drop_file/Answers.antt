@@ -1,4 +1,4 @@
-use Rattle.std.proofs.Common.{◌<◌, Ok, All, inl, length, map, arith, ap, sym, subst}
+use Rattle.std.proofs.Common.{◌<◌, Ok, refl, All, inl, length, map, arith, ap, sym, subst}
 use Rattle.std.proofs.lemmas.List.{length-map}
 use Rattle.grep_session.specs.Edits.{with_files}
 use Rattle.re_search.specs.Working.Matchers.{matched_expression}
@@ -6,6 +6,8 @@ use Rattle.grep_session.specs.Working.Kept.{IsFileKept, kept_file}
 use Rattle.grep_session.proofs.lemmas.DroppingLemmas.{All-remove}
 use Rattle.grep_session.specs.Working.Sessions.{inputs_of}
 use Rattle.grep_session.proofs.lemmas.SessionLemmas.{map-remove}
+use Rattle.grep_session.proofs.lemmas.EditLemmas.{asked_session}
+use Rattle.grep_session.proofs.lemmas.RoomLemmas.{none_asked}
 use Rattle.grep_session.proofs.session.Session.drop_file.Goals as goal
 
 pub returns-clause-gives : goal.returns-clause-gives
@@ -18,11 +20,4 @@ pub invariant_of-self : goal.invariant_of-self
 invariant_of-self c =
     let s = c.self.inside in
     let Kept = IsFileKept (map matched_expression s.matchers.items) s.options in
-    record {
-      matchers = c.self.invariant.matchers;
-      few = c.self.invariant.few;
-      kept = subst (All Kept) (sym c.remove.ensures.items) (All-remove Kept s.files.items c.args.k c.self.invariant.kept);
-      rooms = c.self.invariant.rooms;
-      some_states = c.self.invariant.some_states;
-      few_states = c.self.invariant.few_states;
-    }
+    asked_session s _ refl refl c.self.invariant none_asked (subst (All Kept) (sym c.remove.ensures.items) (All-remove Kept s.files.items c.args.k c.self.invariant.kept))

@@ -1,4 +1,4 @@
-use Rattle.std.proofs.Common.{◌≡◌, ◌≤◌, All, Ok, map, inl, sym, ap, subst, ◌∙◌}
+use Rattle.std.proofs.Common.{◌≡◌, ◌≤◌, All, [], refl, Ok, map, inl, sym, ap, subst, ◌∙◌}
 use Rattle.re_search.specs.Working.Matchers.{matched_expression, wants_whole}
 use Rattle.re_search.specs.Searching.{AllAnswer}
 use Rattle.grep_core.specs.Files.{Inputs}
@@ -7,9 +7,11 @@ use Rattle.grep_session.specs.Working.Again.{read_as}
 use Rattle.re_syntax.specs.Profile.{most_patterns}
 use Rattle.grep_session.specs.Working.Kept.{IsFileKept}
 use Rattle.grep_session.specs.Working.Sessions.{inputs_of}
-use Rattle.grep_session.proofs.lemmas.EditLemmas.{AreMatchers-same}
-use Rattle.grep_session.proofs.lemmas.AllPatternsRead.{takes_parts, ready_files, AreMatchers-options}
+use Rattle.grep_session.specs.Touched.{all_lines}
+use Rattle.grep_session.proofs.lemmas.EditLemmas.{AreMatchers-same, asked_session}
+use Rattle.grep_session.proofs.lemmas.AllPatternsRead.{ready_files, AreMatchers-options}
 use Rattle.grep_session.proofs.lemmas.RoomLemmas.{keep_same}
+use Rattle.grep_session.proofs.lemmas.StepLemmas.{takes_parts}
 use Rattle.grep_session.proofs.session.Session.part_again.Goals as goal
 
 pub find_columns-requires-clause-whole : goal.find_columns-requires-clause-whole
@@ -18,12 +20,6 @@ find_columns-requires-clause-whole c =
     let whole : c.args.options.line_regexp ≡ s.options.line_regexp = c.requires.same_whole ∙ sym (ap (λ (i : Inputs). i.options.line_regexp) c.self.view_is) in
     subst (λ w. AllAnswer w (map wants_whole s.matchers.items)) (sym whole) c.self.invariant.matchers.wholes
 
-pub find_columns-requires-clause-ready : goal.find_columns-requires-clause-ready
-find_columns-requires-clause-ready c =
-    let s = c.self.inside in
-    let whole : c.args.options.line_regexp ≡ s.options.line_regexp = c.requires.same_whole ∙ sym (ap (λ (i : Inputs). i.options.line_regexp) c.self.view_is) in
-    ready_files (map matched_expression s.matchers.items) s.options c.args.options whole s.files.items c.self.invariant.kept
-
 pub returns-in-Err-clause-steps : goal.returns-in-Err-clause-steps
 returns-in-Err-clause-steps c =
     let s = c.self.inside in
@@ -31,7 +27,7 @@ returns-in-Err-clause-steps c =
     let whole : c.args.options.line_regexp ≡ s.options.line_regexp = c.requires.same_whole ∙ sym (ap (λ (i : Inputs). i.options.line_regexp) c.self.view_is) in
     let case : c.args.options.ignore_case ≡ s.options.ignore_case = c.requires.same_case ∙ sym (ap (λ (i : Inputs). i.options.ignore_case) c.self.view_is) in
     let made = AreMatchers-options s.syntax s.options c.args.options _ s.matchers.items whole case c.self.invariant.matchers in
-    rw (← c.self.view_is) (λ edit applies touches. takes_parts edit old (read_as old.syntax c.args.options old) (map matched_expression s.matchers.items) _ _ applies touches made.meant c.find_columns.ensures.steps)
+    rw (← c.self.view_is) (λ edit applies touches. takes_parts edit old (read_as old.syntax c.args.options old) [] (map matched_expression s.matchers.items) (all_lines old) _ _ applies touches made.meant (c.find_columns.ensures.steps _ [] refl (ready_files (map matched_expression s.matchers.items) s.options c.args.options whole s.files.items c.self.invariant.kept)))
 
 pub returns-clause-steps : goal.returns-clause-steps
 returns-clause-steps c =
@@ -40,7 +36,7 @@ returns-clause-steps c =
     let whole : c.args.options.line_regexp ≡ s.options.line_regexp = c.requires.same_whole ∙ sym (ap (λ (i : Inputs). i.options.line_regexp) c.self.view_is) in
     let case : c.args.options.ignore_case ≡ s.options.ignore_case = c.requires.same_case ∙ sym (ap (λ (i : Inputs). i.options.ignore_case) c.self.view_is) in
     let made = AreMatchers-options s.syntax s.options c.args.options _ s.matchers.items whole case c.self.invariant.matchers in
-    rw (← c.self.view_is) (λ edit applies touches. takes_parts edit old (read_as old.syntax c.args.options old) (map matched_expression s.matchers.items) _ _ applies touches made.meant c.find_columns.ensures.steps)
+    rw (← c.self.view_is) (λ edit applies touches. takes_parts edit old (read_as old.syntax c.args.options old) [] (map matched_expression s.matchers.items) (all_lines old) _ _ applies touches made.meant (c.find_columns.ensures.steps _ [] refl (ready_files (map matched_expression s.matchers.items) s.options c.args.options whole s.files.items c.self.invariant.kept)))
 
 pub invariant_of-self-2 : goal.invariant_of-self-2
 invariant_of-self-2 c =
@@ -52,7 +48,7 @@ invariant_of-self-2 c =
     record {
       matchers = AreMatchers-same s.syntax c.args.options _ s.matchers.items _ made same c.find_columns.ensures.same_matchers.same_wholes;
       few = subst (λ n. n ≤ most_patterns) (sym (same_length matched_expression _ _ same)) c.self.invariant.few;
-      kept = c.in-Ok.ensures.ok;
+      kept = c.in-Ok.ensures.ok _ [] refl (ready_files (map matched_expression s.matchers.items) s.options c.args.options whole s.files.items c.self.invariant.kept);
       rooms = keep_same s.states s.matchers.items _ c.find_columns.ensures.same_matchers.same_rooms c.self.invariant.rooms;
       some_states = c.self.invariant.some_states;
       few_states = c.self.invariant.few_states;
@@ -69,12 +65,4 @@ returns-clause-gives c =
 pub invariant_of-self : goal.invariant_of-self
 invariant_of-self c =
     let s = c.self.inside in
-    let same = c.find_columns.ensures.same_matchers.same_expressions in
-    record {
-      matchers = AreMatchers-same s.syntax s.options _ s.matchers.items _ c.self.invariant.matchers same c.find_columns.ensures.same_matchers.same_wholes;
-      few = subst (λ n. n ≤ most_patterns) (sym (same_length matched_expression _ _ same)) c.self.invariant.few;
-      kept = subst (All (IsFileKept (map matched_expression c.find_columns.new.matchers.items) s.options)) (sym c.in-Err.ensures.err) (subst (λ es. All (IsFileKept es s.options) s.files.items) (sym same) c.self.invariant.kept);
-      rooms = keep_same s.states s.matchers.items _ c.find_columns.ensures.same_matchers.same_rooms c.self.invariant.rooms;
-      some_states = c.self.invariant.some_states;
-      few_states = c.self.invariant.few_states;
-    }
+    asked_session s _ refl refl c.self.invariant c.find_columns.ensures.same_matchers (subst (All (IsFileKept (map matched_expression s.matchers.items) s.options)) (sym c.in-Err.ensures.err) c.self.invariant.kept)

@@ -1,13 +1,16 @@
-use Rattle.std.proofs.Common.{◌≡◌, ◌≤◌, All, Ok, Err, length, map, inl, sym, ap, subst, ◌∙◌}
+use Rattle.std.proofs.Common.{◌≡◌, ◌≤◌, All, Ok, Err, [], refl, length, map, inl, sym, ap, subst, ◌∙◌}
 use Rattle.re_search.specs.Working.Matchers.{matched_expression}
 use Rattle.grep_core.proofs.lemmas.CostLaws.{same_length}
 use Rattle.grep_session.specs.Working.Again.{ReadsAgain, read_as}
 use Rattle.re_syntax.specs.Profile.{most_patterns}
 use Rattle.grep_session.specs.Working.Kept.{IsFileKept}
 use Rattle.grep_session.specs.Working.Sessions.{inputs_of}
-use Rattle.grep_session.proofs.lemmas.EditLemmas.{AreMatchers-same}
-use Rattle.grep_session.proofs.lemmas.AllPatternsRead.{takes_all, refuses_again}
-use Rattle.grep_session.proofs.lemmas.RoomLemmas.{keep_same}
+use Rattle.grep_session.specs.Touched.{all_lines}
+use Rattle.grep_session.proofs.lemmas.EditLemmas.{AreMatchers-same, asked_session}
+use Rattle.grep_session.proofs.lemmas.AllPatternsRead.{refuses_again}
+use Rattle.grep_session.proofs.lemmas.ChangeLemmas.{anew_files}
+use Rattle.grep_session.proofs.lemmas.StepLemmas.{takes_lines}
+use Rattle.grep_session.proofs.lemmas.RoomLemmas.{keep_same, none_asked}
 use Rattle.grep_session.proofs.session.Session.read_again.Goals as goal
 
 pub returns-in-Err-clause-gives : goal.returns-in-Err-clause-gives
@@ -19,13 +22,13 @@ pub returns-in-Err-find_columns-clause-steps : goal.returns-in-Err-find_columns-
 returns-in-Err-find_columns-clause-steps c =
     let old = inputs_of c.self.inside in
     let made = rw c.deref.ensures.value at c.in-Ok.ensures.ok in
-    rw (← c.self.view_is) (λ edit applies touches. takes_all edit old (read_as c.args.syntax c.args.options old) (map matched_expression c.in-Ok.matchers.items) _ _ _ (applies made.readable) touches made.meant made.counted c.find_columns.ensures.steps)
+    rw (← c.self.view_is) (λ edit applies touches. takes_lines edit old (read_as c.args.syntax c.args.options old) c.in-Ok.matchers.items (all_lines old) _ _ (applies made.readable) touches made refl (c.find_columns.ensures.steps [] _ refl (anew_files [] c.args.options c.self.inside.files.items)))
 
 pub returns-clause-steps : goal.returns-clause-steps
 returns-clause-steps c =
     let old = inputs_of c.self.inside in
     let made = rw c.deref.ensures.value at c.in-Ok.ensures.ok in
-    rw (← c.self.view_is) (λ edit applies touches. takes_all edit old (read_as c.args.syntax c.args.options old) (map matched_expression c.in-Ok.matchers.items) _ _ _ (applies made.readable) touches made.meant made.counted c.find_columns.ensures.steps)
+    rw (← c.self.view_is) (λ edit applies touches. takes_lines edit old (read_as c.args.syntax c.args.options old) c.in-Ok.matchers.items (all_lines old) _ _ (applies made.readable) touches made refl (c.find_columns.ensures.steps [] _ refl (anew_files [] c.args.options c.self.inside.files.items)))
 
 pub invariant_of-self-2 : goal.invariant_of-self-2
 invariant_of-self-2 c =
@@ -36,7 +39,7 @@ invariant_of-self-2 c =
     record {
       matchers = AreMatchers-same c.args.syntax c.args.options _ c.in-Ok.matchers.items _ made same c.find_columns.ensures.same_matchers.same_wholes;
       few = subst (λ n. n ≤ most_patterns) (sym many) c.self.invariant.few;
-      kept = c.in-Ok-find_columns.ensures.ok;
+      kept = c.in-Ok-find_columns.ensures.ok [] _ refl (anew_files [] c.args.options s.files.items);
       rooms = keep_same s.states c.in-Ok.matchers.items _ c.find_columns.ensures.same_matchers.same_rooms c.in-Ok.ensures.rooms;
       some_states = c.self.invariant.some_states;
       few_states = c.self.invariant.few_states;
@@ -51,11 +54,4 @@ returns-clause-gives c =
 pub invariant_of-self : goal.invariant_of-self
 invariant_of-self c =
     let s = c.self.inside in
-    record {
-      matchers = c.self.invariant.matchers;
-      few = c.self.invariant.few;
-      kept = subst (All (IsFileKept (map matched_expression s.matchers.items) s.options)) (sym c.in-Err-find_columns.ensures.err) c.self.invariant.kept;
-      rooms = c.self.invariant.rooms;
-      some_states = c.self.invariant.some_states;
-      few_states = c.self.invariant.few_states;
-    }
+    asked_session s _ refl refl c.self.invariant none_asked (subst (All (IsFileKept (map matched_expression s.matchers.items) s.options)) (sym c.in-Err-find_columns.ensures.err) c.self.invariant.kept)

@@ -1,41 +1,20 @@
-use Rattle.std.proofs.Common.{◌≡◌, ◌≤◌, Ok, IfSome, map, refl, sym, subst, ◌∙◌, ap, get_or, slice_set, All, arith}
+use Rattle.std.proofs.Common.{◌≡◌, Ok, IfSome, map, refl, sym, subst, ◌∙◌, ap, get_or, All, arith}
 use Rattle.re_search.specs.Working.Matchers.{matched_expression}
-use Rattle.grep_core.proofs.lemmas.CostLaws.{same_length}
 use Rattle.grep_session.specs.declared.kept.KeptFile.{KeptFile}
 use Rattle.grep_session.specs.Edits.{Splice, Applies, spliced, with_files}
-use Rattle.re_syntax.specs.Profile.{most_patterns}
 use Rattle.grep_session.specs.Working.Kept.{IsKept, IsFileKept, kept_lines, line_text}
 use Rattle.grep_session.specs.Working.Sessions.{inputs_of}
-use Rattle.grep_session.proofs.lemmas.EditLemmas.{AreMatchers-same, takes_lines, applies_splice, in_kept, put, kept_put, files_put, files_same, files_kept, refuses_splice, needs_for_lines, newline_not_memory, empty_map}
-use Rattle.grep_session.proofs.lemmas.RoomLemmas.{keep_same}
+use Rattle.grep_session.proofs.lemmas.EditLemmas.{asked_session, splice_steps, applies_splice, in_kept, put, kept_put, files_put, files_same, files_kept, refuses_splice, needs_for_lines, newline_not_memory, empty_map}
 use Rattle.grep_session.proofs.session.Session.splice.Goals as goal
 
 pub returns-in-Err-search_new-clause-steps : goal.returns-in-Err-search_new-clause-steps
-returns-in-Err-search_new-clause-steps c =
-    let s = c.self.inside in
-    let old = inputs_of s in
-    let lines = map (λ line. line.items) c.args.lines.items in
-    let none = rw c.deref-2.ensures.value at c.if-any_newline.ensures in
-    let place = rw c.deref.ensures.value at c.in-Ok.ensures.place in
-    rw (← c.self.view_is) (takes_lines (Splice c.args.k c.args.start c.args.count lines) old (spliced old.files c.args.k c.args.start c.args.count lines) (map matched_expression s.matchers.items) _ lines _ _ (applies_splice old _ _ _ lines place none) refl c.self.invariant.matchers.meant c.self.invariant.matchers.counted c.search_new.ensures.steps)
+returns-in-Err-search_new-clause-steps c = rw (← c.self.view_is) (splice_steps c.self.inside c.self.invariant _ (rw c.deref-2.ensures.value at c.if-any_newline.ensures) _ _ c.search_new.ensures.steps _ _ _ (rw c.deref.ensures.value at c.in-Ok.ensures.place))
 
 pub returns-in-Err-put_in-clause-steps : goal.returns-in-Err-put_in-clause-steps
-returns-in-Err-put_in-clause-steps c =
-    let s = c.self.inside in
-    let old = inputs_of s in
-    let lines = map (λ line. line.items) c.args.lines.items in
-    let none = rw c.deref-2.ensures.value at c.if-any_newline.ensures in
-    let place = rw c.deref.ensures.value at c.in-Ok.ensures.place in
-    rw (← c.self.view_is) (takes_lines (Splice c.args.k c.args.start c.args.count lines) old (spliced old.files c.args.k c.args.start c.args.count lines) (map matched_expression s.matchers.items) _ lines _ _ (applies_splice old _ _ _ lines place none) refl c.self.invariant.matchers.meant c.self.invariant.matchers.counted c.search_new.ensures.steps)
+returns-in-Err-put_in-clause-steps c = rw (← c.self.view_is) (splice_steps c.self.inside c.self.invariant _ (rw c.deref-2.ensures.value at c.if-any_newline.ensures) _ _ c.search_new.ensures.steps _ _ _ (rw c.deref.ensures.value at c.in-Ok.ensures.place))
 
 pub returns-clause-steps : goal.returns-clause-steps
-returns-clause-steps c =
-    let s = c.self.inside in
-    let old = inputs_of s in
-    let lines = map (λ line. line.items) c.args.lines.items in
-    let none = rw c.deref-2.ensures.value at c.if-any_newline.ensures in
-    let place = rw c.deref.ensures.value at c.in-Ok.ensures.place in
-    rw (← c.self.view_is) (takes_lines (Splice c.args.k c.args.start c.args.count lines) old (spliced old.files c.args.k c.args.start c.args.count lines) (map matched_expression s.matchers.items) _ lines _ _ (applies_splice old _ _ _ lines place none) refl c.self.invariant.matchers.meant c.self.invariant.matchers.counted c.search_new.ensures.steps)
+returns-clause-steps c = rw (← c.self.view_is) (splice_steps c.self.inside c.self.invariant _ (rw c.deref-2.ensures.value at c.if-any_newline.ensures) _ _ c.search_new.ensures.steps _ _ _ (rw c.deref.ensures.value at c.in-Ok.ensures.place))
 
 pub returns-in-Err-put_in-clause-gives : goal.returns-in-Err-put_in-clause-gives
 returns-in-Err-put_in-clause-gives c =
@@ -55,15 +34,7 @@ invariant_of-self-2 c =
     let within = in_kept s.files.items c.args.k place.in_files in
     let before : IfSome (kept_lines d) (All (IsKept es s.options)) = subst (λ (f : KeptFile). IsFileKept es s.options f) (sym at) (c.self.invariant.kept c.args.k d within) in
     let kept = files_kept es s.options s.files.items c.args.k c.put_in.new.file _ c.self.invariant.kept c.in-Ok-put_in.ensures.ok (kept_put c.args.start c.args.count c.in-Ok-search_new.kept.items es s.options (kept_lines d) before c.in-Ok-search_new.ensures.ok) in
-    let same = c.search_new.ensures.same_matchers.same_expressions in
-    record {
-      matchers = AreMatchers-same s.syntax s.options _ s.matchers.items _ c.self.invariant.matchers same c.search_new.ensures.same_matchers.same_wholes;
-      few = subst (λ n. n ≤ most_patterns) (sym (same_length matched_expression _ _ same)) c.self.invariant.few;
-      kept = subst (λ es. All (IsFileKept es s.options) (slice_set s.files.items c.args.k c.put_in.new.file)) (sym same) kept;
-      rooms = keep_same s.states s.matchers.items _ c.search_new.ensures.same_matchers.same_rooms c.self.invariant.rooms;
-      some_states = c.self.invariant.some_states;
-      few_states = c.self.invariant.few_states;
-    }
+    asked_session s _ refl refl c.self.invariant c.search_new.ensures.same_matchers kept
 
 pub returns-clause-gives : goal.returns-clause-gives
 returns-clause-gives c =
@@ -114,17 +85,7 @@ index_mut-requires c =
     omega (arith, in_kept files.items c.args.k place.in_files, files.ok.0)
 
 pub invariant_of-self : goal.invariant_of-self
-invariant_of-self c =
-    let s = c.self.inside in
-    let same = c.search_new.ensures.same_matchers.same_expressions in
-    record {
-      matchers = AreMatchers-same s.syntax s.options _ s.matchers.items _ c.self.invariant.matchers same c.search_new.ensures.same_matchers.same_wholes;
-      few = subst (λ n. n ≤ most_patterns) (sym (same_length matched_expression _ _ same)) c.self.invariant.few;
-      kept = subst (λ es. All (IsFileKept es s.options) s.files.items) (sym same) c.self.invariant.kept;
-      rooms = keep_same s.states s.matchers.items _ c.search_new.ensures.same_matchers.same_rooms c.self.invariant.rooms;
-      some_states = c.self.invariant.some_states;
-      few_states = c.self.invariant.few_states;
-    }
+invariant_of-self c = asked_session c.self.inside _ refl refl c.self.invariant c.search_new.ensures.same_matchers c.self.invariant.kept
 
 pub invariant_of-self-in-Err-put_in : goal.invariant_of-self-in-Err-put_in
 invariant_of-self-in-Err-put_in c =
@@ -136,15 +97,7 @@ invariant_of-self-in-Err-put_in c =
     let within = in_kept s.files.items c.args.k place.in_files in
     let before : IfSome (kept_lines d) (All (IsKept es s.options)) = subst (λ (f : KeptFile). IsFileKept es s.options f) (sym at) (c.self.invariant.kept c.args.k d within) in
     let kept = files_kept es s.options s.files.items c.args.k c.put_in.new.file _ c.self.invariant.kept c.in-Err-put_in.ensures.err before in
-    let same = c.search_new.ensures.same_matchers.same_expressions in
-    record {
-      matchers = AreMatchers-same s.syntax s.options _ s.matchers.items _ c.self.invariant.matchers same c.search_new.ensures.same_matchers.same_wholes;
-      few = subst (λ n. n ≤ most_patterns) (sym (same_length matched_expression _ _ same)) c.self.invariant.few;
-      kept = subst (λ es. All (IsFileKept es s.options) (slice_set s.files.items c.args.k c.put_in.new.file)) (sym same) kept;
-      rooms = keep_same s.states s.matchers.items _ c.search_new.ensures.same_matchers.same_rooms c.self.invariant.rooms;
-      some_states = c.self.invariant.some_states;
-      few_states = c.self.invariant.few_states;
-    }
+    asked_session s _ refl refl c.self.invariant c.search_new.ensures.same_matchers kept
 
 pub returns-then-any_newline-clause-memory : goal.returns-then-any_newline-clause-memory
 returns-then-any_newline-clause-memory c = λ need. newline_not_memory

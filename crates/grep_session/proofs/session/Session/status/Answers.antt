@@ -1,8 +1,11 @@
-use Rattle.std.proofs.Common.{map, subst}
+use Rattle.std.proofs.Common.{map, sym, subst}
 use Rattle.re_search.specs.Working.Matchers.{matched_expression}
+use Rattle.grep_core.specs.Messages.{StatusOf}
 use Rattle.grep_session.specs.Headline.{IsStatusOfInputs}
+use Rattle.grep_session.specs.Working.Kept.{kept_file}
 use Rattle.grep_session.specs.Working.Sessions.{inputs_of}
 use Rattle.grep_session.proofs.lemmas.HeadlineLaws.{status_of_inputs}
+use Rattle.grep_session.proofs.lemmas.KeptLaws.{kept_status}
 use Rattle.grep_session.proofs.session.Session.status.Goals as goal
 
 pub returns : goal.returns
@@ -10,4 +13,5 @@ returns c =
     let s = c.self.inside in
     let es = map matched_expression s.matchers.items in
     let is = rw c.deref.ensures.value at c.status.ensures in
-    subst (λ inputs. IsStatusOfInputs inputs c.status.result) c.self.view_is (status_of_inputs (inputs_of s) es c.self.invariant.matchers.meant c.status.result (is es c.self.invariant.kept))
+    let right = subst (StatusOf es s.options (map kept_file s.files.items)) (sym is) (kept_status es s.options s.files.items c.self.invariant.kept) in
+    subst (λ inputs. IsStatusOfInputs inputs c.status.result) c.self.view_is (status_of_inputs (inputs_of s) es c.self.invariant.matchers.meant c.status.result right)

@@ -1,8 +1,11 @@
-use Rattle.std.proofs.Common.{map, subst}
+use Rattle.std.proofs.Common.{map, sym, subst}
 use Rattle.re_search.specs.Working.Matchers.{matched_expression}
+use Rattle.grep_core.specs.Messages.{StatusOf}
 use Rattle.grep_session.specs.Headline.{IsStatusOfInputs}
+use Rattle.grep_session.specs.Working.Kept.{kept_file}
 use Rattle.grep_session.specs.Working.Sessions.{inputs_of}
 use Rattle.grep_session.proofs.lemmas.HeadlineLaws.{status_of_inputs, known_of}
+use Rattle.grep_session.proofs.lemmas.KeptLaws.{given_status}
 use Rattle.grep_session.proofs.session.Session.status_given.Goals as goal
 
 pub returns : goal.returns
@@ -11,4 +14,5 @@ returns c =
     let es = map matched_expression s.matchers.items in
     let is = rw c.deref.ensures.value at c.status_given.ensures in
     let known = known_of (inputs_of s) c.args.self.now c.args.some c.self.view_is c.requires es c.self.invariant.matchers.meant in
-    subst (λ inputs. IsStatusOfInputs inputs c.status_given.result) c.self.view_is (status_of_inputs (inputs_of s) es c.self.invariant.matchers.meant c.status_given.result (is es c.self.invariant.kept known))
+    let right = subst (StatusOf es s.options (map kept_file s.files.items)) (sym is) (given_status es s.options s.files.items c.self.invariant.kept c.args.some known) in
+    subst (λ inputs. IsStatusOfInputs inputs c.status_given.result) c.self.view_is (status_of_inputs (inputs_of s) es c.self.invariant.matchers.meant c.status_given.result right)

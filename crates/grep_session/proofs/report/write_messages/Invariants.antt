@@ -1,7 +1,7 @@
 use Rattle.std.proofs.Common.{drop}
 use Rattle.grep_session.specs.Working.Report.{told_from}
 use Rattle.grep_session.proofs.lemmas.Writing.{WrittenUpTo}
-use Rattle.grep_session.proofs.report.tell_files.Given as goal
+use Rattle.grep_session.proofs.report.write_messages.Given as goal
 
 -- the messages on the files up to here were written
 abbrev pub invariant-loop-file : goal.invariant-loop-file

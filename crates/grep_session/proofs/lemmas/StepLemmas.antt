@@ -1,0 +1,175 @@
+-- The cost of lines, and the steps that a search of them takes.
+use Rattle.std.proofs.Common.{◌≡◌, ℕ, ◌+◌, ◌-◌, Bool, true, false, List, [], ◌∷◌, ◌++◌, inl, inr, length, map, drop, length-drop, MatchBool, Decides, Ok, refl, sym, ap, subst, ◌∙◌, append_assoc, arith}
+use Rattle.std.proofs.lemmas.List.{length-map}
+use Rattle.std.proofs.lemmas.Bool.{false≢true}
+use Rattle.re_syntax.specs.Bytes.{Text}
+use Rattle.re_syntax.specs.Expression.{Expression}
+use Rattle.re_search.specs.Matcher.{Matcher}
+use Rattle.re_search.specs.Searching.{AddsAtMost}
+use Rattle.re_search.specs.Working.Matchers.{matched_expression}
+use Rattle.grep_core.specs.Meters.{Steps}
+use Rattle.grep_core.specs.declared.options.Options.{Options}
+use Rattle.grep_core.specs.Choose.{IfHolds, Chosen}
+use Rattle.grep_core.specs.Cost.{search_cost}
+use Rattle.grep_core.specs.Files.{Inputs, AreMeant}
+use Rattle.grep_core.specs.Working.MatcherLists.{AreMatchers}
+use Rattle.grep_core.proofs.lemmas.CostLaws.{adds_both, adds_none, adds_within}
+use Rattle.grep_core.proofs.lemmas.Decided.{dec_matched}
+use Rattle.grep_session.specs.declared.change.Change.{Change}
+use Rattle.grep_session.specs.declared.change.Change.TheVariants.{Anew, PartsAlone, Added, Dropped}
+use Rattle.grep_session.specs.Edits.{Edit, Applies}
+use Rattle.grep_session.specs.Touched.{PartsCostOf, PartsCost, TakesSteps, Touched, Touches, pairs_cost, parts_alone, searched_by}
+use Rattle.grep_session.specs.Working.Changed.{ChangeCost, CostAnew, CostOfEach, HasNewParts, SearchesEach, SearchesOne, searched_for}
+use Rattle.grep_session.proofs.lemmas.FindingLemmas.{parts_cost_exists}
+
+-- a decided question
+pub IfHolds-decided : {P A B : Type 0} (verdict : Bool) → Decides verdict P → MatchBool verdict A B → IfHolds P A B
+IfHolds-decided true d h = inl (d.0 refl, h)
+IfHolds-decided false d h = inr ((λ p. false≢true (d.1 p)), h)
+
+-- ---- one line
+
+-- whether the parts of a line are searched is decided
+dec_new_parts : (change : Change) (changed : List Expression) (options : Options) (line : Text) → Dec (HasNewParts change changed options line)
+dec_new_parts Anew changed options line = yes tt
+dec_new_parts PartsAlone changed options line = yes tt
+dec_new_parts (Added first) changed options line = dec_matched changed options line
+dec_new_parts (Dropped p) changed options line = dec_matched changed options line
+
+-- a line has a cost
+pub ChangeCost-exists : (change : Change) (changed es : List Expression) (options : Options) (line : Text) → (cost : ℕ) × ChangeCost change changed es options line cost
+ChangeCost-exists change changed es options line = by_verdict (dec_new_parts change changed options line)
+  where
+    by_verdict : Dec (HasNewParts change changed options line) → (cost : ℕ) × ChangeCost change changed es options line cost
+    by_verdict (yes m) = let own = parts_cost_exists es options line in (search_cost (searched_for change changed) line + own.0, (own.0, inl (m, own.1), refl))
+    by_verdict (no m) = (search_cost (searched_for change changed) line + 0, (0, inr (m, refl), refl))
+
+module _ (change : Change) (changed es : List Expression) (options : Options) (line : Text) where
+  -- a line that was not searched for its parts
+  pub changed_before_parts : (begun ended : Steps) → AddsAtMost (search_cost (searched_for change changed) line) begun ended → SearchesOne (ChangeCost change changed es options) line begun ended
+  changed_before_parts begun ended few =
+      let cost = ChangeCost-exists change changed es options line in
+      let own = cost.1 in
+      record { own = cost.0; is_own = cost.1; few = adds_within (search_cost (searched_for change changed) line) cost.0 begun ended (omega (arith, own.2)) few }
+
+  -- a line that was searched for its parts, if that is needed
+  pub changed_with_parts : (verdict : Bool) (begun mid ended : Steps) → Decides verdict (HasNewParts change changed options line) → AddsAtMost (search_cost (searched_for change changed) line) begun mid
+      → (own : ℕ) × MatchBool verdict (PartsCostOf es options line own) (own ≡ 0) × AddsAtMost own mid ended → SearchesOne (ChangeCost change changed es options) line begun ended
+  changed_with_parts verdict begun mid ended d few parts = record {
+    own = search_cost (searched_for change changed) line + parts.0;
+    is_own = (parts.0, IfHolds-decided verdict d parts.1, refl);
+    few = adds_both (search_cost (searched_for change changed) line) parts.0 begun mid ended few parts.2;
+  }
+
+-- one search by each of the added matchers
+pub came_steps : {M : Type 0} (expression : M → Expression) (matchers : List M) (first : ℕ) (changed : List Expression) (line : Text) (begun ended : Steps) → changed ≡ drop first (map expression matchers)
+    → AddsAtMost (search_cost (length matchers - first) line) begun ended → AddsAtMost (search_cost (length changed) line) begun ended
+came_steps expression matchers first changed line begun ended is few =
+    let many : length matchers - first ≡ length changed = sym (ap length is ∙ length-drop first (map expression matchers) ∙ ap (λ n. n - first) (length-map matchers expression)) in
+    subst (λ n. AddsAtMost (search_cost n line) begun ended) many few
+
+-- the same where the new expressions equal all of them
+pub anew_as : (es changed : List Expression) (options : Options) (line : Text) (begun ended : Steps) → changed ≡ es → SearchesOne (CostAnew es options) line begun ended → SearchesOne (ChangeCost Anew changed es options) line begun ended
+anew_as es changed options line begun ended same s = subst (λ fs. SearchesOne (ChangeCost Anew fs es options) line begun ended) (sym same) s
+
+-- one search by each of all matchers
+pub anew_steps : {M : Type 0} (expression : M → Expression) (matchers : List M) (line : Text) (begun ended : Steps) → AddsAtMost (search_cost (length matchers) line) begun ended → AddsAtMost (search_cost (length (map expression matchers)) line) begun ended
+anew_steps expression matchers line begun ended few = subst (λ n. AddsAtMost (search_cost n line) begun ended) (sym (length-map matchers expression)) few
+
+-- ---- lines
+
+module _ (C : Text → ℕ → Type 0) where
+  CostOfEach-append : (lines more : List Text) (a b : ℕ) → CostOfEach C lines a → CostOfEach C more b → CostOfEach C (lines ++ more) (a + b)
+  CostOfEach-append [] more a b p q = let same : b ≡ a + b = omega (arith, p) in subst (CostOfEach C more) same q
+  CostOfEach-append (line ∷ lines) more a b p q = (p.0, p.1 + b, p.2, CostOfEach-append lines more p.1 b p.3 q, omega (arith, p.4))
+
+  -- no line
+  pub each_none : (steps : Steps) → SearchesEach C [] steps steps
+  each_none steps = record { cost = 0; is_cost = refl; few = adds_none 0 steps }
+
+  -- lines and more lines
+  pub each_both : (lines more all : List Text) (begun mid ended : Steps) → all ≡ lines ++ more → SearchesEach C lines begun mid → SearchesEach C more mid ended → SearchesEach C all begun ended
+  each_both lines more all begun mid ended both a b =
+      subst (λ l. SearchesEach C l begun ended) (sym both) (record { cost = a.cost + b.cost; is_cost = CostOfEach-append lines more a.cost b.cost a.is_cost b.is_cost; few = adds_both a.cost b.cost begun mid ended a.few b.few })
+
+  -- one more line
+  pub each_one : (lines : List Text) (line : Text) (all : List Text) (begun mid ended : Steps) → all ≡ lines ++ line ∷ [] → SearchesEach C lines begun mid → SearchesOne C line mid ended → SearchesEach C all begun ended
+  each_one lines line all begun mid ended both a b = each_both lines (line ∷ []) all begun mid ended both a (record { cost = b.own; is_cost = (b.own, 0, b.is_own, refl, omega arith); few = b.few })
+
+  module _ (exists : (line : Text) → (cost : ℕ) × C line cost) where
+    CostOfEach-exists : (lines : List Text) → (cost : ℕ) × CostOfEach C lines cost
+    CostOfEach-exists [] = (0, refl)
+    CostOfEach-exists (line ∷ lines) =
+        let own = exists line in
+        let rest = CostOfEach-exists lines in
+        (own.0 + rest.0, (own.0, rest.0, own.1, rest.1, refl))
+
+    -- the steps for the first lines are within the cost of all
+    pub each_front : (lines more all : List Text) (begun ended : Steps) → lines ++ more ≡ all → SearchesEach C lines begun ended → SearchesEach C all begun ended
+    each_front lines more all begun ended both a =
+        let rest = CostOfEach-exists more in
+        subst (λ l. SearchesEach C l begun ended) both (record { cost = a.cost + rest.0; is_cost = CostOfEach-append lines more a.cost rest.0 a.is_cost rest.1; few = adds_within a.cost (a.cost + rest.0) begun ended (omega arith) a.few })
+
+    -- so are the steps for the first lines and the next one
+    pub each_next : (lines : List Text) (line : Text) (more all : List Text) (begun mid ended : Steps) → lines ++ (line ∷ more) ≡ all → SearchesEach C lines begun mid → SearchesOne C line mid ended → SearchesEach C all begun ended
+    each_next lines line more all begun mid ended both a b =
+        each_front (lines ++ line ∷ []) more all begun ended (append_assoc lines (line ∷ []) more ∙ both) (each_one lines line (lines ++ line ∷ []) begun mid ended refl a b)
+
+-- the cost of lines, in the form of the cost of an edit
+pub CostOfEach-sum : (change : Change) (changed es : List Expression) (options : Options) (lines : List Text) (cost : ℕ) → CostOfEach (ChangeCost change changed es options) lines cost
+    → (chosen : List Text) × (parts : ℕ) × Chosen (HasNewParts change changed options) lines chosen × PartsCost es options chosen parts × (cost ≡ pairs_cost (searched_for change changed) lines + parts)
+CostOfEach-sum change changed es options [] cost c = ([], 0, refl, refl, omega (arith, c))
+CostOfEach-sum change changed es options (line ∷ lines) cost c =
+    let rest = CostOfEach-sum change changed es options lines c.1 c.3 in
+    let own = c.2 in
+    elim own.1 [
+      | inl m ↦ (line ∷ rest.0, own.0 + rest.1, (line ∷ [], rest.0, inl (m.0, refl), rest.2, refl), (own.0, rest.1, m.1, rest.3, refl), omega (arith, c.4, own.2, rest.4))
+      | inr m ↦ (rest.0, rest.1, ([], rest.0, inr (m.0, refl), rest.2, refl), rest.3, omega (arith, c.4, own.2, rest.4, m.1))
+    ]
+
+-- the same where the parts of all lines are searched
+chosen_all : {A : Type 0} (P : A → Type 0) (xs ys : List A) → ((x : A) → P x) → Chosen P xs ys → ys ≡ xs
+chosen_all P [] ys always c = c
+chosen_all P (x ∷ xs) ys always c = elim c.2 [ inl h ↦ c.4 ∙ (λ i. h.1 i ++ chosen_all P xs c.1 always c.3 i) | inr h ↦ absurd (h.0 (always x)) ]
+
+whole_sum : (change : Change) (changed es : List Expression) (options : Options) (lines : List Text) (cost : ℕ) → ((line : Text) → HasNewParts change changed options line) → CostOfEach (ChangeCost change changed es options) lines cost
+    → (parts : ℕ) × PartsCost es options lines parts × (cost ≡ pairs_cost (searched_for change changed) lines + parts)
+whole_sum change changed es options lines cost always c =
+    let sum = CostOfEach-sum change changed es options lines cost c in
+    (sum.1, subst (λ ls. PartsCost es options ls sum.1) (chosen_all (HasNewParts change changed options) lines sum.0 always sum.2) sum.3, sum.4)
+
+-- ---- an edit
+
+-- no step was taken
+pub takes_none : (edit : Edit) (old : Inputs) (steps : Steps) → TakesSteps edit old steps steps
+takes_none edit old steps = record { most = 0; is_most = inl refl; few = adds_none 0 steps }
+
+-- what an accepted edit touches was searched
+pub takes_touched : (edit : Edit) (old new : Inputs) (es : List Expression) (touched : Touched) (cost parts : ℕ) (begun ended : Steps) → Applies edit old (Ok new) → Touches edit old touched → AreMeant new.syntax new.options new.patterns es → PartsCost es new.options touched.lines parts
+    → cost ≡ pairs_cost touched.patterns touched.paired + parts → AddsAtMost cost begun ended → TakesSteps edit old begun ended
+takes_touched edit old new es touched cost parts begun ended applies touches meant are_parts sum few = record {
+  most = cost;
+  is_most = inr (Ok new, applies, record { es = es; are_meant = meant; touched = touched; are_touched = touches; parts = parts; are_parts = are_parts; is_sum = sum });
+  few = few;
+}
+
+-- lines were searched by all patterns
+pub takes_lines : (edit : Edit) (old new : Inputs) (matchers : List Matcher) (lines : List Text) (begun ended : Steps) → Applies edit old (Ok new) → Touches edit old (searched_by (length old.patterns) lines) → AreMatchers new.syntax new.options new.patterns matchers → new.patterns ≡ old.patterns
+    → SearchesEach (CostAnew (map matched_expression matchers) new.options) lines begun ended → TakesSteps edit old begun ended
+takes_lines edit old new matchers lines begun ended applies touches made same s =
+    let es = map matched_expression matchers in
+    let sum = whole_sum Anew es es new.options lines s.cost (λ line. tt) s.is_cost in
+    let many : length es ≡ length old.patterns = length-map matchers matched_expression ∙ made.counted ∙ ap length same in
+    takes_touched edit old new es (searched_by (length old.patterns) lines) s.cost sum.0 begun ended applies touches made.meant sum.1 (sum.2 ∙ ap (λ n. pairs_cost n lines + sum.0) many) s.few
+
+-- no pattern, no pair
+pub pairs_cost-none : (lines : List Text) → pairs_cost 0 lines ≡ 0
+pairs_cost-none [] = refl
+pairs_cost-none (line ∷ lines) = let rest : pairs_cost 0 lines ≡ 0 = pairs_cost-none lines in omega (arith, rest)
+
+-- the parts of lines were searched
+pub takes_parts : (edit : Edit) (old new : Inputs) (changed es : List Expression) (lines : List Text) (begun ended : Steps) → Applies edit old (Ok new) → Touches edit old (parts_alone lines) → AreMeant new.syntax new.options new.patterns es → SearchesEach (ChangeCost PartsAlone changed es new.options) lines begun ended
+    → TakesSteps edit old begun ended
+takes_parts edit old new changed es lines begun ended applies touches meant s =
+    let sum = whole_sum PartsAlone changed es new.options lines s.cost (λ line. tt) s.is_cost in
+    takes_touched edit old new es (parts_alone lines) s.cost sum.0 begun ended applies touches meant sum.1 (sum.2 ∙ ap (λ n. n + sum.0) (pairs_cost-none lines)) s.few
