@@ -9,9 +9,7 @@ ghost use Rattle.re_syntax.specs.Lines.{lines_of};
 ghost use Rattle.re_search.specs.Working.Needles.{IsNeeded};
 ghost use Rattle.re_search.specs.Searching.{FindsPart, AddsAtMost};
 ghost use Rattle.re_search.specs.Working.Blocks.{IsBlock, PassesUnmatched, CountsMatched};
-ghost use Rattle.re_search.specs.Working.Rows.{IsBlank, IsRight, cache_of};
-ghost use Rattle.re_search.specs.Working.CachedMatchers.{IsKnownFor};
-ghost use Rattle.re_search.specs.Working.Stages.{Searches, AnswersLine, IsReadied, mode_for};
+ghost use Rattle.re_search.specs.Working.Stages.{Searches, AnswersLine, mode_for};
 
 pub mod pace;
 pub mod pairs;
@@ -24,12 +22,11 @@ use crate::looks::Uncounted;
 use crate::simulated::Simulated;
 use crate::span::Span;
 use crate::sweeps::{Sweeps, count_by_sweeps, next_by_sweeps};
-use pace::Pace;
-use re_auto::{Automaton, Meter, Mode, StateSet};
+use re_auto::Meter;
 use std::alloc::Global;
 use std::marker::Model;
 use std::num::NonZeroUsize;
-use table::Table;
+use table::{LineSearch, Table};
 use walking::Outcome;
 
 /// A matcher for an expression that keeps the steps that it worked out. Contracts see it as the
@@ -38,9 +35,7 @@ use walking::Outcome;
 #[derive(Drop)]
 pub struct Cached {
     simulated: Simulated,
-    scratch: StateSet,
     table: Table,
-    pace: Pace,
     alloc: Global,
 }
 
@@ -66,7 +61,7 @@ impl Model for Cached {
           most = c.table.pairs.most;
         } };
 
-    ghost invariant = { λ c. IsMadeFor (expression_of c.simulated.tree) c.scratch ×
+    ghost invariant = { λ c. IsMadeFor (expression_of c.simulated.tree) c.table.scratch ×
         IsKnownFor (expression_of c.simulated.tree) (mode_for c.simulated.whole) c.table };
 }
 
@@ -83,17 +78,12 @@ impl Cached {
         ensures empty { IfOk result (λ c. c.cache.entries ≡ []) }
         ensures same { IfErr result (λ s. s ≡ simulated) }
     {
-        let Ok(scratch) = StateSet::blank(alloc, simulated.automaton()) else {
-            return Err(simulated);
-        };
-        let Ok(table) = Table::new(alloc, most) else {
+        let Ok(table) = Table::new(alloc, simulated.automaton(), most) else {
             return Err(simulated);
         };
         Ok(Cached {
             simulated,
-            scratch,
             table,
-            pace: Pace::new(),
             alloc,
         })
     }
@@ -149,32 +139,21 @@ impl Cached {
         ensures same_whole { self.new.whole ≡ self.old.whole }
         ensures same_most { self.new.most ≡ self.old.most }
     {
-        let automaton = self.simulated.automaton();
-        let mode = self.simulated.mode();
-        if !is_ready(
-            &mut self.table,
-            &mut self.pace,
-            self.alloc,
-            automaton,
-            mode,
+        let asked = LineSearch {
+            alloc: self.alloc,
+            automaton: self.simulated.automaton(),
+            mode: self.simulated.mode(),
             line,
-        ) {
+        };
+        if !self.table.is_ready(&asked) {
             return self.simulated.step_over(line, meter);
         }
-        match self.table.search(
-            self.alloc,
-            automaton,
-            mode,
-            line,
-            &mut self.pace,
-            &mut self.scratch,
-            meter,
-        ) {
+        match self.table.search(&asked, meter) {
             Outcome::Told(told) => told,
             Outcome::GaveUp(place) => {
-                self.table.clear();
-                self.pace.give_up();
-                self.simulated.finish(&self.scratch, line, place, meter)
+                self.table.give_up();
+                self.simulated
+                    .finish(&self.table.scratch, line, place, meter)
             }
         }
     }
@@ -196,29 +175,6 @@ impl Cached {
         }
         self.searched(line, meter)
     }
-}
-
-// Whether the table has rows. If it has none, they are made, provided that it is worth while and
-// there is memory for them.
-#[inline(always)]
-fn is_ready(
-    table: &mut Table,
-    pace: &mut Pace,
-    alloc: Global,
-    automaton: &Automaton,
-    mode: Mode,
-    line: &[u8],
-) -> bool
-    requires known { IsKnownFor (expression_of automaton.now) mode table.old }
-    ensures right { IsTrue result → IsRight (expression_of automaton.now) mode table.new }
-    ensures blank { result ≡ false → IsBlank table.new }
-    ensures readied { IsReadied (cache_of table.old) (cache_of table.new) }
-    ensures most { table.new.pairs.most ≡ table.old.pairs.most }
-{
-    if !table.is_blank() {
-        return true;
-    }
-    pace.begins(line.len()) && table.begin(alloc, automaton, mode)
 }
 
 impl LineMatch for Cached {

@@ -1,17 +1,16 @@
 use Rattle.std.proofs.Common.{inl, refl}
 use Rattle.re_syntax.specs.Expression.{expression_of}
-use Rattle.re_auto.specs.declared.mode.Mode.TheVariants.{Whole}
 use Rattle.re_search.specs.Working.Stages.{Stage}
 use Rattle.re_search.proofs.lemmas.StageLaws.{goes_nowhere}
-use Rattle.re_search.proofs.simulated.sets.SetPair.is_line.Goals as goal
+use Rattle.re_search.proofs.simulated.sets.SetPair.search.Goals as goal
 
 pub returns-clause-searches : goal.returns-clause-searches
 returns-clause-searches c = λ cache none.
     let first : Stage = record { set = c.start.new.into; cache = cache; steps = c.args.meter.now } in
     record {
       first = first;
-      stands = c.start.ensures.stands Whole c.args.line.now;
+      stands = c.start.ensures.stands c.args.mode c.args.line.now;
       cache = inl refl;
       steps = refl;
-      finishes = c.rest_is_line.ensures.finishes first cache none (goes_nowhere (expression_of c.args.automaton.now) Whole c.args.line.now first);
+      finishes = c.rest.ensures.finishes first cache none (goes_nowhere (expression_of c.args.automaton.now) c.args.mode c.args.line.now first);
     }
