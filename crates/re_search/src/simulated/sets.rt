@@ -1,13 +1,12 @@
 //! Sets of positions on their way over a line.
-ghost use Rattle.std.specs.Prelude.{◌≡◌, ℕ, ◌<◌, ◌≤◌, [], IfOk, IfErr, IfSome, IfNone, length};
-ghost use Rattle.re_syntax.specs.Bytes.{Text};
+ghost use Rattle.std.specs.Prelude.{◌≡◌, ◌<◌, ◌≤◌, [], IfOk, IfErr, length};
 ghost use Rattle.re_syntax.specs.Expression.{expression_of};
 ghost use Rattle.re_auto.specs.declared.build.BuildFault.TheVariants.{Memory};
+ghost use Rattle.re_auto.specs.declared.mode.Mode.TheVariants.{Search, Whole};
 ghost use Rattle.re_auto.specs.Meters.{many_built};
 ghost use Rattle.re_auto.specs.Working.StateSets.{IsMadeFor, IsNextSet};
 ghost use Rattle.re_search.specs.Working.Simulations.{AreSetsFor};
-ghost use Rattle.re_search.specs.Working.Stages.{Cache, Searches, FinishesFrom, GoesFrom, IsPlain};
-ghost use Rattle.re_search.specs.Working.Stages.{Decides};
+ghost use Rattle.re_search.specs.Working.Stages.{Cache, Searches, FinishesFrom, GoesFrom};
 
 use re_auto::{Automaton, BuildFault, Meter, Mode, StateSet};
 use std::alloc::Global;
@@ -32,6 +31,8 @@ impl SetPair {
     }
 
     /// Whether the line is matched: some stretch of it in mode `Search`, all of it in mode `Whole`.
+    /// It ends once that is known. In mode `Search` it takes no step over bytes that no stretch can
+    /// begin with while none is on its way.
     pub fn search(
         &mut self,
         automaton: &Automaton,
@@ -70,7 +71,9 @@ impl SetPair {
         self.rest(automaton, mode, line, from, meter)
     }
 
-    // The rest of a search, from a place on.
+    // The rest of a search, from a place on. Each mode has a loop of its own, since one for both
+    // takes more instructions a byte.
+    #[inline(always)]
     fn rest(
         &mut self,
         automaton: &Automaton,
@@ -86,18 +89,15 @@ impl SetPair {
             self.old.current meter.old meter.new result }
     {
         match mode {
-            Mode::Search => self.rest_by(automaton, Mode::Search, line, from, meter),
-            Mode::Whole => self.rest_by(automaton, Mode::Whole, line, from, meter),
+            Mode::Search => self.rest_stands(automaton, line, from, meter),
+            Mode::Whole => self.rest_is_line(automaton, line, from, meter),
         }
     }
 
-    // The same in a mode that is a constant where this is called, so that each has a loop of its
-    // own.
-    #[inline(always)]
-    fn rest_by(
+    // The rest of the search for some matched stretch, from a place on.
+    fn rest_stands(
         &mut self,
         automaton: &Automaton,
-        mode: Mode,
         line: &[u8],
         from: usize,
         meter: &mut Meter,
@@ -105,66 +105,59 @@ impl SetPair {
         requires made { AreSetsFor (expression_of automaton.now) self.old }
         requires within { from ≤ length line.now }
         ensures made { AreSetsFor (expression_of automaton.now) self.new }
-        ensures finishes { FinishesFrom (expression_of automaton.now) mode line.now from
+        ensures finishes { FinishesFrom (expression_of automaton.now) Search line.now from
             self.old.current meter.old meter.new result }
     {
         let mut place = from;
         'places: while place < line.len() {
-            if let Some(told) = self.told_inside(automaton, mode) {
-                return told;
+            if automaton.accepts(Mode::Search, &self.current, false) {
+                return true;
             }
-            place = self.pass(automaton, mode, line, place, meter);
+            place = self.pass(automaton, line, place, meter);
         }
-        automaton.accepts(mode, &self.current, true)
+        automaton.accepts(Mode::Search, &self.current, true)
     }
 
-    // The answer, if it is known before the line's end: a matched stretch ends here, or the whole
-    // line has to be matched and no stretch from its first place is on its way any more.
-    #[inline(always)]
-    fn told_inside(&self, automaton: &Automaton, mode: Mode) -> Option<bool>
-        requires made { AreSetsFor (expression_of automaton.now) self.now }
-        ensures told { (line : Text) (place : ℕ) → place < length line → IfSome result
-            (Decides (expression_of automaton.now) mode line place self.now.current) }
-        ensures plain { IfNone result
-            (IsPlain (expression_of automaton.now) mode self.now.current) }
-    {
-        if mode == Mode::Whole {
-            if self.current.is_nowhere() {
-                return Some(false);
-            }
-            return None;
-        }
-        if automaton.accepts(Mode::Search, &self.current, false) {
-            return Some(true);
-        }
-        None
-    }
-
-    // Goes over the byte at `place`, or, if a stretch may begin anywhere and none is on its way,
-    // over the bytes from there on that none can begin with. Returns the place after them.
-    #[inline(always)]
-    fn pass(
+    // The rest of the search for the whole line, from a place on.
+    fn rest_is_line(
         &mut self,
         automaton: &Automaton,
-        mode: Mode,
         line: &[u8],
-        place: usize,
+        from: usize,
         meter: &mut Meter,
-    ) -> usize
+    ) -> bool
+        requires made { AreSetsFor (expression_of automaton.now) self.old }
+        requires within { from ≤ length line.now }
+        ensures made { AreSetsFor (expression_of automaton.now) self.new }
+        ensures finishes { FinishesFrom (expression_of automaton.now) Whole line.now from
+            self.old.current meter.old meter.new result }
+    {
+        'places: for place in from..line.len() {
+            if self.current.is_nowhere() {
+                return false;
+            }
+            self.advance(automaton, Mode::Whole, line[place], meter);
+        }
+        automaton.accepts(Mode::Whole, &self.current, true)
+    }
+
+    // Goes over the byte at `place`, or, if no stretch is on its way, over the bytes from there on
+    // that none can begin with. Returns the place after them.
+    fn pass(&mut self, automaton: &Automaton, line: &[u8], place: usize, meter: &mut Meter) -> usize
         requires made { AreSetsFor (expression_of automaton.now) self.old }
         requires within { place < length line.now }
         ensures made { AreSetsFor (expression_of automaton.now) self.new }
         ensures on { (place < result) × (result ≤ length line.now) }
-        ensures goes { GoesFrom (expression_of automaton.now) mode line.now place self.old.current
+        ensures goes { GoesFrom (expression_of automaton.now) Search line.now place self.old.current
             meter.old result self.new.current meter.new }
     {
-        if mode == Mode::Search && self.current.is_nowhere() {
+        if self.current.is_nowhere() {
             let next = automaton.next_beginning(line, place);
             if next > place {
                 return next;
             }
         }
-        self.advance(automaton, mode, line[place], meter);
+        self.advance(automaton, Mode::Search, line[place], meter);
         place + 1
     }
 

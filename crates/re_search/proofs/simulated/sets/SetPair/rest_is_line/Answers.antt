@@ -1,0 +1,34 @@
+use Rattle.std.proofs.Common.{◌≡◌, inl, inr, refl, arith, add-one}
+use Rattle.re_syntax.specs.Expression.{expression_of}
+use Rattle.re_auto.specs.declared.mode.Mode.TheVariants.{Search, Whole}
+use Rattle.re_search.proofs.lemmas.StageLaws.{goes_built}
+use Rattle.re_search.proofs.simulated.sets.SetPair.rest_is_line.Goals as goal
+
+pub places-preserved : goal.places-preserved
+places-preserved c = record {
+  made = c.advance.ensures.made;
+  goes = λ first cache none goes. rw (add-one c.places.place)
+      (goes_built (expression_of c.args.automaton.now) Whole c.args.line.now c.places.place first cache c.places.self.current c.advance.new.self.current c.places.meter c.advance.new.meter
+      none whole_is_plain c.advance.ensures.next c.advance.ensures.counted (c.places.invariant.goes first cache none goes));
+}
+  where
+    whole_is_plain : {X : Type 0} → Whole ≡ Search → X
+    whole_is_plain is = cc
+
+pub returns-then-is_nowhere-clause-finishes : goal.returns-then-is_nowhere-clause-finishes
+returns-then-is_nowhere-clause-finishes c = λ first cache none goes. record {
+  place = c.places.place;
+  within = omega arith;
+  set = c.places.self.current;
+  goes = c.places.invariant.goes first cache none goes;
+  decides = inr (inl (record { whole = refl; nowhere = c.is_nowhere.ensures.0 c.if-is_nowhere.true; no = refl }));
+}
+
+pub returns-clause-finishes : goal.returns-clause-finishes
+returns-clause-finishes c = λ first cache none goes. record {
+  place = c.places.place;
+  within = omega arith;
+  set = c.places.self.current;
+  goes = c.places.invariant.goes first cache none goes;
+  decides = inr (inr (record { last = omega arith; told = c.accepts.ensures.told }));
+}
