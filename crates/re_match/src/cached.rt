@@ -9,17 +9,15 @@ ghost use Rattle.re_syntax.specs.Lines.{lines_of};
 ghost use Rattle.re_needle.specs.Working.Needles.{IsNeeded};
 ghost use Rattle.re_auto.specs.Searching.{FindsPart, AddsAtMost};
 ghost use Rattle.re_needle.specs.Working.Blocks.{IsBlock, PassesUnmatched, CountsMatched};
-ghost use Rattle.re_steps.specs.Working.Rows.{IsBlank, IsRight, cache_of};
-ghost use Rattle.re_match.specs.Working.CachedMatchers.{IsKnownFor};
-ghost use Rattle.re_steps.specs.Working.Stages.{Searches, IsReadied, mode_for};
+ghost use Rattle.re_steps.specs.Working.Stages.{Searches, mode_for};
 ghost use Rattle.re_match.specs.Working.CachedMatchers.{AnswersLine};
 
 use crate::line_match::LineMatch;
 use crate::looks::Uncounted;
 use crate::simulated::Simulated;
 use crate::sweeps::{Sweeps, count_by_sweeps, next_by_sweeps};
-use re_auto::{Automaton, Meter, Mode, StateSet};
-use re_steps::{Outcome, Pace, Table};
+use re_auto::Meter;
+use re_steps::{LineSearch, Outcome, Table};
 use re_syntax::Span;
 use std::alloc::Global;
 use std::marker::Model;
@@ -31,9 +29,7 @@ use std::num::NonZeroUsize;
 #[derive(Drop)]
 pub struct Cached {
     simulated: Simulated,
-    scratch: StateSet,
     table: Table,
-    pace: Pace,
     alloc: Global,
 }
 
@@ -45,7 +41,8 @@ impl Model for Cached {
     ghost use Rattle.re_auto.specs.Working.StateSets.{IsMadeFor};
     ghost use Rattle.re_steps.specs.Working.Rows.{cache_of};
     ghost use Rattle.re_steps.specs.Working.Stages.{mode_for};
-    ghost use Rattle.re_match.specs.Working.CachedMatchers.{CachedMatcher, IsKnownFor};
+    ghost use Rattle.re_match.specs.Working.CachedMatchers.{CachedMatcher};
+    ghost use Rattle.re_steps.specs.Working.Rows.{IsKnownFor};
 
     ghost Value = { CachedMatcher };
 
@@ -59,7 +56,7 @@ impl Model for Cached {
           most = c.table.pairs.most;
         } };
 
-    ghost invariant = { λ c. IsMadeFor (expression_of c.simulated.tree) c.scratch ×
+    ghost invariant = { λ c. IsMadeFor (expression_of c.simulated.tree) c.table.scratch ×
         IsKnownFor (expression_of c.simulated.tree) (mode_for c.simulated.whole) c.table };
 }
 
@@ -76,17 +73,12 @@ impl Cached {
         ensures empty { IfOk result (λ c. c.cache.entries ≡ []) }
         ensures same { IfErr result (λ s. s ≡ simulated) }
     {
-        let Ok(scratch) = StateSet::blank(alloc, simulated.automaton()) else {
-            return Err(simulated);
-        };
-        let Ok(table) = Table::new(alloc, most) else {
+        let Ok(table) = Table::new(alloc, simulated.automaton(), most) else {
             return Err(simulated);
         };
         Ok(Cached {
             simulated,
-            scratch,
             table,
-            pace: Pace::new(),
             alloc,
         })
     }
@@ -142,32 +134,21 @@ impl Cached {
         ensures same_whole { self.new.whole ≡ self.old.whole }
         ensures same_most { self.new.most ≡ self.old.most }
     {
-        let automaton = self.simulated.automaton();
-        let mode = self.simulated.mode();
-        if !is_ready(
-            &mut self.table,
-            &mut self.pace,
-            self.alloc,
-            automaton,
-            mode,
+        let asked = LineSearch {
+            alloc: self.alloc,
+            automaton: self.simulated.automaton(),
+            mode: self.simulated.mode(),
             line,
-        ) {
+        };
+        if !self.table.is_ready(&asked) {
             return self.simulated.step_over(line, meter);
         }
-        match self.table.search(
-            self.alloc,
-            automaton,
-            mode,
-            line,
-            &mut self.pace,
-            &mut self.scratch,
-            meter,
-        ) {
+        match self.table.search(&asked, meter) {
             Outcome::Told(told) => told,
             Outcome::GaveUp(place) => {
-                self.table.clear();
-                self.pace.give_up();
-                self.simulated.finish(&self.scratch, line, place, meter)
+                self.table.give_up();
+                self.simulated
+                    .finish(&self.table.scratch, line, place, meter)
             }
         }
     }
@@ -189,29 +170,6 @@ impl Cached {
         }
         self.searched(line, meter)
     }
-}
-
-// Whether the table has rows. If it has none, they are made, provided that it is worth while and
-// there is memory for them.
-#[inline(always)]
-fn is_ready(
-    table: &mut Table,
-    pace: &mut Pace,
-    alloc: Global,
-    automaton: &Automaton,
-    mode: Mode,
-    line: &[u8],
-) -> bool
-    requires known { IsKnownFor (expression_of automaton.now) mode table.old }
-    ensures right { IsTrue result → IsRight (expression_of automaton.now) mode table.new }
-    ensures blank { result ≡ false → IsBlank table.new }
-    ensures readied { IsReadied (cache_of table.old) (cache_of table.new) }
-    ensures most { table.new.pairs.most ≡ table.old.pairs.most }
-{
-    if !table.is_blank() {
-        return true;
-    }
-    pace.begins(line.len()) && table.begin(alloc, automaton, mode)
 }
 
 impl LineMatch for Cached {

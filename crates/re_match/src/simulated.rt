@@ -136,10 +136,8 @@ impl Simulated {
             meter.old meter.new result }
         ensures same { self.new ≡ self.old }
     {
-        if self.whole {
-            return self.sets.is_line(&self.automaton, line, meter);
-        }
-        self.sets.stands_in(&self.automaton, line, meter)
+        let mode = self.mode();
+        self.sets.search(&self.automaton, mode, line, meter)
     }
 
     /// The rest of a search, by steps alone, from a place where the search has this set.
@@ -157,13 +155,9 @@ impl Simulated {
             line.now from set.now meter.old meter.new result }
         ensures same { self.new ≡ self.old }
     {
-        if self.whole {
-            return self
-                .sets
-                .is_line_from(&self.automaton, set, line, from, meter);
-        }
+        let mode = self.mode();
         self.sets
-            .stands_from(&self.automaton, set, line, from, meter)
+            .search_from(&self.automaton, mode, set, line, from, meter)
     }
 
     // How many lines of a block of whole lines are matched, if that is known without a search.

@@ -11,7 +11,6 @@ mod table;
 mod walking;
 
 pub use least::StartPair;
-pub use pace::Pace;
 pub use sets::SetPair;
-pub use table::Table;
+pub use table::{LineSearch, Table};
 pub use walking::Outcome;

@@ -30,23 +30,31 @@ impl SetPair {
         Ok(SetPair { current, spare })
     }
 
-    /// Whether some stretch of the line is matched. It ends at the first place where one ends. It
-    /// takes no step over bytes that no stretch can begin with while none is on its way.
-    pub fn stands_in(&mut self, automaton: &Automaton, line: &[u8], meter: &mut Meter) -> bool
+    /// Whether the line is matched: some stretch of it in mode `Search`, all of it in mode `Whole`.
+    /// It ends once that is known. In mode `Search` it takes no step over bytes that no stretch can
+    /// begin with while none is on its way.
+    pub fn search(
+        &mut self,
+        automaton: &Automaton,
+        mode: Mode,
+        line: &[u8],
+        meter: &mut Meter,
+    ) -> bool
         requires made { AreSetsFor (expression_of automaton.now) self.old }
         ensures made { AreSetsFor (expression_of automaton.now) self.new }
         ensures searches { (cache : Cache) → cache.entries ≡ [] →
-            Searches (expression_of automaton.now) Search line.now cache cache meter.old meter.new
+            Searches (expression_of automaton.now) mode line.now cache cache meter.old meter.new
             result }
     {
         automaton.start(&mut self.current);
-        self.rest_stands(automaton, line, 0, meter)
+        self.rest(automaton, mode, line, 0, meter)
     }
 
     /// The same from a place where the search has this set.
-    pub fn stands_from(
+    pub fn search_from(
         &mut self,
         automaton: &Automaton,
+        mode: Mode,
         set: &StateSet,
         line: &[u8],
         from: usize,
@@ -56,44 +64,34 @@ impl SetPair {
         requires set { IsMadeFor (expression_of automaton.now) set.now }
         requires within { from ≤ length line.now }
         ensures made { AreSetsFor (expression_of automaton.now) self.new }
-        ensures finishes { FinishesFrom (expression_of automaton.now) Search line.now from set.now
+        ensures finishes { FinishesFrom (expression_of automaton.now) mode line.now from set.now
             meter.old meter.new result }
     {
         self.current.copy_from(set);
-        self.rest_stands(automaton, line, from, meter)
+        self.rest(automaton, mode, line, from, meter)
     }
 
-    /// Whether the whole line is matched. It ends once no stretch from the line's first place is on
-    /// its way any more.
-    pub fn is_line(&mut self, automaton: &Automaton, line: &[u8], meter: &mut Meter) -> bool
-        requires made { AreSetsFor (expression_of automaton.now) self.old }
-        ensures made { AreSetsFor (expression_of automaton.now) self.new }
-        ensures searches { (cache : Cache) → cache.entries ≡ [] →
-            Searches (expression_of automaton.now) Whole line.now cache cache meter.old meter.new
-            result }
-    {
-        automaton.start(&mut self.current);
-        self.rest_is_line(automaton, line, 0, meter)
-    }
-
-    /// The same from a place where the search has this set.
-    pub fn is_line_from(
+    // The rest of a search, from a place on. Each mode has a loop of its own, since one for both
+    // takes more instructions a byte.
+    #[inline(always)]
+    fn rest(
         &mut self,
         automaton: &Automaton,
-        set: &StateSet,
+        mode: Mode,
         line: &[u8],
         from: usize,
         meter: &mut Meter,
     ) -> bool
         requires made { AreSetsFor (expression_of automaton.now) self.old }
-        requires set { IsMadeFor (expression_of automaton.now) set.now }
         requires within { from ≤ length line.now }
         ensures made { AreSetsFor (expression_of automaton.now) self.new }
-        ensures finishes { FinishesFrom (expression_of automaton.now) Whole line.now from set.now
-            meter.old meter.new result }
+        ensures finishes { FinishesFrom (expression_of automaton.now) mode line.now from
+            self.old.current meter.old meter.new result }
     {
-        self.current.copy_from(set);
-        self.rest_is_line(automaton, line, from, meter)
+        match mode {
+            Mode::Search => self.rest_stands(automaton, line, from, meter),
+            Mode::Whole => self.rest_is_line(automaton, line, from, meter),
+        }
     }
 
     // The rest of the search for some matched stretch, from a place on.

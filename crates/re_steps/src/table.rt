@@ -5,12 +5,11 @@ ghost use Rattle.std.specs.Prelude.{slice_index};
 ghost use Rattle.std.specs.NonZero.{non_zero_usize_get};
 ghost use Rattle.re_syntax.specs.Expression.{expression_of};
 ghost use Rattle.re_auto.specs.declared.step.state_set.StateSet.{StateSet as Set};
-ghost use Rattle.re_auto.specs.declared.mode.Mode.TheVariants.{Search};
-ghost use Rattle.re_auto.specs.Working.StateSets.{IsMadeFor, IsSame, IsNextSet, IsAccepting};
-ghost use Rattle.re_auto.specs.Working.StateSets.{AreAlikeInClasses};
-ghost use Rattle.re_steps.specs.Working.Rows.{limit, IsSound, IsRight, IsBlank, IsMarkOf};
-ghost use Rattle.re_steps.specs.Working.Rows.{IsCellOf, Extends, TellsNext};
-ghost use Rattle.re_steps.specs.Working.Pairs.{unknown};
+ghost use Rattle.re_auto.specs.Working.StateSets.{IsMadeFor, IsSame, IsNowhere, IsNextSet};
+ghost use Rattle.re_steps.specs.Working.Rows.{IsKnownFor};
+ghost use Rattle.re_steps.specs.Working.Rows.{limit, IsBlank, IsMarkOf, IsCellOf, Extends, Keeps};
+ghost use Rattle.re_steps.specs.Working.Rows.{IsSoundFor, IsRightFor, IsKnownCell, cache_of};
+ghost use Rattle.re_steps.specs.Working.Stages.{IsReadied};
 
 use crate::pace::Pace;
 use crate::pairs::Pairs;
@@ -32,6 +31,19 @@ pub struct Mark {
     pub at_end: bool,
 }
 
+/// What a search of a line goes by.
+#[derive(Clone, Copy)]
+pub struct LineSearch<'a, 'l> {
+    /// Where memory for what is kept comes from.
+    pub alloc: Global,
+    /// The automaton.
+    pub automaton: &'a Automaton,
+    /// The mode.
+    pub mode: Mode,
+    /// The line.
+    pub line: &'l [u8],
+}
+
 /// Numbered sets of positions, and for each set a row of cells, one for each class of bytes. A cell
 /// that is held has the row of the set after such a byte. Row 0 is that of the set without
 /// positions, the next that of a line's first place.
@@ -47,14 +59,25 @@ pub struct Table {
     pub marks: Vec<Mark>,
     /// The cells.
     pub pairs: Pairs,
+    /// The set that was worked out last.
+    pub scratch: StateSet,
+    /// Whether keeping pairs pays.
+    pub pace: Pace,
 }
 
 impl Table {
-    /// A table without rows, for at most `most` pairs.
-    pub fn new(alloc: Global, most: NonZeroUsize) -> Result<Table, AllocError>
+    /// A table without rows, for at most `most` pairs of sets of this automaton and bytes.
+    pub fn new(
+        alloc: Global,
+        automaton: &Automaton,
+        most: NonZeroUsize,
+    ) -> Result<Table, AllocError>
         ensures blank { IfOk result IsBlank }
+        ensures made { IfOk result
+            (λ table. IsMadeFor (expression_of automaton.now) table.scratch) }
         ensures most { IfOk result (λ table. table.pairs.most ≡ non_zero_usize_get most) }
     {
+        let scratch = blank_set(alloc, automaton)?;
         let pairs = Pairs::new(alloc, most)?;
         Ok(Table {
             classes: Vec::new(alloc),
@@ -62,36 +85,64 @@ impl Table {
             sets: IndexSet::new(alloc),
             marks: Vec::new(alloc),
             pairs,
+            scratch,
+            pace: Pace::new(),
         })
     }
 
-    /// Whether there are no rows.
+    // Whether there are no rows.
     #[inline(always)]
-    pub fn is_blank(&self) -> bool
+    fn is_blank(&self) -> bool
         ensures { IsTrue result ↔ (length self.now.marks.items ≡ 0) }
     {
         self.marks.is_empty()
     }
 
-    /// Removes all rows.
-    pub fn clear(&mut self)
+    /// Whether there are rows. If there are none, they are made, provided that it is worth while
+    /// and there is memory for them.
+    #[inline(always)]
+    pub fn is_ready(&mut self, asked: &LineSearch) -> bool
+        requires known { IsKnownFor (expression_of asked.now.automaton.now) asked.now.mode
+            self.old }
+        ensures right { IsTrue result → IsRightFor asked.now self.new }
+        ensures blank { result ≡ false → IsBlank self.new }
+        ensures readied { IsReadied (cache_of self.old) (cache_of self.new) }
+        ensures keeps { Keeps self.old self.new }
+    {
+        if !self.is_blank() {
+            return true;
+        }
+        self.pace.begins(asked.line.len()) && self.begin(asked)
+    }
+
+    // Removes all rows.
+    fn clear(&mut self)
         ensures blank { IsBlank self.new }
-        ensures most { self.new.pairs.most ≡ self.old.pairs.most }
+        ensures keeps { Keeps self.old self.new }
     {
         self.sets.clear();
         self.marks.clear();
         self.pairs.clear();
     }
 
-    /// Makes the first two rows, in which nothing is held. If memory is refused, there are none.
-    pub fn begin(&mut self, alloc: Global, automaton: &Automaton, mode: Mode) -> bool
+    /// Removes all rows after a search that gave up.
+    pub fn give_up(&mut self)
+        ensures blank { IsBlank self.new }
+        ensures keeps { Keeps self.old self.new }
+    {
+        self.pace.give_up();
+        self.clear();
+    }
+
+    // Makes the first two rows, in which nothing is held. If memory is refused, there are none.
+    fn begin(&mut self, asked: &LineSearch) -> bool
         requires blank { IsBlank self.old }
-        ensures right { IsTrue result → IsRight (expression_of automaton.now) mode self.new }
+        ensures right { IsTrue result → IsRightFor asked.now self.new }
         ensures blank { result ≡ false → IsBlank self.new }
         ensures none { self.new.pairs.entries ≡ [] }
-        ensures most { self.new.pairs.most ≡ self.old.pairs.most }
+        ensures keeps { Keeps self.old self.new }
     {
-        if self.make_rows(alloc, automaton, mode).is_err() {
+        if self.make_rows(asked).is_err() {
             self.clear();
             return false;
         }
@@ -99,121 +150,90 @@ impl Table {
     }
 
     // Makes the first two rows.
-    fn make_rows(
-        &mut self,
-        alloc: Global,
-        automaton: &Automaton,
-        mode: Mode,
-    ) -> Result<(), AllocError>
+    fn make_rows(&mut self, asked: &LineSearch) -> Result<(), AllocError>
         requires blank { IsBlank self.old }
-        ensures right { OnOk result (IsRight (expression_of automaton.now) mode self.new) }
+        ensures right { OnOk result (IsRightFor asked.now self.new) }
         ensures none { OnOk result (self.new.pairs.entries ≡ []) }
-        ensures most { self.new.pairs.most ≡ self.old.pairs.most }
+        ensures keeps { Keeps self.old self.new }
     {
         self.classes.clear();
-        self.classes.extend_from_slice(automaton.classes())?;
+        self.classes.extend_from_slice(asked.automaton.classes())?;
         self.stride = Stride::for_width(count_of(self.classes.as_slice()));
-        let Ok(mut set) = StateSet::blank(alloc, automaton) else {
-            return Err(AllocError);
-        };
-        self.add(alloc, automaton, mode, &set)?;
-        automaton.start(&mut set);
-        self.add(alloc, automaton, mode, &set)?;
+        let nowhere = blank_set(asked.alloc, asked.automaton)?;
+        self.add(asked, nowhere)?;
+        let mut start = blank_set(asked.alloc, asked.automaton)?;
+        asked.automaton.start(&mut start);
+        self.add(asked, start)?;
         Ok(())
     }
 
-    /// Removes all rows, then makes the first two and one for the set, in which nothing is held.
-    /// Returns the cell that leads to the set. `None` if that does not pay or memory is refused:
-    /// then the table must not be used any more.
+    /// Removes all rows, then makes the first two and one for the scratch set, in which nothing is
+    /// held. Returns the cell that leads to that set. `None` if that does not pay or memory is
+    /// refused: then the table must not be used any more.
     #[inline(never)]
-    pub fn begin_anew(
-        &mut self,
-        alloc: Global,
-        automaton: &Automaton,
-        mode: Mode,
-        set: &StateSet,
-        pace: &Pace,
-    ) -> Option<u32>
-        requires made { IsMadeFor (expression_of automaton.now) set.now }
-        ensures right { IfSome result (λ _. IsRight (expression_of automaton.now) mode self.new) }
+    pub fn begin_anew(&mut self, asked: &LineSearch) -> Option<u32>
+        requires made { IsMadeFor (expression_of asked.now.automaton.now) self.old.scratch }
+        ensures right { IfSome result (λ _. IsRightFor asked.now self.new) }
         ensures none { IfSome result (λ _. self.new.pairs.entries ≡ []) }
         ensures cell { (from : Set) (byte : ℕ)
-            → IsNextSet (expression_of automaton.now) mode from byte set.now
-            → IfSome result (λ cell. (cell < unknown) ×
-            TellsNext (expression_of automaton.now) mode self.new.sets.keys self.new.stride from
-            byte cell) }
-        ensures most { self.new.pairs.most ≡ self.old.pairs.most }
+            → IsNextSet (expression_of asked.now.automaton.now) asked.now.mode from byte
+            self.old.scratch → IfSome result (IsKnownCell asked.now self.new from byte) }
+        ensures keeps { Keeps self.old self.new }
     {
-        if !pace.affords_anew(set) {
+        if !self.pace.affords_anew(&self.scratch) {
             return None;
         }
         self.clear();
-        if !self.begin(alloc, automaton, mode) {
+        if !self.begin(asked) {
             return None;
         }
-        let number = self.number_of(alloc, automaton, mode, set)?;
-        Some(self.cell_of(mode, number))
+        let number = self.number_of(asked)?;
+        Some(self.cell_of(asked.mode, number))
     }
 
-    /// The number of a set that is the same as this one; it is added if there is none. `None` if
-    /// there is no memory or room for it: then the table must not be used any more.
-    pub fn number_of(
-        &mut self,
-        alloc: Global,
-        automaton: &Automaton,
-        mode: Mode,
-        set: &StateSet,
-    ) -> Option<usize>
-        requires sound { IsSound (expression_of automaton.now) mode self.old }
-        requires made { IsMadeFor (expression_of automaton.now) set.now }
-        ensures sound { IfSome result (λ _. IsSound (expression_of automaton.now) mode self.new) }
+    /// The number of a set that is the same as the scratch set; it is added if there is none.
+    /// `None` if there is no memory or room for it: then the table must not be used any more.
+    pub fn number_of(&mut self, asked: &LineSearch) -> Option<usize>
+        requires sound { IsSoundFor asked.now self.old }
+        requires made { IsMadeFor (expression_of asked.now.automaton.now) self.old.scratch }
+        ensures sound { IfSome result (λ _. IsSoundFor asked.now self.new) }
         ensures kept { IfSome result (λ _. Extends self.old self.new) }
         ensures number { IfSome result
             (λ number. (same : Set) × (slice_get self.new.sets.keys number ≡ Some same) ×
-            IsSame same set.now) }
-        ensures most { self.new.pairs.most ≡ self.old.pairs.most }
+            IsSame same self.old.scratch) }
+        ensures keeps { Keeps self.old self.new }
     {
-        if let Some(number) = self.sets.get_index_of(set) {
+        if let Some(number) = self.sets.get_index_of(&self.scratch) {
             return Some(number);
         }
-        match self.add(alloc, automaton, mode, set) {
+        let Ok(mut set) = StateSet::blank(asked.alloc, asked.automaton) else {
+            return None;
+        };
+        set.copy_from(&self.scratch);
+        match self.add(asked, set) {
             Ok(number) => Some(number),
             Err(_) => None,
         }
     }
 
     // Adds a set after the others, and returns its number.
-    fn add(
-        &mut self,
-        alloc: Global,
-        automaton: &Automaton,
-        mode: Mode,
-        set: &StateSet,
-    ) -> Result<usize, AllocError>
-        requires sound { IsSound (expression_of automaton.now) mode self.old }
-        requires made { IsMadeFor (expression_of automaton.now) set.now }
+    fn add(&mut self, asked: &LineSearch, set: StateSet) -> Result<usize, AllocError>
+        requires sound { IsSoundFor asked.now self.old }
+        requires made { IsMadeFor (expression_of asked.now.automaton.now) set }
         requires fresh { (t : ℕ) (other : Set) → slice_get self.old.sets.keys t ≡ Some other →
-            IsSame other set.now → ⊥ }
-        ensures sound { OnOk result (IsSound (expression_of automaton.now) mode self.new) }
+            IsSame other set → ⊥ }
+        ensures sound { OnOk result (IsSoundFor asked.now self.new) }
         ensures kept { OnOk result (Extends self.old self.new) }
-        ensures added { OnOk result
-            ((same : Set) × (self.new.sets.keys ≡ self.old.sets.keys ++ same ∷ []) ×
-            IsSame same set.now) }
-        ensures number { IfOk result
-            (λ number. (same : Set) × (slice_get self.new.sets.keys number ≡ Some same) ×
-            IsSame same set.now) }
-        ensures most { self.new.pairs.most ≡ self.old.pairs.most }
+        ensures added { OnOk result (self.new.sets.keys ≡ self.old.sets.keys ++ set ∷ []) }
+        ensures number { IfOk result (λ number. slice_get self.new.sets.keys number ≡ Some set) }
+        ensures keeps { Keeps self.old self.new }
     {
         if !self.has_room() {
             return Err(AllocError);
         }
-        let Ok(mut same) = StateSet::blank(alloc, automaton) else {
-            return Err(AllocError);
-        };
-        same.copy_from(set);
         self.pairs.add_row(self.stride.width())?;
-        self.marks.push(mark_of(automaton, mode, set))?;
-        let (number, _) = self.sets.insert_full(same)?;
+        self.marks.push(mark_of(asked.automaton, asked.mode, &set))?;
+        let (number, _) = self.sets.insert_full(set)?;
         Ok(number)
     }
 
@@ -246,6 +266,17 @@ impl Table {
             return row + LIMIT;
         }
         row
+    }
+}
+
+// A set without positions. If memory is refused, the error says that alone.
+fn blank_set(alloc: Global, automaton: &Automaton) -> Result<StateSet, AllocError>
+    ensures made { IfOk result (IsMadeFor (expression_of automaton.now)) }
+    ensures nowhere { IfOk result IsNowhere }
+{
+    match StateSet::blank(alloc, automaton) {
+        Ok(set) => Ok(set),
+        Err(_) => Err(AllocError),
     }
 }
 

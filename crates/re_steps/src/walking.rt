@@ -1,24 +1,20 @@
 //! Searches by the pairs that are held.
-ghost use Rattle.std.specs.Prelude.{◌≡◌, ℕ, suc, ◌+◌, ◌-◌, ◌*◌, ◌<◌, ◌≤◌, false, Some, IsTrue};
+ghost use Rattle.std.specs.Prelude.{◌≡◌, ℕ, ◌-◌, ◌*◌, ◌<◌, ◌≤◌, true, false, Some, IsTrue};
 ghost use Rattle.std.specs.Prelude.{IfSome, IfNone, length, slice_get, slice_index};
-ghost use Rattle.re_syntax.specs.Bytes.{Text};
-ghost use Rattle.re_syntax.specs.Expression.{expression_of};
 ghost use Rattle.re_auto.specs.declared.step.state_set.StateSet.{StateSet as Set};
-ghost use Rattle.re_auto.specs.declared.mode.Mode.TheVariants.{Search};
 ghost use Rattle.re_auto.specs.Meters.{Steps, many_built};
-ghost use Rattle.re_auto.specs.Working.StateSets.{IsMadeFor, IsNextSet, IsAccepting};
+ghost use Rattle.re_auto.specs.Working.StateSets.{IsNextSet};
 ghost use Rattle.re_steps.specs.Working.Pairs.{unknown};
-ghost use Rattle.re_steps.specs.Working.Stages.{Stage, HoldsNoOther, IsPlain};
-ghost use Rattle.re_steps.specs.Working.Rows.{limit, IsRight, IsRowOf, IsRow, TellsNext, ComesTo};
-ghost use Rattle.re_steps.specs.Working.Rows.{Lands, LandsAlone, cell_at, cache_of, row_under};
-ghost use Rattle.re_steps.specs.Working.Rows.{walked};
-ghost use Rattle.re_steps.specs.Working.Walks.{LeadsOn, Arrives, Gives};
+ghost use Rattle.re_steps.specs.Working.Stages.{Stage, EndsInside, HoldsNoOther, IsPlain};
+ghost use Rattle.re_steps.specs.Working.Rows.{limit, expression_in, IsRightFor, IsReady, Lasts};
+ghost use Rattle.re_steps.specs.Working.Rows.{Keeps, IsRowOf, IsRow, IsKnownCell, cell_at};
+ghost use Rattle.re_steps.specs.Working.Rows.{cache_of, row_under, walked};
+ghost use Rattle.re_steps.specs.Working.Walks.{IsAt, LandsBy, LandsUnkept, LeadsOn, Arrives};
+ghost use Rattle.re_steps.specs.Working.Walks.{Gives};
 
-use crate::pace::Pace;
 use crate::pairs::UNKNOWN;
-use crate::table::{LIMIT, Table};
-use re_auto::{Automaton, Meter, Mode, StateSet};
-use std::alloc::Global;
+use crate::table::{LIMIT, LineSearch, Table};
+use re_auto::{Meter, Mode};
 
 /// A place on a line, and the row of the set there.
 #[derive(Clone, Copy, Drop)]
@@ -62,33 +58,21 @@ pub enum Outcome {
 
 impl Table {
     /// Searches the line. It gives up after some byte if memory or room runs out, or keeping pairs
-    /// doesn't pay. Then only `into` has the set there, and the table must not be used any more.
-    pub fn search(
-        &mut self,
-        alloc: Global,
-        automaton: &Automaton,
-        mode: Mode,
-        line: &[u8],
-        pace: &mut Pace,
-        into: &mut StateSet,
-        meter: &mut Meter,
-    ) -> Outcome
-        requires right { IsRight (expression_of automaton.now) mode self.old }
-        requires into { IsMadeFor (expression_of automaton.now) into.old }
-        ensures into { IsMadeFor (expression_of automaton.now) into.new }
-        ensures most { self.new.pairs.most ≡ self.old.pairs.most }
-        ensures gives { Gives (expression_of automaton.now) mode line.now self.old meter.old
-            self.new into.new meter.new result }
+    /// doesn't pay. Then the scratch set is the one there, and the rows must not be used any more.
+    pub fn search(&mut self, asked: &LineSearch, meter: &mut Meter) -> Outcome
+        requires ready { IsReady asked.now self.old }
+        ensures lasts { Lasts asked.now self.old self.new }
+        ensures gives { Gives asked.now self.old meter.old self.new meter.new result }
     {
-        if self.is_matched_at_once(automaton, mode, line) {
+        if self.is_matched_at_once(asked) {
             return Outcome::Told(true);
         }
         let mut spot = Spot {
             place: 0,
             row: self.stride.row(1),
         };
-        'places: while spot.place < line.len() {
-            match self.onward(alloc, automaton, mode, line, spot, pace, into, meter) {
+        'places: while spot.place < asked.line.len() {
+            match self.onward(asked, spot, meter) {
                 Went::To(next) => spot = next,
                 Went::Told(told) => return Outcome::Told(told),
                 Went::Alone(place) => return Outcome::GaveUp(place),
@@ -99,76 +83,62 @@ impl Table {
 
     // Whether a matched stretch ends at the first place of the line, which is not its last.
     #[inline(always)]
-    fn is_matched_at_once(&self, automaton: &Automaton, mode: Mode, line: &[u8]) -> bool
-        requires right { IsRight (expression_of automaton.now) mode self.now }
+    fn is_matched_at_once(&self, asked: &LineSearch) -> bool
+        requires right { IsRightFor asked.now self.now }
         ensures yes { (start : Set) → slice_get self.now.sets.keys 1 ≡ Some start → IsTrue result →
-            (0 < length line.now) × (mode ≡ Search) ×
-            IsAccepting (expression_of automaton.now) Search start false }
+            EndsInside (expression_in asked.now) asked.now.mode asked.now.line.now 0 start true }
         ensures no { (start : Set) → slice_get self.now.sets.keys 1 ≡ Some start → result ≡ false →
-            0 < length line.now → IsPlain (expression_of automaton.now) mode start }
+            0 < length asked.now.line.now → IsPlain (expression_in asked.now) asked.now.mode start }
     {
-        if line.is_empty() || mode == Mode::Whole {
+        if asked.line.is_empty() || asked.mode == Mode::Whole {
             return false;
         }
         self.mark(1).inside
     }
 
     // Goes on over held pairs, and over one byte more.
-    fn onward(
-        &mut self,
-        alloc: Global,
-        automaton: &Automaton,
-        mode: Mode,
-        line: &[u8],
-        spot: Spot,
-        pace: &mut Pace,
-        into: &mut StateSet,
-        meter: &mut Meter,
-    ) -> Went
-        requires right { IsRight (expression_of automaton.now) mode self.old }
-        requires within { spot.place < length line.now }
+    fn onward(&mut self, asked: &LineSearch, spot: Spot, meter: &mut Meter) -> Went
+        requires ready { IsReady asked.now self.old }
+        requires within { spot.place < length asked.now.line.now }
         requires row { IsRow self.old spot.row }
-        requires into { IsMadeFor (expression_of automaton.now) into.old }
-        ensures into { IsMadeFor (expression_of automaton.now) into.new }
-        ensures most { self.new.pairs.most ≡ self.old.pairs.most }
-        ensures arrives { Arrives (expression_of automaton.now) mode line.now self.old meter.old
-            spot self.new into.new meter.new result }
+        ensures lasts { Lasts asked.now self.old self.new }
+        ensures arrives { Arrives asked.now self.old meter.old spot self.new meter.new result }
     {
-        let floor = (mode == Mode::Whole || pace.passes()) as u32;
-        let walk = self.walk(automaton, mode, line, spot, floor);
+        let floor = (asked.mode == Mode::Whole || self.pace.passes()) as u32;
+        let walk = self.walk(asked, spot, floor);
         meter.add_reused_steps((walk.place - spot.place) as u64);
-        pace.note_reused(walk.place - spot.place);
-        if walk.place >= line.len() {
+        self.pace.note_reused(walk.place - spot.place);
+        if walk.place >= asked.line.len() {
             return Went::To(Spot {
                 place: walk.place,
                 row: walk.row,
             });
         }
-        let byte = line[walk.place];
-        match self.step(alloc, automaton, mode, walk, byte, pace, into, meter) {
-            Some(cell) => self.arrive(automaton, mode, line, walk.place + 1, cell, pace),
+        let byte = asked.line[walk.place];
+        match self.step(asked, walk, byte, meter) {
+            Some(cell) => self.arrive(asked, walk.place + 1, cell),
             None => Went::Alone(walk.place + 1),
         }
     }
 
     // Goes over bytes whose pairs are held, while their cells are rows from `floor` on.
     #[inline(never)]
-    fn walk(&self, automaton: &Automaton, mode: Mode, line: &[u8], from: Spot, floor: u32) -> Walk
-        requires right { IsRight (expression_of automaton.now) mode self.now }
-        requires within { from.place ≤ length line.now }
+    fn walk(&self, asked: &LineSearch, from: Spot, floor: u32) -> Walk
+        requires right { IsRightFor asked.now self.now }
+        requires within { from.place ≤ length asked.now.line.now }
         requires row { IsRow self.now from.row }
-        ensures on { (from.place ≤ result.place) × (result.place ≤ length line.now) }
+        ensures on { (from.place ≤ result.place) × (result.place ≤ length asked.now.line.now) }
         ensures row { IsRow self.now result.row }
-        ensures cell { result.place < length line.now →
+        ensures cell { result.place < length asked.now.line.now →
             result.cell ≡
             cell_at self.now.classes.items self.now.pairs.cells result.row
-            (slice_index line.now result.place) }
+            (slice_index asked.now.line.now result.place) }
         ensures comes { (first : Stage) (steps : Steps) →
-            ComesTo (expression_of automaton.now) mode line.now first (cache_of self.now) steps
-            from.place from.row
-            → ComesTo (expression_of automaton.now) mode line.now first (cache_of self.now)
-            (walked (result.place - from.place) steps) result.place result.row }
+            IsAt asked.now first self.now steps from.place from.row
+            → IsAt asked.now first self.now (walked (result.place - from.place) steps) result.place
+            result.row }
     {
+        let line = asked.line;
         let classes = self.classes.as_slice();
         let cells = self.pairs.cells();
         let mut row = from.row;
@@ -189,48 +159,29 @@ impl Table {
     }
 
     // Goes over one byte. The step is taken from the table if it is held, and worked out if not.
-    // Returns the cell for it; `None` if only `into` has the next set.
+    // Returns the cell for it; `None` if only the scratch set is the next one.
     #[inline(always)]
-    fn step(
-        &mut self,
-        alloc: Global,
-        automaton: &Automaton,
-        mode: Mode,
-        walk: Walk,
-        byte: u8,
-        pace: &mut Pace,
-        into: &mut StateSet,
-        meter: &mut Meter,
-    ) -> Option<u32>
-        requires right { IsRight (expression_of automaton.now) mode self.old }
+    fn step(&mut self, asked: &LineSearch, walk: Walk, byte: u8, meter: &mut Meter) -> Option<u32>
+        requires ready { IsReady asked.now self.old }
         requires row { IsRow self.old walk.row }
         requires cell { walk.cell ≡
             cell_at self.old.classes.items self.old.pairs.cells walk.row byte }
-        requires into { IsMadeFor (expression_of automaton.now) into.old }
-        ensures into { IsMadeFor (expression_of automaton.now) into.new }
-        ensures most { self.new.pairs.most ≡ self.old.pairs.most }
-        ensures right { IfSome result (λ _. IsRight (expression_of automaton.now) mode self.new) }
+        ensures lasts { Lasts asked.now self.old self.new }
+        ensures right { IfSome result (λ _. IsRightFor asked.now self.new) }
         ensures cell { IfSome result (λ cell. (cell < unknown) × IsRow self.new (row_under cell)) }
         ensures lands { IfSome result
-            (λ cell. (line : Text) (first : Stage) (j : ℕ) → slice_get line j ≡ Some byte →
-            ComesTo (expression_of automaton.now) mode line first (cache_of self.old) meter.old j
-            walk.row
-            → Lands (expression_of automaton.now) mode line first (cache_of self.new) meter.new j
-            cell) }
+            (LandsBy asked.now byte self.old meter.old walk.row self.new meter.new) }
         ensures alone { IfNone result
-            ((line : Text) (first : Stage) (j : ℕ) → slice_get line j ≡ Some byte →
-            ComesTo (expression_of automaton.now) mode line first (cache_of self.old) meter.old j
-            walk.row
-            → LandsAlone (expression_of automaton.now) mode line first into.new meter.new j) }
+            (LandsUnkept asked.now byte self.old meter.old walk.row self.new.scratch meter.new) }
     {
         if walk.cell != UNKNOWN {
             meter.add_reused();
             return Some(walk.cell);
         }
-        let Some(cell) = self.learn(alloc, automaton, mode, walk.row, byte, into, meter) else {
-            return self.begin_anew(alloc, automaton, mode, into, pace);
+        let Some(cell) = self.learn(asked, walk.row, byte, meter) else {
+            return self.begin_anew(asked);
         };
-        if pace.affords_miss(self.pairs.most(), into) {
+        if self.pace.affords_miss(self.pairs.most(), &self.scratch) {
             return Some(cell);
         }
         None
@@ -239,41 +190,27 @@ impl Table {
     // Works out the set after one more byte, which counts as one step, and keeps the result. `None`
     // if it can't be kept.
     #[inline(never)]
-    fn learn(
-        &mut self,
-        alloc: Global,
-        automaton: &Automaton,
-        mode: Mode,
-        row: usize,
-        byte: u8,
-        into: &mut StateSet,
-        meter: &mut Meter,
-    ) -> Option<u32>
-        requires right { IsRight (expression_of automaton.now) mode self.old }
+    fn learn(&mut self, asked: &LineSearch, row: usize, byte: u8, meter: &mut Meter) -> Option<u32>
+        requires ready { IsReady asked.now self.old }
         requires row { IsRow self.old row }
         requires none { cell_at self.old.classes.items self.old.pairs.cells row byte ≡ unknown }
-        requires into { IsMadeFor (expression_of automaton.now) into.old }
-        ensures into { IsMadeFor (expression_of automaton.now) into.new }
-        ensures most { self.new.pairs.most ≡ self.old.pairs.most }
+        ensures lasts { Lasts asked.now self.old self.new }
         ensures next { (set : Set) → IsRowOf self.old.sets.keys self.old.stride row set →
-            IsNextSet (expression_of automaton.now) mode set byte into.new }
+            IsNextSet (expression_in asked.now) asked.now.mode set byte self.new.scratch }
         ensures counted { meter.new ≡ many_built 1 meter.old }
-        ensures right { IfSome result (λ _. IsRight (expression_of automaton.now) mode self.new) }
+        ensures right { IfSome result (λ _. IsRightFor asked.now self.new) }
         ensures found { (set : Set) → IsRowOf self.old.sets.keys self.old.stride row set →
-            IfSome result
-            (λ cell. (cell < unknown) ×
-            TellsNext (expression_of automaton.now) mode self.new.sets.keys self.new.stride set byte
-            cell) }
+            IfSome result (IsKnownCell asked.now self.new set byte) }
         ensures others { (set : Set) → IsRowOf self.old.sets.keys self.old.stride row set →
-            IfSome result
-            (λ _.
-            HoldsNoOther (expression_of automaton.now) (cache_of self.old) set byte
+            IfSome result (λ _. HoldsNoOther (expression_in asked.now) (cache_of self.old) set byte
             (cache_of self.new)) }
     {
         let from = &self.sets.as_slice()[self.stride.number(row)];
-        automaton.advance(mode, from, byte, into, meter);
-        let number = self.number_of(alloc, automaton, mode, into)?;
-        let cell = self.cell_of(mode, number);
+        asked
+            .automaton
+            .advance(asked.mode, from, byte, &mut self.scratch, meter);
+        let number = self.number_of(asked)?;
+        let cell = self.cell_of(asked.mode, number);
         let at = row + self.classes.as_slice()[byte as usize] as usize;
         self.pairs.put(at as u32, cell);
         Some(cell)
@@ -281,23 +218,17 @@ impl Table {
 
     // Where the search goes on after this cell led to this place.
     #[inline(always)]
-    fn arrive(
-        &self,
-        automaton: &Automaton,
-        mode: Mode,
-        line: &[u8],
-        place: usize,
-        cell: u32,
-        pace: &mut Pace,
-    ) -> Went
-        requires right { IsRight (expression_of automaton.now) mode self.now }
-        requires within { (1 ≤ place) × (place ≤ length line.now) }
+    fn arrive(&mut self, asked: &LineSearch, place: usize, cell: u32) -> Went
+        requires right { IsRightFor asked.now self.old }
+        requires within { (1 ≤ place) × (place ≤ length asked.now.line.now) }
         requires known { cell < unknown }
-        requires row { IsRow self.now (row_under cell) }
-        ensures { LeadsOn (expression_of automaton.now) mode line.now self.now place cell result }
+        requires row { IsRow self.old (row_under cell) }
+        ensures leads { LeadsOn asked.now self.old place cell self.new result }
+        ensures right { IsRightFor asked.now self.new }
+        ensures keeps { Keeps self.old self.new }
     {
         if cell >= LIMIT {
-            if place < line.len() {
+            if place < asked.line.len() {
                 return Went::Told(true);
             }
             return Went::To(Spot {
@@ -311,11 +242,11 @@ impl Table {
                 row: cell as usize,
             });
         }
-        if mode == Mode::Whole {
+        if asked.mode == Mode::Whole {
             return Went::Told(false);
         }
-        let next = automaton.next_beginning(line, place);
-        pace.note_pass(next - place);
+        let next = asked.automaton.next_beginning(asked.line, place);
+        self.pace.note_pass(next - place);
         Went::To(Spot {
             place: next,
             row: 0,

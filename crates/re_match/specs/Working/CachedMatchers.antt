@@ -6,9 +6,6 @@ use Rattle.re_auto.specs.Meters.{Steps}
 use Rattle.re_steps.specs.Working.Stages.{Cache, Searches, mode_for}
 use Rattle.re_needle.specs.Working.Needles.{IsSettled}
 use Rattle.re_syntax.specs.declared.tree.Tree.{Tree}
-use Rattle.re_auto.specs.declared.mode.Mode.{Mode}
-use Rattle.re_steps.specs.declared.table.Table.{Table}
-use Rattle.re_steps.specs.Working.Rows.{IsRight, IsBlank}
 
 -- the expression's tree, whether the whole line has to be matched (XCU grep, option -x), the cache,
 -- and how many entries it may have
@@ -17,10 +14,6 @@ pub record CachedMatcher : Type 0 where
   pub whole : Bool
   pub cache : Cache
   pub most : ℕ
-
--- what is known is right for the expression and the mode, or nothing is known
-abbrev pub IsKnownFor : Expression → Mode → Table → Type 0
-IsKnownFor e mode t = IsBlank t ⊎ IsRight e mode t
 
 -- the answer was known without a step, or a search found it
 pub record TellsAtOnce (e : Expression) (whole : Bool) (line : Text) (old new : Cache)

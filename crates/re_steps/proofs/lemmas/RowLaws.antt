@@ -16,7 +16,7 @@ use Rattle.re_auto.specs.Working.Tables.{words_for}
 use Rattle.re_auto.proofs.lemmas.RowLemmas.{row_within}
 use Rattle.re_steps.specs.declared.table.Mark.{Mark}
 use Rattle.re_steps.specs.Working.Pairs.{unknown, Mirrors, IsKeptOrLost}
-use Rattle.re_steps.specs.Working.Rows.{limit, IsSoundTable, IsRowOf, IsMarkOf, IsCellOf, TellsNext, cell_at}
+use Rattle.re_steps.specs.Working.Rows.{Rows, limit, AreSound, HasFirstRows, AreExtended, IsRowOf, IsMarkOf, IsCellOf, TellsNext, cell_at}
 use Rattle.re_steps.proofs.lemmas.StageLaws.{same_sym, accepting_same, next_same}
 
 -- elements of a list that is longer by one
@@ -99,93 +99,104 @@ module _ (e : Expression) (mode : Mode) (sets : List StateSet) (stride : ℕ) wh
 pub row_longer : (sets more : List StateSet) (stride r : ℕ) (set : StateSet) → IsRowOf sets stride r set → IsRowOf (sets ++ more) stride r set
 row_longer sets more stride r set row = record { number = row.number; row = row.row; is = get_left sets more row.number set row.is }
 
+-- the first two rows stay
+pub first_later : (e : Expression) (mode : Mode) (old new : Rows) → AreExtended old new → HasFirstRows e mode old.sets → HasFirstRows e mode new.sets
+first_later e mode old new kept first = record {
+  nowhere = first.nowhere;
+  is_nowhere = kept.sets 0 first.nowhere first.is_nowhere;
+  empty = first.empty;
+  start = first.start;
+  is_start = kept.sets 1 first.start first.is_start;
+  stands = first.stands;
+}
+
 tells_longer : (e : Expression) (mode : Mode) (sets more : List StateSet) (stride : ℕ) (from : StateSet) (byte cell : ℕ) → TellsNext e mode sets stride from byte cell → TellsNext e mode (sets ++ more) stride from byte cell
 tells_longer e mode sets more stride from byte cell t = record {
   plain = λ low. let on = t.plain low in record { into = on.into; row = row_longer sets more stride cell on.into on.row; next = on.next; plain = on.plain };
   special = λ high low. let on = t.special high low in record { into = on.into; row = row_longer sets more stride (cell - limit) on.into on.row; next = on.next; search = on.search; accepting = on.accepting };
 }
 
-module _ (e : Expression) (mode : Mode) (classes : List ℕ) (stride : ℕ) (sets : List StateSet) (marks : List Mark) (cells : List ℕ) (entries : List (ℕ × ℕ)) (sound : IsSoundTable e mode classes stride sets marks cells entries) where
+module _ (e : Expression) (mode : Mode) (rows : Rows) (sound : AreSound e mode rows) where
   -- each set has a cell for each byte
-  pub cell_within : (r c : ℕ) (set : StateSet) → IsRowOf sets stride r set → c < 256 → r + slice_index classes c < length cells
+  pub cell_within : (r c : ℕ) (set : StateSet) → IsRowOf rows.sets rows.stride r set → c < 256 → r + slice_index rows.classes c < length rows.cells
   cell_within r c set row small =
-      let lt = slice_get_within sets row.number set row.is in
-      let fits = row_within row.number (length sets) stride lt in
+      let lt = slice_get_within rows.sets row.number set row.is in
+      let fits = row_within row.number (length rows.sets) rows.stride lt in
       let class = sound.classed c small in
-      omega (arith, sound.rows, row.row, fits, class)
+      omega (arith, sound.filled, row.row, fits, class)
 
   -- a set is added, with its mark and a row for it that holds nothing
-  pub sound_longer : (same : StateSet) (mark : Mark) → IsMadeFor e same → IsMarkOf e mode same mark → ((t : ℕ) (other : StateSet) → slice_get sets t ≡ Some other → IsSame other same → ⊥)
-      → length cells + stride ≤ limit → Mirrors entries (cells ++ replicate stride unknown)
-      → IsSoundTable e mode classes stride (sets ++ same ∷ []) (marks ++ mark ∷ []) (cells ++ replicate stride unknown) entries
+  pub sound_longer : (same : StateSet) (mark : Mark) → IsMadeFor e same → IsMarkOf e mode same mark → ((t : ℕ) (other : StateSet) → slice_get rows.sets t ≡ Some other → IsSame other same → ⊥)
+      → length rows.cells + rows.stride ≤ limit → Mirrors rows.entries (rows.cells ++ replicate rows.stride unknown)
+      → AreSound e mode (record { classes = rows.classes; stride = rows.stride; sets = rows.sets ++ same ∷ []; marks = rows.marks ++ mark ∷ []; cells = rows.cells ++ replicate rows.stride unknown; entries = rows.entries })
   sound_longer same mark made of fresh fits mirrors = record {
     bytes = sound.bytes;
     few_classes = sound.few_classes;
     classed = sound.classed;
     alike = sound.alike;
-    made = λ t set is. elim (get_cases sets same t set is) [ inl h ↦ sound.made t set h | inr h ↦ subst (IsMadeFor e) h.1 made ];
-    apart = λ s t one other is at alike. elim (get_cases sets same s one is) [
-      | inl early ↦ elim (get_cases sets same t other at) [
+    made = λ t set is. elim (get_cases rows.sets same t set is) [ inl h ↦ sound.made t set h | inr h ↦ subst (IsMadeFor e) h.1 made ];
+    apart = λ s t one other is at alike. elim (get_cases rows.sets same s one is) [
+      | inl early ↦ elim (get_cases rows.sets same t other at) [
         | inl before ↦ sound.apart s t one other early before alike
         | inr last ↦ absurd (fresh s one early (subst (IsSame one) (sym last.1) alike))
       ]
-      | inr late ↦ elim (get_cases sets same t other at) [
+      | inr late ↦ elim (get_cases rows.sets same t other at) [
         | inl before ↦ absurd (fresh t other before (subst (IsSame other) (sym late.1) (same_sym one other alike)))
         | inr last ↦ late.0 ∙ sym last.0
       ]
     ];
-    marked = λ t set is. elim (get_cases sets same t set is) [
-      | inl h ↦ let m = sound.marked t set h in record { mark = m.mark; is = get_left marks (mark ∷ []) t m.mark m.is; tells = m.tells }
+    marked = λ t set is. elim (get_cases rows.sets same t set is) [
+      | inl h ↦ let m = sound.marked t set h in record { mark = m.mark; is = get_left rows.marks (mark ∷ []) t m.mark m.is; tells = m.tells }
       | inr h ↦ record {
         mark = mark;
-        is = subst (λ n. slice_get (marks ++ mark ∷ []) n ≡ Some mark) (sound.as_many ∙ sym h.0) (get_last marks mark);
+        is = subst (λ n. slice_get (rows.marks ++ mark ∷ []) n ≡ Some mark) (sound.as_many ∙ sym h.0) (get_last rows.marks mark);
         tells = subst (λ s. IsMarkOf e mode s mark) h.1 of;
       }
     ];
-    as_many = omega (arith, length-append marks (mark ∷ []), length-append sets (same ∷ []), sound.as_many);
-    rows =
-        let product : (length sets + 1) * stride ≡ length sets * stride + stride = omega arith in
-        let count : length (sets ++ same ∷ []) ≡ length sets + 1 = omega (arith, length-append sets (same ∷ [])) in
-        omega (arith, length-append cells (replicate stride unknown), length-replicate stride unknown, sound.rows, product) ∙ ap (λ n. n * stride) (sym count);
-    few = omega (arith, length-append cells (replicate stride unknown), length-replicate stride unknown, fits);
+    as_many = omega (arith, length-append rows.marks (mark ∷ []), length-append rows.sets (same ∷ []), sound.as_many);
+    filled =
+        let product : (length rows.sets + 1) * rows.stride ≡ length rows.sets * rows.stride + rows.stride = omega arith in
+        let count : length (rows.sets ++ same ∷ []) ≡ length rows.sets + 1 = omega (arith, length-append rows.sets (same ∷ [])) in
+        omega (arith, length-append rows.cells (replicate rows.stride unknown), length-replicate rows.stride unknown, sound.filled, product) ∙ ap (λ n. n * rows.stride) (sym count);
+    few = omega (arith, length-append rows.cells (replicate rows.stride unknown), length-replicate rows.stride unknown, fits);
     mirrors = mirrors;
-    tells = λ r from c row small. elim (get_cases sets same row.number from row.is) [
+    tells = λ r from c row small. elim (get_cases rows.sets same row.number from row.is) [
       | inl is ↦ old r from c row small is
       | inr is ↦ new r from c row small is.0
     ];
   }
     where
-      old : (r : ℕ) (from : StateSet) (c : ℕ) (row : IsRowOf (sets ++ same ∷ []) stride r from) → c < 256 → slice_get sets row.number ≡ Some from →
-          TellsNext e mode (sets ++ same ∷ []) stride from c (cell_at classes (cells ++ replicate stride unknown) r c)
+      old : (r : ℕ) (from : StateSet) (c : ℕ) (row : IsRowOf (rows.sets ++ same ∷ []) rows.stride r from) → c < 256 → slice_get rows.sets row.number ≡ Some from →
+          TellsNext e mode (rows.sets ++ same ∷ []) rows.stride from c (cell_at rows.classes (rows.cells ++ replicate rows.stride unknown) r c)
       old r from c row small is =
-          let before : IsRowOf sets stride r from = record { number = row.number; row = row.row; is = is } in
+          let before : IsRowOf rows.sets rows.stride r from = record { number = row.number; row = row.row; is = is } in
           let within = cell_within r c from before small in
-          subst (TellsNext e mode (sets ++ same ∷ []) stride from c) (sym (get_or_append_left cells (replicate stride unknown) 0 (r + slice_index classes c) within))
-          (tells_longer e mode sets (same ∷ []) stride from c (cell_at classes cells r c) (sound.tells r from c before small))
+          subst (TellsNext e mode (rows.sets ++ same ∷ []) rows.stride from c) (sym (get_or_append_left rows.cells (replicate rows.stride unknown) 0 (r + slice_index rows.classes c) within))
+          (tells_longer e mode rows.sets (same ∷ []) rows.stride from c (cell_at rows.classes rows.cells r c) (sound.tells r from c before small))
 
-      new : (r : ℕ) (from : StateSet) (c : ℕ) (row : IsRowOf (sets ++ same ∷ []) stride r from) → c < 256 → row.number ≡ length sets →
-          TellsNext e mode (sets ++ same ∷ []) stride from c (cell_at classes (cells ++ replicate stride unknown) r c)
+      new : (r : ℕ) (from : StateSet) (c : ℕ) (row : IsRowOf (rows.sets ++ same ∷ []) rows.stride r from) → c < 256 → row.number ≡ length rows.sets →
+          TellsNext e mode (rows.sets ++ same ∷ []) rows.stride from c (cell_at rows.classes (rows.cells ++ replicate rows.stride unknown) r c)
       new r from c row small last =
           let class = sound.classed c small in
-          let first : r ≡ length cells = row.row ∙ ap (λ n. n * stride) last ∙ sym sound.rows in
-          let is : cell_at classes (cells ++ replicate stride unknown) r c ≡ unknown =
-          get_or-append_right cells (replicate stride unknown) (r + slice_index classes c) 0 (omega (arith, first))
-          ∙ get_or-replicate stride (r + slice_index classes c - length cells) unknown 0 (omega (arith, first, class)) in
-          subst (TellsNext e mode (sets ++ same ∷ []) stride from c) (sym is) (tells_unknown e mode (sets ++ same ∷ []) stride from c)
+          let first : r ≡ length rows.cells = row.row ∙ ap (λ n. n * rows.stride) last ∙ sym sound.filled in
+          let is : cell_at rows.classes (rows.cells ++ replicate rows.stride unknown) r c ≡ unknown =
+          get_or-append_right rows.cells (replicate rows.stride unknown) (r + slice_index rows.classes c) 0 (omega (arith, first))
+          ∙ get_or-replicate rows.stride (r + slice_index rows.classes c - length rows.cells) unknown 0 (omega (arith, first, class)) in
+          subst (TellsNext e mode (rows.sets ++ same ∷ []) rows.stride from c) (sym is) (tells_unknown e mode (rows.sets ++ same ∷ []) rows.stride from c)
 
   -- a row's number and a class are known from a cell's place
-  pub same_place : (r s a b : ℕ) (from set : StateSet) → IsRowOf sets stride r from → IsRowOf sets stride s set → a < stride → b < stride → r + a ≡ s + b → (a ≡ b) × (from ≡ set)
+  pub same_place : (r s a b : ℕ) (from set : StateSet) → IsRowOf rows.sets rows.stride r from → IsRowOf rows.sets rows.stride s set → a < rows.stride → b < rows.stride → r + a ≡ s + b → (a ≡ b) × (from ≡ set)
   same_place r s a b from set row other fits fits-2 is =
-      let sum : row.number * stride + a ≡ other.number * stride + b = omega (arith, row.row, other.row, is) in
-      let number : row.number ≡ other.number = sym (div-mul-add row.number stride a fits) ∙ ap (λ n. n / stride) sum ∙ div-mul-add other.number stride b fits-2 in
-      let both : Some from ≡ Some set = sym row.is ∙ ap (slice_get sets) number ∙ other.is in
-      (omega (arith, sum, ap (λ n. n * stride) number), cc)
+      let sum : row.number * rows.stride + a ≡ other.number * rows.stride + b = omega (arith, row.row, other.row, is) in
+      let number : row.number ≡ other.number = sym (div-mul-add row.number rows.stride a fits) ∙ ap (λ n. n / rows.stride) sum ∙ div-mul-add other.number rows.stride b fits-2 in
+      let both : Some from ≡ Some set = sym row.is ∙ ap (slice_get rows.sets) number ∙ other.is in
+      (omega (arith, sum, ap (λ n. n * rows.stride) number), cc)
 
   -- a cell is held, and others may not be any more
-  pub sound_held : (new : List ℕ) (now : List (ℕ × ℕ)) (r byte cell : ℕ) (set : StateSet) → IsRowOf sets stride r set → byte < 256 → TellsNext e mode sets stride set byte cell → length new ≡ length cells
-      → (slice_index new (r + slice_index classes byte) ≡ cell) ⊎ (slice_index new (r + slice_index classes byte) ≡ unknown)
-      → ((k : ℕ) → (k ≡ r + slice_index classes byte → ⊥) → IsKeptOrLost (slice_index cells k) (slice_index new k)) → Mirrors now new
-      → IsSoundTable e mode classes stride sets marks new now
+  pub sound_held : (new : List ℕ) (now : List (ℕ × ℕ)) (r byte cell : ℕ) (set : StateSet) → IsRowOf rows.sets rows.stride r set → byte < 256 → TellsNext e mode rows.sets rows.stride set byte cell → length new ≡ length rows.cells
+      → (slice_index new (r + slice_index rows.classes byte) ≡ cell) ⊎ (slice_index new (r + slice_index rows.classes byte) ≡ unknown)
+      → ((k : ℕ) → (k ≡ r + slice_index rows.classes byte → ⊥) → IsKeptOrLost (slice_index rows.cells k) (slice_index new k)) → Mirrors now new
+      → AreSound e mode (record { classes = rows.classes; stride = rows.stride; sets = rows.sets; marks = rows.marks; cells = new; entries = now })
   sound_held new now r byte cell set row small tells len here others mirrors = record {
     bytes = sound.bytes;
     few_classes = sound.few_classes;
@@ -195,66 +206,66 @@ module _ (e : Expression) (mode : Mode) (classes : List ℕ) (stride : ℕ) (set
     apart = sound.apart;
     marked = sound.marked;
     as_many = sound.as_many;
-    rows = len ∙ sound.rows;
+    filled = len ∙ sound.filled;
     few = omega (arith, len, sound.few);
     mirrors = mirrors;
-    tells = λ s from c at lt. elim (cases_eq (s + slice_index classes c) (r + slice_index classes byte)) [
+    tells = λ s from c at lt. elim (cases_eq (s + slice_index rows.classes c) (r + slice_index rows.classes byte)) [
       | inl same ↦
-          let both = same_place s r (slice_index classes c) (slice_index classes byte) from set at row (sound.classed c lt) (sound.classed byte small) same in
-          subst (λ f. TellsNext e mode sets stride f c (cell_at classes new s c)) (sym both.1) (subst (λ k. TellsNext e mode sets stride set c (slice_index new k)) (sym same) (elim here [
-            | inl is ↦ subst (TellsNext e mode sets stride set c) (sym is) (tells_alike e mode sets stride set byte c cell (sound.alike byte c small lt (sym both.0)) tells)
-            | inr is ↦ subst (TellsNext e mode sets stride set c) (sym is) (tells_unknown e mode sets stride set c)
+          let both = same_place s r (slice_index rows.classes c) (slice_index rows.classes byte) from set at row (sound.classed c lt) (sound.classed byte small) same in
+          subst (λ f. TellsNext e mode rows.sets rows.stride f c (cell_at rows.classes new s c)) (sym both.1) (subst (λ k. TellsNext e mode rows.sets rows.stride set c (slice_index new k)) (sym same) (elim here [
+            | inl is ↦ subst (TellsNext e mode rows.sets rows.stride set c) (sym is) (tells_alike e mode rows.sets rows.stride set byte c cell (sound.alike byte c small lt (sym both.0)) tells)
+            | inr is ↦ subst (TellsNext e mode rows.sets rows.stride set c) (sym is) (tells_unknown e mode rows.sets rows.stride set c)
           ]))
-      | inr other ↦ elim (others (s + slice_index classes c) other) [
-        | inl is ↦ subst (TellsNext e mode sets stride from c) (sym is) (sound.tells s from c at lt)
-        | inr is ↦ subst (TellsNext e mode sets stride from c) (sym is) (tells_unknown e mode sets stride from c)
+      | inr other ↦ elim (others (s + slice_index rows.classes c) other) [
+        | inl is ↦ subst (TellsNext e mode rows.sets rows.stride from c) (sym is) (sound.tells s from c at lt)
+        | inr is ↦ subst (TellsNext e mode rows.sets rows.stride from c) (sym is) (tells_unknown e mode rows.sets rows.stride from c)
       ]
     ];
   }
 
-  some_class : 0 < stride
+  some_class : 0 < rows.stride
   some_class = omega (arith, sound.classed 0 (omega arith))
 
-  number_of_row : (r : ℕ) (set : StateSet) (row : IsRowOf sets stride r set) → r / stride ≡ row.number
+  number_of_row : (r : ℕ) (set : StateSet) (row : IsRowOf rows.sets rows.stride r set) → r / rows.stride ≡ row.number
   number_of_row r set row =
-      let first : row.number * stride + 0 ≡ r = omega (arith, row.row) in
-      ap (λ n. n / stride) (sym first) ∙ div-mul-add row.number stride 0 some_class
+      let first : row.number * rows.stride + 0 ≡ r = omega (arith, row.row) in
+      ap (λ n. n / rows.stride) (sym first) ∙ div-mul-add row.number rows.stride 0 some_class
 
   -- the set of a row, by its number
-  pub set_of_row : (r n : ℕ) (set read : StateSet) (keys : List StateSet) → IsRowOf sets stride r set → keys ≡ sets → n ≡ r / stride → read ≡ get_or keys n read → read ≡ set
+  pub set_of_row : (r n : ℕ) (set read : StateSet) (keys : List StateSet) → IsRowOf rows.sets rows.stride r set → keys ≡ rows.sets → n ≡ r / rows.stride → read ≡ get_or keys n read → read ≡ set
   set_of_row r n set read keys row same number is =
-      is ∙ ap (λ ks. get_or ks n read) same ∙ get_or_from_slice_get sets n set read (subst (λ k. slice_get sets k ≡ Some set) (sym (number ∙ number_of_row r set row)) row.is)
+      is ∙ ap (λ ks. get_or ks n read) same ∙ get_or_from_slice_get rows.sets n set read (subst (λ k. slice_get rows.sets k ≡ Some set) (sym (number ∙ number_of_row r set row)) row.is)
 
   -- a set whose row has a cell has a number
-  pub number_within : (n c : ℕ) → n * stride + c < length cells → n < length sets
-  number_within n c lt = elim (sides n (length sets)) [
+  pub number_within : (n c : ℕ) → n * rows.stride + c < length rows.cells → n < length rows.sets
+  number_within n c lt = elim (sides n (length rows.sets)) [
     | inl inside ↦ inside
     | inr past ↦
-        let fits = row_within (length sets) (n + 1) stride (omega (arith, past)) in
-        let product : (n + 1) * stride ≡ n * stride + stride = omega arith in
-        absurd (omega (arith, fits, product, lt, sound.rows))
+        let fits = row_within (length rows.sets) (n + 1) rows.stride (omega (arith, past)) in
+        let product : (n + 1) * rows.stride ≡ n * rows.stride + rows.stride = omega arith in
+        absurd (omega (arith, fits, product, lt, sound.filled))
   ]
     where
       sides : (m n : ℕ) → (m < n) ⊎ (n ≤ m)
       sides m n = search arith
 
   -- the set of row 0
-  pub row_zero : (set first : StateSet) → IsRowOf sets stride 0 set → slice_get sets 0 ≡ Some first → set ≡ first
+  pub row_zero : (set first : StateSet) → IsRowOf rows.sets rows.stride 0 set → slice_get rows.sets 0 ≡ Some first → set ≡ first
   row_zero set first row is =
-      let zero : 0 ≡ 0 * stride = omega arith in
+      let zero : 0 ≡ 0 * rows.stride = omega arith in
       (same_place 0 0 0 0 set first row (record { number = 0; row = zero; is = is }) some_class some_class refl).1
 
   -- rows are below the limit
-  pub row_small : (number : ℕ) (set : StateSet) → slice_get sets number ≡ Some set → number * stride < limit
+  pub row_small : (number : ℕ) (set : StateSet) → slice_get rows.sets number ≡ Some set → number * rows.stride < limit
   row_small number set is =
-      let fits = row_within number (length sets) stride (slice_get_within sets number set is) in
-      omega (arith, fits, sound.rows, sound.few, some_class)
+      let fits = row_within number (length rows.sets) rows.stride (slice_get_within rows.sets number set is) in
+      omega (arith, fits, sound.filled, sound.few, some_class)
 
-  pub row_inside : (r : ℕ) (set : StateSet) → IsRowOf sets stride r set → r / stride < length sets
-  row_inside r set row = omega (arith, number_of_row r set row, slice_get_within sets row.number set row.is)
+  pub row_inside : (r : ℕ) (set : StateSet) → IsRowOf rows.sets rows.stride r set → r / rows.stride < length rows.sets
+  row_inside r set row = omega (arith, number_of_row r set row, slice_get_within rows.sets row.number set row.is)
 
   -- a set's mark, by its number
-  pub mark_of_set : (number : ℕ) (set : StateSet) (read : Mark) → slice_get sets number ≡ Some set → slice_get marks number ≡ Some read → IsMarkOf e mode set read
+  pub mark_of_set : (number : ℕ) (set : StateSet) (read : Mark) → slice_get rows.sets number ≡ Some set → slice_get rows.marks number ≡ Some read → IsMarkOf e mode set read
   mark_of_set number set read at is =
       let m = sound.marked number set at in
       let both : Some m.mark ≡ Some read = sym m.is ∙ is in
@@ -263,5 +274,5 @@ module _ (e : Expression) (mode : Mode) (classes : List ℕ) (stride : ℕ) (set
       some_same : {X : Type 0} {x y : X} → Some x ≡ Some y → x ≡ y
       some_same is = cc
 
-  pub mark_of_row : (r : ℕ) (set : StateSet) (read : Mark) → IsRowOf sets stride r set → slice_get marks (r / stride) ≡ Some read → IsMarkOf e mode set read
-  mark_of_row r set read row is = mark_of_set row.number set read row.is (sym (ap (slice_get marks) (number_of_row r set row)) ∙ is)
+  pub mark_of_row : (r : ℕ) (set : StateSet) (read : Mark) → IsRowOf rows.sets rows.stride r set → slice_get rows.marks (r / rows.stride) ≡ Some read → IsMarkOf e mode set read
+  mark_of_row r set read row is = mark_of_set row.number set read row.is (sym (ap (slice_get rows.marks) (number_of_row r set row)) ∙ is)

@@ -16,12 +16,13 @@ use Rattle.re_auto.specs.Working.StateSets.{IsSame, IsNextSet}
 use Rattle.re_steps.specs.declared.table.Mark.{Mark}
 use Rattle.re_steps.specs.Working.Pairs.{unknown, shown, Mirrors, IsKeptOrLost}
 use Rattle.re_steps.specs.Working.Stages.{Cache, Stage, IsHeld, HoldsNoOther, IsPlain, GoesOver, Goes}
+use Rattle.re_steps.specs.declared.table.LineSearch.{LineSearch}
 use Rattle.re_steps.specs.declared.table.Table.{Table}
 use Rattle.re_steps.specs.declared.walking.Spot.{Spot}
 use Rattle.re_steps.specs.declared.walking.Went.{Went}
 use Rattle.re_steps.specs.declared.walking.Went.TheVariants as w
-use Rattle.re_steps.specs.Working.Rows.{limit, IsSoundTable, IsRight, IsRowOf, TellsNext, ComesTo, Lands, LandsAlone, cell_at, cache_of, row_under, walked}
-use Rattle.re_steps.specs.Working.Walks.{LeadsOn, Arrives}
+use Rattle.re_steps.specs.Working.Rows.{Rows, limit, expression_in, AreSound, IsRightFor, IsRowOf, TellsNext, ComesTo, Lands, LandsAlone, cell_at, cache_of, row_under, walked}
+use Rattle.re_steps.specs.Working.Walks.{IsAt, HasLanded, LeadsOn, Arrives}
 use Rattle.re_steps.proofs.lemmas.StageLaws.{nothing_held, goes_nowhere, goes_on, same_sym}
 use Rattle.re_steps.proofs.lemmas.RowLaws.{cell_within, same_place, number_within}
 
@@ -60,9 +61,9 @@ under_high cell high = rw (not_below cell limit high) refl
 pub sides : (m n : ℕ) → (m < n) ⊎ (n ≤ m)
 sides m n = search arith
 
-module _ (e : Expression) (mode : Mode) (classes : List ℕ) (stride : ℕ) (sets : List StateSet) (marks : List Mark) (cells : List ℕ) (entries : List (ℕ × ℕ)) (sound : IsSoundTable e mode classes stride sets marks cells entries) where
+module _ (e : Expression) (mode : Mode) (rows : Rows) (sound : AreSound e mode rows) where
   abbrev pub cache : Cache
-  cache = record { classes = classes; stride = stride; sets = sets; entries = entries }
+  cache = record { classes = rows.classes; stride = rows.stride; sets = rows.sets; entries = rows.entries }
 
   some_shown : (o : Option ℕ) → shown o < unknown → IsSome o
   some_shown None low = absurd (omega (arith, low))
@@ -73,30 +74,30 @@ module _ (e : Expression) (mode : Mode) (classes : List ℕ) (stride : ℕ) (set
   none_shown (Some v) is small some = let low = small v refl in absurd (omega (arith, is, low))
 
   -- a pair whose cell is known is held
-  pub cell_held : (r byte : ℕ) (set : StateSet) → IsRowOf sets stride r set → byte < 256 → cell_at classes cells r byte < unknown → IsHeld cache set byte
+  pub cell_held : (r byte : ℕ) (set : StateSet) → IsRowOf rows.sets rows.stride r set → byte < 256 → cell_at rows.classes rows.cells r byte < unknown → IsHeld cache set byte
   cell_held r byte set row small low =
-      let at : r + slice_index classes byte ≡ row.number * stride + slice_index classes byte = omega (arith, row.row) in
-      let shows = sound.mirrors.shows (r + slice_index classes byte) (cell_within e mode classes stride sets marks cells entries sound r byte set row small) in
+      let at : r + slice_index rows.classes byte ≡ row.number * rows.stride + slice_index rows.classes byte = omega (arith, row.row) in
+      let shows = sound.mirrors.shows (r + slice_index rows.classes byte) (cell_within e mode rows sound r byte set row small) in
       record {
         number = row.number;
         same = set;
         is = row.is;
         alike = (refl, refl);
-        held = subst (λ k. IsSome (lookup (nat_eq k) entries)) at (some_shown (lookup (nat_eq (r + slice_index classes byte)) entries) (omega (arith, low, shows)));
+        held = subst (λ k. IsSome (lookup (nat_eq k) rows.entries)) at (some_shown (lookup (nat_eq (r + slice_index rows.classes byte)) rows.entries) (omega (arith, low, shows)));
       }
 
   -- and one whose cell is unknown isn't
-  pub cell_not_held : (r byte : ℕ) (set : StateSet) → IsRowOf sets stride r set → byte < 256 → cell_at classes cells r byte ≡ unknown → ¬ IsHeld cache set byte
+  pub cell_not_held : (r byte : ℕ) (set : StateSet) → IsRowOf rows.sets rows.stride r set → byte < 256 → cell_at rows.classes rows.cells r byte ≡ unknown → ¬ IsHeld cache set byte
   cell_not_held r byte set row small none h =
       let number : h.number ≡ row.number = sound.apart h.number row.number h.same set h.is row.is h.alike in
-      let at : h.number * stride + slice_index classes byte ≡ r + slice_index classes byte = ap (λ n. n * stride + slice_index classes byte) number ∙ ap (λ n. n + slice_index classes byte) (sym row.row) in
-      let place = r + slice_index classes byte in
-      none_shown (lookup (nat_eq place) entries) (sym none ∙ sound.mirrors.shows place (cell_within e mode classes stride sets marks cells entries sound r byte set row small))
-      (λ v is. (sound.mirrors.within place v is).1) (subst (λ k. IsSome (lookup (nat_eq k) entries)) at h.held)
+      let at : h.number * rows.stride + slice_index rows.classes byte ≡ r + slice_index rows.classes byte = ap (λ n. n * rows.stride + slice_index rows.classes byte) number ∙ ap (λ n. n + slice_index rows.classes byte) (sym row.row) in
+      let place = r + slice_index rows.classes byte in
+      none_shown (lookup (nat_eq place) rows.entries) (sym none ∙ sound.mirrors.shows place (cell_within e mode rows sound r byte set row small))
+      (λ v is. (sound.mirrors.within place v is).1) (subst (λ k. IsSome (lookup (nat_eq k) rows.entries)) at h.held)
 
   -- a search comes over a byte whose cell is a row
-  pub comes_on : (line : Text) (first : Stage) (steps : Steps) (j r : ℕ) → j < length line → slice_index line j < 256 → cell_at classes cells r (slice_index line j) < limit
-      → ComesTo e mode line first cache steps j r → ComesTo e mode line first cache (many_reused 1 steps) (suc j) (cell_at classes cells r (slice_index line j))
+  pub comes_on : (line : Text) (first : Stage) (steps : Steps) (j r : ℕ) → j < length line → slice_index line j < 256 → cell_at rows.classes rows.cells r (slice_index line j) < limit
+      → ComesTo e mode line first cache steps j r → ComesTo e mode line first cache (many_reused 1 steps) (suc j) (cell_at rows.classes rows.cells r (slice_index line j))
   comes_on line first steps j r lt small low came =
       let c = slice_index line j in
       let on = (sound.tells r came.set c came.row small).plain low in
@@ -131,18 +132,18 @@ module _ (e : Expression) (mode : Mode) (classes : List ℕ) (stride : ℕ) (set
   ]
 
   -- by a cell that is held
-  pub lands_held : (line : Text) (first : Stage) (steps : Steps) (j r byte : ℕ) → byte < 256 → slice_get line j ≡ Some byte → cell_at classes cells r byte < unknown
-      → ComesTo e mode line first cache steps j r → Lands e mode line first cache (many_reused 1 steps) j (cell_at classes cells r byte)
+  pub lands_held : (line : Text) (first : Stage) (steps : Steps) (j r byte : ℕ) → byte < 256 → slice_get line j ≡ Some byte → cell_at rows.classes rows.cells r byte < unknown
+      → ComesTo e mode line first cache steps j r → Lands e mode line first cache (many_reused 1 steps) j (cell_at rows.classes rows.cells r byte)
   lands_held line first steps j r byte small is held came =
-      lands_at line first came.set cache steps (many_reused 1 steps) j byte (cell_at classes cells r byte) is (sound.tells r came.set byte came.row small) held came.goes
+      lands_at line first came.set cache steps (many_reused 1 steps) j byte (cell_at rows.classes rows.cells r byte) is (sound.tells r came.set byte came.row small) held came.goes
       (λ into next. record {
         plain = came.plain (slice_get_within line j byte is);
         over = inl (record { held = cell_held r byte came.set came.row small held; next = next; cache = refl; steps = refl });
       })
 
   -- by one that was worked out
-  pub lands_learned : (line : Text) (first : Stage) (now : Cache) (before after : Steps) (j r byte cell : ℕ) → byte < 256 → slice_get line j ≡ Some byte → cell_at classes cells r byte ≡ unknown
-      → ((set : StateSet) → IsRowOf sets stride r set → (cell < unknown) × TellsNext e mode now.sets now.stride set byte cell) → ((set : StateSet) → IsRowOf sets stride r set → HoldsNoOther e cache set byte now)
+  pub lands_learned : (line : Text) (first : Stage) (now : Cache) (before after : Steps) (j r byte cell : ℕ) → byte < 256 → slice_get line j ≡ Some byte → cell_at rows.classes rows.cells r byte ≡ unknown
+      → ((set : StateSet) → IsRowOf rows.sets rows.stride r set → (cell < unknown) × TellsNext e mode now.sets now.stride set byte cell) → ((set : StateSet) → IsRowOf rows.sets rows.stride r set → HoldsNoOther e cache set byte now)
       → after ≡ many_built 1 before → ComesTo e mode line first cache before j r → Lands e mode line first now after j cell
   lands_learned line first now before after j r byte cell small is none found others counted came =
       lands_at line first came.set now before after j byte cell is (found came.set came.row).1 (found came.set came.row).0 came.goes
@@ -152,8 +153,8 @@ module _ (e : Expression) (mode : Mode) (classes : List ℕ) (stride : ℕ) (set
       })
 
   -- or where only the set is known
-  pub lands_alone : (line : Text) (first : Stage) (into : StateSet) (before after : Steps) (j r byte : ℕ) → byte < 256 → slice_get line j ≡ Some byte → cell_at classes cells r byte ≡ unknown
-      → ((set : StateSet) → IsRowOf sets stride r set → IsNextSet e mode set byte into) → after ≡ many_built 1 before → ComesTo e mode line first cache before j r → LandsAlone e mode line first into after j
+  pub lands_alone : (line : Text) (first : Stage) (into : StateSet) (before after : Steps) (j r byte : ℕ) → byte < 256 → slice_get line j ≡ Some byte → cell_at rows.classes rows.cells r byte ≡ unknown
+      → ((set : StateSet) → IsRowOf rows.sets rows.stride r set → IsNextSet e mode set byte into) → after ≡ many_built 1 before → ComesTo e mode line first cache before j r → LandsAlone e mode line first into after j
   lands_alone line first into before after j r byte small is none next counted came = λ now empty.
       goes_on e mode line j first (record { set = came.set; cache = cache; steps = before }) (record { set = into; cache = now; steps = after }) came.goes
       (rw (get_or_from_slice_get line j byte 0 is) (record {
@@ -167,37 +168,41 @@ module _ (e : Expression) (mode : Mode) (classes : List ℕ) (stride : ℕ) (set
       }))
 
   -- the row below a cell is that of some set
-  pub row_below : (from : StateSet) (byte cell : ℕ) → TellsNext e mode sets stride from byte cell → cell < unknown → (set : StateSet) × IsRowOf sets stride (row_under cell) set
+  pub row_below : (from : StateSet) (byte cell : ℕ) → TellsNext e mode rows.sets rows.stride from byte cell → cell < unknown → (set : StateSet) × IsRowOf rows.sets rows.stride (row_under cell) set
   row_below from byte cell tells held = elim (sides cell limit) [
     | inl low ↦ let on = tells.plain low in (on.into, rw (under_low cell low) on.row)
     | inr high ↦ let on = tells.special high held in (on.into, rw (under_high cell high) on.row)
   ]
 
+  -- with other sets, marks and cells
+  abbrev pub with_more : List StateSet → List Mark → List ℕ → Rows
+  with_more more marks cells = record { classes = rows.classes; stride = rows.stride; sets = more; marks = marks; cells = cells; entries = rows.entries }
+
   -- no pair is held after one was put but that one and those that were held
-  pub holds_no_other : (sets-2 : List StateSet) (marks-2 : List Mark) (cells-2 : List ℕ) → IsSoundTable e mode classes stride sets-2 marks-2 cells-2 entries
-      → ((r : ℕ) (set : StateSet) → IsRowOf sets stride r set → IsRowOf sets-2 stride r set)
-      → (new : List ℕ) (now : List (ℕ × ℕ)) → Mirrors now new → (r byte : ℕ) (set : StateSet) → IsRowOf sets stride r set → byte < 256
-      → ((k : ℕ) → (k ≡ r + slice_index classes byte → ⊥) → IsKeptOrLost (slice_index cells-2 k) (slice_index new k)) → length new ≡ length cells-2
-      → HoldsNoOther e cache set byte (record { classes = classes; stride = stride; sets = sets-2; entries = now })
-  holds_no_other sets-2 marks-2 cells-2 sound-2 rows new now mirrors r byte set row small others len = λ other b lt h.
-      let k = h.number * stride + slice_index classes b in
-      let here : IsRowOf sets-2 stride (h.number * stride) h.same = record { number = h.number; row = refl; is = h.is } in
-      elim (cases_eq k (r + slice_index classes byte)) [
+  pub holds_no_other : (sets-2 : List StateSet) (marks-2 : List Mark) (cells-2 : List ℕ) → AreSound e mode (with_more sets-2 marks-2 cells-2)
+      → ((r : ℕ) (set : StateSet) → IsRowOf rows.sets rows.stride r set → IsRowOf sets-2 rows.stride r set)
+      → (new : List ℕ) (now : List (ℕ × ℕ)) → Mirrors now new → (r byte : ℕ) (set : StateSet) → IsRowOf rows.sets rows.stride r set → byte < 256
+      → ((k : ℕ) → (k ≡ r + slice_index rows.classes byte → ⊥) → IsKeptOrLost (slice_index cells-2 k) (slice_index new k)) → length new ≡ length cells-2
+      → HoldsNoOther e cache set byte (record { classes = rows.classes; stride = rows.stride; sets = sets-2; entries = now })
+  holds_no_other sets-2 marks-2 cells-2 sound-2 later new now mirrors r byte set row small others len = λ other b lt h.
+      let k = h.number * rows.stride + slice_index rows.classes b in
+      let here : IsRowOf sets-2 rows.stride (h.number * rows.stride) h.same = record { number = h.number; row = refl; is = h.is } in
+      elim (cases_eq k (r + slice_index rows.classes byte)) [
         | inl same ↦
-            let both = same_place e mode classes stride sets-2 marks-2 cells-2 entries sound-2 (h.number * stride) r (slice_index classes b) (slice_index classes byte) h.same set here (rows r set row) (sound.classed b lt) (sound.classed byte small) same in
+            let both = same_place e mode (with_more sets-2 marks-2 cells-2) sound-2 (h.number * rows.stride) r (slice_index rows.classes b) (slice_index rows.classes byte) h.same set here (later r set row) (sound.classed b lt) (sound.classed byte small) same in
             inr (subst (IsSame other) both.1 (same_sym h.same other h.alike), sound.alike b byte lt small both.0)
         | inr not ↦
             let value = held_value (lookup (nat_eq k) now) refl h.held in
             let inside = (mirrors.within k value.0 value.1).0 in
             let known : slice_index new k < unknown = omega (arith, mirrors.shows k inside, ap shown value.1, (mirrors.within k value.0 value.1).1) in
             let old_cell : slice_index cells-2 k < unknown = kept (slice_index cells-2 k) (slice_index new k) (others k not) known in
-            let entry : IsSome (lookup (nat_eq k) entries) = some_shown (lookup (nat_eq k) entries) (omega (arith, old_cell, sound-2.mirrors.shows k (omega (arith, inside, len)))) in
-            let was = held_value (lookup (nat_eq k) entries) refl entry in
-            let within : h.number < length sets = number_within e mode classes stride sets marks cells entries sound h.number (slice_index classes b) (sound.mirrors.within k was.0 was.1).0 in
-            let old : IsRowOf sets stride (h.number * stride) (get_or sets h.number h.same) = record { number = h.number; row = refl; is = slice_get-get_or sets h.number h.same within } in
-            let both = same_place e mode classes stride sets-2 marks-2 cells-2 entries sound-2 (h.number * stride) (h.number * stride) (slice_index classes b) (slice_index classes b) (get_or sets h.number h.same) h.same
-            (rows (h.number * stride) (get_or sets h.number h.same) old) here (sound.classed b lt) (sound.classed b lt) refl in
-            inl (record { number = h.number; same = h.same; is = slice_get-get_or sets h.number h.same within ∙ ap Some both.1; alike = h.alike; held = entry })
+            let entry : IsSome (lookup (nat_eq k) rows.entries) = some_shown (lookup (nat_eq k) rows.entries) (omega (arith, old_cell, sound-2.mirrors.shows k (omega (arith, inside, len)))) in
+            let was = held_value (lookup (nat_eq k) rows.entries) refl entry in
+            let within : h.number < length rows.sets = number_within e mode rows sound h.number (slice_index rows.classes b) (sound.mirrors.within k was.0 was.1).0 in
+            let old : IsRowOf rows.sets rows.stride (h.number * rows.stride) (get_or rows.sets h.number h.same) = record { number = h.number; row = refl; is = slice_get-get_or rows.sets h.number h.same within } in
+            let both = same_place e mode (with_more sets-2 marks-2 cells-2) sound-2 (h.number * rows.stride) (h.number * rows.stride) (slice_index rows.classes b) (slice_index rows.classes b) (get_or rows.sets h.number h.same) h.same
+            (later (h.number * rows.stride) (get_or rows.sets h.number h.same) old) here (sound.classed b lt) (sound.classed b lt) refl in
+            inl (record { number = h.number; same = h.same; is = slice_get-get_or rows.sets h.number h.same within ∙ ap Some both.1; alike = h.alike; held = entry })
       ]
     where
       held_value : (o : Option ℕ) {p : Option ℕ} → p ≡ o → IsSome o → (v : ℕ) × (p ≡ Some v)
@@ -213,24 +218,29 @@ pub walked_is : (n : ℕ) (old new : Steps) → new ≡ many_reused n old → (n
 walked_is zero old new counted none = none refl
 walked_is (suc n) old new counted none = counted
 
-module _ (e : Expression) (mode : Mode) (line : Text) (old : Table) (before : Steps) (spot : Spot) (new : Table) (into : StateSet) (after : Steps) where
+module _ (asked : LineSearch) (old : Table) (before : Steps) (spot : Spot) (middle new : Table) (after : Steps) where
   -- a search that came over one byte by a cell went on
-  pub arrives_on : (place cell j : ℕ) (went : Went) → LeadsOn e mode line new place cell went → IsRight e mode new → spot.place < place → suc j ≡ place
-      → ((first : Stage) → ComesTo e mode line first (cache_of old) before spot.place spot.row → Lands e mode line first (cache_of new) after j cell) → Arrives e mode line old before spot new into after went
-  arrives_on place cell j (w.To next) leads right on is lands = record {
+  pub arrives_on : (place cell : ℕ) (went : Went) → LeadsOn asked middle place cell new went → IsRightFor asked new → spot.place < place
+      → ((first : Stage) → IsAt asked first old before spot.place spot.row → HasLanded asked first middle after place cell) → Arrives asked old before spot new after went
+  arrives_on place cell (w.To next) leads right on lands = record {
     right = right;
     on = omega (arith, on, leads.0);
     within = leads.1;
     row = leads.2;
-    comes = λ first came. leads.3 first after j is (lands first came);
+    comes = λ first came. leads.3 first after (lands first came);
   }
-  arrives_on place cell j (w.Told answer) leads right on is lands = record { right = right; finishes = λ first came. leads first after j is (lands first came) }
-  arrives_on place cell j (w.Alone k) leads right on is lands = absurd leads
+  arrives_on place cell (w.Told answer) leads right on lands = record { right = right; finishes = λ first came. leads first after (lands first came) }
+  arrives_on place cell (w.Alone k) leads right on lands = absurd leads
 
-module _ (e : Expression) (mode : Mode) (line : Text) (t : Table) (right : IsRight e mode t) (steps : Steps) where
+module _ (asked : LineSearch) (t : Table) (right : IsRightFor asked t) (steps : Steps) where
   -- the stage at the first place of a line
   abbrev pub first_stage : Stage
-  first_stage = record { set = right.rows.start; cache = cache_of t; steps = steps }
+  first_stage = record { set = right.first.start; cache = cache_of t; steps = steps }
 
-  pub comes_first : (0 < length line → IsPlain e mode right.rows.start) → ComesTo e mode line first_stage (cache_of t) steps 0 (1 * t.stride)
-  comes_first plain = record { set = right.rows.start; row = record { number = 1; row = refl; is = right.rows.is_start }; plain = plain; goes = goes_nowhere e mode line first_stage }
+  pub comes_first : (0 < length asked.line.now → IsPlain (expression_in asked) asked.mode right.first.start) → IsAt asked first_stage t steps 0 (1 * t.stride)
+  comes_first plain = record {
+    set = right.first.start;
+    row = record { number = 1; row = refl; is = right.first.is_start };
+    plain = plain;
+    goes = goes_nowhere (expression_in asked) asked.mode asked.line.now first_stage;
+  }

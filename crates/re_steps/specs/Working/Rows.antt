@@ -2,16 +2,42 @@
 -- that is held.
 use Rattle.std.specs.Prelude.{◌≡◌, ℕ, zero, suc, ◌+◌, ◌-◌, ◌*◌, ◌^◌, ◌<◌, ◌≤◌, ◌↔◌, ◌⊎◌, List, Some, [], true, false, IsTrue, length, nat_lt, if◌then◌else◌, slice_get, slice_index}
 use Rattle.re_syntax.specs.Bytes.{Text}
-use Rattle.re_syntax.specs.Expression.{Expression}
+use Rattle.re_syntax.specs.Expression.{Expression, expression_of}
 use Rattle.re_auto.specs.declared.mode.Mode.{Mode}
 use Rattle.re_auto.specs.declared.mode.Mode.TheVariants.{Search}
 use Rattle.re_auto.specs.declared.step.state_set.StateSet.{StateSet}
 use Rattle.re_auto.specs.Meters.{Steps, many_reused}
-use Rattle.re_auto.specs.Working.StateSets.{IsMadeFor, IsSame, IsNowhere, IsNextSet, IsAccepting, StandsAt, AreAlikeInClasses}
+use Rattle.re_auto.specs.Working.StateSets.{IsMadeFor, IsSame, IsNowhere, IsNextSet, IsAccepting}
+use Rattle.re_auto.specs.Working.StateSets.{StandsAt, AreAlikeInClasses}
 use Rattle.re_steps.specs.declared.table.Mark.{Mark}
+use Rattle.re_steps.specs.declared.table.LineSearch.{LineSearch}
 use Rattle.re_steps.specs.declared.table.Table.{Table}
 use Rattle.re_steps.specs.Working.Pairs.{unknown, Mirrors}
 use Rattle.re_steps.specs.Working.Stages.{Cache, Stage, IsPlain, Goes}
+
+-- numbered sets, their marks and cells, and what the cache holds of these
+pub record Rows : Type 0 where
+  pub classes : List ℕ
+  pub stride : ℕ
+  pub sets : List StateSet
+  pub marks : List Mark
+  pub cells : List ℕ
+  pub entries : List (ℕ × ℕ)
+
+abbrev pub rows_of : Table → Rows
+rows_of t =
+    record {
+      classes = t.classes.items;
+      stride = t.stride;
+      sets = t.sets.keys;
+      marks = t.marks.items;
+      cells = t.pairs.cells;
+      entries = t.pairs.entries;
+    }
+
+-- the expression whose automaton searches a line
+abbrev pub expression_in : LineSearch → Expression
+expression_in asked = expression_of asked.automaton.now
 
 -- Cells below this are rows of sets where a search goes on. Others, but for `unknown`, are the row
 -- of a set at which a matched stretch ends, plus this number.
@@ -51,6 +77,12 @@ pub record TellsNext (e : Expression) (mode : Mode) (sets : List StateSet) (stri
   pub plain : cell < limit → GoesOnTo e mode sets stride from byte cell
   pub special : limit ≤ cell → cell < unknown → StopsAt e mode sets stride from byte (cell - limit)
 
+-- a known cell says that of the set and the byte
+abbrev pub IsKnownCell : LineSearch → Table → StateSet → ℕ → ℕ → Type 0
+IsKnownCell asked t from byte cell =
+    (cell < unknown) ×
+    TellsNext (expression_in asked) asked.mode t.sets.keys t.stride from byte cell
+
 -- the cell for a row and a byte
 abbrev pub cell_at : List ℕ → List ℕ → ℕ → ℕ → ℕ
 cell_at classes cells r byte = slice_index cells (r + slice_index classes byte)
@@ -74,28 +106,22 @@ pub record HasMark (e : Expression) (mode : Mode) (marks : List Mark) (number : 
   pub tells : IsMarkOf e mode set mark
 
 -- all that is known is right for the automaton of this expression and for the mode
-pub record IsSoundTable (e : Expression) (mode : Mode) (classes : List ℕ) (stride : ℕ)
-    (sets : List StateSet) (marks : List Mark) (cells : List ℕ)
-    (entries : List (ℕ × ℕ)) : Type 0 where
-  pub bytes : length classes ≡ 256
-  pub few_classes : stride ≤ 256
-  pub classed : (c : ℕ) → c < 256 → slice_index classes c < stride
-  pub alike : AreAlikeInClasses e classes
-  pub made : (t : ℕ) (set : StateSet) → slice_get sets t ≡ Some set → IsMadeFor e set
-  pub apart : (s t : ℕ) (one other : StateSet) → slice_get sets s ≡ Some one →
-      slice_get sets t ≡ Some other → IsSame one other → s ≡ t
-  pub marked : (t : ℕ) (set : StateSet) → slice_get sets t ≡ Some set → HasMark e mode marks t set
-  pub as_many : length marks ≡ length sets
-  pub rows : length cells ≡ length sets * stride
-  pub few : length cells ≤ limit
-  pub mirrors : Mirrors entries cells
-  pub tells : (r : ℕ) (from : StateSet) (c : ℕ) → IsRowOf sets stride r from → c < 256 →
-      TellsNext e mode sets stride from c (cell_at classes cells r c)
-
-abbrev pub IsSound : Expression → Mode → Table → Type 0
-IsSound e mode t =
-    IsSoundTable e mode t.classes.items t.stride t.sets.keys t.marks.items t.pairs.cells
-    t.pairs.entries
+pub record AreSound (e : Expression) (mode : Mode) (rows : Rows) : Type 0 where
+  pub bytes : length rows.classes ≡ 256
+  pub few_classes : rows.stride ≤ 256
+  pub classed : (c : ℕ) → c < 256 → slice_index rows.classes c < rows.stride
+  pub alike : AreAlikeInClasses e rows.classes
+  pub made : (t : ℕ) (set : StateSet) → slice_get rows.sets t ≡ Some set → IsMadeFor e set
+  pub apart : (s t : ℕ) (one other : StateSet) → slice_get rows.sets s ≡ Some one →
+      slice_get rows.sets t ≡ Some other → IsSame one other → s ≡ t
+  pub marked : (t : ℕ) (set : StateSet) → slice_get rows.sets t ≡ Some set →
+      HasMark e mode rows.marks t set
+  pub as_many : length rows.marks ≡ length rows.sets
+  pub filled : length rows.cells ≡ length rows.sets * rows.stride
+  pub few : length rows.cells ≤ limit
+  pub mirrors : Mirrors rows.entries rows.cells
+  pub tells : (r : ℕ) (from : StateSet) (c : ℕ) → IsRowOf rows.sets rows.stride r from → c < 256 →
+      TellsNext e mode rows.sets rows.stride from c (cell_at rows.classes rows.cells r c)
 
 -- row 0 is that of the set without positions, and the next that of a line's first place
 pub record HasFirstRows (e : Expression) (mode : Mode) (sets : List StateSet) : Type 0 where
@@ -106,16 +132,42 @@ pub record HasFirstRows (e : Expression) (mode : Mode) (sets : List StateSet) : 
   pub is_start : slice_get sets 1 ≡ Some start
   pub stands : (line : Text) → StandsAt e mode line 0 start
 
-pub record IsRight (e : Expression) (mode : Mode) (t : Table) : Type 0 where
-  pub sound : IsSound e mode t
-  pub rows : HasFirstRows e mode t.sets.keys
+pub record AreRight (e : Expression) (mode : Mode) (rows : Rows) : Type 0 where
+  pub sound : AreSound e mode rows
+  pub first : HasFirstRows e mode rows.sets
+
+abbrev pub IsRight : Expression → Mode → Table → Type 0
+IsRight e mode t = AreRight e mode (rows_of t)
+
+abbrev pub IsSoundFor : LineSearch → Table → Type 0
+IsSoundFor asked t = AreSound (expression_in asked) asked.mode (rows_of t)
+
+abbrev pub IsRightFor : LineSearch → Table → Type 0
+IsRightFor asked t = IsRight (expression_in asked) asked.mode t
+
+-- a search can begin, or go on
+abbrev pub IsReady : LineSearch → Table → Type 0
+IsReady asked t = IsRightFor asked t × IsMadeFor (expression_in asked) t.scratch
+
+-- what stays when a search ends
+pub record Lasts (asked : LineSearch) (old new : Table) : Type 0 where
+  pub made : IsMadeFor (expression_in asked) new.scratch
+  pub most : new.pairs.most ≡ old.pairs.most
+
+-- what stays when rows are made or removed
+pub record Keeps (old new : Table) : Type 0 where
+  pub scratch : new.scratch ≡ old.scratch
+  pub most : new.pairs.most ≡ old.pairs.most
 
 -- nothing is known
-pub record IsBlank (t : Table) : Type 0 where
-  pub sets : t.sets.keys ≡ []
-  pub marks : t.marks.items ≡ []
-  pub cells : t.pairs.cells ≡ []
-  pub entries : t.pairs.entries ≡ []
+pub record AreNone (rows : Rows) : Type 0 where
+  pub sets : rows.sets ≡ []
+  pub marks : rows.marks ≡ []
+  pub cells : rows.cells ≡ []
+  pub entries : rows.entries ≡ []
+
+abbrev pub IsBlank : Table → Type 0
+IsBlank t = AreNone (rows_of t)
 
 -- what contracts see of the table
 abbrev pub cache_of : Table → Cache
@@ -162,13 +214,18 @@ LandsAlone e mode line first set steps j =
     Goes e mode line (suc j) first (record { set = set; cache = cache; steps = steps })
 
 -- what was known still is, and sets were added after the others
-pub record Extends (old new : Table) : Type 0 where
-  pub classes : new.classes.items ≡ old.classes.items
+pub record AreExtended (old new : Rows) : Type 0 where
+  pub classes : new.classes ≡ old.classes
   pub stride : new.stride ≡ old.stride
-  pub sets : (number : ℕ) (set : StateSet) → slice_get old.sets.keys number ≡ Some set →
-      slice_get new.sets.keys number ≡ Some set
-  pub cells : (k : ℕ) → k < length old.pairs.cells →
-      slice_index new.pairs.cells k ≡ slice_index old.pairs.cells k
-  pub more : length old.pairs.cells ≤ length new.pairs.cells
-  pub entries : new.pairs.entries ≡ old.pairs.entries
-  pub most : new.pairs.most ≡ old.pairs.most
+  pub sets : (number : ℕ) (set : StateSet) → slice_get old.sets number ≡ Some set →
+      slice_get new.sets number ≡ Some set
+  pub cells : (k : ℕ) → k < length old.cells → slice_index new.cells k ≡ slice_index old.cells k
+  pub more : length old.cells ≤ length new.cells
+  pub entries : new.entries ≡ old.entries
+
+abbrev pub Extends : Table → Table → Type 0
+Extends old new = AreExtended (rows_of old) (rows_of new)
+
+-- what is known is right for the expression and the mode, or nothing is known
+abbrev pub IsKnownFor : Expression → Mode → Table → Type 0
+IsKnownFor e mode t = IsBlank t ⊎ IsRight e mode t

@@ -1,6 +1,6 @@
-use Rattle.std.proofs.Common.{refl, inl, ap, ◌∙◌}
+use Rattle.std.proofs.Common.{refl, inl, sym, ap, ◌∙◌, subst}
 use Rattle.re_syntax.specs.Expression.{expression_of}
-use Rattle.re_steps.specs.Working.Stages.{mode_for}
+use Rattle.re_steps.specs.Working.Stages.{Goes, mode_for}
 use Rattle.re_steps.specs.Working.Rows.{cache_of}
 use Rattle.re_match.specs.Working.Simulated.{TreeMatcher}
 use Rattle.re_steps.proofs.lemmas.StageLaws.{searches_readied}
@@ -10,33 +10,34 @@ pub returns-then-not-is_ready-clause-searches : goal.returns-then-not-is_ready-c
 returns-then-not-is_ready-clause-searches c =
     let inside = c.self.inside in
     rw (← c.self.view_is)
-    (searches_readied (expression_of inside.simulated.tree) c.args.line.now (mode_for inside.simulated.whole) (cache_of inside.table) (cache_of c.is_ready.new.table) (cache_of c.is_ready.new.table)
+    (searches_readied (expression_of inside.simulated.tree) c.args.line.now (mode_for inside.simulated.whole) (cache_of inside.table) (cache_of c.is_ready.new.self) (cache_of c.is_ready.new.self)
     c.args.meter.now c.step_over.new.meter c.step_over.result c.is_ready.ensures.readied
-    (c.step_over.ensures.searches (cache_of c.is_ready.new.table) (c.if-not-is_ready.ensures.blank refl).entries))
+    (c.step_over.ensures.searches (cache_of c.is_ready.new.self) (c.if-not-is_ready.ensures.blank refl).entries))
 
 pub returns-in-Told-clause-searches : goal.returns-in-Told-clause-searches
 returns-in-Told-clause-searches c =
     let inside = c.self.inside in
-    let gives = rw (c.automaton-automaton.ensures, c.mode-mode.ensures) at c.in-Told.ensures.gives in
+    let gives = rw (c.automaton.ensures, c.mode.ensures) at c.in-Told.ensures.gives in
     rw (← c.self.view_is)
-    (searches_readied (expression_of inside.simulated.tree) c.args.line.now (mode_for inside.simulated.whole) (cache_of inside.table) (cache_of c.is_ready.new.table) (cache_of c.search.new.self)
+    (searches_readied (expression_of inside.simulated.tree) c.args.line.now (mode_for inside.simulated.whole) (cache_of inside.table) (cache_of c.is_ready.new.self) (cache_of c.search.new.self)
     c.args.meter.now c.search.new.meter c.in-Told.told c.is_ready.ensures.readied gives.1)
 
 pub returns-in-GaveUp-clause-searches : goal.returns-in-GaveUp-clause-searches
 returns-in-GaveUp-clause-searches c =
     let inside = c.self.inside in
-    let left = rw (c.automaton-automaton.ensures, c.mode-mode.ensures) at c.in-GaveUp.ensures.gives in
-    let now = cache_of c.clear.new.self in
-    let none = c.clear.ensures.blank.entries in
+    let left = rw (c.automaton.ensures, c.mode.ensures) at c.in-GaveUp.ensures.gives in
+    let now = cache_of c.give_up.new.self in
+    let none = c.give_up.ensures.blank.entries in
     rw (← c.self.view_is)
-    (searches_readied (expression_of inside.simulated.tree) c.args.line.now (mode_for inside.simulated.whole) (cache_of inside.table) (cache_of c.is_ready.new.table) now
+    (searches_readied (expression_of inside.simulated.tree) c.args.line.now (mode_for inside.simulated.whole) (cache_of inside.table) (cache_of c.is_ready.new.self) now
     c.args.meter.now c.finish.new.meter c.finish.result c.is_ready.ensures.readied
     (record {
       first = left.first;
       stands = left.stands;
       cache = inl left.cache;
       steps = left.steps;
-      finishes = c.finish.ensures.finishes left.first now none (left.goes now none);
+      finishes = c.finish.ensures.finishes left.first now none
+          (subst (λ set. Goes (expression_of inside.simulated.tree) (mode_for inside.simulated.whole) c.args.line.now c.in-GaveUp.place left.first (record { set = set; cache = now; steps = c.search.new.meter })) (sym c.give_up.ensures.keeps.scratch) (left.goes now none));
     }))
 
 pub returns-then-not-is_ready-clause-same_tree : goal.returns-then-not-is_ready-clause-same_tree
@@ -58,16 +59,10 @@ pub returns-in-Told-clause-same_whole : goal.returns-in-Told-clause-same_whole
 returns-in-Told-clause-same_whole c = rw (← c.self.view_is) refl
 
 pub returns-then-not-is_ready-clause-same_most : goal.returns-then-not-is_ready-clause-same_most
-returns-then-not-is_ready-clause-same_most c = rw (← c.self.view_is) c.is_ready.ensures.most
+returns-then-not-is_ready-clause-same_most c = rw (← c.self.view_is) c.is_ready.ensures.keeps.most
 
 pub returns-in-Told-clause-same_most : goal.returns-in-Told-clause-same_most
-returns-in-Told-clause-same_most c = rw (← c.self.view_is) (c.in-Told.ensures.most ∙ c.is_ready.ensures.most)
+returns-in-Told-clause-same_most c = rw (← c.self.view_is) (c.in-Told.ensures.lasts.most ∙ c.is_ready.ensures.keeps.most)
 
 pub returns-in-GaveUp-clause-same_most : goal.returns-in-GaveUp-clause-same_most
-returns-in-GaveUp-clause-same_most c = rw (← c.self.view_is) (c.clear.ensures.most ∙ c.in-GaveUp.ensures.most ∙ c.is_ready.ensures.most)
-
-pub search-requires-clause-right : goal.search-requires-clause-right
-search-requires-clause-right c = c.if-not-is_ready.ensures.right refl
-
-pub search-requires-clause-into : goal.search-requires-clause-into
-search-requires-clause-into c = rw c.automaton-automaton.ensures c.self.invariant.0
+returns-in-GaveUp-clause-same_most c = rw (← c.self.view_is) (c.give_up.ensures.keeps.most ∙ c.in-GaveUp.ensures.lasts.most ∙ c.is_ready.ensures.keeps.most)

@@ -1,6 +1,6 @@
 use Rattle.std.proofs.Common.{arith, ◌≡◌, ◌*◌, length, inl, inr, refl, sym, ◌∙◌, subst}
-use Rattle.re_syntax.specs.Expression.{expression_of}
-use Rattle.re_steps.specs.Working.Rows.{ComesTo, IsRowOf, cache_of}
+use Rattle.re_steps.specs.Working.Rows.{IsRowOf, expression_in, rows_of}
+use Rattle.re_steps.specs.Working.Walks.{IsAt}
 use Rattle.re_steps.proofs.lemmas.StageLaws.{goes_nowhere}
 use Rattle.re_steps.proofs.lemmas.RowLaws.{row_inside, mark_of_row}
 use Rattle.re_steps.proofs.lemmas.WalkLaws.{first_stage, comes_first}
@@ -8,22 +8,22 @@ use Rattle.re_steps.proofs.table.Table.search.Goals as goal
 
 pub returns-then-is_matched_at_once-clause-gives : goal.returns-then-is_matched_at_once-clause-gives
 returns-then-is_matched_at_once-clause-gives c =
-    let e = expression_of c.args.automaton.now in
-    let right = c.requires.right in
-    let first = first_stage e c.args.mode c.args.line.now c.args.self.now right c.args.meter.now in
-    let told = c.if-is_matched_at_once.ensures.yes right.rows.start right.rows.is_start refl in (
+    let e = expression_in c.args.asked.now in
+    let right = c.requires.ready.0 in
+    let first = first_stage c.args.asked.now c.args.self.now right c.args.meter.now in
+    let told = c.if-is_matched_at_once.ensures.yes right.first.start right.first.is_start refl in (
       right,
       record {
         first = first;
-        stands = right.rows.stands c.args.line.now;
+        stands = right.first.stands c.args.asked.now.line.now;
         cache = inl refl;
         steps = refl;
         finishes = record {
           place = 0;
           within = omega arith;
-          set = right.rows.start;
-          goes = goes_nowhere e c.args.mode c.args.line.now first;
-          decides = inl (record { search = told.1; within = told.0; accepting = told.2; yes = refl });
+          set = right.first.start;
+          goes = goes_nowhere e c.args.asked.now.mode c.args.asked.now.line.now first;
+          decides = inl told;
         };
       },
     )
@@ -31,15 +31,14 @@ returns-then-is_matched_at_once-clause-gives c =
 pub places-init : goal.places-init
 places-init c =
     let known = c.args.self.now in
-    let right = c.requires.right in
-    let row : IsRowOf known.sets.keys known.stride (1 * known.stride) right.rows.start = record { number = 1; row = refl; is = right.rows.is_start } in
+    let right = c.requires.ready.0 in
+    let row : IsRowOf known.sets.keys known.stride (1 * known.stride) right.first.start = record { number = 1; row = refl; is = right.first.is_start } in
     record {
       within = omega arith;
       right = right;
-      row = (right.rows.start, subst (λ r. IsRowOf known.sets.keys known.stride r right.rows.start) (sym c.row.ensures) row);
-      most = refl;
-      into = c.requires.into;
-      comes = λ first came. subst (λ r. ComesTo (expression_of c.args.automaton.now) c.args.mode c.args.line.now first (cache_of known) c.args.meter.now 0 r) (sym c.row.ensures) came;
+      row = (right.first.start, subst (λ r. IsRowOf known.sets.keys known.stride r right.first.start) (sym c.row.ensures) row);
+      lasts = record { made = c.requires.ready.1; most = refl };
+      comes = λ first came. subst (λ r. IsAt c.args.asked.now first known c.args.meter.now 0 r) (sym c.row.ensures) came;
     }
 
 pub places-preserved : goal.places-preserved
@@ -49,33 +48,32 @@ places-preserved c =
       within = on.within;
       right = on.right;
       row = on.row;
-      most = c.onward.ensures.most ∙ c.places.invariant.most;
-      into = c.onward.ensures.into;
+      lasts = record { made = c.onward.ensures.lasts.made; most = c.onward.ensures.lasts.most ∙ c.places.invariant.lasts.most };
       comes = λ first came. on.comes first (c.places.invariant.comes first came);
     }
 
 pub returns-in-Told-clause-gives : goal.returns-in-Told-clause-gives
 returns-in-Told-clause-gives c =
-    let e = expression_of c.args.automaton.now in
-    let right = c.requires.right in
+    let e = expression_in c.args.asked.now in
+    let right = c.requires.ready.0 in
     let told = c.in-Told.ensures.arrives in
-    let first = first_stage e c.args.mode c.args.line.now c.args.self.now right c.args.meter.now in
-    let came = comes_first e c.args.mode c.args.line.now c.args.self.now right c.args.meter.now (c.if-is_matched_at_once.ensures.no right.rows.start right.rows.is_start refl) in (
+    let first = first_stage c.args.asked.now c.args.self.now right c.args.meter.now in
+    let came = comes_first c.args.asked.now c.args.self.now right c.args.meter.now (c.if-is_matched_at_once.ensures.no right.first.start right.first.is_start refl) in (
       told.right,
-      record { first = first; stands = right.rows.stands c.args.line.now; cache = inl refl; steps = refl; finishes = told.finishes first (c.places.invariant.comes first came) },
+      record { first = first; stands = right.first.stands c.args.asked.now.line.now; cache = inl refl; steps = refl; finishes = told.finishes first (c.places.invariant.comes first came) },
     )
 
 pub returns-in-Alone-clause-gives : goal.returns-in-Alone-clause-gives
 returns-in-Alone-clause-gives c =
-    let e = expression_of c.args.automaton.now in
-    let right = c.requires.right in
+    let e = expression_in c.args.asked.now in
+    let right = c.requires.ready.0 in
     let alone = c.in-Alone.ensures.arrives in
-    let first = first_stage e c.args.mode c.args.line.now c.args.self.now right c.args.meter.now in
-    let came = comes_first e c.args.mode c.args.line.now c.args.self.now right c.args.meter.now (c.if-is_matched_at_once.ensures.no right.rows.start right.rows.is_start refl) in
+    let first = first_stage c.args.asked.now c.args.self.now right c.args.meter.now in
+    let came = comes_first c.args.asked.now c.args.self.now right c.args.meter.now (c.if-is_matched_at_once.ensures.no right.first.start right.first.is_start refl) in
     record {
       within = alone.within;
       first = first;
-      stands = right.rows.stands c.args.line.now;
+      stands = right.first.stands c.args.asked.now.line.now;
       cache = refl;
       steps = refl;
       goes = λ cache none. alone.goes first cache none (c.places.invariant.comes first came);
@@ -86,23 +84,23 @@ mark-requires c =
     let known = c.places.self in
     let sound = c.places.invariant.right.sound in
     let row = c.places.invariant.row in
-    let inside = row_inside (expression_of c.args.automaton.now) c.args.mode known.classes.items known.stride known.sets.keys known.marks.items known.pairs.cells known.pairs.entries sound c.places.spot.row row.0 row.1 in
+    let inside = row_inside (expression_in c.args.asked.now) c.args.asked.now.mode (rows_of known) sound c.places.spot.row row.0 row.1 in
     omega (arith, inside, c.number.ensures, sound.as_many)
 
 pub returns-clause-gives : goal.returns-clause-gives
 returns-clause-gives c =
-    let e = expression_of c.args.automaton.now in
-    let right = c.requires.right in
+    let e = expression_in c.args.asked.now in
+    let right = c.requires.ready.0 in
     let known = c.places.self in
-    let first = first_stage e c.args.mode c.args.line.now c.args.self.now right c.args.meter.now in
-    let came = c.places.invariant.comes first (comes_first e c.args.mode c.args.line.now c.args.self.now right c.args.meter.now (c.if-is_matched_at_once.ensures.no right.rows.start right.rows.is_start refl)) in
-    let last : c.places.spot.place ≡ length c.args.line.now = omega (arith, c.places.invariant.within, c.places-test.false) in
-    let mark = mark_of_row e c.args.mode known.classes.items known.stride known.sets.keys known.marks.items known.pairs.cells known.pairs.entries c.places.invariant.right.sound
+    let first = first_stage c.args.asked.now c.args.self.now right c.args.meter.now in
+    let came = c.places.invariant.comes first (comes_first c.args.asked.now c.args.self.now right c.args.meter.now (c.if-is_matched_at_once.ensures.no right.first.start right.first.is_start refl)) in
+    let last : c.places.spot.place ≡ length c.args.asked.now.line.now = omega (arith, c.places.invariant.within, c.places-test.false) in
+    let mark = mark_of_row e c.args.asked.now.mode (rows_of known) c.places.invariant.right.sound
     c.places.spot.row came.set c.mark.result came.row (rw (← c.number.ensures) c.mark.ensures) in (
       c.places.invariant.right,
       record {
         first = first;
-        stands = right.rows.stands c.args.line.now;
+        stands = right.first.stands c.args.asked.now.line.now;
         cache = inl refl;
         steps = refl;
         finishes = record {

@@ -1,14 +1,14 @@
 use Rattle.std.proofs.Common.{arith, ◌≡◌, suc, ◌+◌, ◌-◌, ◌<◌, slice_index, refl, sym, subst, add-one}
-use Rattle.re_syntax.specs.Expression.{expression_of}
-use Rattle.re_steps.specs.Working.Rows.{ComesTo, IsRow, cell_at, cache_of, walked}
+use Rattle.re_steps.specs.Working.Rows.{IsRow, cell_at, walked, expression_in, rows_of}
+use Rattle.re_steps.specs.Working.Walks.{IsAt}
 use Rattle.re_steps.proofs.lemmas.WalkLaws.{comes_on, walked_more, walked_none}
 use Rattle.re_steps.proofs.table.Table.walk.Goals as goal
 
 pub places-preserved : goal.places-preserved
 places-preserved c =
     let known = c.args.self.now in
-    let e = expression_of c.args.automaton.now in
-    let line = c.args.line.now in
+    let e = expression_in c.args.asked.now in
+    let line = c.args.asked.now.line.now in
     let byte = slice_index line c.places.place in
     let small : byte < 256 = omega (arith, c.type_inv.line c.places.place) in
     let at = c.places.row in
@@ -24,18 +24,18 @@ places-preserved c =
       row = subst (IsRow known) (sym same) (on.into, on.row);
       comes = λ first steps came.
           let n = c.places.place - c.args.from.place in
-          let there = comes_on e c.args.mode known.classes.items known.stride known.sets.keys known.marks.items known.pairs.cells known.pairs.entries c.requires.right.sound line first
+          let there = comes_on e c.args.asked.now.mode (rows_of known) c.requires.right.sound line first
           (walked n steps) c.places.place at c.places-test.true small (omega (arith, same, c.if-cell-ge-LIMIT.false)) (c.places.invariant.comes first steps came) in
           let count : suc n ≡ c.places.place + 1 - c.args.from.place = omega (arith, c.places.invariant.low) in
-          subst (λ r. ComesTo e c.args.mode line first (cache_of known) (walked (c.places.place + 1 - c.args.from.place) steps) (c.places.place + 1) r) (sym same)
-          (subst (λ k. ComesTo e c.args.mode line first (cache_of known) (walked k steps) (c.places.place + 1) (cell_at known.classes.items known.pairs.cells at byte)) count
-          (rw (add-one c.places.place) (subst (λ s. ComesTo e c.args.mode line first (cache_of known) s (suc c.places.place) (cell_at known.classes.items known.pairs.cells at byte)) (walked_more n steps) there)));
+          subst (λ r. IsAt c.args.asked.now first known (walked (c.places.place + 1 - c.args.from.place) steps) (c.places.place + 1) r) (sym same)
+          (subst (λ k. IsAt c.args.asked.now first known (walked k steps) (c.places.place + 1) (cell_at known.classes.items known.pairs.cells at byte)) count
+          (rw (add-one c.places.place) (subst (λ s. IsAt c.args.asked.now first known s (suc c.places.place) (cell_at known.classes.items known.pairs.cells at byte)) (walked_more n steps) there)));
     }
 
 pub places-init : goal.places-init
 places-init c =
     let known = c.args.self.now in
-    let e = expression_of c.args.automaton.now in
+    let e = expression_in c.args.asked.now in
     record {
       classes = c.as_slice-classes.ensures.value;
       cells = c.cells-cells.ensures.cells;
@@ -43,7 +43,7 @@ places-init c =
       high = c.requires.within;
       row = c.requires.row;
       comes = λ first steps came.
-          subst (λ s. ComesTo e c.args.mode c.args.line.now first (cache_of known) s c.args.from.place c.args.from.row) (sym (walked_none c.args.from.place steps)) came;
+          subst (λ s. IsAt c.args.asked.now first known s c.args.from.place c.args.from.row) (sym (walked_none c.args.from.place steps)) came;
     }
 
 pub returns-then-cell-floor-clause-on : goal.returns-then-cell-floor-clause-on

@@ -1,8 +1,8 @@
 use Rattle.std.proofs.Common.{length, ◌-◌, ◌≡◌, ◌≤◌}
-use Rattle.re_syntax.specs.Expression.{expression_of}
 use Rattle.re_auto.specs.Meters.{Steps}
 use Rattle.re_steps.specs.Working.Stages.{Stage}
-use Rattle.re_steps.specs.Working.Rows.{IsRow, ComesTo, cache_of, walked}
+use Rattle.re_steps.specs.Working.Rows.{IsRow, walked}
+use Rattle.re_steps.specs.Working.Walks.{IsAt}
 use Rattle.re_steps.proofs.table.Table.walk.Given as goal
 
 abbrev pub invariant-places : goal.invariant-places
@@ -10,11 +10,10 @@ invariant-places l = record {
   classes : l.classes ≡ l.self.classes.items;
   cells : l.cells ≡ l.self.pairs.cells;
   low : l.fn.from.place ≤ l.place;
-  high : l.place ≤ length l.line;
+  high : l.place ≤ length l.asked.line.now;
   row : IsRow l.self l.row;
-  comes : (first : Stage) (steps : Steps) → ComesTo (expression_of l.automaton) l.fn.mode l.line first (cache_of l.self) steps l.fn.from.place l.fn.from.row
-      → ComesTo (expression_of l.automaton) l.fn.mode l.line first (cache_of l.self) (walked (l.place - l.fn.from.place) steps) l.place l.row;
+  comes : (first : Stage) (steps : Steps) → IsAt l.asked first l.self steps l.fn.from.place l.fn.from.row → IsAt l.asked first l.self (walked (l.place - l.fn.from.place) steps) l.place l.row;
 }
 
 abbrev pub decreases-places : goal.decreases-places
-decreases-places l = length l.line - l.place
+decreases-places l = length l.asked.line.now - l.place

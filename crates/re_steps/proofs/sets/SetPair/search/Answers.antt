@@ -1,17 +1,16 @@
 use Rattle.std.proofs.Common.{inl, refl}
 use Rattle.re_syntax.specs.Expression.{expression_of}
-use Rattle.re_auto.specs.declared.mode.Mode.TheVariants.{Search}
 use Rattle.re_steps.specs.Working.Stages.{Stage}
 use Rattle.re_steps.proofs.lemmas.StageLaws.{goes_nowhere}
-use Rattle.re_steps.proofs.sets.SetPair.stands_in.Goals as goal
+use Rattle.re_steps.proofs.sets.SetPair.search.Goals as goal
 
 pub returns-clause-searches : goal.returns-clause-searches
 returns-clause-searches c = λ cache none.
     let first : Stage = record { set = c.start.new.into; cache = cache; steps = c.args.meter.now } in
     record {
       first = first;
-      stands = c.start.ensures.stands Search c.args.line.now;
+      stands = c.start.ensures.stands c.args.mode c.args.line.now;
       cache = inl refl;
       steps = refl;
-      finishes = c.rest_stands.ensures.finishes first cache none (goes_nowhere (expression_of c.args.automaton.now) Search c.args.line.now first);
+      finishes = c.rest.ensures.finishes first cache none (goes_nowhere (expression_of c.args.automaton.now) c.args.mode c.args.line.now first);
     }
