@@ -75,9 +75,6 @@ number_of-digits (b ∷ t) v h f is few =
     cond-true _ _ _ (and_from _ _ (all_digits (b ∷ t) f) (lt-ltb _ _ (omega (arith, is, few)))) ∙ ap Some (sym is)
 
 -- some byte is no digit
-pub number_of-stray : (t : Text) (i : ℕ) → i < length t → (IsTrue (in_class Digit (get_or t i 0)) → ⊥) → number_of t ≡ None
-number_of-stray t i h stray = none_since t (λ all few. not_all t i h stray all)
-
 -- the value of the first digits is too large already, without the next one or with it
 pub number_of-large : (t : Text) (i v : ℕ) → i < length t → v ≡ value (take i t) → 2 ^ 64 ≤ v * 10 → number_of t ≡ None
 number_of-large t i v h is many =

@@ -1,9 +1,8 @@
 -- Matchers that serve for patterns: one for each, or one for all strings.
-use Rattle.std.proofs.Common.{◌≡◌, suc, ◌≤◌, Bool, All, List, [], ◌∷◌, Bor, IfSome, Option, Some, None, length, map, refl, sym, subst, arith}
+use Rattle.std.proofs.Common.{◌≡◌, suc, ◌≤◌, Bool, All, List, [], ◌∷◌, length, map, refl, sym, subst, arith}
 use Rattle.std.proofs.lemmas.List.{length-map}
 use Rattle.std.proofs.lemmas.List.Elements.{All-push}
 use Rattle.std.specs.List.{AllZip}
-use Rattle.std.specs.Option.{option_copied}
 use Rattle.re_syntax.specs.declared.syntax.Syntax.{Syntax}
 use Rattle.re_syntax.specs.Bytes.{Text}
 use Rattle.re_syntax.specs.Expression.{byte, sequence}
@@ -56,8 +55,3 @@ joined_serves syntax options texts matchers each some joined =
       wholes = All-push (λ w. w ≡ options.line_regexp) [] (wants_whole joined.one) (λ i d h. absurd (omega (arith, h))) joined.whole;
       readable = λ i d h. strings_readable syntax options.ignore_case _ (each i d h);
     })
-
--- what holds of a value that is there holds through a reference to it
-pub behind_reference : {T : Type 0} (P : T → Type 0) (borrowed : Option (Bor T)) (o : Option T) → option_copied borrowed ≡ o → IfSome o P → IfSome borrowed (λ b. P b.now)
-behind_reference P None o same h = tt
-behind_reference P (Some b) o same h = subst (λ x. IfSome x P) (sym same) h
