@@ -14,20 +14,8 @@ use Rattle.re_search.specs.Working.Matchers.{matched_expression, wants_whole}
 use Rattle.re_search.proofs.lemmas.LiteralLaws.{literal_positions}
 use Rattle.grep_core.specs.declared.options.Options.{Options}
 use Rattle.grep_core.proofs.lemmas.SameChoice.{alt-is_same}
-use Rattle.grep_core.specs.Working.MatcherLists.{AreMatchers}
 use Rattle.grep_core.specs.Working.SameChoice.{IsSameChoice}
 use Rattle.grep_utility.specs.Working.Serving.{ServeFor, IsStringFor, IsJoined}
-
--- one matcher for each pattern serves for them
-pub each_serves : (syntax : Syntax) (options : Options) (texts : List Text) (matchers : List Matcher) → AreMatchers syntax options texts matchers → ServeFor syntax options texts matchers
-each_serves syntax options texts matchers a = record {
-  es = map matched_expression matchers;
-  meant = a.meant;
-  same = λ line i j. (λ h. h, λ h. h);
-  fewer = omega arith;
-  wholes = a.wholes;
-  readable = a.readable;
-}
 
 -- each string means the sequence of its bytes, folded where that is asked
 strings_mean : (syntax : Syntax) (fold : Bool) (texts : List Text) → All (IsStringFor syntax fold) texts → AllZip (λ t e. IsMeant syntax fold t e) texts (map (literal_meaning fold) texts)
