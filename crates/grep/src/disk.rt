@@ -4,7 +4,7 @@ ghost use Rattle.grep_core.specs.Run.{count_more};
 ghost use Rattle.grep.specs.Working.Disk.{known_bytes, folder_of};
 
 use crate::guard::OutputGuard;
-use grep_core::{CountedRead, Tally};
+use grep_core::{CountedRead, Options, Tally};
 use grep_utility::Files;
 use std::fs::File;
 use std::io::{ErrorKind, Read, Stdin};
@@ -48,15 +48,15 @@ pub struct DiskFiles<'a> {
 }
 
 impl<'a> DiskFiles<'a> {
-    /// All files, none of them opened, and standard input, not yet used. Each read of an input
-    /// fails if the guard says that it is standard output.
-    pub fn new(rt: &'a HostRuntime, guard: OutputGuard) -> DiskFiles<'a>
+    /// All files, none of them opened, and standard input, not yet used. Each read of an input that
+    /// is standard output fails while rows are written.
+    pub fn new(rt: &'a HostRuntime) -> DiskFiles<'a>
         ensures unused { result.input_used ≡ false }
         ensures none_failed { result.failed ≡ 0 }
     {
         DiskFiles {
             rt,
-            guard,
+            guard: OutputGuard::new(rt),
             input_used: false,
             failed: 0,
         }
@@ -93,6 +93,10 @@ impl Files for DiskFiles<'_> {
                 None
             }
         }
+    }
+
+    fn begin_search(&mut self, options: &Options) {
+        self.guard.begin_search(options);
     }
 
     fn close(&mut self, reader: Tally<Stream<Stdin, File>>) {

@@ -1,53 +1,24 @@
 //! How the program reports its own faults, and how it ends.
-ghost use Rattle.std.specs.Prelude.{◌≡◌, [], ◌∷◌};
-ghost use Rattle.grep_core.specs.Output.{written};
+ghost use Rattle.std.specs.Prelude.{◌≡◌};
 ghost use Rattle.grep_core.specs.Run.{writer};
-ghost use Rattle.grep_core.specs.Written.{Writes};
-ghost use Rattle.grep_utility.specs.Command.{TellsLines};
 ghost use Rattle.grep_utility.specs.Texts.{out_of_memory, usage};
 ghost use Rattle.grep.specs.Exit.{words_refused, TellsWriteError, EndsAs};
 
-use grep_core::{Buffered, CountedWrite, WriteFault, write_line};
-use grep_utility::{FAILED, OUT_OF_MEMORY, USAGE, WRITE_ERROR};
+use grep_core::{Buffered, CountedWrite, WriteFault};
+use grep_utility::{FAILED, OUT_OF_MEMORY, Program, USAGE, WRITE_ERROR, fail};
 
-/// Writes how the program is used.
-fn write_usage<M: CountedWrite>(messages: &mut M) -> Result<(), WriteFault>
-    ensures { Writes M.contents M.failures messages.old messages.new (written [] (usage ∷ []))
-        result }
+/// What the program reports of itself.
+#[tactic(auto, unfolding(grep_utility::specs::Texts::usage))]
+pub fn program() -> Program
+    ensures words { result.words_refused.now ≡ words_refused }
+    ensures usage { result.usage.now ≡ usage }
+    ensures memory { result.out_of_memory.now ≡ out_of_memory }
 {
-    write_line(messages, USAGE)
-}
-
-/// Writes the lines about words that are not UTF-8.
-fn write_words_refused<M: CountedWrite>(messages: &mut M) -> Result<(), WriteFault>
-    ensures { Writes M.contents M.failures messages.old messages.new
-        (written [] (words_refused ∷ usage ∷ [])) result }
-{
-    write_line(messages, b"grep: words must be UTF-8")?;
-    write_usage(messages)
-}
-
-/// Reports that a word is not UTF-8, and returns the exit status. A write that fails is not tried
-/// again.
-pub fn refuse_words<M: CountedWrite>(messages: &mut M) -> u8
-    ensures status { result ≡ 2 }
-    ensures told { TellsLines (writer M.contents M.failures messages.old)
-        (writer M.contents M.failures messages.new)
-        (words_refused ∷ usage ∷ []) }
-{
-    let _ = write_words_refused(messages);
-    FAILED
-}
-
-/// Reports that memory ran out, and returns the exit status. A write that fails is not tried again.
-pub fn refuse_memory<M: CountedWrite>(messages: &mut M) -> u8
-    ensures status { result ≡ 2 }
-    ensures told { TellsLines (writer M.contents M.failures messages.old)
-        (writer M.contents M.failures messages.new)
-        (out_of_memory ∷ []) }
-{
-    let _ = write_line(messages, OUT_OF_MEMORY);
-    FAILED
+    Program {
+        words_refused: b"grep: words must be UTF-8",
+        usage: USAGE,
+        out_of_memory: OUT_OF_MEMORY,
+    }
 }
 
 /// Reports that the output could not be written, unless a message could not be written before, and
@@ -60,8 +31,7 @@ fn tell_write_error<M: CountedWrite>(messages: &mut M) -> u8
     if messages.failures() > 0 {
         return FAILED;
     }
-    let _ = write_line(messages, WRITE_ERROR);
-    FAILED
+    fail(messages, WRITE_ERROR)
 }
 
 /// Sends the buffered output, and returns the exit status: the one that was found, or 2 if the

@@ -1,6 +1,6 @@
 //! A search doesn't read the file to which it writes rows: it would find them again, endlessly.
 
-use grep_utility::{PatternSource, read_words};
+use grep_core::Options;
 use std::fs::{File, Metadata};
 use std::os::unix::fs::MetadataExt;
 use std::{fs, io};
@@ -30,50 +30,37 @@ impl FileIdentity {
 #[derive(Drop)]
 pub struct OutputGuard {
     output: Option<FileIdentity>,
-    /// How many pattern files are still to be read.
-    pattern_files: usize,
+    /// Whether rows are written while an input is read.
+    writes_rows: bool,
 }
 
 impl OutputGuard {
-    /// Guards standard output while the command of these words runs. If the system does not say
-    /// which file it is, none is guarded.
-    pub fn new(rt: &HostRuntime, words: &[String]) -> OutputGuard {
-        let mut guard = OutputGuard {
-            output: None,
-            pattern_files: 0,
-        };
-        let Some(output) = FileIdentity::of_regular(fs::metadata(rt, "/dev/stdout")) else {
-            return guard;
-        };
-        if let Ok(request) = read_words(rt.alloc(), words) {
-            if !request.options.leaves_early() && !request.options.count {
-                guard.output = Some(output);
-            }
-            guard.pattern_files = request
-                .sources
-                .iter()
-                .filter(|source| matches!(source, PatternSource::File(_)))
-                .count();
+    /// Identifies standard output, to which no row is written yet. If the system does not say which
+    /// file it is, none is guarded.
+    pub fn new(rt: &HostRuntime) -> OutputGuard {
+        OutputGuard {
+            output: FileIdentity::of_regular(fs::metadata(rt, "/dev/stdout")),
+            writes_rows: false,
         }
-        guard
     }
 
-    /// Whether the next input is always read: it is a pattern file, or nothing is guarded.
-    fn passes(&mut self) -> bool {
-        if self.pattern_files > 0 {
-            self.pattern_files -= 1;
-            return true;
-        }
-        self.output.is_none()
+    /// The inputs from here on are searched with these options.
+    pub fn begin_search(&mut self, options: &Options) {
+        self.writes_rows = !options.leaves_early() && !options.count;
     }
 
-    /// Whether this file, the next input, is the guarded file.
-    pub fn is_file(&mut self, file: &File) -> bool {
-        !self.passes() && FileIdentity::of_regular(file.metadata()) == self.output
+    /// Whether some file is guarded.
+    fn is_set(&self) -> bool {
+        self.writes_rows && self.output.is_some()
     }
 
-    /// Whether standard input, the next input, is the guarded file.
-    pub fn is_standard_input(&mut self, rt: &HostRuntime) -> bool {
-        !self.passes() && FileIdentity::of_regular(fs::metadata(rt, "/dev/stdin")) == self.output
+    /// Whether this file is the guarded file.
+    pub fn is_file(&self, file: &File) -> bool {
+        self.is_set() && FileIdentity::of_regular(file.metadata()) == self.output
+    }
+
+    /// Whether standard input is the guarded file.
+    pub fn is_standard_input(&self, rt: &HostRuntime) -> bool {
+        self.is_set() && FileIdentity::of_regular(fs::metadata(rt, "/dev/stdin")) == self.output
     }
 }

@@ -11,15 +11,12 @@ ghost use Rattle.grep_utility.specs.Words.{texts_of};
 ghost use Rattle.grep.specs.Exit.{ProgramGives, streams};
 
 use crate::disk::DiskFiles;
-use crate::ending::{finish, refuse_memory, refuse_words};
-use crate::guard::OutputGuard;
+use crate::ending::{finish, program};
 use grep_core::{Buffered, CountedWrite, Tally, WholeLines};
 use grep_utility::{Files, run_grep};
 use re_auto::{Meter, fresh_meter};
 use std::alloc::Global;
-use std::io::ErrorKind;
 use std::process::ExitCode;
-use std::{env, io};
 
 /// Runs the command, sends the output that is still buffered, and returns the exit status.
 fn run_gathered<F: Files, W: CountedWrite, M: CountedWrite>(
@@ -42,38 +39,30 @@ fn run_gathered<F: Files, W: CountedWrite, M: CountedWrite>(
     finish(out, messages, found)
 }
 
-/// Runs the command on the devices of the system. Output is buffered, and sent before each read
-/// that may wait. A message is sent as a whole line.
+/// Runs the command of these words, which follow the program's name, on the devices of the system.
+/// Output is buffered, and sent before each read that may wait. A message is sent as a whole line.
 fn run(rt: &HostRuntime, words: &[String]) -> u8 {
     let alloc = rt.alloc();
     let Ok(mut messages) = WholeLines::new(alloc, Tally::new(rt.stderr())) else {
-        return refuse_memory(&mut Tally::new(rt.stderr()));
+        return program().refuse_memory(&mut Tally::new(rt.stderr()));
     };
     let Ok(mut out) = Buffered::new(alloc, Tally::new(rt.stdout())) else {
-        return refuse_memory(&mut messages);
+        return program().refuse_memory(&mut messages);
     };
     run_gathered(
         alloc,
         words,
-        &mut DiskFiles::new(rt, OutputGuard::new(rt, words)),
+        &mut DiskFiles::new(rt),
         &mut out,
         &mut messages,
         &mut fresh_meter(),
     )
 }
 
-/// The words that follow the program's name.
-fn command_words(rt: &HostRuntime) -> io::Result<Vec<String>> {
-    Ok(env::args(rt)?.skip(1).collect(rt.alloc())?)
-}
-
 fn main(rt: HostRuntime) -> ExitCode {
-    let status = match command_words(&rt) {
-        Ok(words) => run(&rt, &words),
-        Err(error) if error.kind() == ErrorKind::InvalidData => {
-            refuse_words(&mut Tally::new(rt.stderr()))
-        }
-        Err(_) => refuse_memory(&mut Tally::new(rt.stderr())),
+    let status = match program().words(&rt) {
+        Ok(words) => run(&rt, words.get(1..).unwrap_or_default()),
+        Err(status) => status,
     };
     ExitCode::from(status)
 }

@@ -1,5 +1,6 @@
 pub mod ScriptWords
 pub mod ScriptCommands
+pub mod RowTests
 pub mod ScriptAnswers
 pub mod ScriptSteps
 pub mod ScriptRuns

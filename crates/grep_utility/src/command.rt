@@ -12,34 +12,41 @@ ghost use Rattle.grep_utility.specs.Folder.{searched, sources_named};
 ghost use Rattle.grep_utility.specs.Words.{asked, texts_of};
 
 use crate::files::Files;
+use crate::operands::Operands;
 use crate::patterns::read_patterns;
 use crate::refusal::tell_refused;
-use crate::searchers::{Searchers, has_more_than, searchers_of};
-use crate::searching::search_files;
-use crate::telling::{end_search, tell, tell_unread, tell_usage};
+use crate::searchers::{OwnedSearchers, has_more_than, searchers_of};
+use crate::telling::{end_search, fail, tell_unread, tell_usage};
 use crate::texts::{FAILED, OUT_OF_MEMORY};
 use crate::words::{Request, read_words};
-use grep_core::{Asked, CountedWrite};
+use grep_core::{Asked, CountedWrite, search_filtered};
 use re_search::Meter;
 use re_syntax::{FaultKind, MOST_PATTERNS};
 use std::alloc::Global;
 
+/// A request, and where memory for it comes from.
+#[derive(Clone, Copy)]
+struct Task<'a> {
+    alloc: Global,
+    request: &'a Request,
+}
+
 /// Searches the files of a request, and returns the exit status.
 fn search_request<F: Files, W: CountedWrite, N: CountedWrite>(
-    alloc: Global,
-    request: &Request,
-    searchers: &mut Searchers,
+    task: &Task<'_>,
+    searchers: &mut OwnedSearchers,
     files: &mut F,
     out: &mut W,
     messages: &mut N,
     meter: &mut Meter,
 ) -> u8
-    requires whole { AllAnswer request.now.options.line_regexp
+    requires whole { AllAnswer task.now.request.now.options.line_regexp
         (map wants_whole searchers.old.matchers.items) }
     requires needed { ForSome searchers.old.needed
         (λ strings. AreNeeded strings (map matched_expression searchers.old.matchers.items)) }
-    ensures { SearchEnds (map matched_expression searchers.old.matchers.items) request.now.options
-        (sources_named (F.folder files.old) (searched (texts_of request.now.files.items)))
+    ensures { SearchEnds (map matched_expression searchers.old.matchers.items)
+        task.now.request.now.options
+        (sources_named (F.folder files.old) (searched (texts_of task.now.request.now.files.items)))
         (GivesBack F.given_back files.old files.new)
         (devices (writer W.contents W.failures out.old) (writer N.contents N.failures messages.old)
         (F.failures files.old) meter.old)
@@ -48,28 +55,29 @@ fn search_request<F: Files, W: CountedWrite, N: CountedWrite>(
         result }
 {
     let asked = Asked {
-        alloc,
-        options: request.options,
+        alloc: task.alloc,
+        options: task.request.options,
         filter: &searchers.needed,
     };
-    let words = &request.files;
+    files.begin_search(&asked.options);
+    let mut operands = Operands::new(&mut *files, &task.request.files);
     let matchers = &mut searchers.matchers;
-    let found = search_files(&asked, files, words, matchers, out, messages, meter);
+    let found = search_filtered(&asked, &mut operands, matchers, out, messages, meter);
+    let _files = operands.into_files();
     end_search(messages, found)
 }
 
 /// Reads the patterns, which are the lines of `texts`, and searches the files of a request for
 /// them; returns the exit status.
 fn run_patterns<F: Files, W: CountedWrite, N: CountedWrite>(
-    alloc: Global,
-    request: &Request,
+    task: &Task<'_>,
     texts: &[u8],
     files: &mut F,
     out: &mut W,
     messages: &mut N,
     meter: &mut Meter,
 ) -> u8
-    ensures { PatternsGive (asked request.now) (F.folder files.old) (lines_of texts.now)
+    ensures { PatternsGive (asked task.now.request.now) (F.folder files.old) (lines_of texts.now)
         (GivesBack F.given_back files.old files.new)
         (devices (writer W.contents W.failures out.old) (writer N.contents N.failures messages.old)
         (F.failures files.old) meter.old)
@@ -78,23 +86,14 @@ fn run_patterns<F: Files, W: CountedWrite, N: CountedWrite>(
         result }
 {
     if has_more_than(MOST_PATTERNS, texts) {
-        tell(messages, b"grep: too many patterns");
-        return FAILED;
+        return fail(messages, b"grep: too many patterns");
     }
-    match searchers_of(alloc, texts, request.syntax, &request.options) {
-        Ok(mut searchers) => search_request(
-            alloc,
-            request,
-            &mut searchers,
-            files,
-            out,
-            messages,
-            meter,
-        ),
+    let request = task.request;
+    match searchers_of(task.alloc, texts, request.syntax, &request.options) {
+        Ok(mut searchers) => search_request(task, &mut searchers, files, out, messages, meter),
         Err((place, fault)) => {
             if fault.kind == FaultKind::Memory {
-                tell(messages, OUT_OF_MEMORY);
-                return FAILED;
+                return fail(messages, OUT_OF_MEMORY);
             }
             tell_refused(messages, place, fault);
             FAILED
@@ -104,8 +103,7 @@ fn run_patterns<F: Files, W: CountedWrite, N: CountedWrite>(
 
 /// Reads the patterns of a request and searches its files for them; returns the exit status.
 fn run_request<F: Files, W: CountedWrite, N: CountedWrite>(
-    alloc: Global,
-    request: &Request,
+    task: &Task<'_>,
     files: &mut F,
     out: &mut W,
     messages: &mut N,
@@ -116,10 +114,10 @@ fn run_request<F: Files, W: CountedWrite, N: CountedWrite>(
         (F.failures files.old) meter.old)
         (devices (writer W.contents W.failures out.new) (writer N.contents N.failures messages.new)
         (F.failures files.new) meter.new)
-        result (asked request.now) }
+        result (asked task.now.request.now) }
 {
-    match read_patterns(alloc, files, &request.sources) {
-        Ok(texts) => run_patterns(alloc, request, &texts, files, out, messages, meter),
+    match read_patterns(task.alloc, files, &task.request.sources) {
+        Ok(texts) => run_patterns(task, &texts, files, out, messages, meter),
         Err(fault) => {
             tell_unread(messages, fault);
             FAILED
@@ -170,7 +168,13 @@ pub fn run_grep<F: Files, W: CountedWrite, M: CountedWrite>(
         result (texts_of words.now) }
 {
     match read_words(alloc, words) {
-        Ok(request) => run_request(alloc, &request, files, out, messages, meter),
+        Ok(request) => {
+            let task = Task {
+                alloc,
+                request: &request,
+            };
+            run_request(&task, files, out, messages, meter)
+        }
         Err(fault) => {
             tell_usage(messages, fault);
             FAILED

@@ -5,7 +5,7 @@ ghost use Rattle.grep_core.specs.Sources.{Opens, GivesBack};
 ghost use Rattle.grep_utility.specs.Folder.{Folder, file_named, input_used, is_standard, display_name};
 ghost use Rattle.grep_utility.specs.Folder.{source_named, after_use};
 
-use grep_core::CountedRead;
+use grep_core::{CountedRead, Options};
 
 /// Files by their names, and standard input.
 pub trait Files {
@@ -46,6 +46,15 @@ pub trait Files {
         ensures none_back { GivesBack given_back self.old self.new [] }
         ensures same_loan { loan self.new ≡ loan self.old };
 
+    /// What is opened from here on is searched with these options, and its rows may be written
+    /// before it is read to its end. What was opened before has patterns, and was read to its end.
+    fn begin_search(&mut self, _options: &Options)
+        ensures kept { folder self.new ≡ folder self.old }
+        ensures counted { failures self.new ≡ failures self.old }
+        ensures none_back { GivesBack given_back self.old self.new [] }
+        ensures same_loan { loan self.new ≡ loan self.old }
+    {}
+
     /// Takes a reader back, and counts its failures.
     fn close(&mut self, reader: Self::Reader)
         ensures kept { folder self.new ≡ folder self.old }
@@ -77,6 +86,10 @@ impl<F: Files> Files for &mut F {
 
     fn open(&mut self, name: &str) -> Option<F::Reader> {
         Files::open(&mut **self, name)
+    }
+
+    fn begin_search(&mut self, options: &Options) {
+        Files::begin_search(&mut **self, options)
     }
 
     fn close(&mut self, reader: F::Reader) {

@@ -93,7 +93,7 @@ fn add_all_lines<R: CountedRead>(
 }
 
 /// Adds the lines of the pattern file that the word names.
-fn add_file<F: Files>(
+fn add_pattern_file<F: Files>(
     alloc: Global,
     files: &mut F,
     word: &str,
@@ -143,7 +143,7 @@ fn add_source<'a, F: Files>(
             Ok(()) => Ok(()),
             Err(_) => Err(PatternsFault::Memory),
         },
-        PatternSource::File(word) => match add_file(alloc, files, word, texts) {
+        PatternSource::File(word) => match add_pattern_file(alloc, files, word, texts) {
             Ok(FileRead::Whole) => Ok(()),
             Ok(FileRead::Missing) => Err(PatternsFault::Missing(word)),
             Ok(FileRead::Broken) => Err(PatternsFault::Broken(word)),

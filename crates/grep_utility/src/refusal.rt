@@ -1,4 +1,4 @@
-//! The message on a pattern that is refused (XCU grep, STDERR).
+//! The line on a pattern that is refused (XCU grep, STDERR).
 ghost use Rattle.std.specs.Prelude.{◌≡◌, ◌+◌, ◌-◌, ◌^◌, ◌<◌, ◌++◌, [], ◌∷◌, codes};
 ghost use Rattle.std.specs.Fmt.{decimal};
 ghost use Rattle.grep_core.specs.Row.{output_line};
@@ -34,53 +34,59 @@ pub fn kind_name(kind: FaultKind) -> &'static [u8]
     }
 }
 
-/// Writes which pattern is refused, counted from 1.
-fn write_place<M: CountedWrite>(messages: &mut M, place: usize) -> Result<(), WriteFault>
-    requires { place < 2 ^ 64 - 1 }
-    ensures { Writes M.contents M.failures messages.old messages.new
-        (codes "grep: pattern " ++ decimal (place + 1)) result }
+/// Writes a text and a number.
+#[tactic(auto, using(grep_core::proofs::lemmas::RowLemmas::writing))]
+fn write_number<W: CountedWrite>(out: &mut W, text: &[u8], number: u64) -> Result<(), WriteFault>
+    ensures { Writes W.contents W.failures out.old out.new (text.now ++ decimal number) result }
 {
-    push_all(messages, b"grep: pattern ")?;
-    write_decimal(messages, (place + 1) as u64)
+    push_all(out, text)?;
+    write_decimal(out, number)
 }
 
-/// Writes the name of the kind of refusal.
-fn write_kind<M: CountedWrite>(messages: &mut M, kind: FaultKind) -> Result<(), WriteFault>
-    ensures { Writes M.contents M.failures messages.old messages.new (codes ": " ++ kind_name kind)
-        result }
+/// Writes a text and the name of a kind of refusal.
+#[tactic(auto, using(grep_core::proofs::lemmas::RowLemmas::writing))]
+fn write_kind<W: CountedWrite>(out: &mut W, text: &[u8], kind: &[u8]) -> Result<(), WriteFault>
+    ensures { Writes W.contents W.failures out.old out.new (text.now ++ kind.now) result }
 {
-    push_all(messages, b": ")?;
-    push_all(messages, kind_name(kind))
+    push_all(out, text)?;
+    push_all(out, kind)
 }
 
-/// Writes which pattern is refused, and the name of the kind of refusal.
-fn write_place_and_kind<M: CountedWrite>(
-    messages: &mut M,
-    place: usize,
-    kind: FaultKind,
+/// Writes which pattern is refused, after `front`, and the kind of refusal, after `before_kind`.
+#[tactic(auto, using(grep_core::proofs::lemmas::RowLemmas::writing))]
+fn write_number_and_kind<W: CountedWrite>(
+    out: &mut W,
+    front: &[u8],
+    number: u64,
+    before_kind: &[u8],
+    kind: &[u8],
 ) -> Result<(), WriteFault>
-    requires { place < 2 ^ 64 - 1 }
-    ensures { Writes M.contents M.failures messages.old messages.new
-        ((codes "grep: pattern " ++ decimal (place + 1)) ++ (codes ": " ++ kind_name kind)) result }
+    ensures { Writes W.contents W.failures out.old out.new
+        ((front.now ++ decimal number) ++ (before_kind.now ++ kind.now)) result }
 {
-    write_place(messages, place)?;
-    write_kind(messages, kind)
+    write_number(out, front, number)?;
+    write_kind(out, before_kind, kind)
 }
 
-/// Writes the line on a pattern that is refused.
-fn write_refused<M: CountedWrite>(
-    messages: &mut M,
-    place: usize,
+/// Writes the line on a pattern that is refused: its number, the kind of refusal and the place in
+/// the pattern, each after a text.
+///
+/// Returns `WriteFault` where a write fails. It is not tried again.
+pub fn write_pattern_refused<W: CountedWrite>(
+    out: &mut W,
+    front: &[u8],
+    number: u64,
+    before_kind: &[u8],
     fault: PatternFault,
+    before_place: &[u8],
 ) -> Result<(), WriteFault>
-    requires { place < 2 ^ 64 - 1 }
-    ensures { Writes M.contents M.failures messages.old messages.new
-        (((codes "grep: pattern " ++ decimal (place + 1)) ++
-        (codes ": " ++ kind_name fault.kind)) ++ output_line (codes " at ") (decimal fault.at))
-        result }
+    ensures { Writes W.contents W.failures out.old out.new
+        (output_line []
+        (front.now ++ decimal number ++ before_kind.now ++ kind_name fault.kind ++ before_place.now ++
+        decimal fault.at)) result }
 {
-    write_place_and_kind(messages, place, fault.kind)?;
-    write_count(messages, b" at ", None, fault.at as u64)
+    write_number_and_kind(out, front, number, before_kind, kind_name(fault.kind))?;
+    write_count(out, before_place, None, fault.at as u64)
 }
 
 /// Reports a pattern that is refused, by its place, counted from 0. A write that fails is not
@@ -90,5 +96,6 @@ pub fn tell_refused<M: CountedWrite>(messages: &mut M, place: usize, fault: Patt
     ensures { TellsLines (writer M.contents M.failures messages.old)
         (writer M.contents M.failures messages.new) (pattern_refused place fault ∷ []) }
 {
-    let _ = write_refused(messages, place, fault);
+    let number = (place + 1) as u64;
+    let _ = write_pattern_refused(messages, b"grep: pattern ", number, b": ", fault, b" at ");
 }

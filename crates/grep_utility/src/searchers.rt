@@ -24,9 +24,9 @@ const FEW: usize = 7;
 /// more than bytes, and the pass numbers its beginnings in 32 bits.
 const MOST_BYTES: usize = 4_294_967_294;
 
-/// What a search asks of each line.
+/// What a search asks of each line: what `Searchers` of `re_search` borrows.
 #[derive(Drop)]
-pub struct Searchers {
+pub struct OwnedSearchers {
     /// The matchers that decide.
     pub matchers: Vec<Matcher>,
     /// Strings, if they are known: a line without any of them is matched by no matcher, so that it
@@ -46,7 +46,7 @@ pub fn searchers_of(
     texts: &[u8],
     syntax: Syntax,
     options: &Options,
-) -> Result<Searchers, (usize, PatternFault)>
+) -> Result<OwnedSearchers, (usize, PatternFault)>
     ensures ok { IfOk result
         (λ s. ServeFor syntax options.now (lines_of texts.now) s.matchers.items) }
     ensures separate { 2 ^ 32 ≤ length texts.now + 1 → IfOk result
@@ -66,12 +66,12 @@ pub fn searchers_of(
             return Err((0, PatternFault { kind, at: 0 }));
         };
         let needed = Filter::none();
-        return Ok(Searchers { matchers, needed });
+        return Ok(OwnedSearchers { matchers, needed });
     }
     match matchers_of(alloc, texts, syntax, options) {
         Ok(matchers) => {
             let needed = needed_by(alloc, &matchers);
-            Ok(Searchers { matchers, needed })
+            Ok(OwnedSearchers { matchers, needed })
         }
         Err(refused) => Err(refused),
     }

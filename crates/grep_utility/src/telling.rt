@@ -18,11 +18,21 @@ use grep_core::{
 };
 
 /// Writes the line. A write that fails is not tried again.
-pub fn tell<M: CountedWrite>(messages: &mut M, text: &[u8])
+fn tell<M: CountedWrite>(messages: &mut M, text: &[u8])
     ensures { TellsLines (writer M.contents M.failures messages.old)
         (writer M.contents M.failures messages.new) (text.now ∷ []) }
 {
     let _ = write_line(messages, text);
+}
+
+/// Reports why a command fails, and returns its exit status. A write that fails is not tried again.
+pub fn fail<M: CountedWrite>(messages: &mut M, text: &[u8]) -> u8
+    ensures status { result ≡ 2 }
+    ensures told { TellsLines (writer M.contents M.failures messages.old)
+        (writer M.contents M.failures messages.new) (text.now ∷ []) }
+{
+    tell(messages, text);
+    FAILED
 }
 
 /// Reports words that are refused. A write that fails is not tried again.
@@ -74,14 +84,8 @@ pub fn end_search<M: CountedWrite>(messages: &mut M, found: Result<Status, RunFa
 {
     match found {
         Ok(status) => number_of(status),
-        Err(RunFault::Write) => {
-            tell(messages, WRITE_ERROR);
-            FAILED
-        }
+        Err(RunFault::Write) => fail(messages, WRITE_ERROR),
         Err(RunFault::MessageWrite) => FAILED,
-        Err(RunFault::Memory { .. }) => {
-            tell(messages, OUT_OF_MEMORY);
-            FAILED
-        }
+        Err(RunFault::Memory { .. }) => fail(messages, OUT_OF_MEMORY),
     }
 }

@@ -1,5 +1,5 @@
 //! The messages on words that are refused (XCU grep, STDERR).
-ghost use Rattle.std.specs.Prelude.{[]};
+ghost use Rattle.std.specs.Prelude.{[], ◌++◌, codes, encode_utf8};
 ghost use Rattle.grep_core.specs.Output.{written};
 ghost use Rattle.grep_core.specs.Row.{output_line};
 ghost use Rattle.grep_core.specs.Written.{Writes};
@@ -9,26 +9,19 @@ use crate::texts::{OUT_OF_MEMORY, USAGE};
 use crate::words::UsageFault;
 use grep_core::{CountedWrite, WriteFault, push_all, write_line, write_line_behind};
 
-/// Writes the line on an option without its argument.
-fn write_missing_argument<M: CountedWrite>(messages: &mut M, letter: char) -> Result<(), WriteFault>
+/// Writes the line on an option that needs something else.
+fn write_need<M: CountedWrite>(
+    messages: &mut M,
+    letter: char,
+    need: &[u8],
+) -> Result<(), WriteFault>
     ensures { Writes M.contents M.failures messages.old messages.new
-        (output_line [] (fault_text (UsageFault.MissingArgument letter))) result }
+        (output_line [] (codes "grep: option -" ++ encode_utf8 letter ++ need.now)) result }
 {
     let mut bytes = [0; 4];
     let letter = letter.encode_utf8(&mut bytes).as_bytes();
     push_all(messages, b"grep: option -")?;
-    write_line_behind(messages, letter, b" needs an argument")
-}
-
-/// Writes the line on an option whose argument is no number.
-fn write_bad_number<M: CountedWrite>(messages: &mut M, letter: char) -> Result<(), WriteFault>
-    ensures { Writes M.contents M.failures messages.old messages.new
-        (output_line [] (fault_text (UsageFault.BadNumber letter))) result }
-{
-    let mut bytes = [0; 4];
-    let letter = letter.encode_utf8(&mut bytes).as_bytes();
-    push_all(messages, b"grep: option -")?;
-    write_line_behind(messages, letter, b" needs a number")
+    write_line_behind(messages, letter, need)
 }
 
 /// Writes the line on a character that is no option.
@@ -49,8 +42,8 @@ fn write_fault<M: CountedWrite>(messages: &mut M, fault: UsageFault) -> Result<(
 {
     match fault {
         UsageFault::UnknownOption(letter) => write_unknown_option(messages, letter),
-        UsageFault::MissingArgument(letter) => write_missing_argument(messages, letter),
-        UsageFault::BadNumber(letter) => write_bad_number(messages, letter),
+        UsageFault::MissingArgument(letter) => write_need(messages, letter, b" needs an argument"),
+        UsageFault::BadNumber(letter) => write_need(messages, letter, b" needs a number"),
         UsageFault::TwoSyntaxes => write_line(messages, b"grep: -E and -F together"),
         UsageFault::NoPattern => write_line(messages, b"grep: no pattern"),
         UsageFault::Memory => write_line(messages, OUT_OF_MEMORY),

@@ -67,7 +67,7 @@ pub struct Request {
 }
 
 /// Sets the option.
-fn set(options: &mut Options, flag: Flag)
+fn set_flag(options: &mut Options, flag: Flag)
     ensures { options.new ≡ with_flag flag options.old }
 {
     match flag {
@@ -201,7 +201,7 @@ impl Draft {
     {
         let request = &mut self.request;
         match piece {
-            Piece::Flag(flag) => set(&mut request.options, flag),
+            Piece::Flag(flag) => set_flag(&mut request.options, flag),
             Piece::Syntax(syntax) if goes_with(request.syntax, syntax) => request.syntax = syntax,
             Piece::Syntax(_) => return Err(UsageFault::TwoSyntaxes),
             Piece::List(text) => request.add_list(alloc, text)?,

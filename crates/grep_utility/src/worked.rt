@@ -1,8 +1,8 @@
 //! Two commands on files in memory, of which the bytes are worked by hand.
-ghost use Rattle.std.specs.Prelude.{◌≡◌, ◌⊎◌};
+ghost use Rattle.std.specs.Prelude.{◌≡◌};
 ghost use Rattle.grep_core.specs.declared.status.Status.TheVariants.{Error};
 ghost use Rattle.grep_core.specs.Run.{writer, devices};
-ghost use Rattle.grep_utility.specs.Working.Known.{FailuresAre, Wrote, TellsMemory};
+ghost use Rattle.grep_utility.specs.Working.Known.{WritesJust};
 ghost use Rattle.grep_utility.specs.Words.{texts_of};
 ghost use Rattle.grep_utility.specs.Working.Worked.{row_words, row_output, row_messages};
 ghost use Rattle.grep_utility.specs.Working.Worked.{broken_words, broken_output, broken_messages};
@@ -25,18 +25,11 @@ pub fn run_row<W: CountedWrite, M: CountedWrite>(
     messages: &mut M,
     meter: &mut Meter,
 ) -> (u8, u64)
-    ensures { texts_of words.now ≡ row_words → FailuresAre 1
+    ensures { texts_of words.now ≡ row_words → WritesJust 1 row_output row_messages Error
         (devices (writer W.contents W.failures out.old) (writer M.contents M.failures messages.old)
         0 meter.old)
         (devices (writer W.contents W.failures out.new) (writer M.contents M.failures messages.new)
-        result.1 meter.new) →
-        Wrote row_output row_messages Error
-        (devices (writer W.contents W.failures out.old) (writer M.contents M.failures messages.old)
-        0 meter.old)
-        (devices (writer W.contents W.failures out.new) (writer M.contents M.failures messages.new)
-        result.1 meter.new) result.0
-        ⊎ TellsMemory (writer M.contents M.failures messages.old)
-        (writer M.contents M.failures messages.new) }
+        result.1 meter.new) result.0 }
 {
     let listed = [MemoryFile {
         name: "h",
@@ -59,18 +52,12 @@ pub fn run_broken<W: CountedWrite, M: CountedWrite>(
     messages: &mut M,
     meter: &mut Meter,
 ) -> (u8, u64, u64, u64)
-    ensures { texts_of words.now ≡ broken_words → result.2 ≡ 1 → result.3 ≡ 1 → FailuresAre 1
+    ensures { texts_of words.now ≡ broken_words → result.2 ≡ 1 → result.3 ≡ 1 →
+        WritesJust 1 broken_output broken_messages Error
         (devices (writer W.contents W.failures out.old) (writer M.contents M.failures messages.old)
         0 meter.old)
         (devices (writer W.contents W.failures out.new) (writer M.contents M.failures messages.new)
-        result.1 meter.new) →
-        Wrote broken_output broken_messages Error
-        (devices (writer W.contents W.failures out.old) (writer M.contents M.failures messages.old)
-        0 meter.old)
-        (devices (writer W.contents W.failures out.new) (writer M.contents M.failures messages.new)
-        result.1 meter.new) result.0
-        ⊎ TellsMemory (writer M.contents M.failures messages.old)
-        (writer M.contents M.failures messages.new) }
+        result.1 meter.new) result.0 }
 {
     let listed = [MemoryFile {
         name: "f",

@@ -1,10 +1,9 @@
 -- The lists that an editor makes by the replies alone follow, and are the present hits.
-use Rattle.std.proofs.Common.{◌≡◌, ℕ, ◌+◌, ◌<◌, ◌≤◌, ◌^◌, ◌||◌, min, true, false, true≢false, List, [], ◌∷◌, ◌++◌, length, map, take, drop, get_or, codes, Result, Ok, Err, refl, sym, ap, subst, ◌∙◌, inl, inr, arith, append_assoc, if◌then◌else◌}
+use Rattle.std.proofs.Common.{◌≡◌, ℕ, ◌+◌, ◌<◌, ◌≤◌, ◌^◌, min, true, false, true≢false, List, [], ◌∷◌, ◌++◌, length, take, drop, get_or, codes, Result, Ok, Err, refl, sym, ap, subst, ◌∙◌, inl, inr, arith, append_assoc}
 use Rattle.std.specs.Prelude.{◌-◌}
 use Rattle.std.specs.List.{list_any, sum_by}
 use Rattle.std.proofs.lemmas.Bool.{or_parts}
 use Rattle.std.proofs.lemmas.List.Elements.{All-nil}
-use Rattle.std.proofs.lemmas.List.Folds.{list_any-append}
 use Rattle.std.proofs.lemmas.List.Sums.{sum_by-cons}
 use Rattle.re_syntax.specs.Bytes.{Text}
 use Rattle.grep_core.specs.declared.status.Status.{Status}
@@ -14,11 +13,11 @@ use Rattle.grep_core.specs.Files.{File, Inputs}
 use Rattle.grep_session.specs.declared.fault.EditFault.{EditFault}
 use Rattle.grep_session.specs.Edits.{Edit}
 use Rattle.grep_live.specs.declared.mark.Mark.{Mark}
-use Rattle.grep_live.specs.Hits.{Hit, View, AreHits}
+use Rattle.grep_live.specs.Hits.{View, AreHits}
 use Rattle.grep_live.specs.Marks.{Watched, new_watched}
-use Rattle.grep_live.specs.Changes.{Change, IsChange, is_idle, all_after}
+use Rattle.grep_live.specs.Changes.{IsChange, all_after}
 use Rattle.grep_live.specs.Following.{FollowsFile, Follows, view_after}
-use Rattle.grep_live.specs.Rows.{hit_row, change_row, change_rows, changes_rows, total_row, page_row, page_rows, all_hits}
+use Rattle.grep_live.specs.Rows.{changes_rows, total_row, page_row, page_rows, all_hits}
 use Rattle.grep_live.specs.Writing.{all_known}
 use Rattle.grep_live.proofs.lemmas.ListLemmas.{three-length}
 use Rattle.grep_cmd.specs.Script.{Step, does, reports, reports_changes, reports_page, is_bad, is_truncated}
@@ -28,6 +27,7 @@ use Rattle.grep_cmd.specs.Replies.{RepliesTo, Replies, IsAnswered, AnswersScript
 use Rattle.grep_cmd.specs.Editor.{IsHeld, bytes_of, has_status, EndsWithStatus, IsOneReply, ReadsChanges, ListsAfter, ListsAfterAll, ArePresent, Took, EditorsFollow}
 use Rattle.grep_cmd.proofs.lemmas.ReadingLaws.{first_same, rest_same, cut_same, one_reading}
 use Rattle.grep_cmd.proofs.lemmas.BroughtLaws.{brought, steps_bring}
+use Rattle.grep_cmd.proofs.lemmas.RowTests.{none_mapped, none_joined, none_changes}
 use Rattle.grep_cmd.proofs.lemmas.HeldLaws.{IsWithin, within_wider, within_after, within_known, changes_held}
 
 -- ---- where a reply ends
@@ -40,49 +40,22 @@ has_it status.Error = refl
 ends_with : (rows : List Text) (s : Status) (lines : List Text) → lines ≡ rows ++ status_line s ∷ [] → list_any has_status rows ≡ false → EndsWithStatus lines
 ends_with rows s lines e none = (rows, status_line s, e, none, has_it s)
 
-none_behind : (margin : Text) (lines : List Text) → ((line : Text) → has_status (margin ++ line) ≡ false) → list_any has_status (behind margin lines) ≡ false
-none_behind margin [] f = refl
-none_behind margin (line ∷ lines) f = ap (λ x. x || list_any has_status (behind margin lines)) (f line) ∙ none_behind margin lines f
-
--- two lists of which no line has the status
-none_joined : (xs ys : List Text) → list_any has_status xs ≡ false → list_any has_status ys ≡ false → list_any has_status (xs ++ ys) ≡ false
-none_joined xs ys p q = list_any-append has_status xs ys ∙ ap (λ b. b || list_any has_status ys) p ∙ q
-
 shown_ends : (inputs : Inputs) (shown : List Text) → AreShown inputs shown → EndsWithStatus shown
 shown_ends inputs shown s =
-    let out = none_behind (codes "o ") s.out (λ line. refl) in
-    let told = none_behind (codes "e ") s.told (λ line. refl) in
+    let out = none_mapped has_status (λ line. codes "o " ++ line) s.out (λ line. refl) in
+    let told = none_mapped has_status (λ line. codes "e " ++ line) s.told (λ line. refl) in
     ends_with (behind (codes "o ") s.out ++ behind (codes "e ") s.told) s.status shown
     (s.is ∙ sym (append_assoc (behind (codes "o ") s.out) (behind (codes "e ") s.told) (status_line s.status ∷ [])))
-    (none_joined (behind (codes "o ") s.out) (behind (codes "e ") s.told) out told)
-
-none_hits : (hits : List Hit) → list_any has_status (map hit_row hits) ≡ false
-none_hits [] = refl
-none_hits (hit ∷ hits) = none_hits hits
-
-none_change : (k : ℕ) (change : Change) → list_any has_status (change_rows k change) ≡ false
-none_change k change = by_idle (is_idle change)
-  where
-    by_idle : (idle : _) → list_any has_status (if idle then [] else change_row k change ∷ map hit_row change.come) ≡ false
-    by_idle true = refl
-    by_idle false = none_hits change.come
-
-none_changes : (k : ℕ) (changes : List Change) → list_any has_status (changes_rows k changes) ≡ false
-none_changes k [] = refl
-none_changes k (change ∷ changes) = none_joined (change_rows k change) (changes_rows (k + 1) changes) (none_change k change) (none_changes (k + 1) changes)
-
-none_numbered : (hits : List (ℕ × Hit)) → list_any has_status (map page_row hits) ≡ false
-none_numbered [] = refl
-none_numbered ((k, hit) ∷ hits) = none_numbered hits
+    (none_joined has_status (behind (codes "o ") s.out) (behind (codes "e ") s.told) out told)
 
 -- the reply to a step is taken whole
 is_one_reply : (step : Step) (before after : Watched) (reply : List Text) → RepliesTo step before reply after → IsOneReply step reply
 is_one_reply (does edit) before after reply r = ap length r.2
 is_one_reply reports before after reply r = shown_ends before.inputs reply r.0
-is_one_reply reports_changes before after reply r = ends_with (changes_rows 0 r.changes) r.status reply r.is (none_changes 0 r.changes)
+is_one_reply reports_changes before after reply r = ends_with (changes_rows 0 r.changes) r.status reply r.is (none_changes has_status (λ hit. refl) (λ k change. refl) 0 r.changes)
 is_one_reply (reports_page first count) before after reply (r, same) =
     let all = all_hits 0 r.view in
-    ends_with (total_row (min (length all) (2 ^ 64 - 1)) ∷ page_rows first count all) r.status reply r.is (none_numbered (take count (drop first all)))
+    ends_with (total_row (min (length all) (2 ^ 64 - 1)) ∷ page_rows first count all) r.status reply r.is (none_mapped has_status page_row (take count (drop first all)) (λ row. refl))
 is_one_reply is_bad before after reply r = ap length r.0
 is_one_reply is_truncated before after reply r = ap length r.0
 

@@ -1,8 +1,7 @@
 -- What is taken and answered for one command of a script.
-use Rattle.std.proofs.Common.{◌≡◌, ◌≢◌, ℕ, ◌+◌, ◌<◌, false, ◌||◌, List, [], ◌∷◌, ◌++◌, length, map, min, get_or, take, drop, true, ◌-◌, ◌^◌, IfOk, nat_eq, if◌then◌else◌, Option, Some, Result, Ok, Err, IfErr, inl, inr, refl, sym, ap, ◌∙◌, subst, append_assoc, append-nil, codes, arith}
+use Rattle.std.proofs.Common.{◌≡◌, ◌≢◌, ℕ, ◌+◌, ◌<◌, false, List, [], ◌∷◌, ◌++◌, length, min, get_or, take, drop, ◌-◌, ◌^◌, IfOk, nat_eq, if◌then◌else◌, Option, Some, Result, Ok, Err, IfErr, inl, inr, refl, sym, ap, ◌∙◌, subst, append_assoc, append-nil, codes, arith}
 use Rattle.std.proofs.lemmas.Bool.{false_from_ne_true, eqb-true}
 use Rattle.std.proofs.lemmas.List.{take_more, length-take}
-use Rattle.std.proofs.lemmas.List.Folds.{list_any-append}
 use Rattle.std.specs.List.{list_any}
 use Rattle.re_syntax.specs.Bytes.{Text}
 use Rattle.re_syntax.specs.Lines.{newline, joined}
@@ -16,6 +15,7 @@ use Rattle.grep_core.specs.Row.{output_line}
 use Rattle.grep_core.specs.Written.{GoesOut, Writes}
 use Rattle.grep_core.specs.Working.Numbered.{Numbered, HasHanded}
 use Rattle.grep_core.proofs.lemmas.RowLemmas.{goes_on, stops_later}
+use Rattle.grep_cmd.proofs.lemmas.RowTests.{none_mapped, none_joined, none_changes}
 use Rattle.grep_session.specs.declared.fault.EditFault.{EditFault}
 use Rattle.grep_session.specs.declared.fault.EditFault.TheVariants as fault
 use Rattle.grep_session.specs.Edits.{Edit}
@@ -23,10 +23,8 @@ use Rattle.grep_cmd.specs.declared.script.ScriptFault.{ScriptFault}
 use Rattle.grep_cmd.specs.declared.script.ScriptFault.TheVariants.{Read, Write, Memory}
 use Rattle.grep_cmd.specs.declared.script.reply.Answer.{Answer}
 use Rattle.grep_cmd.specs.declared.script.reply.Answer.TheVariants.{Accepted, Refused, Truncated}
-use Rattle.grep_live.specs.Hits.{Hit}
-use Rattle.grep_live.specs.Changes.{Change, is_idle}
 use Rattle.grep_live.specs.Marks.{Watched}
-use Rattle.grep_live.specs.Rows.{hit_row, change_row, change_rows, changes_rows, total_row, page_row, page_rows, all_hits}
+use Rattle.grep_live.specs.Rows.{changes_rows, total_row, page_row, page_rows, all_hits}
 use Rattle.grep_cmd.specs.Show.{AreShown, behind, status_line}
 use Rattle.grep_cmd.specs.Lists.{ReportsChanges, ReportsPage}
 use Rattle.grep_cmd.specs.Script.{Step, counts, IsStep, line_command}
@@ -60,54 +58,31 @@ pub refused_as : {T : Type 0} (answer : Result T EditFault) → list_any is_refu
 refused_as (Ok done) = refl
 refused_as (Err fault) = refl
 
-none_behind : (b : ℕ) (margin : Text) (lines : List Text) → ((line : Text) → is_refusal (margin ++ line) ≡ false) → list_any is_refusal (behind margin lines) ≡ false
-none_behind b margin [] f = refl
-none_behind b margin (line ∷ lines) f = ap (λ x. x || list_any is_refusal (behind margin lines)) (f line) ∙ none_behind b margin lines f
-
 none_status : (s : Status) → list_any is_refusal (status_line s ∷ []) ≡ false
 none_status status.Selected = refl
 none_status status.NoneSelected = refl
 none_status status.Error = refl
 
--- a report refuses nothing
+-- rows that refuse nothing, and the status after them
+status_after : (rows : List Text) (s : Status) (lines : List Text) → lines ≡ rows ++ status_line s ∷ [] → list_any is_refusal rows ≡ false → list_any is_refusal lines ≡ false
+status_after rows s lines is none = ap (list_any is_refusal) is ∙ none_joined is_refusal rows (status_line s ∷ []) none (none_status s)
+
+-- the replies to `show`, `changes` and `page` refuse nothing
 pub shown_is_no_refusal : (inputs : Inputs) (shown : List Text) → AreShown inputs shown → list_any is_refusal shown ≡ false
 shown_is_no_refusal inputs shown s =
-    let out = none_behind 0 (codes "o ") s.out (λ line. refl) in
-    let told = none_behind 0 (codes "e ") s.told (λ line. refl) in
-    ap (list_any is_refusal) s.is ∙ list_any-append is_refusal (behind (codes "o ") s.out) _ ∙ ap (λ b. b || list_any is_refusal (behind (codes "e ") s.told ++ status_line s.status ∷ [])) out
-    ∙ list_any-append is_refusal (behind (codes "e ") s.told) (status_line s.status ∷ []) ∙ ap (λ b. b || list_any is_refusal (status_line s.status ∷ [])) told ∙ none_status s.status
+    let out = none_mapped is_refusal (λ line. codes "o " ++ line) s.out (λ line. refl) in
+    let told = none_mapped is_refusal (λ line. codes "e " ++ line) s.told (λ line. refl) in
+    status_after (behind (codes "o ") s.out ++ behind (codes "e ") s.told) s.status shown
+    (s.is ∙ sym (append_assoc (behind (codes "o ") s.out) (behind (codes "e ") s.told) (status_line s.status ∷ [])))
+    (none_joined is_refusal (behind (codes "o ") s.out) (behind (codes "e ") s.told) out told)
 
--- rows of hits refuse nothing
-none_hits : (hits : List Hit) → list_any is_refusal (map hit_row hits) ≡ false
-none_hits [] = refl
-none_hits (hit ∷ hits) = none_hits hits
-
-none_change : (k : ℕ) (change : Change) → list_any is_refusal (change_rows k change) ≡ false
-none_change k change = by_idle (is_idle change)
-  where
-    by_idle : (idle : _) → list_any is_refusal (if idle then [] else change_row k change ∷ map hit_row change.come) ≡ false
-    by_idle true = refl
-    by_idle false = none_hits change.come
-
-none_changes : (k : ℕ) (changes : List Change) → list_any is_refusal (changes_rows k changes) ≡ false
-none_changes k [] = refl
-none_changes k (change ∷ changes) =
-    list_any-append is_refusal (change_rows k change) (changes_rows (k + 1) changes) ∙ ap (λ b. b || list_any is_refusal (changes_rows (k + 1) changes)) (none_change k change) ∙ none_changes (k + 1) changes
-
-none_numbered : (hits : List (ℕ × Hit)) → list_any is_refusal (map page_row hits) ≡ false
-none_numbered [] = refl
-none_numbered ((k, hit) ∷ hits) = none_numbered hits
-
--- the replies to `changes` and `page` refuse nothing
 pub changes_is_no_refusal : (before after : Watched) (told : List Text) → ReportsChanges before after told → list_any is_refusal told ≡ false
-changes_is_no_refusal before after told t =
-    ap (list_any is_refusal) t.is ∙ list_any-append is_refusal (changes_rows 0 t.changes) (status_line t.status ∷ []) ∙ ap (λ b. b || list_any is_refusal (status_line t.status ∷ [])) (none_changes 0 t.changes) ∙ none_status t.status
+changes_is_no_refusal before after told t = status_after (changes_rows 0 t.changes) t.status told t.is (none_changes is_refusal (λ hit. refl) (λ k change. refl) 0 t.changes)
 
 pub page_is_no_refusal : (inputs : Inputs) (first count : ℕ) (told : List Text) → ReportsPage inputs first count told → list_any is_refusal told ≡ false
 page_is_no_refusal inputs first count told t =
     let all = all_hits 0 t.view in
-    ap (list_any is_refusal) t.is ∙ list_any-append is_refusal (total_row (min (length all) (2 ^ 64 - 1)) ∷ page_rows first count all) (status_line t.status ∷ [])
-    ∙ ap (λ b. b || list_any is_refusal (status_line t.status ∷ [])) (none_numbered (take count (drop first all))) ∙ none_status t.status
+    status_after (total_row (min (length all) (2 ^ 64 - 1)) ∷ page_rows first count all) t.status told t.is (none_mapped is_refusal page_row (take count (drop first all)) (λ row. refl))
 
 pub answered_in_time : {T : Type 0} (answer : Result T EditFault) → answer_for answer ≢ Truncated
 answered_in_time (Ok done) = λ e. let no : ⊥ = cc in no

@@ -27,7 +27,7 @@ counted_meant counted.AddPatterns lines = AddPatterns (joined lines)
 
 abbrev pub meant : declared.Command → Command
 meant (command.Edit edit) = edits (line_meant edit)
-meant (command.Counted count edit) = counts count (counted_meant edit)
+meant (command.Counted counts_lines) = counts counts_lines.count (counted_meant counts_lines.edit)
 meant command.Show = shows
 meant command.Changes = lists_changes
 meant (command.Page first count) = lists_page first count

@@ -12,12 +12,12 @@ ghost use Rattle.grep_cmd.specs.Show.{AreShown};
 ghost use Rattle.grep_cmd.specs.Lists.{ReportsChanges, ReportsPage};
 ghost use Rattle.grep_live.specs.Marks.{Watched};
 ghost use Rattle.grep_live.specs.Following.{Carries};
-ghost use Rattle.grep_cmd.specs.Replies.{reply_to, bad_command, truncated};
+ghost use Rattle.grep_cmd.specs.Replies.{reply_to};
 ghost use Rattle.grep_cmd.specs.Working.Answered.{AnswersLine, Replied, answer_for};
 ghost use Rattle.grep_cmd.specs.Working.Commands.{line_meant, counted_meant};
 
 use crate::script::ScriptFault;
-use crate::script::command::{Command, CountedEdit, LineEdit, read_command};
+use crate::script::command::{Command, CountedCommand, CountedEdit, LineEdit, read_command};
 use crate::script::counted::{join_lines, take_lines};
 use crate::script::reply::{Answer, write_reply};
 use crate::showing::{show, show_changes, show_page};
@@ -100,24 +100,16 @@ fn reply_to_edit<W: CountedWrite>(
     }
 }
 
-/// Writes the reply to a line that is no command.
-fn reply_to_bad_line<W: CountedWrite>(out: &mut W) -> Result<Answer, ScriptFault>
-    ensures { Replied W.contents W.failures out.old out.new (bad_command ∷ []) Answer.Refused
-        result }
+/// Writes this line as the reply to a command that was answered so.
+fn reply_with<W: CountedWrite>(
+    text: &[u8],
+    answer: Answer,
+    out: &mut W,
+) -> Result<Answer, ScriptFault>
+    ensures { Replied W.contents W.failures out.old out.new (text.now ∷ []) answer result }
 {
-    match write_line(out, b"refused BadCommand") {
-        Ok(()) => Ok(Answer::Refused),
-        Err(WriteFault) => Err(ScriptFault::Write),
-    }
-}
-
-/// Writes the reply to a command that counts more lines than follow.
-fn reply_to_truncated<W: CountedWrite>(out: &mut W) -> Result<Answer, ScriptFault>
-    ensures { Replied W.contents W.failures out.old out.new (truncated ∷ []) Answer.Truncated
-        result }
-{
-    match write_line(out, b"refused Truncated") {
-        Ok(()) => Ok(Answer::Truncated),
+    match write_line(out, text) {
+        Ok(()) => Ok(answer),
         Err(WriteFault) => Err(ScriptFault::Write),
     }
 }
@@ -165,23 +157,23 @@ fn reply_to_page<W: CountedWrite>(
 fn answer_counted<R: CountedRead, W: CountedWrite>(
     alloc: Global,
     lines: &mut NumberedLines<R>,
-    count: usize,
-    edit: CountedEdit,
+    counted: CountedCommand,
     session: &mut Live,
     meter: &mut Meter,
     out: &mut W,
 ) -> Result<Answer, ScriptFault>
     ensures answers { (reader : R) (handed : List Text) (line : Text) →
         HasHanded R.remaining R.failures reader lines.old handed
-        → line_command line ≡ Some (counts count (counted_meant edit))
+        → line_command line ≡ Some (counts counted.count (counted_meant counted.edit))
         → AnswersLine R.remaining R.failures reader handed line lines.new meter.old meter.new session.old session.new
         W.contents W.failures out.old out.new result }
     ensures held { IsOneLineAndFew lines.old.lines.ahead → IsOneLineAndFew lines.new.lines.ahead }
     ensures same_loan { R.loan lines.new.lines.reader ≡ R.loan lines.old.lines.reader }
 {
+    let CountedCommand { count, edit } = counted;
     let taken = match take_lines(alloc, lines, count, out) {
         Ok(Some(taken)) => taken,
-        Ok(None) => return reply_to_truncated(out),
+        Ok(None) => return reply_with(b"refused Truncated", Answer::Truncated, out),
         Err(fault) => return Err(fault),
     };
     match make_counted_edit(alloc, session, edit, taken, meter) {
@@ -207,13 +199,13 @@ pub fn answer_command<R: CountedRead, W: CountedWrite>(
 {
     match read_command(alloc, lines.line()) {
         Ok(Some(Command::Edit(edit))) => reply_to_edit(make_edit(session, edit, meter), out),
-        Ok(Some(Command::Counted(count, edit))) => {
-            answer_counted(alloc, lines, count, edit, session, meter, out)
+        Ok(Some(Command::Counted(counted))) => {
+            answer_counted(alloc, lines, counted, session, meter, out)
         }
         Ok(Some(Command::Show)) => reply_to_show(session, out),
         Ok(Some(Command::Changes)) => reply_to_changes(session, out),
         Ok(Some(Command::Page(first, count))) => reply_to_page(session, first, count, out),
-        Ok(None) => reply_to_bad_line(out),
+        Ok(None) => reply_with(b"refused BadCommand", Answer::Refused, out),
         Err(_) => Err(ScriptFault::Memory),
     }
 }

@@ -48,12 +48,18 @@ pub enum CountedEdit {
     AddPatterns,
 }
 
+/// An edit with the number of the next lines that it takes.
+#[derive(Drop)]
+pub struct CountedCommand {
+    pub count: usize,
+    pub edit: CountedEdit,
+}
+
 /// What a command line asks for.
 #[derive(Drop)]
 pub enum Command {
     Edit(LineEdit),
-    /// An edit that takes this number of the next lines.
-    Counted(usize, CountedEdit),
+    Counted(CountedCommand),
     /// The report.
     Show,
     /// What changed.
@@ -131,7 +137,8 @@ fn read_file(alloc: Global, words: LineWords<'_>) -> Result<Option<Command>, All
     let Some(name) = read_name(alloc, name)? else {
         return Ok(None);
     };
-    Ok(Some(Command::Counted(count, CountedEdit::AddFile(name))))
+    let edit = CountedEdit::AddFile(name);
+    Ok(Some(Command::Counted(CountedCommand { count, edit })))
 }
 
 /// `missing NAME`
@@ -167,7 +174,8 @@ fn read_splice(words: LineWords<'_>) -> Option<Command>
         start: read_number(start)?,
         removed: read_number(removed)?,
     };
-    Some(Command::Counted(read_number(count)?, edit))
+    let count = read_number(count)?;
+    Some(Command::Counted(CountedCommand { count, edit }))
 }
 
 /// `patterns COUNT`, where there is at least one
@@ -178,7 +186,8 @@ fn read_patterns(words: LineWords<'_>) -> Option<Command>
     if count == 0 {
         return None;
     }
-    Some(Command::Counted(count, CountedEdit::AddPatterns))
+    let edit = CountedEdit::AddPatterns;
+    Some(Command::Counted(CountedCommand { count, edit }))
 }
 
 /// `drop P`

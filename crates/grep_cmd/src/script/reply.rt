@@ -1,16 +1,13 @@
 //! The replies to commands.
-ghost use Rattle.std.specs.Prelude.{◌≡◌, [], ◌++◌, codes, IfOk};
-ghost use Rattle.std.specs.Fmt.{decimal};
+ghost use Rattle.std.specs.Prelude.{◌≡◌, [], IfOk};
 ghost use Rattle.grep_core.specs.Row.{output_line};
 ghost use Rattle.grep_core.specs.Written.{Writes};
-ghost use Rattle.grep_utility.specs.Texts.{kind_name};
 ghost use Rattle.grep_cmd.specs.Replies.{cause, refused_for, reply_to};
 ghost use Rattle.grep_cmd.specs.Working.Answered.{answer_for};
 
-use grep_core::{CountedWrite, WriteFault, push_all, write_count, write_decimal, write_line};
+use grep_core::{CountedWrite, WriteFault, write_line};
 use grep_session::EditFault;
-use grep_utility::kind_name;
-use re_syntax::{FaultKind, PatternFault};
+use grep_utility::write_pattern_refused;
 
 /// How a command was answered.
 #[derive(Clone, Copy, PartialEq, Eq, Debug, Drop)]
@@ -21,52 +18,6 @@ pub enum Answer {
     Refused,
     /// It counts more lines than the script has, which are used up.
     Truncated,
-}
-
-/// Writes which pattern is refused, counted from 0.
-fn write_place<W: CountedWrite>(out: &mut W, place: usize) -> Result<(), WriteFault>
-    ensures { Writes W.contents W.failures out.old out.new
-        (codes "refused Pattern " ++ decimal place) result }
-{
-    push_all(out, b"refused Pattern ")?;
-    write_decimal(out, place as u64)
-}
-
-/// Writes the name of the kind of refusal.
-fn write_kind<W: CountedWrite>(out: &mut W, kind: FaultKind) -> Result<(), WriteFault>
-    ensures { Writes W.contents W.failures out.old out.new (codes " " ++ kind_name kind) result }
-{
-    push_all(out, b" ")?;
-    push_all(out, kind_name(kind))
-}
-
-/// Writes which pattern is refused, and the name of the kind of refusal.
-fn write_place_and_kind<W: CountedWrite>(
-    out: &mut W,
-    place: usize,
-    kind: FaultKind,
-) -> Result<(), WriteFault>
-    ensures { Writes W.contents W.failures out.old out.new
-        ((codes "refused Pattern " ++ decimal place) ++ (codes " " ++ kind_name kind)) result }
-{
-    write_place(out, place)?;
-    write_kind(out, kind)
-}
-
-/// Writes the refusal of an edit for a pattern.
-fn write_pattern_refused<W: CountedWrite>(
-    out: &mut W,
-    place: usize,
-    fault: PatternFault,
-) -> Result<(), WriteFault>
-    ensures { Writes W.contents W.failures out.old out.new
-        (output_line []
-        (refused_for
-        (codes "Pattern " ++ decimal place ++ codes " " ++ kind_name fault.kind ++ codes " " ++
-        decimal fault.at))) result }
-{
-    write_place_and_kind(out, place, fault.kind)?;
-    write_count(out, b" ", None, fault.at as u64)
 }
 
 /// Writes the refusal of an edit.
@@ -81,7 +32,9 @@ fn write_refused<W: CountedWrite>(out: &mut W, fault: EditFault) -> Result<(), W
         EditFault::OutOfRange => write_line(out, b"refused OutOfRange"),
         EditFault::LineHasNewline => write_line(out, b"refused LineHasNewline"),
         EditFault::NoSuchPattern => write_line(out, b"refused NoSuchPattern"),
-        EditFault::Pattern(place, why) => write_pattern_refused(out, place, why),
+        EditFault::Pattern(place, why) => {
+            write_pattern_refused(out, b"refused Pattern ", place as u64, b" ", why, b" ")
+        }
         EditFault::TooManyPatterns => write_line(out, b"refused TooManyPatterns"),
         EditFault::Memory => write_line(out, b"refused Memory"),
     }

@@ -1,7 +1,7 @@
 -- The buffered patterns, with one more line of a file at a time.
 use Rattle.std.proofs.Common.{◌≡◌, ℕ, ◌-◌, ◌<◌, true, false, List, [], ◌∷◌, ◌++◌, All, Option, Ok, Err, refl, sym, ap, subst, ◌∙◌, append_assoc, append-nil, arith}
 use Rattle.std.proofs.lemmas.List.{length_push}
-use Rattle.std.proofs.lemmas.List.Elements.{All-push, All-append}
+use Rattle.std.proofs.lemmas.List.Elements.{All-append}
 use Rattle.re_syntax.specs.Bytes.{Text}
 use Rattle.re_syntax.specs.Lines.{newline, terminated, HasNoNewline}
 use Rattle.re_syntax.proofs.lemmas.LinesLaws.{all_none, AreLines-lines_of}
@@ -29,10 +29,6 @@ Adds-trans old mid new ts us h k = record {
   bytes = k.bytes ∙ ap (λ l. l ++ terminated us) h.bytes ∙ append_assoc old (terminated ts) (terminated us) ∙ ap (λ l. old ++ l) (sym (terminated-append ts us));
   no_newlines = All-append HasNoNewline ts us h.no_newlines k.no_newlines;
 }
-
--- one pattern was added
-pub Adds-one : (old new : Text) (t : Text) → HasNoNewline t → new ≡ old ++ (t ++ newline ∷ []) → Adds old new (t ∷ [])
-Adds-one old new t h is = record { bytes = is; no_newlines = All-push HasNoNewline [] t all_none h }
 
 -- no line that was handed out has a newline
 free_lines : (stage : Stage) (given : Text) (handed : List Text) → AreHanded stage given handed → All HasNoNewline handed

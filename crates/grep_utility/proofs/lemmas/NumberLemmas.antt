@@ -33,11 +33,6 @@ all_digits : (t : Text) → AreDigitsTo t (length t) → IsTrue (list_all (in_cl
 all_digits [] f = refl
 all_digits (b ∷ t) f = and_from (in_class Digit b) _ (f zero (omega arith)) (all_digits t (λ k below. f (suc k) (omega arith)))
 
-not_all : (t : Text) (i : ℕ) → i < length t → (IsTrue (in_class Digit (get_or t i 0)) → ⊥) → IsTrue (list_all (in_class Digit) t) → ⊥
-not_all [] i h stray all = absurd (omega arith)
-not_all (b ∷ t) zero h stray all = stray (and_parts (in_class Digit b) _ all).0
-not_all (b ∷ t) (suc i) h stray all = not_all t i (omega arith) stray (and_parts (in_class Digit b) _ all).1
-
 none_since : (t : Text) → (IsTrue (list_all (in_class Digit) t) → value t < 2 ^ 64 → ⊥) → number_of t ≡ None
 none_since [] f = refl
 none_since (b ∷ t) f =
@@ -63,20 +58,11 @@ digits_next t i v d w h f is digit sum =
     go here k below true e = f k (ltb-true k i e)
     go here k below false e = let same : i ≡ k = omega (arith, below, ltb-false k i e) in subst (λ n. IsTrue (in_class Digit (get_or t n 0))) same here
 
--- no word is no number
-pub number_of-empty : (t : Text) → length t ≡ 0 → number_of t ≡ None
-number_of-empty [] h = refl
-number_of-empty (b ∷ t) h = absurd (omega arith)
-
 -- all bytes are digits, and the value is not too large
 pub number_of-digits : (t : Text) (v : ℕ) → 0 < length t → AreDigitsTo t (length t) → v ≡ value t → v < 2 ^ 64 → number_of t ≡ Some v
 number_of-digits [] v h f is few = absurd (omega arith)
 number_of-digits (b ∷ t) v h f is few =
     cond-true _ _ _ (and_from _ _ (all_digits (b ∷ t) f) (lt-ltb _ _ (omega (arith, is, few)))) ∙ ap Some (sym is)
-
--- some byte is no digit
-pub number_of-stray : (t : Text) (i : ℕ) → i < length t → (IsTrue (in_class Digit (get_or t i 0)) → ⊥) → number_of t ≡ None
-number_of-stray t i h stray = none_since t (λ all few. not_all t i h stray all)
 
 -- the value of the first digits is too large already, without the next one or with it
 pub number_of-large : (t : Text) (i v : ℕ) → i < length t → v ≡ value (take i t) → 2 ^ 64 ≤ v * 10 → number_of t ≡ None
@@ -113,8 +99,3 @@ lines_of-empty (b ∷ t) h = absurd (omega arith)
 pub lines_of-digits : (t : Text) (v : ℕ) → 0 < length t → AreDigitsTo t (length t) → v ≡ min (value t) most_around → lines_of t ≡ Some v
 lines_of-digits [] v h f is = absurd (omega arith)
 lines_of-digits (b ∷ t) v h f is = cond-true _ _ _ (all_digits (b ∷ t) f) ∙ ap Some (sym is)
-
--- some byte is no digit
-pub lines_of-stray : (t : Text) (i : ℕ) → i < length t → (IsTrue (in_class Digit (get_or t i 0)) → ⊥) → lines_of t ≡ None
-lines_of-stray [] i h stray = refl
-lines_of-stray (b ∷ t) i h stray = cond-false _ _ _ (false_from_ne_true _ (not_all (b ∷ t) i h stray))

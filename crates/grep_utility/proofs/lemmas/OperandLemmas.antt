@@ -19,10 +19,6 @@ name-sources_named folder [] k h = absurd (let no : ⊥ = omega (arith, h) in no
 name-sources_named folder (word ∷ words) zero h = refl
 name-sources_named folder (word ∷ words) (suc k) h = name-sources_named (after_use folder word) words k (omega (arith, h))
 
--- at the start the next word is the first
-pub StandsAt-start : (folder : Folder) (words : List Text) → StandsAt folder folder words 0
-StandsAt-start folder words = refl
-
 -- the element at a place is the first after those before it
 at_place : (sources : List Source) (k : ℕ) → k < length sources → (first : Source) (rest : List Source) → drop k sources ≡ first ∷ rest → (source_at sources k ≡ first) × (drop (suc k) sources ≡ rest)
 at_place [] k h first rest is = absurd (let no : ⊥ = omega (arith, h) in no)

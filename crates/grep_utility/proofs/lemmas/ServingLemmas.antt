@@ -1,9 +1,8 @@
 -- Matchers that serve for patterns: one for each, or one for all strings.
-use Rattle.std.proofs.Common.{◌≡◌, suc, ◌≤◌, Bool, All, List, [], ◌∷◌, Bor, IfSome, Option, Some, None, length, map, refl, sym, subst, arith}
+use Rattle.std.proofs.Common.{◌≡◌, suc, ◌≤◌, Bool, All, List, [], ◌∷◌, length, map, refl, sym, subst, arith}
 use Rattle.std.proofs.lemmas.List.{length-map}
 use Rattle.std.proofs.lemmas.List.Elements.{All-push}
 use Rattle.std.specs.List.{AllZip}
-use Rattle.std.specs.Option.{option_copied}
 use Rattle.re_syntax.specs.declared.syntax.Syntax.{Syntax}
 use Rattle.re_syntax.specs.Bytes.{Text}
 use Rattle.re_syntax.specs.Expression.{byte, sequence}
@@ -15,20 +14,8 @@ use Rattle.re_search.specs.Working.Matchers.{matched_expression, wants_whole}
 use Rattle.re_search.proofs.lemmas.LiteralLaws.{literal_positions}
 use Rattle.grep_core.specs.declared.options.Options.{Options}
 use Rattle.grep_core.proofs.lemmas.SameChoice.{alt-is_same}
-use Rattle.grep_core.specs.Working.MatcherLists.{AreMatchers}
 use Rattle.grep_core.specs.Working.SameChoice.{IsSameChoice}
 use Rattle.grep_utility.specs.Working.Serving.{ServeFor, IsStringFor, IsJoined}
-
--- one matcher for each pattern serves for them
-pub each_serves : (syntax : Syntax) (options : Options) (texts : List Text) (matchers : List Matcher) → AreMatchers syntax options texts matchers → ServeFor syntax options texts matchers
-each_serves syntax options texts matchers a = record {
-  es = map matched_expression matchers;
-  meant = a.meant;
-  same = λ line i j. (λ h. h, λ h. h);
-  fewer = omega arith;
-  wholes = a.wholes;
-  readable = a.readable;
-}
 
 -- each string means the sequence of its bytes, folded where that is asked
 strings_mean : (syntax : Syntax) (fold : Bool) (texts : List Text) → All (IsStringFor syntax fold) texts → AllZip (λ t e. IsMeant syntax fold t e) texts (map (literal_meaning fold) texts)
@@ -56,8 +43,3 @@ joined_serves syntax options texts matchers each some joined =
       wholes = All-push (λ w. w ≡ options.line_regexp) [] (wants_whole joined.one) (λ i d h. absurd (omega (arith, h))) joined.whole;
       readable = λ i d h. strings_readable syntax options.ignore_case _ (each i d h);
     })
-
--- what holds of a value that is there holds through a reference to it
-pub behind_reference : {T : Type 0} (P : T → Type 0) (borrowed : Option (Bor T)) (o : Option T) → option_copied borrowed ≡ o → IfSome o P → IfSome borrowed (λ b. P b.now)
-behind_reference P None o same h = tt
-behind_reference P (Some b) o same h = subst (λ x. IfSome x P) (sym same) h

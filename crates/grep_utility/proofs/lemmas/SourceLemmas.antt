@@ -20,7 +20,7 @@ use Rattle.grep_utility.specs.Folder.{Folder}
 use Rattle.grep_utility.specs.Patterns.{Unread, patterns_by, GivesPatterns, behind, behind_all, GivePatterns, FirstUnread}
 use Rattle.grep_utility.specs.Working.Gathered.{Adds, AddsLines, ReadsFile, AddsSource, StopsFor}
 use Rattle.grep_utility.specs.Words.{PatternsFrom, list, given_source}
-use Rattle.grep_utility.proofs.lemmas.GatherLemmas.{Adds-none, Adds-trans}
+use Rattle.grep_utility.proofs.lemmas.GatherLemmas.{Adds-trans}
 
 -- ---- a file
 
@@ -78,10 +78,6 @@ pub record SourcesSoFar (start : Folder) (all : List PatternsFrom) (now : Folder
   pub give : (more : List Text) → GivePatterns now left more → GivePatterns start all (texts ++ more)
   pub stop : (unread : Unread) → FirstUnread now left unread → FirstUnread start all unread
   pub used : behind_all now left ≡ behind_all start all
-
--- nothing was read
-pub sources_none : (start : Folder) (all : List PatternsFrom) → SourcesSoFar start all start all []
-sources_none start all = record { texts = []; adds = Adds-none []; give = λ more h. h; stop = λ unread h. h; used = refl }
 
 module _ (start : Folder) (all : List PatternsFrom) (now : Folder) (source : PatternsFrom) (left : List PatternsFrom) (bytes : Text) (s : SourcesSoFar start all now (source ∷ left) bytes) where
   -- one more source was read

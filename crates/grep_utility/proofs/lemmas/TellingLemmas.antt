@@ -21,9 +21,9 @@ module _ {W : Type 0} (contents : W → Option Text) (failures : W → ℕ) (old
   tells_lines texts (Err fault) h = inr (record { front = h.front; rest = h.rest; cut = h.cut; written_front = h.written }, h.counted)
 
 -- a command that gives up writes its messages and ends with status 2
-pub gives_up : (out old new : Writer) (n : ℕ) (steps : Steps) (texts : List Text) → TellsLines old new texts
-    → GivesUp (record { out = out; messages = old; source_failures = n; steps = steps }) (record { out = out; messages = new; source_failures = n; steps = steps }) texts 0 2
-gives_up out old new n steps texts told = record { is_error = refl; none_written = refl; told = told; counted = refl; no_step = refl }
+pub gives_up : (out old new : Writer) (n : ℕ) (steps : Steps) (texts : List Text) (status : ℕ) → status ≡ 2 → TellsLines old new texts
+    → GivesUp (record { out = out; messages = old; source_failures = n; steps = steps }) (record { out = out; messages = new; source_failures = n; steps = steps }) texts 0 status
+gives_up out old new n steps texts status is_error told = record { is_error = is_error; none_written = refl; told = told; counted = refl; no_step = refl }
 
 -- the pieces of a line, one after the other
 pub line_of_pieces : (front kind_front kind at place end : Text) → (front ++ (kind_front ++ kind)) ++ ((at ++ place) ++ end) ≡ ((((front ++ kind_front) ++ kind) ++ at) ++ place) ++ end

@@ -98,11 +98,18 @@ pub record FailuresAre (failures : ℕ) (old new : Devices) : Type 0 where
   pub output_kept : new.out.failures ≡ 0
   pub messages_kept : new.messages.failures ≡ 0
 
+-- where this many failures of files were counted, and no write failed, this output and these
+-- messages were written, and the status is this, unless memory ran out
+abbrev pub WritesJust : ℕ → List Text → List Text → Status → Devices → Devices → ℕ → Type 0
+WritesJust failures output messages found old new status =
+    FailuresAre failures old new →
+    Wrote output messages found old new status ⊎ TellsMemory old.messages new.messages
+
 -- a command of which all is foretold writes just that, where as many failures of files are counted
 -- as there are files that cannot be opened, and no write fails, unless memory runs out
 abbrev pub WordsTell : Type 0
 WordsTell =
     (folder : Folder) (words output messages : List Text) (missing : ℕ) (found : Status) →
     Foretells folder words missing output messages found → (old new : Devices) (status : ℕ) →
-    CommandGives folder (λ left. ⊤) old new status words → FailuresAre missing old new →
-    Wrote output messages found old new status ⊎ TellsMemory old.messages new.messages
+    CommandGives folder (λ left. ⊤) old new status words →
+    WritesJust missing output messages found old new status

@@ -1,11 +1,11 @@
 -- Two commands, worked by hand.
-use Rattle.std.specs.Prelude.{◌≡◌, ℕ, true, false, List, [], ◌∷◌, ◌⊎◌, codes, Some, ⊤}
+use Rattle.std.specs.Prelude.{◌≡◌, ℕ, true, false, List, [], ◌∷◌, codes, Some, ⊤}
 use Rattle.re_syntax.specs.Bytes.{Text}
 use Rattle.grep_core.specs.declared.status.Status.TheVariants.{Error}
 use Rattle.grep_core.specs.Run.{Devices}
 use Rattle.grep_utility.specs.Command.{CommandGives}
 use Rattle.grep_utility.specs.Folder.{Folder}
-use Rattle.grep_utility.specs.Working.Known.{FailuresAre, Wrote, TellsMemory}
+use Rattle.grep_utility.specs.Working.Known.{WritesJust}
 use Rattle.grep_utility.specs.Working.Returned.{HasReturned}
 
 -- `grep -n -B 2 a h missing`, where the file `h` has three lines and there is no file `missing`
@@ -32,8 +32,7 @@ RowFollows =
     (folder : Folder) → folder.opens (codes "h") ≡ Some true →
     folder.bytes (codes "h") ≡ Some row_text → folder.opens (codes "missing") ≡ Some false →
     (old new : Devices) (status : ℕ) → CommandGives folder (λ left. ⊤) old new status row_words →
-    FailuresAre 1 old new →
-    Wrote row_output row_messages Error old new status ⊎ TellsMemory old.messages new.messages
+    WritesJust 1 row_output row_messages Error old new status
 
 -- `grep -n a f`, where reads of the file `f` fail after five bytes, in its third line
 abbrev pub broken_words : List Text
@@ -56,6 +55,5 @@ abbrev pub BrokenFollows : Type 0
 BrokenFollows =
     (folder : Folder) → folder.opens (codes "f") ≡ Some true →
     folder.bytes (codes "f") ≡ Some broken_text → (old new : Devices) (status : ℕ) →
-    CommandGives folder (HasReturned 1 1) old new status broken_words → FailuresAre 1 old new →
-    Wrote broken_output broken_messages Error old new status ⊎
-    TellsMemory old.messages new.messages
+    CommandGives folder (HasReturned 1 1) old new status broken_words →
+    WritesJust 1 broken_output broken_messages Error old new status

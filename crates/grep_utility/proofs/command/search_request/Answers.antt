@@ -1,18 +1,29 @@
+use Rattle.std.proofs.Common.{rules, []}
 use Rattle.grep_core.specs.Run.{writer}
+use Rattle.grep_core.specs.Sources.{GivesBack}
+use Rattle.grep_core.proofs.lemmas.GivenLaws.{RunGives-given}
+use Rattle.grep_core.proofs.lemmas.SourceLaws.{gives_both}
 use Rattle.grep_utility.proofs.command.search_request.Goals as goal
 
-pub returns : goal.returns
-returns g c = record {
-  found = c.search_files-found.result;
-  between = record {
-    out = writer g.W.CountedWrite.contents g.W.CountedWrite.failures c.search_files-found.new.out;
-    messages = writer g.N.CountedWrite.contents g.N.CountedWrite.failures c.search_files-found.new.messages;
-    source_failures = g.F.Files.failures c.search_files-found.new.files;
-    steps = c.search_files-found.new.meter;
-  };
-  runs = rw (c.deref.ensures.value, c.deref_mut.ensures.value) at c.search_files-found.ensures;
-  ends = c.end_search.ensures _ _ _;
-}
+pub search_filtered-found-requires-clause-needed : goal.search_filtered-found-requires-clause-needed
+search_filtered-found-requires-clause-needed g c = rw c.deref_mut.ensures.value c.requires.needed
 
-pub search_files-found-requires-clause-needed : goal.search_files-found-requires-clause-needed
-search_files-found-requires-clause-needed g c = rw c.deref_mut.ensures.value c.requires.needed
+pub returns : goal.returns
+returns g c =
+    let old = c.args.files.now in
+    let start = c.new-operands.result.files.now in
+    let end = c.search_filtered-found.new.sources.files.now in
+    let begun : GivesBack g.F.Files.given_back old start [] = search (rules, c.begin_search.ensures.none_back) in
+    let run = RunGives-given _ _ _ _ (GivesBack g.F.Files.given_back old end) (λ left h. gives_both g.F.Files.given_back old start end [] left begun h) _ _ _ c.search_filtered-found.ensures.run in
+    let ends = c.end_search.ensures (writer g.W.CountedWrite.contents g.W.CountedWrite.failures c.search_filtered-found.new.out) (g.F.Files.failures end) c.search_filtered-found.new.meter in
+    record {
+      found = c.search_filtered-found.result;
+      between = record {
+        out = writer g.W.CountedWrite.contents g.W.CountedWrite.failures c.search_filtered-found.new.out;
+        messages = writer g.N.CountedWrite.contents g.N.CountedWrite.failures c.search_filtered-found.new.messages;
+        source_failures = g.F.Files.failures end;
+        steps = c.search_filtered-found.new.meter;
+      };
+      runs = search (rules, run);
+      ends = search (rules, ends);
+    }

@@ -37,10 +37,10 @@ returns-in-Ok-None-clause-answers g c =
     let is : line_command c.args.lines.now.lines.line ≡ None = search rules in
     let flushed = goes_nowhere g.W.CountedWrite.contents g.W.CountedWrite.failures c.args.out.now in
     λ reader handed h.
-    let done = does_alone g.R.CountedRead.remaining g.R.CountedRead.failures reader handed c.args.lines.now.lines.line c.args.lines.now c.args.meter.now c.args.meter.now c.args.session.now c.args.session.now g.W.CountedWrite.contents g.W.CountedWrite.failures c.args.out.now c.args.out.now c.reply_to_bad_line.new.out flushed
+    let done = does_alone g.R.CountedRead.remaining g.R.CountedRead.failures reader handed c.args.lines.now.lines.line c.args.lines.now c.args.meter.now c.args.meter.now c.args.session.now c.args.session.now g.W.CountedWrite.contents g.W.CountedWrite.failures c.args.out.now c.args.out.now c.reply_with.new.out flushed
     is_bad (bad_command ∷ []) h (rw is (refl, refl)) (refl, refl) 0 refl (adds_none 0 c.args.meter.now) in
-    answers_step g.R.CountedRead.remaining g.R.CountedRead.failures reader handed c.args.lines.now.lines.line c.args.lines.now c.args.meter.now c.args.meter.now c.args.session.now c.args.session.now g.W.CountedWrite.contents g.W.CountedWrite.failures c.args.out.now c.args.out.now c.reply_to_bad_line.new.out flushed
-    (bad_command ∷ []) Refused c.reply_to_bad_line.result done refl (λ e. let no : ⊥ = cc in no) c.reply_to_bad_line.ensures
+    answers_step g.R.CountedRead.remaining g.R.CountedRead.failures reader handed c.args.lines.now.lines.line c.args.lines.now c.args.meter.now c.args.meter.now c.args.session.now c.args.session.now g.W.CountedWrite.contents g.W.CountedWrite.failures c.args.out.now c.args.out.now c.reply_with.new.out flushed
+    (bad_command ∷ []) Refused c.reply_with.result done refl (λ e. let no : ⊥ = cc in no) c.reply_with.ensures
 
 pub returns-in-Ok-Some-Changes-clause-answers : goal.returns-in-Ok-Some-Changes-clause-answers
 returns-in-Ok-Some-Changes-clause-answers g c =

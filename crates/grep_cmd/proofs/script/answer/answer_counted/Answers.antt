@@ -11,13 +11,13 @@ returns-in-Ok-None-clause-answers g c =
     let takes = rw c.in-Ok-None.field-0-is at c.in-Ok-None.ensures.takes in
     λ reader handed line h is.
     let t = takes reader handed h in
-    answers_truncated g.R.CountedRead.remaining g.R.CountedRead.failures reader handed line c.take_lines.new.lines c.args.meter.now c.args.meter.now c.args.session.now c.args.session.now g.W.CountedWrite.contents g.W.CountedWrite.failures c.args.out.now c.take_lines.new.out c.reply_to_truncated.new.out c.in-Ok-None.ensures.sent
-    c.reply_to_truncated.result (record { taken = t.0; wants = rw is t.1; stands = t.2; idle = refl }) c.reply_to_truncated.ensures
+    answers_truncated g.R.CountedRead.remaining g.R.CountedRead.failures reader handed line c.take_lines.new.lines c.args.meter.now c.args.meter.now c.args.session.now c.args.session.now g.W.CountedWrite.contents g.W.CountedWrite.failures c.args.out.now c.take_lines.new.out c.reply_with.new.out c.in-Ok-None.ensures.sent
+    c.reply_with.result (record { taken = t.0; wants = rw is t.1; stands = t.2; idle = refl }) c.reply_with.ensures
 
 pub returns-in-Err-clause-answers : goal.returns-in-Err-clause-answers
 returns-in-Err-clause-answers g c =
     λ reader handed line h is. answers_lost g.R.CountedRead.remaining g.R.CountedRead.failures reader handed line c.take_lines.new.lines c.args.meter.now c.args.meter.now c.args.session.now g.W.CountedWrite.contents g.W.CountedWrite.failures c.args.out.now c.take_lines.new.out
-    c.args.count (counted_meant c.args.edit) c.in-Err.fault is (c.in-Err.ensures.takes reader handed h) c.in-Err.ensures.sent refl
+    c.args.counted.count (counted_meant c.args.counted.edit) c.in-Err.fault is (c.in-Err.ensures.takes reader handed h) c.in-Err.ensures.sent refl
 
 pub returns-in-Ok-clause-answers : goal.returns-in-Ok-clause-answers
 returns-in-Ok-clause-answers g c =
@@ -29,7 +29,7 @@ returns-in-Ok-clause-answers g c =
     (reply_to c.in-Ok.answer ∷ []) (answer_for c.in-Ok.answer) c.reply_to_edit.result
     (record {
       taken = taken;
-      step = does (counted_meant c.args.edit taken);
+      step = does (counted_meant c.args.counted.edit taken);
       has_handed = t.1;
       is_step = rw is (t.0, refl);
       replies_to = (c.in-Ok.answer, record { gives = c.in-Ok.ensures.gives; carries = c.in-Ok.ensures.carries; named = λ none. not_for_memory c.in-Ok.answer (c.in-Ok.ensures.memory none) }, refl);
@@ -44,5 +44,5 @@ returns-in-Err-make_counted_edit-clause-answers g c =
     let takes = rw c.in-Ok-Some.field-0-is at c.in-Ok-Some.ensures.takes in
     λ reader handed line h is.
     let t = takes reader handed h in
-    let few : length (map (λ t. t.items) c.in-Ok-Some.taken.items) ≤ c.args.count = omega (arith, t.0) in
+    let few : length (map (λ t. t.items) c.in-Ok-Some.taken.items) ≤ c.args.counted.count = omega (arith, t.0) in
     (record { taken = map (λ t. t.items) c.in-Ok-Some.taken.items; asks = rw is few; has_handed = t.1; idle = c.in-Err-make_counted_edit.ensures.idle }, c.in-Ok-Some.ensures.sent)

@@ -20,6 +20,6 @@ returns c =
     let file : number_of w.file.now ≡ Some c.in_ok-read_number.field-0 = search rules in
     let start : number_of w.start.now ≡ Some c.in_ok-read_number-2.field-0 = search rules in
     let removed : number_of w.removed.now ≡ Some c.in_ok-read_number-3.field-0 = search rules in
-    let count : number_of w.count.now ≡ Some c.in_ok-read_number-4.field-0 = search rules in
+    let count : number_of w.count.now ≡ Some c.in_ok-count.count = search rules in
     sym (ap splice_command (four_words-some c.args.words w.file.now w.start.now w.removed.now w.count.now four)
-    ∙ splice_some w.file.now w.start.now w.removed.now w.count.now c.in_ok-read_number.field-0 c.in_ok-read_number-2.field-0 c.in_ok-read_number-3.field-0 c.in_ok-read_number-4.field-0 file start removed count)
+    ∙ splice_some w.file.now w.start.now w.removed.now w.count.now c.in_ok-read_number.field-0 c.in_ok-read_number-2.field-0 c.in_ok-read_number-3.field-0 c.in_ok-count.count file start removed count)

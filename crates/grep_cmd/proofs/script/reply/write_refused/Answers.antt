@@ -15,3 +15,8 @@ pub returns-in-NoSuchPattern : goal.returns-in-NoSuchPattern
 unfolding cause
 returns-in-NoSuchPattern g c =
     subst (λ (fault : EditFault). Writes g.W.CountedWrite.contents g.W.CountedWrite.failures c.args.out.now c.write_line-in-NoSuchPattern.new.out (output_line [] (refused_for (cause fault))) c.write_line-in-NoSuchPattern.result) (sym c.in-NoSuchPattern.is) c.write_line-in-NoSuchPattern.ensures
+
+pub returns-in-Pattern : goal.returns-in-Pattern
+unfolding cause
+returns-in-Pattern g c =
+    subst (λ (fault : EditFault). Writes g.W.CountedWrite.contents g.W.CountedWrite.failures c.args.out.now c.write_pattern_refused.new.out (output_line [] (refused_for (cause fault))) c.write_pattern_refused.result) (sym c.in-Pattern.is) c.write_pattern_refused.ensures

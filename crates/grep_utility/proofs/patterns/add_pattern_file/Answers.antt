@@ -3,7 +3,7 @@ use Rattle.grep_core.proofs.lemmas.SourceLaws.{gives_both}
 use Rattle.grep_core.specs.Run.{count_more}
 use Rattle.grep_utility.specs.Folder.{source_named}
 use Rattle.grep_utility.proofs.lemmas.SourceLemmas.{file_whole, file_broken}
-use Rattle.grep_utility.proofs.patterns.add_file.Goals as goal
+use Rattle.grep_utility.proofs.patterns.add_pattern_file.Goals as goal
 
 pub returns-in-Ok-true-clause-ok : goal.returns-in-Ok-true-clause-ok
 returns-in-Ok-true-clause-ok g c =

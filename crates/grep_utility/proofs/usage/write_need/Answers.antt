@@ -3,20 +3,17 @@ use Rattle.std.proofs.lemmas.Result.{err_from_is_err_and}
 use Rattle.grep_core.specs.Row.{output_line}
 use Rattle.grep_core.specs.Written.{Writes}
 use Rattle.grep_core.proofs.lemmas.RowLemmas.{stops_early, writes_last}
-use Rattle.grep_utility.specs.Texts.{fault_text}
-use Rattle.grep_utility.proofs.usage.write_bad_number.Goals as goal
+use Rattle.grep_utility.proofs.usage.write_need.Goals as goal
 
 pub returns-in_err-push_all : goal.returns-in_err-push_all
-unfolding fault_text
 returns-in_err-push_all g c =
     let p = err_from_is_err_and c.from_residual.result c.from_residual.ensures.1 in
     rw p.1 (stops_early g.M.CountedWrite.contents g.M.CountedWrite.failures c.args.messages.now c.push_all.new.out (codes "grep: option -")
-    (output_line (encode_utf8 c.args.letter) (codes " needs a number")) c.in_err-push_all.ensures)
+    (output_line (encode_utf8 c.args.letter) c.args.need.now) c.in_err-push_all.ensures)
 
 pub returns : goal.returns
-unfolding fault_text
 returns g c =
     let letter : c.as_bytes-letter.result.now ≡ encode_utf8 c.args.letter = c.as_bytes-letter.ensures.value ∙ c.encode_utf8.ensures.value in
     writes_last g.M.CountedWrite.contents g.M.CountedWrite.failures c.args.messages.now c.push_all.new.out c.write_line_behind.new.out (codes "grep: option -")
-    (output_line (encode_utf8 c.args.letter) (codes " needs a number")) c.write_line_behind.result c.in_ok-push_all.ensures
-    (subst (λ t. Writes g.M.CountedWrite.contents g.M.CountedWrite.failures c.push_all.new.out c.write_line_behind.new.out (output_line t (codes " needs a number")) c.write_line_behind.result) letter c.write_line_behind.ensures)
+    (output_line (encode_utf8 c.args.letter) c.args.need.now) c.write_line_behind.result c.in_ok-push_all.ensures
+    (subst (λ t. Writes g.M.CountedWrite.contents g.M.CountedWrite.failures c.push_all.new.out c.write_line_behind.new.out (output_line t c.args.need.now) c.write_line_behind.result) letter c.write_line_behind.ensures)

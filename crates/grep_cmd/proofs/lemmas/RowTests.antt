@@ -1,0 +1,31 @@
+-- Rows of a reply of which none passes a test.
+use Rattle.std.proofs.Common.{◌≡◌, ℕ, ◌+◌, true, false, Bool, ◌||◌, List, [], ◌∷◌, ◌++◌, map, refl, ap, ◌∙◌, if◌then◌else◌}
+use Rattle.std.specs.List.{list_any}
+use Rattle.std.proofs.lemmas.List.Folds.{list_any-append}
+use Rattle.re_syntax.specs.Bytes.{Text}
+use Rattle.grep_live.specs.Hits.{Hit}
+use Rattle.grep_live.specs.Changes.{Change, is_idle}
+use Rattle.grep_live.specs.Rows.{hit_row, change_row, change_rows, changes_rows}
+
+module _ (test : Text → Bool) where
+  -- no row that is made of a value
+  pub none_mapped : {A : Type 0} (row : A → Text) (values : List A) → ((value : A) → test (row value) ≡ false) → list_any test (map row values) ≡ false
+  none_mapped row [] fails = refl
+  none_mapped row (value ∷ values) fails = ap (λ b. b || list_any test (map row values)) (fails value) ∙ none_mapped row values fails
+
+  -- two lists without such a row
+  pub none_joined : (xs ys : List Text) → list_any test xs ≡ false → list_any test ys ≡ false → list_any test (xs ++ ys) ≡ false
+  none_joined xs ys p q = list_any-append test xs ys ∙ ap (λ b. b || list_any test ys) p ∙ q
+
+  module _ (of_hits : (hit : Hit) → test (hit_row hit) ≡ false) (of_changes : (k : ℕ) (change : Change) → test (change_row k change) ≡ false) where
+    none_change : (k : ℕ) (change : Change) → list_any test (change_rows k change) ≡ false
+    none_change k change = by_idle (is_idle change)
+      where
+        by_idle : (idle : Bool) → list_any test (if idle then [] else change_row k change ∷ map hit_row change.come) ≡ false
+        by_idle true = refl
+        by_idle false = ap (λ b. b || list_any test (map hit_row change.come)) (of_changes k change) ∙ none_mapped hit_row change.come of_hits
+
+    -- the rows of what changed
+    pub none_changes : (k : ℕ) (changes : List Change) → list_any test (changes_rows k changes) ≡ false
+    none_changes k [] = refl
+    none_changes k (change ∷ changes) = none_joined (change_rows k change) (changes_rows (k + 1) changes) (none_change k change) (none_changes (k + 1) changes)
