@@ -21,7 +21,7 @@ use crate::script::command::{Command, CountedEdit, LineEdit, read_command};
 use crate::script::counted::{join_lines, take_lines};
 use crate::script::reply::{Answer, write_reply};
 use crate::showing::{show, show_changes, show_page};
-use grep_core::{CountedRead, CountedWrite, NumberedLines, WriteFault, write_line};
+use grep_core::{CountedRead, CountedWrite, Lines, WriteFault, write_line};
 use grep_live::Live;
 use grep_session::{EditFault, Meter};
 use std::alloc::{AllocError, Global};
@@ -164,7 +164,7 @@ fn reply_to_page<W: CountedWrite>(
 /// Takes the lines that a command counts, makes its edit, and writes the reply.
 fn answer_counted<R: CountedRead, W: CountedWrite>(
     alloc: Global,
-    lines: &mut NumberedLines<R>,
+    lines: &mut Lines<R>,
     count: usize,
     edit: CountedEdit,
     session: &mut Live,
@@ -193,7 +193,7 @@ fn answer_counted<R: CountedRead, W: CountedWrite>(
 /// Does what the command line that was handed out last asks for, and writes the reply.
 pub fn answer_command<R: CountedRead, W: CountedWrite>(
     alloc: Global,
-    lines: &mut NumberedLines<R>,
+    lines: &mut Lines<R>,
     session: &mut Live,
     meter: &mut Meter,
     out: &mut W,
