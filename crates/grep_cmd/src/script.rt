@@ -1,7 +1,7 @@
 //! Scripts: commands to a session, line by line, and the replies to them.
 ghost use Rattle.std.specs.Prelude.{◌≡◌, ◌≢◌, ◌≤◌, [], Err};
 ghost use Rattle.re_syntax.specs.Profile.{most_states};
-ghost use Rattle.grep_core.specs.declared.input.lines.Stage.{Stage};
+ghost use Rattle.grep_io.specs.declared.input.lines.Stage.{Stage};
 ghost use Rattle.grep_live.specs.Marks.{new_watched};
 ghost use Rattle.grep_cmd.specs.declared.script.ScriptFault.{ScriptFault};
 ghost use Rattle.grep_cmd.specs.Replies.{GaveLines, ScriptGives};
@@ -16,7 +16,7 @@ mod reply;
 use crate::script::answer::answer_command;
 use crate::script::counted::next_line;
 use crate::script::reply::Answer;
-use grep_core::{CountedRead, CountedWrite, NumberedLines, WriteFault};
+use grep_core::{CountedRead, CountedWrite, Lines, WriteFault};
 use grep_live::Live;
 use grep_session::Meter;
 use std::alloc::Global;
@@ -44,7 +44,7 @@ pub enum ScriptFault {
 /// Answers the commands of a script, one after the other.
 fn answer_all<R: CountedRead, W: CountedWrite>(
     alloc: Global,
-    lines: &mut NumberedLines<R>,
+    lines: &mut Lines<R>,
     session: &mut Live,
     meter: &mut Meter,
     out: &mut W,
@@ -124,7 +124,7 @@ pub fn run_script<R: CountedRead, W: CountedWrite>(
         writer.old writer.new result }
     ensures sent { result ≢ Err ScriptFault.Write → W.waiting writer.new ≡ 0 }
 {
-    let mut lines = match NumberedLines::new(alloc, reader) {
+    let mut lines = match Lines::new(alloc, reader) {
         Ok(lines) => lines,
         Err(_reader) => return send_replies(Err(ScriptFault::Memory), writer),
     };

@@ -2,7 +2,7 @@
 ghost use Rattle.std.specs.Prelude.{◌≡◌, List, Option, [], ◌∷◌, ◌++◌, IfOk, IfErr, OnErr, Err, map};
 ghost use Rattle.re_syntax.specs.Bytes.{Text};
 ghost use Rattle.re_syntax.specs.Lines.{newline, lines_of};
-ghost use Rattle.grep_core.specs.declared.input.lines.Stage.{Stage};
+ghost use Rattle.grep_io.specs.declared.input.lines.Stage.{Stage};
 ghost use Rattle.grep_core.specs.Sources.{GivesBack};
 ghost use Rattle.grep_utility.specs.Folder.{source_named, after_use};
 ghost use Rattle.grep_utility.specs.Patterns.{GivesPatterns, behind, behind_all, GivePatterns};
@@ -12,7 +12,7 @@ ghost use Rattle.grep_utility.specs.Words.{given_source};
 
 use crate::files::{Files, open_named};
 use crate::words::PatternSource;
-use grep_core::{CountedRead, NumberedLines, ReadFault};
+use grep_core::{CountedRead, Lines, ReadFault};
 use std::alloc::{AllocError, Global};
 
 /// How a pattern file was read.
@@ -49,10 +49,7 @@ fn add_text(texts: &mut Vec<u8>, text: &[u8]) -> Result<(), AllocError>
 
 /// Adds the lines of a reader, and returns whether they are all, which they are not where a read
 /// failed or there are more than can be numbered.
-fn add_lines<R: CountedRead>(
-    lines: &mut NumberedLines<R>,
-    texts: &mut Vec<u8>,
-) -> Result<bool, AllocError>
+fn add_lines<R: CountedRead>(lines: &mut Lines<R>, texts: &mut Vec<u8>) -> Result<bool, AllocError>
     requires none_ahead { lines.old.lines.ahead ≡ [] }
     requires still_open { lines.old.lines.stage ≡ Stage.Open }
     requires none_handed { lines.old.number ≡ 0 }
@@ -64,7 +61,7 @@ fn add_lines<R: CountedRead>(
         (R.failures lines.new.lines.reader ≡ R.failures lines.old.lines.reader) }
 {
     loop {
-        match lines.next_line() {
+        match lines.next_numbered() {
             Ok(true) => add_text(texts, lines.line())?,
             Ok(false) => return Ok(true),
             Err(ReadFault::Device) => return Ok(false),
@@ -84,7 +81,7 @@ fn add_all_lines<R: CountedRead>(
         (R.failures reader) (R.failures result.0) texts.old.items texts.new.items all) }
     ensures err { OnErr result.1 (R.failures result.0 ≡ R.failures reader) }
 {
-    let mut lines = match NumberedLines::new(alloc, reader) {
+    let mut lines = match Lines::new(alloc, reader) {
         Ok(lines) => lines,
         Err(reader) => return (reader, Err(AllocError)),
     };

@@ -13,8 +13,8 @@ use Rattle.grep_core.specs.Written.{GoesOut, StopsWithin}
 use Rattle.grep_core.specs.Working.Numbered.{Numbered, HasHanded, StandsAs}
 use Rattle.grep_core.specs.Working.Handed.{AreHanded}
 use Rattle.grep_core.specs.Reading.{IsOneLineAndFew}
-use Rattle.grep_core.specs.declared.input.lines.Stage.{Stage}
-use Rattle.grep_core.specs.declared.input.lines.Stage.TheVariants.{Open, Ended, Failed}
+use Rattle.grep_io.specs.declared.input.lines.Stage.{Stage}
+use Rattle.grep_io.specs.declared.input.lines.Stage.TheVariants.{Open, Ended, Failed}
 use Rattle.grep_core.proofs.lemmas.CostLaws.{adds_none}
 use Rattle.grep_core.proofs.lemmas.HandedLemmas.{begins_with}
 use Rattle.grep_core.proofs.lemmas.NumberedLemmas.{has_handed_none}

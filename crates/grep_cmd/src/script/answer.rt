@@ -21,7 +21,7 @@ use crate::script::command::{Command, CountedCommand, CountedEdit, LineEdit, rea
 use crate::script::counted::{join_lines, take_lines};
 use crate::script::reply::{Answer, write_reply};
 use crate::showing::{show, show_changes, show_page};
-use grep_core::{CountedRead, CountedWrite, NumberedLines, WriteFault, write_line};
+use grep_core::{CountedRead, CountedWrite, Lines, WriteFault, write_line};
 use grep_live::Live;
 use grep_session::{EditFault, Meter};
 use std::alloc::{AllocError, Global};
@@ -156,7 +156,7 @@ fn reply_to_page<W: CountedWrite>(
 /// Takes the lines that a command counts, makes its edit, and writes the reply.
 fn answer_counted<R: CountedRead, W: CountedWrite>(
     alloc: Global,
-    lines: &mut NumberedLines<R>,
+    lines: &mut Lines<R>,
     counted: CountedCommand,
     session: &mut Live,
     meter: &mut Meter,
@@ -185,7 +185,7 @@ fn answer_counted<R: CountedRead, W: CountedWrite>(
 /// Does what the command line that was handed out last asks for, and writes the reply.
 pub fn answer_command<R: CountedRead, W: CountedWrite>(
     alloc: Global,
-    lines: &mut NumberedLines<R>,
+    lines: &mut Lines<R>,
     session: &mut Live,
     meter: &mut Meter,
     out: &mut W,

@@ -8,15 +8,13 @@ ghost use Rattle.grep_core.specs.Working.Numbered.{HasHanded};
 ghost use Rattle.grep_cmd.specs.Working.Answered.{ReadsNext, TakesLines, Flushes};
 
 use crate::script::ScriptFault;
-use grep_core::{
-    CountedRead, CountedWrite, NumberedLines, ReadFault, WriteFault, send_before_read,
-};
+use grep_core::{CountedRead, CountedWrite, Lines, ReadFault, WriteFault, send_before_read};
 use std::alloc::{AllocError, Global};
 
 /// Hands out the next line of a script, and returns whether there was one. Where it has to be read,
 /// all replies are sent before.
 pub fn next_line<R: CountedRead, W: CountedWrite>(
-    lines: &mut NumberedLines<R>,
+    lines: &mut Lines<R>,
     out: &mut W,
 ) -> Result<bool, ScriptFault>
     ensures next { (reader : R) (handed : List Text) →
@@ -30,7 +28,7 @@ pub fn next_line<R: CountedRead, W: CountedWrite>(
         Ok(()) => {}
         Err(WriteFault) => return Err(ScriptFault::Write),
     }
-    match lines.next_line() {
+    match lines.next_numbered() {
         Ok(more) => Ok(more),
         Err(ReadFault::Device) => Err(ScriptFault::Read),
         Err(ReadFault::Memory) => Err(ScriptFault::Memory),
@@ -53,7 +51,7 @@ fn push_line(alloc: Global, lines: &mut Vec<Vec<u8>>, line: &[u8]) -> Result<(),
 /// that were read, and not by the count.
 pub fn take_lines<R: CountedRead, W: CountedWrite>(
     alloc: Global,
-    lines: &mut NumberedLines<R>,
+    lines: &mut Lines<R>,
     count: usize,
     out: &mut W,
 ) -> Result<Option<Vec<Vec<u8>>>, ScriptFault>

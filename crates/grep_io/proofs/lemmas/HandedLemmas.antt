@@ -14,15 +14,11 @@ use Rattle.grep_io.specs.declared.input.lines.Stage.{Stage}
 use Rattle.grep_io.specs.declared.input.lines.Stage.TheVariants.{Open, Ended, Failed}
 use Rattle.grep_io.specs.File.{File, whole, broken}
 use Rattle.grep_io.specs.Reading.{fails_after, ends_after, most_lines, up_to_limit, file_of, open_source, IsOneLineAndFew, HasRead}
+use Rattle.grep_io.proofs.lemmas.PassedLemmas.{terminated-append}
 use Rattle.grep_io.proofs.lemmas.FileLaws.{lines_of-behind, up_to_limit-few, up_to_limit-over, up_to_limit-behind}
 use Rattle.grep_io.specs.Working.Handed.{AreHanded, HandsLines, StandsFor, BeginsWith}
 
 -- ---- texts
-
-terminated-push : (ts : List Text) (t : Text) → terminated ts ++ (t ++ newline ∷ []) ≡ terminated (ts ++ t ∷ [])
-terminated-push [] t = refl
-terminated-push (u ∷ ts) t =
-    append_assoc u (newline ∷ terminated ts) (t ++ newline ∷ []) ∙ ap (λ l. u ++ newline ∷ l) (terminated-push ts t)
 
 one_line : (t : Text) → HasNoNewline t → t ≢ [] → lines_of t ≡ t ∷ []
 one_line [] h some = absurd (some refl)
@@ -96,7 +92,7 @@ module _ {R : Type 0} (remaining : R → Option Text) (failures : R → ℕ) whe
     given ++ (new.line ++ newline ∷ []),
     (
       Consumes-trans _ (to_come remaining failures old) _ given (new.line ++ newline ∷ []) gave taken,
-      ((ap (λ l. l ++ (new.line ++ newline ∷ [])) is ∙ terminated-push handed new.line, All-push HasNoNewline handed new.line all free), λ e. absurd (let no : ⊥ = cc in no)),
+      ((ap (λ l. l ++ (new.line ++ newline ∷ [])) is ∙ sym (terminated-append handed (new.line ∷ [])), All-push HasNoNewline handed new.line all free), λ e. absurd (let no : ⊥ = cc in no)),
     ),
   )
   further reader old new given handed Ended taken free is all gave = (

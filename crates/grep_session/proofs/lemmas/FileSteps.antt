@@ -3,7 +3,7 @@ use Rattle.std.proofs.Common.{◌≡◌, ℕ, ◌+◌, nat_lt, ◌<◌, Bool, tr
 use Rattle.std.proofs.lemmas.Bool.{lt-ltb}
 use Rattle.re_syntax.specs.Bytes.{Text}
 use Rattle.grep_core.specs.declared.options.Options.{Options}
-use Rattle.grep_core.specs.declared.search.file.FileEnd.TheVariants.{Missing, Whole}
+use Rattle.grep_core.specs.declared.status.FileEnd.TheVariants.{Missing, Whole}
 use Rattle.grep_core.specs.Output.{form, written}
 use Rattle.grep_core.specs.Working.Searched.{summary_as, told_of}
 use Rattle.grep_core.specs.Written.{GoesOut, StopsWithin, Writes}

@@ -9,8 +9,8 @@ use Rattle.re_syntax.specs.declared.span.Span.{Span}
 use Rattle.grep_core.specs.declared.options.Options.{Options}
 use Rattle.grep_core.specs.declared.output.around.Progress.{Progress}
 use Rattle.grep_core.specs.declared.output.around.Shown.{Shown}
-use Rattle.grep_core.specs.declared.search.file.FileEnd.{FileEnd}
-use Rattle.grep_core.specs.declared.search.file.FileEnd.TheVariants.{Missing, Whole}
+use Rattle.grep_core.specs.declared.status.FileEnd.{FileEnd}
+use Rattle.grep_core.specs.declared.status.FileEnd.TheVariants.{Missing, Whole}
 use Rattle.grep_core.specs.declared.status.Status.{Status}
 use Rattle.grep_core.specs.declared.status.Status.TheVariants.{Selected as selected}
 use Rattle.grep_core.specs.Row.{colon, head}

@@ -5,9 +5,9 @@ use Rattle.std.proofs.lemmas.List.Elements.{All-append}
 use Rattle.re_syntax.specs.Bytes.{Text}
 use Rattle.re_syntax.specs.Lines.{newline, terminated, HasNoNewline}
 use Rattle.re_syntax.proofs.lemmas.LinesLaws.{all_none, AreLines-lines_of}
-use Rattle.grep_core.specs.declared.input.lines.ReadFault.TheVariants.{Device}
-use Rattle.grep_core.specs.declared.input.lines.Stage.{Stage}
-use Rattle.grep_core.specs.declared.input.lines.Stage.TheVariants.{Open, Ended, Failed}
+use Rattle.grep_io.specs.declared.input.lines.ReadFault.TheVariants.{Device}
+use Rattle.grep_io.specs.declared.input.lines.Stage.{Stage}
+use Rattle.grep_io.specs.declared.input.lines.Stage.TheVariants.{Open, Ended, Failed}
 use Rattle.grep_core.specs.Reading.{most_lines}
 use Rattle.grep_core.specs.Working.Handed.{AreHanded}
 use Rattle.grep_core.specs.Working.Numbered.{Numbered, HasHanded, NextIs}

@@ -3,4 +3,4 @@ use Rattle.examples.proofs.lines.longest.Given as goal
 
 -- the bytes that are still to come
 abbrev pub decreases-loop-lines : goal.decreases-loop-lines
-decreases-loop-lines l = length l.lines.ahead + length l.lines.reader.device.now
+decreases-loop-lines l = length l.lines.lines.ahead + length l.lines.lines.reader.device.now

@@ -1,4 +1,4 @@
-use Rattle.grep_core.specs.declared.devices.counted.WriteFault.{WriteFault}
+use Rattle.grep_io.specs.declared.devices.counted.WriteFault.{WriteFault}
 use Rattle.grep_cmd.proofs.lemmas.ListingLaws.{report_front, report_whole}
 use Rattle.grep_cmd.proofs.showing.show_changes.Goals as goal
 

@@ -1,12 +1,12 @@
 use Rattle.std.proofs.Common.{Result, Bool, Err, subst, ap}
-use Rattle.grep_core.specs.declared.input.lines.ReadFault.{ReadFault}
+use Rattle.grep_io.specs.declared.input.lines.ReadFault.{ReadFault}
 use Rattle.grep_core.specs.Working.Numbered.{NextIs}
 use Rattle.grep_cmd.proofs.script.counted.next_line.Goals as goal
 
 pub returns-in-Err-Device-clause-next : goal.returns-in-Err-Device-clause-next
 returns-in-Err-Device-clause-next g c =
-    λ reader handed s. subst (λ (r : Result Bool ReadFault). NextIs g.R.CountedRead.remaining g.R.CountedRead.failures reader handed c.next_line.new.self r) (ap Err c.in-Err-Device.field-0-is) (c.in-Err-Device.ensures.next reader handed s)
+    λ reader handed s. subst (λ (r : Result Bool ReadFault). NextIs g.R.CountedRead.remaining g.R.CountedRead.failures reader handed c.next_numbered.new.self r) (ap Err c.in-Err-Device.field-0-is) (c.in-Err-Device.ensures.next reader handed s)
 
 pub returns-in-Err-Memory-clause-next : goal.returns-in-Err-Memory-clause-next
 returns-in-Err-Memory-clause-next g c =
-    λ reader handed s. subst (λ (r : Result Bool ReadFault). NextIs g.R.CountedRead.remaining g.R.CountedRead.failures reader handed c.next_line.new.self r) (ap Err c.in-Err-Memory.field-0-is) (c.in-Err-Memory.ensures.next reader handed s)
+    λ reader handed s. subst (λ (r : Result Bool ReadFault). NextIs g.R.CountedRead.remaining g.R.CountedRead.failures reader handed c.next_numbered.new.self r) (ap Err c.in-Err-Memory.field-0-is) (c.in-Err-Memory.ensures.next reader handed s)

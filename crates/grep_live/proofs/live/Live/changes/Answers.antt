@@ -1,6 +1,6 @@
 use Rattle.std.proofs.Common.{◌≡◌, List, Ok, Err, refl, sym, subst, ap}
 use Rattle.re_syntax.specs.Expression.{Expression}
-use Rattle.grep_core.specs.declared.devices.counted.WriteFault.{WriteFault}
+use Rattle.grep_io.specs.declared.devices.counted.WriteFault.{WriteFault}
 use Rattle.grep_core.specs.Output.{written}
 use Rattle.grep_core.specs.Written.{GoesOut, StopsWithin}
 use Rattle.grep_live.specs.declared.mark.Mark.{Mark}

@@ -1,5 +1,5 @@
 use Rattle.std.proofs.Common.{List, Ok, Err, refl, sym, subst}
-use Rattle.grep_core.specs.declared.devices.counted.WriteFault.{WriteFault}
+use Rattle.grep_io.specs.declared.devices.counted.WriteFault.{WriteFault}
 use Rattle.grep_live.specs.declared.watch.Watch.{Watch}
 use Rattle.grep_live.specs.Marks.{Watched}
 use Rattle.grep_live.specs.Writing.{WritesPage}
