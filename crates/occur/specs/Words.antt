@@ -1,4 +1,4 @@
--- What the words of the command line choose: occur [--states N] [SCRIPT].
+-- What the words of the command line ask for: occur [--states N] [SCRIPT].
 use Rattle.std.specs.Prelude.{◌≡◌, ◌≢◌, ◌==◌, Bool, true, not, ⊤, List, [], ◌∷◌, Option, None, Some}
 use Rattle.std.specs.Prelude.{Ok, Err, Result, map, option_map, IsSomeAnd, codes, String}
 use Rattle.std.specs.Prelude.{string_bytes, if◌then◌else◌}
@@ -13,7 +13,7 @@ use Rattle.clap.specs.declared.error.Error.{Error}
 use Rattle.clap.specs.declared.error.kind.ErrorKind.TheVariants.{DisplayHelp, OutOfMemory}
 use Rattle.clap.specs.declared.parser.matches.Found.{Found}
 use Rattle.grep_utility.specs.Folder.{is_standard}
-use Rattle.occur.specs.declared.words.Choices.{Choices}
+use Rattle.occur.specs.declared.words.Request.{Request}
 use Rattle.occur.specs.declared.words.OccurFault.{OccurFault}
 use Rattle.occur.specs.declared.words.OccurFault.TheVariants as fault
 
@@ -43,12 +43,12 @@ abbrev pub HasStates : Found → Type 0
 HasStates found =
     (text : Text) × (one_text found (codes "states") ≡ Some text) × IsUnsignedIn 1 65536 text
 
--- the choices are what was found: the number that the option's text means, and the operand
-pub record IsChosenBy (rows : List Row) (choices : Choices) : Type 0 where
+-- the request is what was found: the number that the option's text means, and the operand
+pub record IsChosenBy (rows : List Row) (request : Request) : Type 0 where
   pub number : Text
   pub has_number : one_of (codes "states") rows ≡ Some number
-  pub states : choices.states ≡ digits_value 10 (without_leading_plus number)
-  pub script : option_map string_bytes choices.script ≡ first_of (codes "script") rows
+  pub states : request.states ≡ digits_value 10 (without_leading_plus number)
+  pub script : option_map string_bytes request.script ≡ first_of (codes "script") rows
 
 -- the file that has the script: none if the script is standard input, that is, without an operand
 -- or with `-`
@@ -63,8 +63,8 @@ Tells error (fault.Words told) = (told ≡ error) × (kind_of error ≢ OutOfMem
 
 -- words are accepted only if no kind of error is possible; a fault of the words has a possible
 -- kind, and any other fault is out of memory
-abbrev pub TellsAmong : Kinds → Result Choices OccurFault → Type 0
-TellsAmong kinds (Ok choices) = kinds ≡ []
+abbrev pub TellsAmong : Kinds → Result Request OccurFault → Type 0
+TellsAmong kinds (Ok request) = kinds ≡ []
 TellsAmong kinds (Err fault.Memory) = ⊤
 TellsAmong kinds (Err (fault.Words error)) =
     (kind_of error ≢ OutOfMemory) × IsAmong (kind_of error) kinds
@@ -87,17 +87,17 @@ form_words name (Some number) (Some script) = name ∷ codes "--states" ∷ numb
 
 -- such words choose the number, or 256, and the script; they are refused only if the number is not
 -- from 1 to 65,536
-abbrev pub Reads : Option Text → Option Text → Result Choices OccurFault → Type 0
-Reads number script (Ok choices) =
-    (choices.states ≡
+abbrev pub Reads : Option Text → Option Text → Result Request OccurFault → Type 0
+Reads number script (Ok request) =
+    (request.states ≡
     option_map_or (λ text. digits_value 10 (without_leading_plus text)) number 256) ×
-    (option_map string_bytes choices.script ≡ script)
+    (option_map string_bytes request.script ≡ script)
 Reads number script (Err fault.Memory) = ⊤
 Reads number script (Err (fault.Words error)) =
     IsSomeAnd number (λ text. IsUnsignedIn 1 65536 text → ⊥)
 
 -- the words ask for help, unless memory runs out
-abbrev pub AsksForHelp : Result Choices OccurFault → Type 0
-AsksForHelp (Ok choices) = ⊥
+abbrev pub AsksForHelp : Result Request OccurFault → Type 0
+AsksForHelp (Ok request) = ⊥
 AsksForHelp (Err fault.Memory) = ⊤
 AsksForHelp (Err (fault.Words error)) = kind_of error ≡ DisplayHelp

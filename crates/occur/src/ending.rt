@@ -1,7 +1,6 @@
 //! How the program reports its own faults, and how it ends.
 ghost use Rattle.std.specs.Prelude.{◌≡◌, [], ◌∷◌};
 ghost use Rattle.clap.specs.Words.{kind_of};
-ghost use Rattle.grep_core.specs.Output.{written};
 ghost use Rattle.grep_core.specs.Row.{output_line};
 ghost use Rattle.grep_core.specs.Run.{writer};
 ghost use Rattle.grep_core.specs.Written.{Writes};
@@ -12,7 +11,8 @@ ghost use Rattle.occur.specs.Exit.{usage, words_refused, words_status};
 use clap::Error;
 use clap::error::ErrorKind;
 use grep_cmd::{FAILED, ScriptEnd, ScriptFault};
-use grep_core::{CountedWrite, WriteFault, write_line, write_row};
+use grep_core::{CountedWrite, WriteFault, write_row};
+use grep_utility::{Program, fail};
 
 /// The exit status of a script of which a command was refused.
 const REFUSED: u8 = 1;
@@ -20,52 +20,17 @@ const REFUSED: u8 = 1;
 /// The message when memory runs out.
 const OUT_OF_MEMORY: &[u8] = b"occur: out of memory";
 
-/// Writes the line. A write that fails is not tried again.
-fn tell<M: CountedWrite>(messages: &mut M, text: &[u8])
-    ensures { TellsLines (writer M.contents M.failures messages.old)
-        (writer M.contents M.failures messages.new) (text.now ∷ []) }
+/// What the program reports of itself.
+pub fn program() -> Program
+    ensures words { result.words_refused.now ≡ words_refused }
+    ensures usage { result.usage.now ≡ usage }
+    ensures memory { result.out_of_memory.now ≡ out_of_memory }
 {
-    let _ = write_line(messages, text);
-}
-
-/// Writes the lines about words that are not UTF-8.
-fn write_words_refused<M: CountedWrite>(messages: &mut M) -> Result<(), WriteFault>
-    ensures { Writes M.contents M.failures messages.old messages.new
-        (written [] (words_refused ∷ usage ∷ [])) result }
-{
-    write_line(messages, b"occur: words must be UTF-8")?;
-    write_usage(messages)
-}
-
-/// Writes how the program is used.
-fn write_usage<M: CountedWrite>(messages: &mut M) -> Result<(), WriteFault>
-    ensures { Writes M.contents M.failures messages.old messages.new (written [] (usage ∷ []))
-        result }
-{
-    write_line(messages, b"usage: occur [--states N] [SCRIPT]")
-}
-
-/// Reports that a word is not UTF-8, and returns the exit status. A write that fails is not tried
-/// again.
-pub fn refuse_words<M: CountedWrite>(messages: &mut M) -> u8
-    ensures status { result ≡ 2 }
-    ensures told { TellsLines (writer M.contents M.failures messages.old)
-        (writer M.contents M.failures messages.new)
-        (words_refused ∷ usage ∷ []) }
-{
-    let _ = write_words_refused(messages);
-    FAILED
-}
-
-/// Reports that memory ran out, and returns the exit status. A write that fails is not tried again.
-pub fn refuse_memory<M: CountedWrite>(messages: &mut M) -> u8
-    ensures status { result ≡ 2 }
-    ensures told { TellsLines (writer M.contents M.failures messages.old)
-        (writer M.contents M.failures messages.new)
-        (out_of_memory ∷ []) }
-{
-    tell(messages, OUT_OF_MEMORY);
-    FAILED
+    Program {
+        words_refused: b"occur: words must be UTF-8",
+        usage: b"usage: occur [--states N] [SCRIPT]",
+        out_of_memory: OUT_OF_MEMORY,
+    }
 }
 
 /// Writes the message about a script that could not be opened.
@@ -115,10 +80,7 @@ pub fn end_script<M: CountedWrite>(messages: &mut M, ended: Result<ScriptEnd, Sc
     match ended {
         Ok(ScriptEnd::Clean) => 0,
         Ok(ScriptEnd::Refused) => REFUSED,
-        Err(fault) => {
-            tell(messages, fault_text(fault));
-            FAILED
-        }
+        Err(fault) => fail(messages, fault_text(fault)),
     }
 }
 

@@ -10,18 +10,17 @@ ghost use Rattle.re_syntax.specs.Profile.{most_states};
 ghost use Rattle.grep_core.specs.Run.{writer};
 ghost use Rattle.occur.specs.Exit.{ProgramGives, streams};
 
-use crate::ending::{end_script, refuse_memory, refuse_script, refuse_words, words_status};
-use crate::words::{Choices, OccurFault, occur_words};
+use crate::ending::{end_script, program, refuse_script, words_status};
+use crate::words::{OccurFault, Request, occur_words};
 use clap::Error;
 use grep_cmd::{FAILED, ScriptFault, run_script};
 use grep_core::{Buffered, CountedRead, CountedWrite, Tally};
 use re_auto::{Meter, fresh_meter};
 use std::alloc::Global;
 use std::fs::Metadata;
-use std::io::ErrorKind;
 use std::os::unix::fs::MetadataExt;
 use std::process::ExitCode;
-use std::{env, fs, io};
+use std::{fs, io};
 
 /// Whether a script is the regular file to which replies are written: each reply would be a command
 /// again, endlessly.
@@ -70,7 +69,7 @@ fn run_from<R: CountedRead>(rt: &HostRuntime, reader: &mut R, states: usize) -> 
 {
     let mut messages = Tally::new(rt.stderr());
     let Ok(mut out) = Buffered::new(rt.alloc(), Tally::new(rt.stdout())) else {
-        return refuse_memory(&mut messages);
+        return program().refuse_memory(&mut messages);
     };
     let mut meter = fresh_meter();
     run_gathered(
@@ -83,19 +82,19 @@ fn run_from<R: CountedRead>(rt: &HostRuntime, reader: &mut R, states: usize) -> 
     )
 }
 
-/// Runs the script that the words choose, and returns the exit status. A script that is standard
+/// Runs the script that the words ask for, and returns the exit status. A script that is standard
 /// output itself is not read. Standard output is identified before the script is opened: if it is
 /// closed, the script could take its number.
-fn run(rt: &HostRuntime, choices: &Choices) -> u8
-    requires least { 1 ≤ choices.now.states }
-    requires most { choices.now.states ≤ most_states }
+fn run(rt: &HostRuntime, request: &Request) -> u8
+    requires least { 1 ≤ request.now.states }
+    requires most { request.now.states ≤ most_states }
 {
     let output = fs::metadata(rt, "/dev/stdout");
-    let Some(name) = choices.script_file() else {
+    let Some(name) = request.script_file() else {
         if is_output(fs::metadata(rt, "/dev/stdin"), output) {
             return refuse_output(rt);
         }
-        return run_from(rt, &mut Tally::new(rt.stdin()), choices.states);
+        return run_from(rt, &mut Tally::new(rt.stdin()), request.states);
     };
     let Ok(file) = fs::open(rt, name) else {
         return refuse_script(&mut Tally::new(rt.stderr()), name);
@@ -103,7 +102,7 @@ fn run(rt: &HostRuntime, choices: &Choices) -> u8
     if is_output(file.metadata(), output) {
         return refuse_output(rt);
     }
-    run_from(rt, &mut Tally::new(file), choices.states)
+    run_from(rt, &mut Tally::new(file), request.states)
 }
 
 /// Prints the help or the error when no script is run, and returns the exit status. If the help
@@ -119,24 +118,16 @@ fn tell_words(rt: &HostRuntime, error: &Error) -> u8 {
 /// Does what the words ask for, and returns the exit status.
 fn run_words(rt: &HostRuntime, words: &[String]) -> u8 {
     match occur_words(rt.alloc(), words) {
-        Ok(choices) => run(rt, &choices),
+        Ok(request) => run(rt, &request),
         Err(OccurFault::Words(error)) => tell_words(rt, &error),
-        Err(OccurFault::Memory) => refuse_memory(&mut Tally::new(rt.stderr())),
+        Err(OccurFault::Memory) => program().refuse_memory(&mut Tally::new(rt.stderr())),
     }
 }
 
-/// The words of the process, of which the first is the program's name.
-fn process_words(rt: &HostRuntime) -> io::Result<Vec<String>> {
-    Ok(env::args(rt)?.collect(rt.alloc())?)
-}
-
 fn main(rt: HostRuntime) -> ExitCode {
-    let status = match process_words(&rt) {
+    let status = match program().words(&rt) {
         Ok(words) => run_words(&rt, &words),
-        Err(error) if error.kind() == ErrorKind::InvalidData => {
-            refuse_words(&mut Tally::new(rt.stderr()))
-        }
-        Err(_) => refuse_memory(&mut Tally::new(rt.stderr())),
+        Err(status) => status,
     };
     ExitCode::from(status)
 }

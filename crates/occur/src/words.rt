@@ -15,16 +15,16 @@ use clap::{Arg, ArgAction, ArgMatches, Command, value_parser};
 use std::alloc::{AllocError, Global};
 use thiserror::Error;
 
-/// What the words choose.
+/// What the words ask for.
 #[derive(Debug, Drop)]
-pub struct Choices {
+pub struct Request {
     /// How many states are kept for each pattern.
     pub states: usize,
     /// The operand SCRIPT, as it was given.
     pub script: Option<String>,
 }
 
-impl Choices {
+impl Request {
     /// The file that has the script. There is none if the script is standard input, that is,
     /// without an operand or with `-` (XBD 12.2, Guideline 13).
     pub fn script_file(&self) -> Option<&str>
@@ -39,7 +39,7 @@ impl Choices {
     }
 }
 
-/// Why the words choose nothing.
+/// Why the words ask for nothing.
 #[derive(Debug, Drop, Error)]
 pub enum OccurFault {
     /// The command refuses the words, or they ask for help.
@@ -116,37 +116,37 @@ fn owned(alloc: Global, text: Option<&str>) -> Result<Option<String>, AllocError
     }
 }
 
-/// The choices by what was found for the option and the operand.
-fn choices_of(alloc: Global, matches: &ArgMatches<'_>) -> Result<Choices, AllocError>
+/// The request, by what was found for the option and the operand.
+fn request_of(alloc: Global, matches: &ArgMatches<'_>) -> Result<Request, AllocError>
     requires { HasStates (found_of matches.now) }
-    ensures states { IfOk result (λ choices. (1 ≤ choices.states) × (choices.states ≤ 65536)) }
+    ensures states { IfOk result (λ request. (1 ≤ request.states) × (request.states ≤ 65536)) }
     ensures found { IfOk result (IsChosenBy (rows_of (found_of matches.now))) }
 {
     let states = matches.get_one::<usize>("states").unwrap();
     let script = owned(alloc, matches.get_str("script"))?;
-    Ok(Choices { states, script })
+    Ok(Request { states, script })
 }
 
 /// Parses the words with clap.
-fn parse_words(alloc: Global, words: &[String]) -> Result<Choices, OccurFault>
-    ensures states { IfOk result (λ choices. (1 ≤ choices.states) × (choices.states ≤ 65536)) }
+fn parse_words(alloc: Global, words: &[String]) -> Result<Request, OccurFault>
+    ensures states { IfOk result (λ request. (1 ≤ request.states) × (request.states ≤ 65536)) }
     ensures chosen { IfOk result (IsChosenBy (matches_of occur_app (texts_of words.now))) }
     ensures faults { TellsAmong (fault_of occur_app (texts_of words.now)) result }
 {
     let matches = occur_command(alloc)?.try_get_matches_from(words)?;
-    Ok(choices_of(alloc, &matches)?)
+    Ok(request_of(alloc, &matches)?)
 }
 
 /// Parses the words of the process, of which the first is the program's name.
-pub fn occur_words(alloc: Global, words: &[String]) -> Result<Choices, OccurFault>
-    ensures states { IfOk result (λ choices. (1 ≤ choices.states) × (choices.states ≤ 65536)) }
+pub fn occur_words(alloc: Global, words: &[String]) -> Result<Request, OccurFault>
+    ensures states { IfOk result (λ request. (1 ≤ request.states) × (request.states ≤ 65536)) }
     ensures forms { (name : Text) (number script : Option Text)
         → texts_of words.now ≡ form_words name number script
         → is_no_option number ≡ true → is_no_option script ≡ true → Reads number script result }
     ensures help { (name : Text) → texts_of words.now ≡ name ∷ codes "--help" ∷ []
         → AsksForHelp result }
 
-    // For any words: the choices and faults that clap defines for this command.
+    // For any words: the request and faults that clap defines for this command.
     ensures chosen { IfOk result (IsChosenBy (matches_of occur_app (texts_of words.now))) }
     ensures faults { TellsAmong (fault_of occur_app (texts_of words.now)) result }
 {

@@ -5,8 +5,8 @@ use Rattle.occur.specs.Words.{texts_of}
 use Rattle.occur.proofs.lemmas.StatesLemmas.{states_found}
 use Rattle.occur.proofs.words.parse_words.Goals as goal
 
-pub choices_of-requires : goal.choices_of-requires
-choices_of-requires c = states_found _ c.in_ok-matches.matches c.in_ok-occur_command.ensures c.in_ok-matches.ensures.parsed
+pub request_of-requires : goal.request_of-requires
+request_of-requires c = states_found _ c.in_ok-matches.matches c.in_ok-occur_command.ensures c.in_ok-matches.ensures.parsed
 
 pub returns-clause-faults : goal.returns-clause-faults
 returns-clause-faults c =

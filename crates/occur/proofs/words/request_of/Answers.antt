@@ -3,7 +3,7 @@ use Rattle.std.specs.Str.Parse.{ExplainsUnsignedError, HasUnsignedDigitsIfOk, Pa
 use Rattle.clap.specs.Words.{found_of}
 use Rattle.clap.proofs.WalkLemmas.{first_value-rows, one_text-rows}
 use Rattle.occur.proofs.lemmas.StatesLemmas.{unsigned_reads}
-use Rattle.occur.proofs.words.choices_of.Goals as goal
+use Rattle.occur.proofs.words.request_of.Goals as goal
 
 pub returns-clause-found : goal.returns-clause-found
 returns-clause-found c =
