@@ -3,7 +3,7 @@ pub use Rattle.grep_io.specs.Working.LineReader
 pub use Rattle.grep_io.specs.Working.Handed
 pub use Rattle.grep_io.specs.Working.Numbered
 pub mod Passed
-pub mod Wanted
+pub mod Requests
 pub mod OneLine
 pub mod Groups
 pub mod Progress

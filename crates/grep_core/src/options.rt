@@ -2,7 +2,7 @@
 ghost use Rattle.std.specs.Prelude.{◌≡◌, ◌||◌, ◌↔◌, IsTrue, MatchOption};
 ghost use Rattle.grep_core.specs.Output.{form, counts, around};
 ghost use Rattle.grep_core.specs.Working.OneLine.{IsPlain};
-ghost use Rattle.grep_core.specs.Working.Wanted.{form_of, selects};
+ghost use Rattle.grep_core.specs.Working.Requests.{form_of, selects};
 
 /// How many lines are shown around each selected one (GNU grep, `-A`, `-B` and `-C`).
 #[derive(Clone, Copy, PartialEq, Eq, Debug, Drop)]

@@ -3,6 +3,6 @@
 pub mod around;
 pub mod counts;
 pub mod messages;
+pub mod request;
 pub mod rows;
 pub mod summary;
-pub mod wanted;

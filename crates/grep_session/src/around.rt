@@ -38,12 +38,12 @@ fn write_waiting<W: CountedWrite>(
 ) -> Result<(), WriteFault>
     requires few { count ≤ length lines.now }
     ensures { Writes W.contents W.failures out.old out.new (written layout.now.margin.now
-        (rows_around layout.now.wanted.options layout.now.wanted.many layout.now.wanted.name.now
+        (rows_around layout.now.request.options layout.now.request.many layout.now.request.name.now
         (length lines.now - count + 1) (last_of count (map line_text lines.now)))) result }
 {
     for k in lines.len() - count..lines.len() {
         layout
-            .wanted
+            .request
             .write_around(k as u64 + 1, &lines[k].text, out, layout.margin)?;
     }
     Ok(())
@@ -58,16 +58,16 @@ fn write_itself<W: CountedWrite>(
     out: &mut W,
 ) -> Result<(), WriteFault>
     ensures { Writes W.contents W.failures out.old out.new (output_line layout.now.margin.now
-        (row_by layout.now.wanted.options layout.now.wanted.many layout.now.wanted.name.now found number
+        (row_by layout.now.request.options layout.now.request.many layout.now.request.name.now found number
         (line_text line.now))) result }
 {
     if found {
         return layout
-            .wanted
+            .request
             .write_text(number, &line.text, out, layout.margin);
     }
     layout
-        .wanted
+        .request
         .write_around(number, &line.text, out, layout.margin)
 }
 
@@ -82,7 +82,7 @@ fn write_shown<W: CountedWrite>(
 ) -> Result<(), WriteFault>
     requires few { shown.before ≤ length before.now }
     ensures { Writes W.contents W.failures out.old out.new (written layout.now.margin.now
-        (shown_rows layout.now.wanted.options layout.now.wanted.many layout.now.wanted.name.now found shown
+        (shown_rows layout.now.request.options layout.now.request.many layout.now.request.name.now found shown
         (map line_text before.now) line.now)) result }
 {
     write_separator(shown.separated, out, layout.margin)?;
@@ -103,16 +103,16 @@ pub fn write_lines_around<W: CountedWrite>(
     out: &mut W,
 ) -> Result<u64, WriteFault>
     ensures rows { Writes W.contents W.failures out.old out.new (written layout.now.margin.now
-        (around_rows layout.now.wanted.options layout.now.wanted.many layout.now.wanted.name.now
+        (around_rows layout.now.request.options layout.now.request.many layout.now.request.name.now
         (progress_from context some) [] lines.now)) result }
     ensures told { IfOk result
-        (λ selected. selected ≡ selected_count layout.now.wanted.options lines.now) }
+        (λ selected. selected ≡ selected_count layout.now.request.options lines.now) }
 {
     let mut progress = Progress::new(context, some);
     let mut selected: u64 = 0;
     for k in 0..lines.len() {
         let line = &lines[k];
-        let found = line.is_selected(&layout.wanted.options);
+        let found = line.is_selected(&layout.request.options);
         let shown = progress.step(found);
         write_shown(layout, &lines[..k], line, found, shown, out)?;
         selected = count_found(selected, found);

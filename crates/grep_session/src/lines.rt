@@ -20,12 +20,12 @@ fn write_parts<W: CountedWrite>(
 ) -> Result<(), WriteFault>
     requires { All (OnLine line.now.text.items) line.now.found.spans }
     ensures { Writes W.contents W.failures out.old out.new (written layout.now.margin.now
-        (part_rows layout.now.wanted.options layout.now.wanted.many layout.now.wanted.name.now number line.now.text.items
+        (part_rows layout.now.request.options layout.now.request.many layout.now.request.name.now number line.now.text.items
         line.now.found.spans)) result }
 {
     for part in line.found.spans() {
         layout
-            .wanted
+            .request
             .write_part(number, &line.text, *part, out, layout.margin)?;
     }
     Ok(())
@@ -38,14 +38,14 @@ fn write_selected<W: CountedWrite>(
     line: &KeptLine,
     out: &mut W,
 ) -> Result<(), WriteFault>
-    requires { PartsFit layout.now.wanted.options line.now }
+    requires { PartsFit layout.now.request.options line.now }
     ensures { Writes W.contents W.failures out.old out.new (written layout.now.margin.now
-        (selected_rows layout.now.wanted.options layout.now.wanted.many layout.now.wanted.name.now
-        (form layout.now.wanted.options) number line.now)) result }
+        (selected_rows layout.now.request.options layout.now.request.many layout.now.request.name.now
+        (form layout.now.request.options) number line.now)) result }
 {
-    match layout.wanted.options.form() {
+    match layout.request.options.form() {
         Form::Lines => layout
-            .wanted
+            .request
             .write_text(number, &line.text, out, layout.margin),
         Form::Parts => write_parts(layout, number, line, out),
         Form::Nothing => Ok(()),
@@ -62,12 +62,12 @@ fn write_line<W: CountedWrite>(
     line: &KeptLine,
     out: &mut W,
 ) -> Result<bool, WriteFault>
-    requires { PartsFit layout.now.wanted.options line.now }
+    requires { PartsFit layout.now.request.options line.now }
     ensures rows { Writes W.contents W.failures out.old out.new (written layout.now.margin.now
-        (line_rows layout.now.wanted.options layout.now.wanted.many layout.now.wanted.name.now number line.now)) result }
-    ensures told { IfOk result (λ found. found ≡ is_selected layout.now.wanted.options line.now) }
+        (line_rows layout.now.request.options layout.now.request.many layout.now.request.name.now number line.now)) result }
+    ensures told { IfOk result (λ found. found ≡ is_selected layout.now.request.options line.now) }
 {
-    if !line.is_selected(&layout.wanted.options) {
+    if !line.is_selected(&layout.request.options) {
         return Ok(false);
     }
     write_selected(layout, number, line, out)?;
@@ -80,11 +80,11 @@ fn write_found<W: CountedWrite>(
     lines: &[KeptLine],
     out: &mut W,
 ) -> Result<u64, WriteFault>
-    requires { All (PartsFit layout.now.wanted.options) lines.now }
+    requires { All (PartsFit layout.now.request.options) lines.now }
     ensures rows { Writes W.contents W.failures out.old out.new (written layout.now.margin.now
-        (rows_from layout.now.wanted.options layout.now.wanted.many layout.now.wanted.name.now 1 lines.now)) result }
+        (rows_from layout.now.request.options layout.now.request.many layout.now.request.name.now 1 lines.now)) result }
     ensures told { IfOk result
-        (λ selected. selected ≡ selected_count layout.now.wanted.options lines.now) }
+        (λ selected. selected ≡ selected_count layout.now.request.options lines.now) }
 {
     let mut number: u64 = 0;
     let mut selected: u64 = 0;
@@ -104,14 +104,14 @@ pub fn write_lines<W: CountedWrite>(
     lines: &[KeptLine],
     out: &mut W,
 ) -> Result<u64, WriteFault>
-    requires { All (PartsFit layout.now.wanted.options) lines.now }
+    requires { All (PartsFit layout.now.request.options) lines.now }
     ensures rows { Writes W.contents W.failures out.old out.new (written layout.now.margin.now
-        (text_rows layout.now.wanted.options layout.now.wanted.many layout.now.wanted.name.now
-        (form layout.now.wanted.options) some lines.now)) result }
+        (text_rows layout.now.request.options layout.now.request.many layout.now.request.name.now
+        (form layout.now.request.options) some lines.now)) result }
     ensures told { IfOk result
-        (λ selected. selected ≡ selected_count layout.now.wanted.options lines.now) }
+        (λ selected. selected ≡ selected_count layout.now.request.options lines.now) }
 {
-    match layout.wanted.options.form() {
+    match layout.request.options.form() {
         Form::Around(context) => write_lines_around(layout, context, some, lines, out),
         _ => write_found(layout, lines, out),
     }

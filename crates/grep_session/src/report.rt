@@ -15,8 +15,8 @@ use crate::kept::KeptFile;
 use crate::layout::Layout;
 use crate::lines::write_lines;
 use grep_core::{
-    CountedWrite, FileEnd, FileFound, Options, Status, Wanted, WriteFault, status_of, tell_fault,
-    write_summary,
+    CountedWrite, FileEnd, FileFound, FileRequest, Options, Status, WriteFault, status_of,
+    tell_fault, write_summary,
 };
 
 /// Writes the output for one file, and returns whether a line of it is selected. `some` says
@@ -27,17 +27,17 @@ fn write_file<W: CountedWrite>(
     file: &KeptFile,
     out: &mut W,
 ) -> Result<bool, WriteFault>
-    requires { FileFits layout.now.wanted.options file.now }
+    requires { FileFits layout.now.request.options file.now }
     ensures rows { Writes W.contents W.failures out.old out.new (written layout.now.margin.now
-        (rows_with layout.now.wanted.options layout.now.wanted.many layout.now.wanted.name.now some
+        (rows_with layout.now.request.options layout.now.request.many layout.now.request.name.now some
         (kept_lines file.now))) result }
     ensures told { IfOk result
-        (λ found. found ≡ has_selected_in layout.now.wanted.options (kept_lines file.now)) }
+        (λ found. found ≡ has_selected_in layout.now.request.options (kept_lines file.now)) }
 {
     let Some(lines) = &file.lines else {
         let end = FileEnd::Missing;
         write_summary(
-            &layout.wanted,
+            &layout.request,
             FileFound { end, selected: 0 },
             out,
             layout.margin,
@@ -47,7 +47,7 @@ fn write_file<W: CountedWrite>(
     let selected = write_lines(layout, some, lines, out)?;
     let end = FileEnd::Whole;
     write_summary(
-        &layout.wanted,
+        &layout.request,
         FileFound { end, selected },
         out,
         layout.margin,
@@ -69,12 +69,12 @@ fn write_files<W: CountedWrite>(
     let many = files.len() >= 2;
     let mut some = false;
     for file in files {
-        let wanted = Wanted {
+        let request = FileRequest {
             options: *options,
             many,
             name: &file.name,
         };
-        let found = write_file(&Layout { wanted, margin }, some, file, out)?;
+        let found = write_file(&Layout { request, margin }, some, file, out)?;
         some |= found;
     }
     Ok(())

@@ -19,7 +19,7 @@ use crate::searchers::{OwnedSearchers, has_more_than, searchers_of};
 use crate::telling::{end_search, fail, tell_unread, tell_usage};
 use crate::texts::{FAILED, OUT_OF_MEMORY};
 use crate::words::{Request, read_words};
-use grep_core::{Asked, CountedWrite, search_filtered};
+use grep_core::{CountedWrite, SearchRequest, search_filtered};
 use re_search::Meter;
 use re_syntax::{FaultKind, MOST_PATTERNS};
 use std::alloc::Global;
@@ -54,15 +54,15 @@ fn search_request<F: Files, W: CountedWrite, N: CountedWrite>(
         (F.failures files.new) meter.new)
         result }
 {
-    let asked = Asked {
+    let search = SearchRequest {
         alloc: task.alloc,
         options: task.request.options,
         filter: &searchers.needed,
     };
-    files.begin_search(&asked.options);
+    files.begin_search(&search.options);
     let mut operands = Operands::new(&mut *files, &task.request.files);
     let matchers = &mut searchers.matchers;
-    let found = search_filtered(&asked, &mut operands, matchers, out, messages, meter);
+    let found = search_filtered(&search, &mut operands, matchers, out, messages, meter);
     let _files = operands.into_files();
     end_search(messages, found)
 }

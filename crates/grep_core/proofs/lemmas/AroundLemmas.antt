@@ -15,7 +15,7 @@ use Rattle.grep_core.specs.Choose.{EachGives}
 use Rattle.grep_core.specs.Files.{Selected}
 use Rattle.grep_core.specs.Around.{group_separator, IsShown, BeginsGroup, Groups}
 use Rattle.grep_core.specs.Output.{around, shown_number}
-use Rattle.grep_core.specs.Working.Wanted.{name_shown}
+use Rattle.grep_core.specs.Working.Requests.{name_shown}
 use Rattle.grep_core.specs.Working.Groups.{behind_rows}
 use Rattle.grep_core.specs.Working.Progress.{progress_from, next_shown, with_waiting, behind_line, last_of, rows_around, row_by, rows_at}
 use Rattle.grep_core.proofs.lemmas.ChooseLaws.{EachGives-append}

@@ -14,7 +14,7 @@ use Rattle.grep_core.specs.Choose.{IfHolds, EachGives}
 use Rattle.grep_core.specs.Files.{Selected}
 use Rattle.grep_core.specs.Around.{group_separator, IsShown, BeginsGroup, IsRow, Shows}
 use Rattle.grep_core.specs.Output.{around, shown_number}
-use Rattle.grep_core.specs.Working.Wanted.{name_shown}
+use Rattle.grep_core.specs.Working.Requests.{name_shown}
 use Rattle.grep_core.specs.Working.Groups.{behind_rows}
 use Rattle.grep_core.specs.Working.Progress.{row_with, rows_around}
 use Rattle.grep_core.proofs.lemmas.ChooseLaws.{EachGives-one, EachGives-append}

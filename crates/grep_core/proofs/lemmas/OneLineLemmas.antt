@@ -10,7 +10,7 @@ use Rattle.grep_core.specs.Files.{Matched, Selected}
 use Rattle.grep_core.specs.Output.{lines, counts, form, head_of}
 use Rattle.grep_core.specs.Run.{Writer, writer}
 use Rattle.grep_io.specs.Working.Handed.{file_so_far}
-use Rattle.grep_core.specs.Working.Wanted.{selects}
+use Rattle.grep_core.specs.Working.Requests.{selects}
 use Rattle.grep_core.specs.Working.OneLine.{RowsOfSelected, WritesSelected, BreaksSelected, TakesLine, BreaksLine}
 use Rattle.grep_core.proofs.lemmas.PassLemmas.{TakesAll-line, TakesFront-line}
 use Rattle.grep_core.proofs.lemmas.WriterLaws.{TakesAll-nothing}

@@ -19,7 +19,7 @@ use Rattle.grep_core.specs.Row.{colon, head}
 use Rattle.grep_core.specs.Output.{lines, form, shown_number, written}
 use Rattle.grep_core.specs.Working.OneLine.{IsBare, rows_selected, RowsOfSelected, RowsOfLine}
 use Rattle.grep_core.specs.Working.StretchRows.{RowsOfLines}
-use Rattle.grep_core.specs.Working.Wanted.{name_shown}
+use Rattle.grep_core.specs.Working.Requests.{name_shown}
 use Rattle.grep_core.specs.Working.Stretches.{IsDivided}
 use Rattle.grep_core.specs.declared.search.stretch.Stretch.{Stretch}
 use Rattle.re_search.specs.Meters.{Steps}

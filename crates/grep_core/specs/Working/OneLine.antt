@@ -12,7 +12,7 @@ use Rattle.grep_core.specs.Output.{RowsOf, PartsOfLine}
 use Rattle.grep_core.specs.Output.{PartRowsOf, GroupsOf}
 use Rattle.grep_core.specs.Run.{Writer, TakesAll, TakesFront}
 use Rattle.grep_io.specs.Working.Handed.{file_so_far}
-use Rattle.grep_core.specs.Working.Wanted.{name_shown}
+use Rattle.grep_core.specs.Working.Requests.{name_shown}
 
 -- no lines are shown around selected ones
 abbrev pub IsPlain : Form → Type 0

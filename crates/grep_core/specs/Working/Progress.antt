@@ -10,7 +10,7 @@ use Rattle.grep_core.specs.declared.options.Context.{Context}
 use Rattle.grep_core.specs.Around.{group_separator}
 use Rattle.grep_core.specs.Row.{colon, hyphen, head}
 use Rattle.grep_core.specs.Output.{shown_number}
-use Rattle.grep_core.specs.Working.Wanted.{name_shown}
+use Rattle.grep_core.specs.Working.Requests.{name_shown}
 
 -- nothing of the file is shown yet
 abbrev pub progress_from : Context → Bool → Progress

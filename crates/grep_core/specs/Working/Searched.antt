@@ -23,7 +23,7 @@ use Rattle.grep_io.specs.Reading.{Source, Reading, IsReadingOf, file_of, failure
 use Rattle.grep_io.specs.Reading.{HasRead}
 use Rattle.grep_core.specs.Run.{Writer, Devices, TakesAll, TakesFront, begun, count_more}
 use Rattle.grep_core.specs.Working.Groups.{GroupedAs, behind_rows}
-use Rattle.grep_core.specs.Working.Wanted.{name_shown}
+use Rattle.grep_core.specs.Working.Requests.{name_shown}
 use Rattle.grep_core.specs.Cost.{SearchesLines}
 
 -- a file is left at its first selected line

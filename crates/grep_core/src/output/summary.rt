@@ -10,7 +10,7 @@ ghost use Rattle.grep_io.specs.Written.{Writes};
 use crate::options::Form;
 use crate::output::counts::{write_count, write_name};
 use crate::output::messages::{write_cannot_open, write_read_error};
-use crate::output::wanted::Wanted;
+use crate::output::request::FileRequest;
 use crate::status::{FileEnd, FileFound, Status};
 use grep_io::{CountedWrite, WriteFault, push_all};
 
@@ -20,19 +20,19 @@ use grep_io::{CountedWrite, WriteFault, push_all};
 /// Returns `WriteFault` if a write fails. It is not tried again.
 #[tactic(auto, using(crate::proofs::lemmas::WrittenLemmas::as_written))]
 pub fn write_summary<W: CountedWrite>(
-    wanted: &Wanted,
+    request: &FileRequest,
     found: FileFound,
     out: &mut W,
     margin: &[u8],
 ) -> Result<(), WriteFault>
     ensures { Writes W.contents W.failures out.old out.new (written margin.now
-        (summary_as (form wanted.now.options) wanted.now.many wanted.now.name.now found.end
+        (summary_as (form request.now.options) request.now.many request.now.name.now found.end
         found.selected)) result }
 {
-    match wanted.options.form() {
+    match request.options.form() {
         Form::Names => {
             if found.has_selected() {
-                return write_name(out, margin, wanted.name);
+                return write_name(out, margin, request.name);
             }
             Ok(())
         }
@@ -40,7 +40,7 @@ pub fn write_summary<W: CountedWrite>(
             if found.end.is_missing() {
                 return Ok(());
             }
-            write_count(out, margin, wanted.shown_name(), found.selected)
+            write_count(out, margin, request.shown_name(), found.selected)
         }
         Form::Nothing => Ok(()),
         Form::Parts => Ok(()),

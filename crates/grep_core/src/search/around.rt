@@ -18,8 +18,8 @@ ghost use Rattle.grep_core.specs.Working.Given.{SearchGives};
 
 use crate::options::Context;
 use crate::output::around::{Progress, Shown};
+use crate::output::request::FileRequest;
 use crate::output::rows::write_separator;
-use crate::output::wanted::Wanted;
 use crate::search::behind::Behind;
 use crate::search::file::count_found;
 use crate::search::held::next_held;
@@ -74,45 +74,45 @@ fn write_between<W: CountedWrite>(separated: bool, out: &mut W) -> Result<(), Wr
 
 // Writes the rows of the lines that wait before the line of this number.
 fn write_waiting<W: CountedWrite>(
-    wanted: &Wanted,
+    request: &FileRequest,
     behind: &Behind,
     number: u64,
     out: &mut W,
 ) -> Result<(), WriteFault>
     requires { length behind.now.lines ≤ number }
     ensures { Writes W.contents W.failures out.old out.new
-        (written [] (rows_around wanted.now.options wanted.now.many wanted.now.name.now
+        (written [] (rows_around request.now.options request.now.many request.now.name.now
         (number - length behind.now.lines) behind.now.lines)) result }
 {
     let count = behind.len();
     for k in 0..count {
         let at = number - (count - k) as u64;
-        wanted.write_around(at, behind.line(k), out, b"")?;
+        request.write_around(at, behind.line(k), out, b"")?;
     }
     Ok(())
 }
 
 // Writes the row of a line that is selected or is shown around one that is.
 fn write_itself<W: CountedWrite>(
-    wanted: &Wanted,
+    request: &FileRequest,
     line: &SearchedLine,
     out: &mut W,
 ) -> Result<(), WriteFault>
     ensures { Writes W.contents W.failures out.old out.new (output_line []
-        (row_by wanted.now.options wanted.now.many wanted.now.name.now line.now.selected line.now.number
+        (row_by request.now.options request.now.many request.now.name.now line.now.selected line.now.number
         line.now.text.now))
         result }
 {
     if line.selected {
-        wanted.write_text(line.number, line.text, out, b"")
+        request.write_text(line.number, line.text, out, b"")
     } else {
-        wanted.write_around(line.number, line.text, out, b"")
+        request.write_around(line.number, line.text, out, b"")
     }
 }
 
 // Writes what is shown at a line.
 fn write_shown<W: CountedWrite>(
-    wanted: &Wanted,
+    request: &FileRequest,
     behind: &Behind,
     shown: Shown,
     line: &SearchedLine,
@@ -120,15 +120,15 @@ fn write_shown<W: CountedWrite>(
 ) -> Result<(), WriteFault>
     requires { length behind.now.lines ≤ line.now.number }
     ensures { Writes W.contents W.failures out.old out.new
-        (written [] (rows_at wanted.now.options wanted.now.many wanted.now.name.now line.now.selected
+        (written [] (rows_at request.now.options request.now.many request.now.name.now line.now.selected
         shown behind.now.lines line.now.number line.now.text.now)) result }
 {
     write_between(shown.separated, out)?;
     if !shown.itself {
         return Ok(());
     }
-    write_waiting(wanted, behind, line.number, out)?;
-    write_itself(wanted, line, out)
+    write_waiting(request, behind, line.number, out)?;
+    write_itself(request, line, out)
 }
 
 // Keeps a line that is not shown, and forgets all kept lines if it is shown.
@@ -163,20 +163,20 @@ fn wait(block: &[u8], count: u64, surroundings: &mut Surroundings) -> Result<(),
 
 // Writes what is shown at a line, and keeps the line if it is not shown.
 fn show_line<W: CountedWrite>(
-    wanted: &Wanted,
+    request: &FileRequest,
     surroundings: &mut Surroundings,
     line: &SearchedLine,
     out: &mut W,
 ) -> Result<(), SearchFault>
     requires few { surroundings.old.progress.waiting ≤ surroundings.old.progress.context.before }
     requires held { length surroundings.old.behind.lines ≤ line.now.number }
-    ensures { ShowGives wanted.now.options wanted.now.many wanted.now.name.now line.now.selected
+    ensures { ShowGives request.now.options request.now.many request.now.name.now line.now.selected
         line.now.number line.now.text.now surroundings.old.progress surroundings.new.progress
         surroundings.old.behind surroundings.new.behind (writer W.contents W.failures out.old)
         (writer W.contents W.failures out.new) result }
 {
     let at = surroundings.progress.step(line.selected);
-    write_shown(wanted, &surroundings.behind, at, line, out)?;
+    write_shown(request, &surroundings.behind, at, line, out)?;
     if keep(&mut surroundings.behind, at.itself, line.text).is_err() {
         return Err(SearchFault::Memory(line.number));
     }
@@ -189,22 +189,22 @@ pub fn search_around<R: CountedRead, M: LineMatch, W: CountedWrite>(
     surroundings: &mut Surroundings,
     lines: &mut Lines<R>,
     searchers: &mut Searchers<'_, '_, M>,
-    wanted: &Wanted,
+    request: &FileRequest,
     out: &mut W,
     meter: &mut Meter,
 ) -> Result<FileFound, SearchFault>
     requires none_ahead { lines.old.lines.ahead ≡ [] }
     requires still_open { lines.old.lines.stage ≡ Stage.Open }
     requires none_numbered { lines.old.number ≡ 0 }
-    requires is_asked { form wanted.now.options ≡ around surroundings.old.progress.context }
-    requires whole { asks_whole searchers.old ≡ wanted.now.options.line_regexp }
+    requires is_asked { form request.now.options ≡ around surroundings.old.progress.context }
+    requires whole { asks_whole searchers.old ≡ request.now.options.line_regexp }
     requires none_done { surroundings.old.progress
         ≡ progress_from surroundings.old.progress.context surroundings.old.progress.shown }
     requires none_behind { surroundings.old.behind
         ≡ record { limit = surroundings.old.progress.context.before; lines = [] } }
-    ensures given { SearchGives (expressions_by M.expression searchers.old) wanted.now.options
-        wanted.now.many surroundings.old.progress.shown
-        (open_source wanted.now.name.now (R.remaining lines.old.lines.reader))
+    ensures given { SearchGives (expressions_by M.expression searchers.old) request.now.options
+        request.now.many surroundings.old.progress.shown
+        (open_source request.now.name.now (R.remaining lines.old.lines.reader))
         (OneLeft (R.remaining lines.new.lines.reader))
         (R.failures lines.old.lines.reader) (R.failures lines.new.lines.reader)
         (writer W.contents W.failures out.old) (writer W.contents W.failures out.new)
@@ -213,7 +213,7 @@ pub fn search_around<R: CountedRead, M: LineMatch, W: CountedWrite>(
 {
     let mut selected: u64 = 0;
     'lines: loop {
-        let asked = (surroundings.progress.left == 0) & !wanted.options.invert_match;
+        let asked = (surroundings.progress.left == 0) & !request.options.invert_match;
         let stretch = next_held(lines, searchers, asked, meter);
         let (bytes, count) = (stretch.bytes, stretch.count);
         if wait(stretch.before, stretch.before_count, surroundings).is_err() {
@@ -225,7 +225,7 @@ pub fn search_around<R: CountedRead, M: LineMatch, W: CountedWrite>(
                 number: lines.number() + count,
                 text,
             };
-            show_line(wanted, surroundings, &line, out)?;
+            show_line(request, surroundings, &line, out)?;
             selected = count_found(selected, true);
             lines.pass(bytes, count);
             continue 'lines;
@@ -238,13 +238,13 @@ pub fn search_around<R: CountedRead, M: LineMatch, W: CountedWrite>(
         }
         let number = lines.number();
         let text = lines.line();
-        let found = is_selected(searchers, wanted.options, text, meter);
+        let found = is_selected(searchers, request.options, text, meter);
         let line = SearchedLine {
             selected: found,
             number,
             text,
         };
-        show_line(wanted, surroundings, &line, out)?;
+        show_line(request, surroundings, &line, out)?;
         selected = count_found(selected, found);
     }
 }

@@ -10,7 +10,7 @@ ghost use Rattle.grep_core.specs.Working.Passed.{AddsCounted};
 ghost use Rattle.grep_core.specs.Working.Given.{SearchGives};
 
 use crate::options::Options;
-use crate::output::wanted::Wanted;
+use crate::output::request::FileRequest;
 use crate::search::file::count_found;
 use crate::search::line::search_line;
 use crate::search::taking::take_next;
@@ -62,24 +62,24 @@ fn pass_counted<R: CountedRead, M: LineMatch>(
 pub fn count_lines<R: CountedRead, M: LineMatch, W: CountedWrite>(
     lines: &mut Lines<R>,
     searchers: &mut Searchers<'_, '_, M>,
-    wanted: &Wanted,
+    request: &FileRequest,
     out: &mut W,
     meter: &mut Meter,
 ) -> Result<FileFound, SearchFault>
     requires none_ahead { lines.old.lines.ahead ≡ [] }
     requires still_open { lines.old.lines.stage ≡ Stage.Open }
     requires none_numbered { lines.old.number ≡ 0 }
-    requires is_asked { form wanted.now.options ≡ counts }
-    requires whole { asks_whole searchers.old ≡ wanted.now.options.line_regexp }
-    ensures given { SearchGives (expressions_by M.expression searchers.old) wanted.now.options
-        wanted.now.many false (open_source wanted.now.name.now (R.remaining lines.old.lines.reader))
+    requires is_asked { form request.now.options ≡ counts }
+    requires whole { asks_whole searchers.old ≡ request.now.options.line_regexp }
+    ensures given { SearchGives (expressions_by M.expression searchers.old) request.now.options
+        request.now.many false (open_source request.now.name.now (R.remaining lines.old.lines.reader))
         (OneLeft (R.remaining lines.new.lines.reader))
         (R.failures lines.old.lines.reader) (R.failures lines.new.lines.reader)
         (writer W.contents W.failures out.old) (writer W.contents W.failures out.new)
         meter.old meter.new result }
     ensures same { SameSearchers M.expression M.whole searchers.old searchers.new }
 {
-    let options = &wanted.options;
+    let options = &request.options;
     let mut selected: u64 = 0;
     'lines: loop {
         selected = pass_counted(lines, searchers, options, selected, meter);
@@ -89,7 +89,7 @@ pub fn count_lines<R: CountedRead, M: LineMatch, W: CountedWrite>(
             Err(fault) => return Err(fault),
         }
         let count = lines.number();
-        let found = search_line(searchers, wanted, count, lines.line(), out, meter)?;
+        let found = search_line(searchers, request, count, lines.line(), out, meter)?;
         selected = count_found(selected, found);
     }
 }

@@ -12,7 +12,7 @@ ghost use Rattle.grep_core.specs.Working.OneLine.{IsBare};
 ghost use Rattle.grep_core.specs.Working.Stretches.{IsDivided, IsNextOf};
 ghost use Rattle.grep_core.specs.Working.StretchRows.{TakesLines, BreaksLines};
 
-use crate::output::wanted::Wanted;
+use crate::output::request::FileRequest;
 use crate::search::line::write_selected;
 use crate::search::stretch::Stretch;
 use grep_io::{CountedRead, CountedWrite, Lines, WriteFault, count_newlines, push_all};
@@ -71,40 +71,40 @@ pub fn next_held<'a, R: CountedRead, M: LineMatch>(
 pub fn write_stretch<M: LineMatch, W: CountedWrite>(
     stretch: &Stretch,
     searchers: &mut Searchers<'_, '_, M>,
-    wanted: &Wanted,
+    request: &FileRequest,
     number: u64,
     out: &mut W,
     meter: &mut Meter,
 ) -> Result<u64, WriteFault>
-    requires whole { asks_whole searchers.old ≡ wanted.now.options.line_regexp }
-    requires bare { wanted.now.options.invert_match ≡ true → (stretch.now.count ≡ 0)
-        ⊎ IsBare wanted.now.options wanted.now.many }
+    requires whole { asks_whole searchers.old ≡ request.now.options.line_regexp }
+    requires bare { request.now.options.invert_match ≡ true → (stretch.now.count ≡ 0)
+        ⊎ IsBare request.now.options request.now.many }
     requires few { number + stretch.now.count < 2 ^ 64 }
     ensures ok { (before : List Text) (all : List Text)
         → IsDivided (sought_by M.expression searchers.old) stretch.now before all → IfOk result
-        (λ found. TakesLines (expressions_by M.expression searchers.old) wanted.now.options
-        wanted.now.many wanted.now.name.now (number + 1) all
+        (λ found. TakesLines (expressions_by M.expression searchers.old) request.now.options
+        request.now.many request.now.name.now (number + 1) all
         (writer W.contents W.failures out.old) (writer W.contents W.failures out.new) found) }
     ensures err { (before : List Text) (all : List Text)
         → IsDivided (sought_by M.expression searchers.old) stretch.now before all → OnErr result
-        (BreaksLines (expressions_by M.expression searchers.old) wanted.now.options
-        wanted.now.many wanted.now.name.now (number + 1) all
+        (BreaksLines (expressions_by M.expression searchers.old) request.now.options
+        request.now.many request.now.name.now (number + 1) all
         (writer W.contents W.failures out.old) (writer W.contents W.failures out.new)) }
     ensures same { SameSearchers M.expression M.whole searchers.old searchers.new }
     ensures steps { (before : List Text) (all : List Text)
         → IsDivided (sought_by M.expression searchers.old) stretch.now before all
         → (began : Steps) → AddsAtMost (length (expressions_by M.expression searchers.old)
         * length (terminated all)) began meter.old
-        → SearchesLines (expressions_by M.expression searchers.old) wanted.now.options
+        → SearchesLines (expressions_by M.expression searchers.old) request.now.options
         (length (expressions_by M.expression searchers.old)) all began meter.new }
 {
-    if wanted.options.invert_match {
+    if request.options.invert_match {
         push_all(out, stretch.before)?;
         return Ok(stretch.before_count);
     }
     let Some(line) = stretch.line else {
         return Ok(0);
     };
-    write_selected(searchers, wanted, number + stretch.count, line, out, meter)?;
+    write_selected(searchers, request, number + stretch.count, line, out, meter)?;
     Ok(1)
 }

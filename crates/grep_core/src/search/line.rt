@@ -8,7 +8,7 @@ ghost use Rattle.grep_core.specs.Working.OneLine.{WritesSelected, BreaksSelected
 ghost use Rattle.grep_core.specs.Working.OneLine.{BreaksLine};
 
 use crate::options::Form;
-use crate::output::wanted::Wanted;
+use crate::output::request::FileRequest;
 use crate::search::matching::is_selected;
 use grep_io::{CountedWrite, WriteFault};
 use re_search::{LineMatch, Meter, Searchers};
@@ -16,29 +16,29 @@ use re_search::{LineMatch, Meter, Searchers};
 /// Writes the parts of a line, each after the line's head.
 fn write_parts<M: LineMatch, W: CountedWrite>(
     searchers: &mut Searchers<'_, '_, M>,
-    wanted: &Wanted,
+    request: &FileRequest,
     number: u64,
     line: &[u8],
     out: &mut W,
     meter: &mut Meter,
 ) -> Result<(), WriteFault>
-    requires whole { asks_whole searchers.old ≡ wanted.now.options.line_regexp }
-    requires asked { form wanted.now.options ≡ parts }
+    requires whole { asks_whole searchers.old ≡ request.now.options.line_regexp }
+    requires asked { form request.now.options ≡ parts }
     ensures ok { IfOk result
-        (λ _. WritesSelected (expressions_by M.expression searchers.old) wanted.now.options wanted.now.many
-        wanted.now.name.now number line.now (writer W.contents W.failures out.old)
+        (λ _. WritesSelected (expressions_by M.expression searchers.old) request.now.options request.now.many
+        request.now.name.now number line.now (writer W.contents W.failures out.old)
         (writer W.contents W.failures out.new)) }
     ensures err { OnErr result
-        (BreaksSelected (expressions_by M.expression searchers.old) wanted.now.options wanted.now.many
-        wanted.now.name.now number line.now (writer W.contents W.failures out.old)
+        (BreaksSelected (expressions_by M.expression searchers.old) request.now.options request.now.many
+        request.now.name.now number line.now (writer W.contents W.failures out.old)
         (writer W.contents W.failures out.new)) }
     ensures same { SameSearchers M.expression M.whole searchers.old searchers.new }
-    ensures steps { AsksParts (expressions_by M.expression searchers.old) wanted.now.options
+    ensures steps { AsksParts (expressions_by M.expression searchers.old) request.now.options
         (length (expressions_by M.expression searchers.old)) line.now meter.old meter.new }
 {
     let mut from = 0;
     while let Some(part) = searchers.part(line, from, meter) {
-        wanted.write_part(number, line, part, out, b"")?;
+        request.write_part(number, line, part, out, b"")?;
         from = part.end;
     }
     Ok(())
@@ -47,28 +47,28 @@ fn write_parts<M: LineMatch, W: CountedWrite>(
 /// Writes the rows of a selected line, by what the options ask for.
 pub fn write_selected<M: LineMatch, W: CountedWrite>(
     searchers: &mut Searchers<'_, '_, M>,
-    wanted: &Wanted,
+    request: &FileRequest,
     number: u64,
     line: &[u8],
     out: &mut W,
     meter: &mut Meter,
 ) -> Result<(), WriteFault>
-    requires { asks_whole searchers.old ≡ wanted.now.options.line_regexp }
+    requires { asks_whole searchers.old ≡ request.now.options.line_regexp }
     ensures ok { IfOk result
-        (λ _. WritesSelected (expressions_by M.expression searchers.old) wanted.now.options wanted.now.many
-        wanted.now.name.now number line.now (writer W.contents W.failures out.old)
+        (λ _. WritesSelected (expressions_by M.expression searchers.old) request.now.options request.now.many
+        request.now.name.now number line.now (writer W.contents W.failures out.old)
         (writer W.contents W.failures out.new)) }
     ensures err { OnErr result
-        (BreaksSelected (expressions_by M.expression searchers.old) wanted.now.options wanted.now.many
-        wanted.now.name.now number line.now (writer W.contents W.failures out.old)
+        (BreaksSelected (expressions_by M.expression searchers.old) request.now.options request.now.many
+        request.now.name.now number line.now (writer W.contents W.failures out.old)
         (writer W.contents W.failures out.new)) }
     ensures same { SameSearchers M.expression M.whole searchers.old searchers.new }
-    ensures steps { AsksParts (expressions_by M.expression searchers.old) wanted.now.options
+    ensures steps { AsksParts (expressions_by M.expression searchers.old) request.now.options
         (length (expressions_by M.expression searchers.old)) line.now meter.old meter.new }
 {
-    match wanted.options.form() {
-        Form::Lines => wanted.write_text(number, line, out, b""),
-        Form::Parts => write_parts(searchers, wanted, number, line, out, meter),
+    match request.options.form() {
+        Form::Lines => request.write_text(number, line, out, b""),
+        Form::Parts => write_parts(searchers, request, number, line, out, meter),
         Form::Nothing => Ok(()),
         Form::Names => Ok(()),
         Form::Counts => Ok(()),
@@ -79,28 +79,28 @@ pub fn write_selected<M: LineMatch, W: CountedWrite>(
 /// Writes the rows of a line, if there are any, and returns whether it is selected.
 pub fn search_line<M: LineMatch, W: CountedWrite>(
     searchers: &mut Searchers<'_, '_, M>,
-    wanted: &Wanted,
+    request: &FileRequest,
     number: u64,
     line: &[u8],
     out: &mut W,
     meter: &mut Meter,
 ) -> Result<bool, WriteFault>
-    requires whole { asks_whole searchers.old ≡ wanted.now.options.line_regexp }
+    requires whole { asks_whole searchers.old ≡ request.now.options.line_regexp }
     ensures ok { IfOk result
-        (λ found. TakesLine (expressions_by M.expression searchers.old) wanted.now.options wanted.now.many
-        wanted.now.name.now number line.now (writer W.contents W.failures out.old)
+        (λ found. TakesLine (expressions_by M.expression searchers.old) request.now.options request.now.many
+        request.now.name.now number line.now (writer W.contents W.failures out.old)
         (writer W.contents W.failures out.new) found) }
     ensures err { OnErr result
-        (BreaksLine (expressions_by M.expression searchers.old) wanted.now.options wanted.now.many
-        wanted.now.name.now number line.now (writer W.contents W.failures out.old)
+        (BreaksLine (expressions_by M.expression searchers.old) request.now.options request.now.many
+        request.now.name.now number line.now (writer W.contents W.failures out.old)
         (writer W.contents W.failures out.new)) }
     ensures same { SameSearchers M.expression M.whole searchers.old searchers.new }
-    ensures steps { SearchesLine (expressions_by M.expression searchers.old) wanted.now.options
+    ensures steps { SearchesLine (expressions_by M.expression searchers.old) request.now.options
         (length (expressions_by M.expression searchers.old)) line.now meter.old meter.new }
 {
-    if !is_selected(searchers, wanted.options, line, meter) {
+    if !is_selected(searchers, request.options, line, meter) {
         return Ok(false);
     }
-    write_selected(searchers, wanted, number, line, out, meter)?;
+    write_selected(searchers, request, number, line, out, meter)?;
     Ok(true)
 }

@@ -11,10 +11,10 @@ ghost use Rattle.grep_core.specs.Working.Searched.{summary_as, SourceGives};
 ghost use Rattle.grep_io.specs.Written.{Writes};
 
 use crate::options::Options;
+use crate::output::request::FileRequest;
 use crate::output::summary::{status_of, tell_fault, write_summary};
-use crate::output::wanted::Wanted;
 use crate::search::file::search_file;
-use crate::search::setting::{Asked, Setting};
+use crate::search::requests::{SearchRequest, SourceRequest};
 use crate::sources::Sources;
 use crate::status::{FileFound, RunFault, SearchFault, Status};
 use grep_io::{CountedWrite, WriteFault};
@@ -24,16 +24,16 @@ use std::alloc::Global;
 /// Writes what follows the rows of a source's lines. If a message about the source is due, buffered
 /// output is sent first, so that output and messages are in order if both are sent to one place.
 fn end_output<W: CountedWrite>(
-    wanted: &Wanted,
+    request: &FileRequest,
     found: FileFound,
     out: &mut W,
 ) -> Result<(), WriteFault>
     ensures { Writes W.contents W.failures out.old out.new (written []
-        (summary_as (form wanted.now.options) wanted.now.many wanted.now.name.now found.end
+        (summary_as (form request.now.options) request.now.many request.now.name.now found.end
         found.selected)) result }
 {
-    write_summary(wanted, found, out, b"")?;
-    if wanted.options.no_messages | !found.end.is_fault() {
+    write_summary(request, found, out, b"")?;
+    if request.options.no_messages | !found.end.is_fault() {
         return Ok(());
     }
     out.flush()
@@ -41,22 +41,22 @@ fn end_output<W: CountedWrite>(
 
 /// Writes the output and the message for the next source.
 fn search_source<S: Sources, M: LineMatch, W: CountedWrite, N: CountedWrite>(
-    setting: &Setting,
+    source: &SourceRequest,
     sources: &mut S,
     searchers: &mut Searchers<'_, '_, M>,
     out: &mut W,
     messages: &mut N,
     meter: &mut Meter,
 ) -> Result<FileFound, RunFault>
-    requires place { setting.now.place < length (S.listed sources.old) }
-    requires in_order { S.stands_at sources.old setting.now.place }
-    requires whole { asks_whole searchers.old ≡ setting.now.asked.options.line_regexp }
+    requires place { source.now.place < length (S.listed sources.old) }
+    requires in_order { S.stands_at sources.old source.now.place }
+    requires whole { asks_whole searchers.old ≡ source.now.request.options.line_regexp }
     ensures listed { S.listed sources.new ≡ S.listed sources.old }
-    ensures next { S.stands_at sources.new (setting.now.place + 1) }
+    ensures next { S.stands_at sources.new (source.now.place + 1) }
     ensures same_loan { S.loan sources.new ≡ S.loan sources.old }
-    ensures given { SourceGives (expressions_by M.expression searchers.old) setting.now.asked.options
-        setting.now.many setting.now.shown (source_at (S.listed sources.old) setting.now.place)
-        (GivesBack S.given_back sources.old sources.new) setting.now.place
+    ensures given { SourceGives (expressions_by M.expression searchers.old) source.now.request.options
+        source.now.many source.now.shown (source_at (S.listed sources.old) source.now.place)
+        (GivesBack S.given_back sources.old sources.new) source.now.place
         (devices (writer W.contents W.failures out.old) (writer N.contents N.failures messages.old)
         (S.failures sources.old) meter.old)
         (devices (writer W.contents W.failures out.new) (writer N.contents N.failures messages.new)
@@ -64,26 +64,26 @@ fn search_source<S: Sources, M: LineMatch, W: CountedWrite, N: CountedWrite>(
         result }
     ensures same { SameSearchers M.expression M.whole searchers.old searchers.new }
 {
-    let found = match search_file(setting, sources, searchers, out, meter) {
+    let found = match search_file(source, sources, searchers, out, meter) {
         Ok(found) => found,
         Err(SearchFault::Write) => return Err(RunFault::Write),
         Err(SearchFault::Memory(lines)) => return Err(RunFault::Memory {
-            source: setting.place,
+            source: source.place,
             lines,
         }),
     };
-    let wanted = Wanted {
-        options: setting.asked.options,
-        many: setting.many,
-        name: sources.name(setting.place),
+    let request = FileRequest {
+        options: source.request.options,
+        many: source.many,
+        name: sources.name(source.place),
     };
-    match end_output(&wanted, found, out) {
+    match end_output(&request, found, out) {
         Ok(()) => {}
         Err(WriteFault) => return Err(RunFault::Write),
     }
     match tell_fault(
-        wanted.options.no_messages,
-        wanted.name,
+        request.options.no_messages,
+        request.name,
         found.end,
         messages,
         b"",
@@ -136,12 +136,12 @@ pub fn search_all<S: Sources, M: LineMatch, W: CountedWrite, N: CountedWrite>(
     ensures same_matchers { SameMatchers M.expression M.whole matchers.old matchers.new }
 {
     let filter = Filter::none();
-    let asked = Asked {
+    let request = SearchRequest {
         alloc,
         options: *options,
         filter: &filter,
     };
-    search_filtered(&asked, sources, matchers, out, messages, meter)
+    search_filtered(&request, sources, matchers, out, messages, meter)
 }
 
 /// One pass over all sources, as [`search_all`] makes it, with a filter: if it has strings, a line
@@ -151,7 +151,7 @@ pub fn search_all<S: Sources, M: LineMatch, W: CountedWrite, N: CountedWrite>(
 /// The output, the messages, the status and the bound on the steps are the same as without a
 /// filter.
 pub fn search_filtered<S: Sources, M: LineMatch, W: CountedWrite, N: CountedWrite>(
-    asked: &Asked,
+    request: &SearchRequest,
     sources: &mut S,
     matchers: &mut [M],
     out: &mut W,
@@ -159,11 +159,11 @@ pub fn search_filtered<S: Sources, M: LineMatch, W: CountedWrite, N: CountedWrit
     meter: &mut Meter,
 ) -> Result<Status, RunFault>
     requires in_order { S.stands_at sources.old 0 }
-    requires whole { AllAnswer asked.now.options.line_regexp (map M.whole matchers.old) }
-    requires needed { ForSome asked.now.filter.now
+    requires whole { AllAnswer request.now.options.line_regexp (map M.whole matchers.old) }
+    requires needed { ForSome request.now.filter.now
         (λ strings. AreNeeded strings (map M.expression matchers.old)) }
     ensures same_loan { S.loan sources.new ≡ S.loan sources.old }
-    ensures run { RunGives (map M.expression matchers.old) asked.now.options (S.listed sources.old)
+    ensures run { RunGives (map M.expression matchers.old) request.now.options (S.listed sources.old)
         (GivesBack S.given_back sources.old sources.new)
         (devices (writer W.contents W.failures out.old) (writer N.contents N.failures messages.old)
         (S.failures sources.old) meter.old)
@@ -172,13 +172,13 @@ pub fn search_filtered<S: Sources, M: LineMatch, W: CountedWrite, N: CountedWrit
         result }
     ensures same_matchers { SameMatchers M.expression M.whole matchers.old matchers.new }
 {
-    let mut searchers = Searchers::new(matchers, asked.filter, asked.options.line_regexp);
-    search_sources(asked, sources, &mut searchers, out, messages, meter)
+    let mut searchers = Searchers::new(matchers, request.filter, request.options.line_regexp);
+    search_sources(request, sources, &mut searchers, out, messages, meter)
 }
 
 // The same with the matchers and the filter as one.
 fn search_sources<S: Sources, M: LineMatch, W: CountedWrite, N: CountedWrite>(
-    asked: &Asked,
+    request: &SearchRequest,
     sources: &mut S,
     searchers: &mut Searchers<'_, '_, M>,
     out: &mut W,
@@ -186,9 +186,9 @@ fn search_sources<S: Sources, M: LineMatch, W: CountedWrite, N: CountedWrite>(
     meter: &mut Meter,
 ) -> Result<Status, RunFault>
     requires in_order { S.stands_at sources.old 0 }
-    requires whole { asks_whole searchers.old ≡ asked.now.options.line_regexp }
+    requires whole { asks_whole searchers.old ≡ request.now.options.line_regexp }
     ensures same_loan { S.loan sources.new ≡ S.loan sources.old }
-    ensures run { RunGives (expressions_by M.expression searchers.old) asked.now.options
+    ensures run { RunGives (expressions_by M.expression searchers.old) request.now.options
         (S.listed sources.old) (GivesBack S.given_back sources.old sources.new)
         (devices (writer W.contents W.failures out.old) (writer N.contents N.failures messages.old)
         (S.failures sources.old) meter.old)
@@ -202,17 +202,17 @@ fn search_sources<S: Sources, M: LineMatch, W: CountedWrite, N: CountedWrite>(
     let mut some = false;
     let mut faulty = false;
     for k in 0..count {
-        let setting = Setting {
-            asked: *asked,
+        let source = SourceRequest {
+            request: *request,
             place: k,
             many,
             shown: some,
         };
-        let found = match search_source(&setting, sources, searchers, out, messages, meter) {
+        let found = match search_source(&source, sources, searchers, out, messages, meter) {
             Ok(found) => found,
             Err(fault) => return Err(fault),
         };
-        if asked.options.quiet & found.has_selected() {
+        if request.options.quiet & found.has_selected() {
             return Ok(Status::Selected);
         }
         some |= found.has_selected();

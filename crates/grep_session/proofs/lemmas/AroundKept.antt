@@ -11,7 +11,7 @@ use Rattle.grep_core.specs.Around.{Groups}
 use Rattle.grep_core.specs.Output.{around, shown_number}
 use Rattle.grep_core.specs.Working.Groups.{behind_rows}
 use Rattle.grep_core.specs.Working.Progress.{progress_from, next_shown, with_waiting, behind_line, last_of, rows_at}
-use Rattle.grep_core.specs.Working.Wanted.{name_shown}
+use Rattle.grep_core.specs.Working.Requests.{name_shown}
 use Rattle.grep_core.proofs.lemmas.AroundLemmas.{Tracks, tracks_none, tracks_line, tracked_groups}
 use Rattle.grep_session.specs.declared.kept.KeptLine.{KeptLine}
 use Rattle.grep_session.specs.Working.Kept.{line_text, IsKept}

@@ -20,7 +20,7 @@ use Rattle.grep_core.specs.Messages.{Messages, StatusOf}
 use Rattle.grep_core.specs.Working.Progress.{progress_from, next_shown, behind_line, last_of}
 use Rattle.grep_core.specs.Working.Progress.{rows_at}
 use Rattle.grep_core.specs.Working.Searched.{is_fault, summary_as, told_of, status_by}
-use Rattle.grep_core.specs.Working.Wanted.{name_shown, selects}
+use Rattle.grep_core.specs.Working.Requests.{name_shown, selects}
 use Rattle.grep_core.specs.Written.{Writes}
 use Rattle.grep_session.specs.declared.kept.KeptLine.{KeptLine}
 use Rattle.grep_session.specs.declared.kept.KeptFile.{KeptFile}

@@ -13,7 +13,7 @@ use Rattle.grep_session.proofs.around.write_lines_around.Goals as goal
 
 pub loop-k-init : goal.loop-k-init
 loop-k-init g c =
-    let w = c.args.layout.now.wanted in
+    let w = c.args.layout.now.request in
     let rows = around_rows w.options w.many w.name.now in
     let all = rows (progress_from c.args.context c.args.some) [] c.args.lines.now in
     let same = sym c.new-progress.ensures in
@@ -35,7 +35,7 @@ write_shown-requires g c =
 
 pub returns-in_err-write_shown-clause-rows : goal.returns-in_err-write_shown-clause-rows
 returns-in_err-write_shown-clause-rows g c =
-    let w = c.args.layout.now.wanted in
+    let w = c.args.layout.now.request in
     let lines = c.args.lines.now in
     let k = c.loop-k.k in
     let found = c.is_selected-found.result in
@@ -46,7 +46,7 @@ returns-in_err-write_shown-clause-rows g c =
 
 pub loop-k-preserved : goal.loop-k-preserved
 loop-k-preserved g c =
-    let w = c.args.layout.now.wanted in
+    let w = c.args.layout.now.request in
     let lines = c.args.lines.now in
     let k = c.loop-k.k in
     let i = c.loop-k.invariant in
@@ -68,5 +68,5 @@ loop-k-preserved g c =
 
 pub returns-clause-rows : goal.returns-clause-rows
 returns-clause-rows g c =
-    let w = c.args.layout.now.wanted in
+    let w = c.args.layout.now.request in
     around_all w.options w.many w.name.now g.W.CountedWrite.contents g.W.CountedWrite.failures c.args.layout.now.margin.now c.args.lines.now c.args.out.now c.loop-k.out _ _ c.loop-k.progress c.loop-k.k (omega (arith, c.loop-k-test.false)) c.loop-k.invariant.wrote

@@ -8,11 +8,11 @@ use Rattle.grep_session.proofs.around.write_lines_around.Given as goal
 -- what is shown at the lines up to here was written
 abbrev pub invariant-loop-k : goal.invariant-loop-k
 invariant-loop-k g l =
-    let rows = around_rows l.layout.wanted.options l.layout.wanted.many l.layout.wanted.name.now in
+    let rows = around_rows l.layout.request.options l.layout.request.many l.layout.request.name.now in
     record {
       wrote : WrittenUpTo g.W.CountedWrite.contents g.W.CountedWrite.failures l.layout.margin.now l.fn.out l.out (rows (progress_from l.fn.context l.fn.some) [] l.lines) (rows l.progress (map line_text (take l.k l.lines)) (drop l.k l.lines));
       few : l.progress.waiting ≤ l.progress.context.before;
       within : l.progress.waiting ≤ l.k;
-      counted : selected_count l.layout.wanted.options l.lines ≡ l.selected + selected_count l.layout.wanted.options (drop l.k l.lines);
+      counted : selected_count l.layout.request.options l.lines ≡ l.selected + selected_count l.layout.request.options (drop l.k l.lines);
       at_most : l.selected ≤ l.k;
     }

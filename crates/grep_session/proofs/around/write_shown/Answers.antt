@@ -4,21 +4,21 @@ use Rattle.grep_session.proofs.around.write_shown.Goals as goal
 
 pub returns-in_err-write_separator : goal.returns-in_err-write_separator
 returns-in_err-write_separator g c =
-    let w = c.args.layout.now.wanted in
+    let w = c.args.layout.now.request in
     writes_err g.W.CountedWrite.contents g.W.CountedWrite.failures c.args.layout.now.margin.now _ _ _ c.from_residual.result c.from_residual.ensures.0
     (separator_stops w.options w.many w.name.now g.W.CountedWrite.contents g.W.CountedWrite.failures c.args.layout.now.margin.now c.args.before.now c.args.found c.args.shown c.args.line.now c.requires.few
     c.args.out.now c.write_separator.new.out c.in_err-write_separator.ensures)
 
 pub returns-in_err-write_waiting : goal.returns-in_err-write_waiting
 returns-in_err-write_waiting g c =
-    let w = c.args.layout.now.wanted in
+    let w = c.args.layout.now.request in
     writes_err g.W.CountedWrite.contents g.W.CountedWrite.failures c.args.layout.now.margin.now _ _ _ c.from_residual-in_err-write_waiting.result c.from_residual-in_err-write_waiting.ensures.0
     (before_stops w.options w.many w.name.now g.W.CountedWrite.contents g.W.CountedWrite.failures c.args.layout.now.margin.now c.args.before.now c.args.found c.args.shown c.args.line.now c.requires.few
     c.args.out.now c.write_separator.new.out c.write_waiting.new.out (not_left_out c.args.shown.itself c.if-not-shown.false) c.in_ok-write_separator.ensures c.in_err-write_waiting.ensures)
 
 pub returns : goal.returns
 returns g c =
-    let w = c.args.layout.now.wanted in
+    let w = c.args.layout.now.request in
     itself_written w.options w.many w.name.now g.W.CountedWrite.contents g.W.CountedWrite.failures c.args.layout.now.margin.now c.args.before.now c.args.found c.args.shown c.args.line.now c.requires.few
     c.args.out.now c.write_separator.new.out c.write_waiting.new.out c.write_itself.new.out c.write_itself.result (not_left_out c.args.shown.itself c.if-not-shown.false) c.in_ok-write_separator.ensures c.in_ok-write_waiting.ensures
     c.write_itself.ensures

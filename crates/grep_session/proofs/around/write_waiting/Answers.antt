@@ -5,12 +5,12 @@ use Rattle.grep_session.proofs.around.write_waiting.Goals as goal
 
 pub loop-k-init : goal.loop-k-init
 loop-k-init g c =
-    let w = c.args.layout.now.wanted in
+    let w = c.args.layout.now.request in
     record { wrote = waiting_none w.options w.many w.name.now g.W.CountedWrite.contents g.W.CountedWrite.failures c.args.layout.now.margin.now c.args.lines.now c.args.out.now c.args.count; within = omega arith }
 
 pub returns-in_err-write_around : goal.returns-in_err-write_around
 returns-in_err-write_around g c =
-    let w = c.args.layout.now.wanted in
+    let w = c.args.layout.now.request in
     let stops = rw (c.deref.ensures.value, ← c.index-lines-k.is) at c.in_err-write_around.ensures in
     writes_err g.W.CountedWrite.contents g.W.CountedWrite.failures c.args.layout.now.margin.now _ _ _ c.from_residual.result c.from_residual.ensures.0
     (waiting_stops w.options w.many w.name.now g.W.CountedWrite.contents g.W.CountedWrite.failures c.args.layout.now.margin.now c.args.lines.now c.loop-k.k c.index-lines-k.result c.loop-k-test.true c.index-lines-k.is
@@ -18,7 +18,7 @@ returns-in_err-write_around g c =
 
 pub loop-k-preserved : goal.loop-k-preserved
 loop-k-preserved g c =
-    let w = c.args.layout.now.wanted in
+    let w = c.args.layout.now.request in
     let went = rw (c.deref.ensures.value, ← c.index-lines-k.is) at c.in_ok-write_around.ensures in
     record {
       wrote =
@@ -29,5 +29,5 @@ loop-k-preserved g c =
 
 pub returns : goal.returns
 returns g c =
-    let w = c.args.layout.now.wanted in
+    let w = c.args.layout.now.request in
     waiting_all w.options w.many w.name.now g.W.CountedWrite.contents g.W.CountedWrite.failures c.args.layout.now.margin.now c.args.lines.now c.args.out.now c.loop-k.out _ c.loop-k.k (omega (arith, c.loop-k-test.false)) c.loop-k.invariant.wrote

@@ -7,7 +7,7 @@ use Rattle.grep_session.proofs.around.write_waiting.Given as goal
 -- the lines up to here were written
 abbrev pub invariant-loop-k : goal.invariant-loop-k
 invariant-loop-k g l =
-    let rows = rows_around l.layout.wanted.options l.layout.wanted.many l.layout.wanted.name.now in
+    let rows = rows_around l.layout.request.options l.layout.request.many l.layout.request.name.now in
     record {
       wrote : WrittenUpTo g.W.CountedWrite.contents g.W.CountedWrite.failures l.layout.margin.now l.fn.out l.out (rows (length l.lines - l.count + 1) (last_of l.count (map line_text l.lines))) (rows (l.k + 1) (map line_text (drop l.k l.lines)));
       within : l.k ≤ length l.lines;

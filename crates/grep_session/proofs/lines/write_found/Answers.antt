@@ -6,7 +6,7 @@ use Rattle.grep_session.proofs.lines.write_found.Goals as goal
 
 pub returns-in_err-found-clause-rows : goal.returns-in_err-found-clause-rows
 returns-in_err-found-clause-rows g c =
-    let w = c.args.layout.now.wanted in
+    let w = c.args.layout.now.request in
     let all = rows_from w.options w.many w.name.now 1 c.args.lines.now in
     writes_err g.W.CountedWrite.contents g.W.CountedWrite.failures c.args.layout.now.margin.now _ _ _ c.from_residual.result c.from_residual.ensures.0
     (line_stops w.options c.args.lines.now c.loop-line.line-index c.line-item.result c.loop-line-test.true c.line-item.is w.many w.name.now g.W.CountedWrite.contents g.W.CountedWrite.failures c.args.layout.now.margin.now
@@ -14,7 +14,7 @@ returns-in_err-found-clause-rows g c =
 
 pub loop-line-preserved : goal.loop-line-preserved
 loop-line-preserved g c =
-    let w = c.args.layout.now.wanted in
+    let w = c.args.layout.now.request in
     let all = rows_from w.options w.many w.name.now 1 c.args.lines.now in
     let i = c.loop-line.invariant in
     let found = c.in_ok-found.found in

@@ -6,7 +6,7 @@ use Rattle.grep_session.proofs.lines.write_parts.Goals as goal
 
 pub returns-in_err-write_part : goal.returns-in_err-write_part
 returns-in_err-write_part g c =
-    let w = c.args.layout.now.wanted in
+    let w = c.args.layout.now.request in
     let f = λ (span : Span). row w.options w.many w.name.now c.args.number (slice_range c.args.line.now.text.items span.start span.end) in
     let stops = rw c.deref.ensures.value at c.in_err-write_part.ensures in
     writes_err g.W.CountedWrite.contents g.W.CountedWrite.failures c.args.layout.now.margin.now _ _ _ c.from_residual.result c.from_residual.ensures.0
@@ -15,7 +15,7 @@ returns-in_err-write_part g c =
 
 pub loop-part-preserved : goal.loop-part-preserved
 loop-part-preserved g c =
-    let w = c.args.layout.now.wanted in
+    let w = c.args.layout.now.request in
     let f = λ (span : Span). row w.options w.many w.name.now c.args.number (slice_range c.args.line.now.text.items span.start span.end) in
     let went = rw c.deref.ensures.value at c.in_ok-write_part.ensures in
     row_on g.W.CountedWrite.contents g.W.CountedWrite.failures c.args.layout.now.margin.now f c.args.line.now.found.spans c.spans-part-items.result.now c.loop-part.part-index (record { start = 0; end = 0 }) c.loop-part-test.true

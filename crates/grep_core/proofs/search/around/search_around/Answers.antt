@@ -21,7 +21,7 @@ use Rattle.grep_core.proofs.search.around.search_around.Goals as goal
 
 pub lines-init : goal.lines-init
 lines-init g c =
-    let w = c.args.wanted.now in
+    let w = c.args.request.now in
     let es = map g.M.LineMatch.expression c.args.searchers.now.matchers.now in
     let reader = c.args.lines.now.lines.reader in
     record {
@@ -40,7 +40,7 @@ wait-requires g c =
       block = before_block d;
       counted = d.many ∙ ap length (sym (before_lines d));
       few = i.so_far.tracks.few;
-      due = asked_due c.lines.surroundings.progress.left c.args.wanted.now.options.invert_match c.next_held-stretch.result.count held.none c.next_held-stretch.result.before_count (before_counted d);
+      due = asked_due c.lines.surroundings.progress.left c.args.request.now.options.invert_match c.next_held-stretch.result.count held.none c.next_held-stretch.result.before_count (before_counted d);
     }
 
 pub pass-requires : goal.pass-requires
@@ -50,7 +50,7 @@ pass-requires g c =
 
 pub returns-then-is_err-clause-given : goal.returns-then-is_err-clause-given
 returns-then-is_err-clause-given g c =
-    let w = c.args.wanted.now in
+    let w = c.args.request.now in
     let es = map g.M.LineMatch.expression c.args.searchers.now.matchers.now in
     let reader = c.args.lines.now.lines.reader in
     let i = c.lines.invariant in
@@ -62,7 +62,7 @@ returns-then-is_err-clause-given g c =
 
 pub show_line-requires : goal.show_line-requires
 show_line-requires g c =
-    let w = c.args.wanted.now in
+    let w = c.args.request.now in
     let es = map g.M.LineMatch.expression c.args.searchers.now.matchers.now in
     let reader = c.args.lines.now.lines.reader in
     let i = c.lines.invariant in
@@ -90,7 +90,7 @@ show_line-requires g c =
 
 pub returns-in_err-show_line-clause-given : goal.returns-in_err-show_line-clause-given
 returns-in_err-show_line-clause-given g c =
-    let w = c.args.wanted.now in
+    let w = c.args.request.now in
     let es = map g.M.LineMatch.expression c.args.searchers.now.matchers.now in
     let reader = c.args.lines.now.lines.reader in
     let i = c.lines.invariant in
@@ -119,7 +119,7 @@ returns-in_err-show_line-clause-given g c =
 
 pub lines-preserved-in-Some : goal.lines-preserved-in-Some
 lines-preserved-in-Some g c =
-    let w = c.args.wanted.now in
+    let w = c.args.request.now in
     let es = map g.M.LineMatch.expression c.args.searchers.now.matchers.now in
     let reader = c.args.lines.now.lines.reader in
     let i = c.lines.invariant in
@@ -153,7 +153,7 @@ lines-preserved-in-Some g c =
 
 pub lines-smaller-in-Some : goal.lines-smaller-in-Some
 lines-smaller-in-Some g c =
-    let w = c.args.wanted.now in
+    let w = c.args.request.now in
     let es = map g.M.LineMatch.expression c.args.searchers.now.matchers.now in
     let reader = c.args.lines.now.lines.reader in
     let i = c.lines.invariant in
@@ -181,7 +181,7 @@ lines-smaller-in-Some g c =
 
 pub count_found-selected-requires : goal.count_found-selected-requires
 count_found-selected-requires g c =
-    let w = c.args.wanted.now in
+    let w = c.args.request.now in
     let es = map g.M.LineMatch.expression c.args.searchers.now.matchers.now in
     let reader = c.args.lines.now.lines.reader in
     let i = c.lines.invariant in
@@ -214,7 +214,7 @@ pass-requires-in-lines g c =
 
 pub show_line-requires-in-lines-clause-held : goal.show_line-requires-in-lines-clause-held
 show_line-requires-in-lines-clause-held g c =
-    let w = c.args.wanted.now in
+    let w = c.args.request.now in
     let es = map g.M.LineMatch.expression c.args.searchers.now.matchers.now in
     let reader = c.args.lines.now.lines.reader in
     let i = c.lines.invariant in
@@ -238,7 +238,7 @@ show_line-requires-in-lines-clause-held g c =
 
 pub returns-in_err-show_line-2-clause-given : goal.returns-in_err-show_line-2-clause-given
 returns-in_err-show_line-2-clause-given g c =
-    let w = c.args.wanted.now in
+    let w = c.args.request.now in
     let es = map g.M.LineMatch.expression c.args.searchers.now.matchers.now in
     let reader = c.args.lines.now.lines.reader in
     let i = c.lines.invariant in
@@ -267,7 +267,7 @@ returns-in_err-show_line-2-clause-given g c =
 
 pub count_found-selected-requires-in-lines : goal.count_found-selected-requires-in-lines
 count_found-selected-requires-in-lines g c =
-    let w = c.args.wanted.now in
+    let w = c.args.request.now in
     let es = map g.M.LineMatch.expression c.args.searchers.now.matchers.now in
     let reader = c.args.lines.now.lines.reader in
     let i = c.lines.invariant in
@@ -291,7 +291,7 @@ count_found-selected-requires-in-lines g c =
 
 pub lines-smaller : goal.lines-smaller
 lines-smaller g c =
-    let w = c.args.wanted.now in
+    let w = c.args.request.now in
     let es = map g.M.LineMatch.expression c.args.searchers.now.matchers.now in
     let reader = c.args.lines.now.lines.reader in
     let i = c.lines.invariant in
@@ -315,7 +315,7 @@ lines-smaller g c =
 
 pub lines-preserved : goal.lines-preserved
 lines-preserved g c =
-    let w = c.args.wanted.now in
+    let w = c.args.request.now in
     let es = map g.M.LineMatch.expression c.args.searchers.now.matchers.now in
     let reader = c.args.lines.now.lines.reader in
     let i = c.lines.invariant in
@@ -350,7 +350,7 @@ lines-preserved g c =
 
 pub returns-in-Ok-Some-clause-given : goal.returns-in-Ok-Some-clause-given
 returns-in-Ok-Some-clause-given g c =
-    let w = c.args.wanted.now in
+    let w = c.args.request.now in
     let es = map g.M.LineMatch.expression c.args.searchers.now.matchers.now in
     let reader = c.args.lines.now.lines.reader in
     let i = c.lines.invariant in
@@ -371,7 +371,7 @@ returns-in-Ok-Some-clause-given g c =
 
 pub returns-in-Err-clause-given : goal.returns-in-Err-clause-given
 returns-in-Err-clause-given g c =
-    let w = c.args.wanted.now in
+    let w = c.args.request.now in
     let es = map g.M.LineMatch.expression c.args.searchers.now.matchers.now in
     let reader = c.args.lines.now.lines.reader in
     let i = c.lines.invariant in

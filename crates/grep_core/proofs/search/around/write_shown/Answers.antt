@@ -7,7 +7,7 @@ use Rattle.grep_core.proofs.search.around.write_shown.Goals as goal
 
 pub returns-in_err-write_between : goal.returns-in_err-write_between
 returns-in_err-write_between g c =
-    let w = c.args.wanted.now in
+    let w = c.args.request.now in
     let between : List Text = if c.args.shown.separated then group_separator ∷ [] else [] in
     let waiting = rows_around w.options w.many w.name.now (c.args.line.now.number - length c.args.behind.now.lines) c.args.behind.now.lines in
     let row = row_by w.options w.many w.name.now c.args.line.now.selected c.args.line.now.number c.args.line.now.text.now in
@@ -16,7 +16,7 @@ returns-in_err-write_between g c =
 
 pub returns-in_err-write_waiting : goal.returns-in_err-write_waiting
 returns-in_err-write_waiting g c =
-    let w = c.args.wanted.now in
+    let w = c.args.request.now in
     let between : List Text = if c.args.shown.separated then group_separator ∷ [] else [] in
     let waiting = rows_around w.options w.many w.name.now (c.args.line.now.number - length c.args.behind.now.lines) c.args.behind.now.lines in
     let row = row_by w.options w.many w.name.now c.args.line.now.selected c.args.line.now.number c.args.line.now.text.now in
@@ -25,7 +25,7 @@ returns-in_err-write_waiting g c =
 
 pub returns : goal.returns
 returns g c =
-    let w = c.args.wanted.now in
+    let w = c.args.request.now in
     let between : List Text = if c.args.shown.separated then group_separator ∷ [] else [] in
     let waiting = rows_around w.options w.many w.name.now (c.args.line.now.number - length c.args.behind.now.lines) c.args.behind.now.lines in
     let row = row_by w.options w.many w.name.now c.args.line.now.selected c.args.line.now.number c.args.line.now.text.now in

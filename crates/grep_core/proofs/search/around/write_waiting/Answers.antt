@@ -6,12 +6,12 @@ use Rattle.grep_core.proofs.search.around.write_waiting.Goals as goal
 
 pub loop-k-init : goal.loop-k-init
 loop-k-init g c =
-    let w = c.args.wanted.now in
+    let w = c.args.request.now in
     rows_none_out g.W.CountedWrite.contents g.W.CountedWrite.failures c.args.out.now (rows_around w.options w.many w.name.now (c.args.number - length c.args.behind.now.lines) c.args.behind.now.lines)
 
 pub returns-in_err-write_around : goal.returns-in_err-write_around
 returns-in_err-write_around g c =
-    let w = c.args.wanted.now in
+    let w = c.args.request.now in
     let behind = c.args.behind.now.lines in
     let first = c.args.number - length behind in
     let inside : c.loop-k.k < length behind = omega (arith, c.loop-k-test.true, c.len-count.ensures) in
@@ -24,7 +24,7 @@ returns-in_err-write_around g c =
 
 pub loop-k-preserved : goal.loop-k-preserved
 loop-k-preserved g c =
-    let w = c.args.wanted.now in
+    let w = c.args.request.now in
     let behind = c.args.behind.now.lines in
     let first = c.args.number - length behind in
     let inside : c.loop-k.k < length behind = omega (arith, c.loop-k-test.true, c.len-count.ensures) in
@@ -36,7 +36,7 @@ loop-k-preserved g c =
 
 pub returns : goal.returns
 returns g c =
-    let w = c.args.wanted.now in
+    let w = c.args.request.now in
     let behind = c.args.behind.now.lines in
     let first = c.args.number - length behind in
     let all : length (rows_around w.options w.many w.name.now first behind) ≤ c.loop-k.k = omega (arith, c.loop-k-test.false, c.len-count.ensures, length_rows w.options w.many w.name.now first behind) in

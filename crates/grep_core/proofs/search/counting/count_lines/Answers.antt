@@ -8,13 +8,13 @@ use Rattle.grep_core.proofs.search.counting.count_lines.Goals as goal
 
 pub lines-init : goal.lines-init
 lines-init g c = record {
-  so_far = searched_none _ _ _ _ _ _ _ _ (written_plain _ _ _ _ _ _ (counts_plain c.args.wanted.now.options c.requires.is_asked) [] [] (rows_none _ _ _ _ _)) c.args.lines.now _ _ refl c.requires.none_ahead c.requires.still_open c.requires.none_numbered;
+  so_far = searched_none _ _ _ _ _ _ _ _ (written_plain _ _ _ _ _ _ (counts_plain c.args.request.now.options c.requires.is_asked) [] [] (rows_none _ _ _ _ _)) c.args.lines.now _ _ refl c.requires.none_ahead c.requires.still_open c.requires.none_numbered;
   same = unasked;
 }
 
 pub lines-preserved : goal.lines-preserved
 lines-preserved g c =
-    let w = c.args.wanted.now in
+    let w = c.args.request.now in
     let es = map g.M.LineMatch.expression c.args.searchers.now.matchers.now in
     let i = c.lines.invariant in
     let tallied = rw i.same.same_matchers.same_expressions at (c.pass_counted-selected.ensures.passed c.args.lines.now.lines.reader i.so_far.lines i.so_far.handed) in
@@ -34,7 +34,7 @@ lines-preserved g c =
 
 pub count_found-selected-requires : goal.count_found-selected-requires
 count_found-selected-requires g c =
-    let w = c.args.wanted.now in
+    let w = c.args.request.now in
     let es = map g.M.LineMatch.expression c.args.searchers.now.matchers.now in
     let i = c.lines.invariant in
     let tallied = rw i.same.same_matchers.same_expressions at (c.pass_counted-selected.ensures.passed c.args.lines.now.lines.reader i.so_far.lines i.so_far.handed) in
@@ -45,7 +45,7 @@ count_found-selected-requires g c =
 
 pub lines-smaller : goal.lines-smaller
 lines-smaller g c =
-    let w = c.args.wanted.now in
+    let w = c.args.request.now in
     let es = map g.M.LineMatch.expression c.args.searchers.now.matchers.now in
     let i = c.lines.invariant in
     let tallied = rw i.same.same_matchers.same_expressions at (c.pass_counted-selected.ensures.passed c.args.lines.now.lines.reader i.so_far.lines i.so_far.handed) in
@@ -57,7 +57,7 @@ lines-smaller g c =
 
 pub returns-in_err-found-clause-given : goal.returns-in_err-found-clause-given
 returns-in_err-found-clause-given g c =
-    let w = c.args.wanted.now in
+    let w = c.args.request.now in
     let es = map g.M.LineMatch.expression c.args.searchers.now.matchers.now in
     let i = c.lines.invariant in
     let tallied = rw i.same.same_matchers.same_expressions at (c.pass_counted-selected.ensures.passed c.args.lines.now.lines.reader i.so_far.lines i.so_far.handed) in
@@ -73,7 +73,7 @@ returns-in_err-found-clause-given g c =
 
 pub returns-in-Ok-Some-clause-given : goal.returns-in-Ok-Some-clause-given
 returns-in-Ok-Some-clause-given g c =
-    let w = c.args.wanted.now in
+    let w = c.args.request.now in
     let es = map g.M.LineMatch.expression c.args.searchers.now.matchers.now in
     let i = c.lines.invariant in
     let tallied = rw i.same.same_matchers.same_expressions at (c.pass_counted-selected.ensures.passed c.args.lines.now.lines.reader i.so_far.lines i.so_far.handed) in
@@ -83,7 +83,7 @@ returns-in-Ok-Some-clause-given g c =
 
 pub returns-in-Err-clause-given : goal.returns-in-Err-clause-given
 returns-in-Err-clause-given g c =
-    let w = c.args.wanted.now in
+    let w = c.args.request.now in
     let es = map g.M.LineMatch.expression c.args.searchers.now.matchers.now in
     let i = c.lines.invariant in
     let tallied = rw i.same.same_matchers.same_expressions at (c.pass_counted-selected.ensures.passed c.args.lines.now.lines.reader i.so_far.lines i.so_far.handed) in

@@ -22,7 +22,7 @@ write_stretch-requires g c =
     let (before, all, d, n) = held.divided in
     record {
       whole = held.same.same_whole ∙ c.lines.invariant.same.same_whole ∙ c.requires.whole;
-      bare = bare_if c.args.wanted.now.options.invert_match c.writes_bare_lines.result held.none c.writes_bare_lines.ensures;
+      bare = bare_if c.args.request.now.options.invert_match c.writes_bare_lines.result held.none c.writes_bare_lines.ensures;
       few = omega (arith, n.few, d.counted, c.number.ensures);
     }
 
@@ -33,7 +33,7 @@ pass-requires g c =
 
 pub returns-in_err-found-clause-given : goal.returns-in_err-found-clause-given
 returns-in_err-found-clause-given g c =
-    let w = c.args.wanted.now in
+    let w = c.args.request.now in
     let es = map g.M.LineMatch.expression c.args.searchers.now.matchers.now in
     let reader = c.args.lines.now.lines.reader in
     let i = c.lines.invariant in
@@ -50,7 +50,7 @@ returns-in_err-found-clause-given g c =
 
 pub returns-then-found-early-clause-given : goal.returns-then-found-early-clause-given
 returns-then-found-early-clause-given g c =
-    let w = c.args.wanted.now in
+    let w = c.args.request.now in
     let es = map g.M.LineMatch.expression c.args.searchers.now.matchers.now in
     let reader = c.args.lines.now.lines.reader in
     let i = c.lines.invariant in
@@ -67,7 +67,7 @@ returns-then-found-early-clause-given g c =
 
 pub lines-preserved-then-goes_on : goal.lines-preserved-then-goes_on
 lines-preserved-then-goes_on g c =
-    let w = c.args.wanted.now in
+    let w = c.args.request.now in
     let es = map g.M.LineMatch.expression c.args.searchers.now.matchers.now in
     let reader = c.args.lines.now.lines.reader in
     let i = c.lines.invariant in
@@ -85,7 +85,7 @@ lines-preserved-then-goes_on g c =
 
 pub lines-smaller-then-goes_on : goal.lines-smaller-then-goes_on
 lines-smaller-then-goes_on g c =
-    let w = c.args.wanted.now in
+    let w = c.args.request.now in
     let es = map g.M.LineMatch.expression c.args.searchers.now.matchers.now in
     let reader = c.args.lines.now.lines.reader in
     let i = c.lines.invariant in
@@ -108,7 +108,7 @@ search_line-requires g c =
 
 pub count_found-selected-requires : goal.count_found-selected-requires
 count_found-selected-requires g c =
-    let w = c.args.wanted.now in
+    let w = c.args.request.now in
     let es = map g.M.LineMatch.expression c.args.searchers.now.matchers.now in
     let reader = c.args.lines.now.lines.reader in
     let i = c.lines.invariant in
@@ -128,7 +128,7 @@ count_found-selected-requires g c =
 
 pub lines-smaller : goal.lines-smaller
 lines-smaller g c =
-    let w = c.args.wanted.now in
+    let w = c.args.request.now in
     let es = map g.M.LineMatch.expression c.args.searchers.now.matchers.now in
     let reader = c.args.lines.now.lines.reader in
     let i = c.lines.invariant in
@@ -149,7 +149,7 @@ lines-smaller g c =
 
 pub lines-preserved : goal.lines-preserved
 lines-preserved g c =
-    let w = c.args.wanted.now in
+    let w = c.args.request.now in
     let es = map g.M.LineMatch.expression c.args.searchers.now.matchers.now in
     let reader = c.args.lines.now.lines.reader in
     let i = c.lines.invariant in
@@ -179,7 +179,7 @@ lines-preserved g c =
 
 pub returns-then-found-early-2-clause-given : goal.returns-then-found-early-2-clause-given
 returns-then-found-early-2-clause-given g c =
-    let w = c.args.wanted.now in
+    let w = c.args.request.now in
     let es = map g.M.LineMatch.expression c.args.searchers.now.matchers.now in
     let reader = c.args.lines.now.lines.reader in
     let i = c.lines.invariant in
@@ -203,7 +203,7 @@ returns-then-found-early-2-clause-given g c =
 
 pub returns-in_err-found-2-clause-given : goal.returns-in_err-found-2-clause-given
 returns-in_err-found-2-clause-given g c =
-    let w = c.args.wanted.now in
+    let w = c.args.request.now in
     let es = map g.M.LineMatch.expression c.args.searchers.now.matchers.now in
     let reader = c.args.lines.now.lines.reader in
     let i = c.lines.invariant in
@@ -228,7 +228,7 @@ returns-in_err-found-2-clause-given g c =
 
 pub returns-in-Ok-Some-clause-given : goal.returns-in-Ok-Some-clause-given
 returns-in-Ok-Some-clause-given g c =
-    let w = c.args.wanted.now in
+    let w = c.args.request.now in
     let es = map g.M.LineMatch.expression c.args.searchers.now.matchers.now in
     let reader = c.args.lines.now.lines.reader in
     let i = c.lines.invariant in
@@ -247,7 +247,7 @@ returns-in-Ok-Some-clause-given g c =
 
 pub returns-in-Err-clause-given : goal.returns-in-Err-clause-given
 returns-in-Err-clause-given g c =
-    let w = c.args.wanted.now in
+    let w = c.args.request.now in
     let es = map g.M.LineMatch.expression c.args.searchers.now.matchers.now in
     let reader = c.args.lines.now.lines.reader in
     let i = c.lines.invariant in

@@ -6,22 +6,22 @@ use Rattle.grep_core.proofs.search.line.search_line.Goals as goal
 
 pub returns-then-not-is_selected-clause-ok : goal.returns-then-not-is_selected-clause-ok
 returns-then-not-is_selected-clause-ok g c =
-    let w = c.args.wanted.now in
+    let w = c.args.request.now in
     line_passed (map g.M.LineMatch.expression c.args.searchers.now.matchers.now) w.options w.many w.name.now c.args.number c.args.line.now _ c.is_selected.result c.if-not-is_selected.true c.is_selected.ensures.told
 
 pub returns-then-not-is_selected-clause-steps : goal.returns-then-not-is_selected-clause-steps
 returns-then-not-is_selected-clause-steps g c =
-    searched_once (map g.M.LineMatch.expression c.args.searchers.now.matchers.now) c.args.wanted.now.options c.args.line.now (length (map g.M.LineMatch.expression c.args.searchers.now.matchers.now)) _ _ c.is_selected.ensures.steps
+    searched_once (map g.M.LineMatch.expression c.args.searchers.now.matchers.now) c.args.request.now.options c.args.line.now (length (map g.M.LineMatch.expression c.args.searchers.now.matchers.now)) _ _ c.is_selected.ensures.steps
 
 pub returns-clause-ok : goal.returns-clause-ok
 returns-clause-ok g c =
-    let w = c.args.wanted.now in
+    let w = c.args.request.now in
     line_selected (map g.M.LineMatch.expression c.args.searchers.now.matchers.now) _ w.options w.many w.name.now c.args.number c.args.line.now _ _ c.is_selected.result c.if-not-is_selected.false c.is_selected.ensures.told
     c.is_selected.ensures.same.same_matchers.same_expressions c.in_ok-write_selected.ensures.ok
 
 pub returns-in_err-write_selected-clause-err : goal.returns-in_err-write_selected-clause-err
 returns-in_err-write_selected-clause-err g c =
-    let w = c.args.wanted.now in
+    let w = c.args.request.now in
     err_with c.from_residual.result
     (line_broken (map g.M.LineMatch.expression c.args.searchers.now.matchers.now) _ w.options w.many w.name.now c.args.number c.args.line.now _ _ c.is_selected.result c.if-not-is_selected.false c.is_selected.ensures.told
     c.is_selected.ensures.same.same_matchers.same_expressions c.in_err-write_selected.ensures.err)
@@ -34,12 +34,12 @@ returns-in_err-write_selected-clause-same g c = asked_over c.write_selected.ensu
 
 pub returns-clause-steps : goal.returns-clause-steps
 returns-clause-steps g c =
-    line_asked (map g.M.LineMatch.expression c.args.searchers.now.matchers.now) _ c.args.wanted.now.options c.args.line.now c.args.meter.now c.is_selected.new.meter c.write_selected.new.meter
+    line_asked (map g.M.LineMatch.expression c.args.searchers.now.matchers.now) _ c.args.request.now.options c.args.line.now c.args.meter.now c.is_selected.new.meter c.write_selected.new.meter
     c.is_selected.ensures.same.same_matchers.same_expressions c.is_selected.ensures.steps c.write_selected.ensures.steps
 
 pub returns-in_err-write_selected-clause-steps : goal.returns-in_err-write_selected-clause-steps
 returns-in_err-write_selected-clause-steps g c =
-    line_asked (map g.M.LineMatch.expression c.args.searchers.now.matchers.now) _ c.args.wanted.now.options c.args.line.now c.args.meter.now c.is_selected.new.meter c.write_selected.new.meter
+    line_asked (map g.M.LineMatch.expression c.args.searchers.now.matchers.now) _ c.args.request.now.options c.args.line.now c.args.meter.now c.is_selected.new.meter c.write_selected.new.meter
     c.is_selected.ensures.same.same_matchers.same_expressions c.is_selected.ensures.steps c.write_selected.ensures.steps
 
 pub write_selected-requires : goal.write_selected-requires

@@ -25,7 +25,7 @@ loop-part-smaller g c =
 
 pub returns-in_err-write_part-clause-err : goal.returns-in_err-write_part-clause-err
 returns-in_err-write_part-clause-err g c =
-    let w = c.args.wanted.now in
+    let w = c.args.request.now in
     let es = map g.M.LineMatch.expression c.args.searchers.now.matchers.now in
     let same = c.loop-part.invariant.same in
     let whole : asks_whole c.loop-part.searchers ≡ w.options.line_regexp = same.same_whole ∙ c.requires.whole in
@@ -38,7 +38,7 @@ returns-in_err-write_part-clause-err g c =
 
 pub loop-part-preserved : goal.loop-part-preserved
 loop-part-preserved g c =
-    let w = c.args.wanted.now in
+    let w = c.args.request.now in
     let es = map g.M.LineMatch.expression c.args.searchers.now.matchers.now in
     let same = c.loop-part.invariant.same in
     let whole : asks_whole c.loop-part.searchers ≡ w.options.line_regexp = same.same_whole ∙ c.requires.whole in
@@ -54,7 +54,7 @@ loop-part-preserved g c =
 
 pub returns-clause-ok : goal.returns-clause-ok
 returns-clause-ok g c =
-    let w = c.args.wanted.now in
+    let w = c.args.request.now in
     let es = map g.M.LineMatch.expression c.args.searchers.now.matchers.now in
     let same = c.loop-part.invariant.same in
     let whole : asks_whole c.loop-part.searchers ≡ w.options.line_regexp = same.same_whole ∙ c.requires.whole in
@@ -69,7 +69,7 @@ returns-clause-same g c = asked_over c.in_default.ensures.same c.loop-part.invar
 
 pub returns-in_err-write_part-clause-steps : goal.returns-in_err-write_part-clause-steps
 returns-in_err-write_part-clause-steps g c =
-    let w = c.args.wanted.now in
+    let w = c.args.request.now in
     let es = map g.M.LineMatch.expression c.args.searchers.now.matchers.now in
     let same = c.loop-part.invariant.same in
     parts_asked es w.options w.many w.name.now c.args.number c.args.line.now c.requires.asked c.loop-part.from _ _ c.args.meter.now c.loop-part.meter c.part.new.meter _ c.loop-part.invariant.parts.0 c.loop-part.invariant.parts.1
@@ -77,7 +77,7 @@ returns-in_err-write_part-clause-steps g c =
 
 pub returns-clause-steps : goal.returns-clause-steps
 returns-clause-steps g c =
-    let w = c.args.wanted.now in
+    let w = c.args.request.now in
     let es = map g.M.LineMatch.expression c.args.searchers.now.matchers.now in
     let same = c.loop-part.invariant.same in
     parts_asked es w.options w.many w.name.now c.args.number c.args.line.now c.requires.asked c.loop-part.from _ _ c.args.meter.now c.loop-part.meter c.part.new.meter _ c.loop-part.invariant.parts.0 c.loop-part.invariant.parts.1

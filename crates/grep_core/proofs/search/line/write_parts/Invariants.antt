@@ -9,7 +9,7 @@ use Rattle.grep_core.proofs.search.line.write_parts.Given as goal
 -- the parts up to here were written
 abbrev pub invariant-loop-part : goal.invariant-loop-part
 invariant-loop-part g l = record {
-  parts : (s : PartsSoFar (map g.M.LineMatch.expression l.fn.searchers.matchers.now) l.wanted.options l.wanted.many l.wanted.name.now l.number l.line l.from
+  parts : (s : PartsSoFar (map g.M.LineMatch.expression l.fn.searchers.matchers.now) l.request.options l.request.many l.request.name.now l.number l.line l.from
       (writer g.W.CountedWrite.contents g.W.CountedWrite.failures l.fn.out) (writer g.W.CountedWrite.contents g.W.CountedWrite.failures l.out)) × AddsAtMost (length s.done * search_cost (length (map g.M.LineMatch.expression l.fn.searchers.matchers.now)) l.line) l.fn.meter l.meter;
   same : SameSearchers g.M.LineMatch.expression g.M.LineMatch.whole l.fn.searchers l.searchers;
 }

@@ -4,12 +4,12 @@ use Rattle.grep_core.proofs.search.line.write_selected.Goals as goal
 
 pub returns-in-Lines-clause-ok : goal.returns-in-Lines-clause-ok
 returns-in-Lines-clause-ok g c =
-    let w = c.args.wanted.now in
+    let w = c.args.request.now in
     row_written g.W.CountedWrite.contents g.W.CountedWrite.failures (map g.M.LineMatch.expression c.args.searchers.now.matchers.now) w.options w.many w.name.now c.args.number c.args.line.now c.args.out.now c.write_text.new.out
     (sym c.in-Lines.ensures) c.write_text.result c.write_text.ensures
 
 pub returns-in-Lines-clause-err : goal.returns-in-Lines-clause-err
 returns-in-Lines-clause-err g c =
-    let w = c.args.wanted.now in
+    let w = c.args.request.now in
     row_broken g.W.CountedWrite.contents g.W.CountedWrite.failures (map g.M.LineMatch.expression c.args.searchers.now.matchers.now) w.options w.many w.name.now c.args.number c.args.line.now c.args.out.now c.write_text.new.out
     (sym c.in-Lines.ensures) c.write_text.result c.write_text.ensures

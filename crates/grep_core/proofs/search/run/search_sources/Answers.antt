@@ -17,8 +17,8 @@ loop-k-preserved g c =
     let inside : c.loop-k.k < length sources = omega (arith, c.loop-k-test.true, c.count-count.ensures) in
     record {
       so_far =
-          run_further es c.args.asked.now.options _ sources c.loop-k.k inside _ _ _ join _ _ _ c.loop-k.some c.loop-k.faulty s.so_far c.in-Ok.found.end c.in-Ok.found.selected c.has_selected.result c.has_selected-some.result c.is_fault-faulty.result
-          given c.has_selected.ensures c.if-asked-has_selected.false c.has_selected-some.ensures c.is_fault-faulty.ensures;
+          run_further es c.args.request.now.options _ sources c.loop-k.k inside _ _ _ join _ _ _ c.loop-k.some c.loop-k.faulty s.so_far c.in-Ok.found.end c.in-Ok.found.selected c.has_selected.result c.has_selected-some.result c.is_fault-faulty.result
+          given c.has_selected.ensures c.if-request-has_selected.false c.has_selected-some.ensures c.is_fault-faulty.ensures;
       listed = c.in-Ok.ensures.listed ∙ s.listed;
       within = omega (arith, inside);
       in_order = c.in-Ok.ensures.next;
@@ -26,16 +26,16 @@ loop-k-preserved g c =
       same = asked_over c.in-Ok.ensures.same s.same;
     }
 
-pub returns-then-asked-has_selected-clause-run : goal.returns-then-asked-has_selected-clause-run
-returns-then-asked-has_selected-clause-run g c =
+pub returns-then-request-has_selected-clause-run : goal.returns-then-request-has_selected-clause-run
+returns-then-request-has_selected-clause-run g c =
     let es = map g.M.LineMatch.expression c.args.searchers.now.matchers.now in
     let sources = g.S.Sources.listed c.args.sources.now in
     let s = c.loop-k.invariant in
     let given = rw (s.same.same_matchers.same_expressions, s.listed) at c.in-Ok.ensures.given in
     let join = gives_both g.S.Sources.given_back c.args.sources.now c.loop-k.sources c.search_source.new.sources in
     let inside : c.loop-k.k < length sources = omega (arith, c.loop-k-test.true, c.count-count.ensures) in
-    run_ends_at es c.args.asked.now.options _ sources c.loop-k.k inside _ _ _ join _ _ _ c.loop-k.some c.loop-k.faulty s.so_far (ap (nat_le 2) c.count-count.ensures) c.in-Ok.found.end c.in-Ok.found.selected c.has_selected.result
-    given c.has_selected.ensures c.if-asked-has_selected.true
+    run_ends_at es c.args.request.now.options _ sources c.loop-k.k inside _ _ _ join _ _ _ c.loop-k.some c.loop-k.faulty s.so_far (ap (nat_le 2) c.count-count.ensures) c.in-Ok.found.end c.in-Ok.found.selected c.has_selected.result
+    given c.has_selected.ensures c.if-request-has_selected.true
 
 pub returns-in-Err-clause-run : goal.returns-in-Err-clause-run
 returns-in-Err-clause-run g c =
@@ -44,7 +44,7 @@ returns-in-Err-clause-run g c =
     let s = c.loop-k.invariant in
     let join = gives_both g.S.Sources.given_back c.args.sources.now c.loop-k.sources c.search_source.new.sources in
     let inside : c.loop-k.k < length sources = omega (arith, c.loop-k-test.true, c.count-count.ensures) in
-    run_given_up es c.args.asked.now.options _ sources c.loop-k.k inside _ _ _ join _ _ _ c.loop-k.some c.loop-k.faulty s.so_far (ap (nat_le 2) c.count-count.ensures) c.in-Err.fault _ _ s.same.same_matchers.same_expressions s.listed c.in-Err.ensures.given
+    run_given_up es c.args.request.now.options _ sources c.loop-k.k inside _ _ _ join _ _ _ c.loop-k.some c.loop-k.faulty s.so_far (ap (nat_le 2) c.count-count.ensures) c.in-Err.fault _ _ s.same.same_matchers.same_expressions s.listed c.in-Err.ensures.given
 
 pub returns-clause-run : goal.returns-clause-run
 returns-clause-run g c =
@@ -52,4 +52,4 @@ returns-clause-run g c =
     let sources = g.S.Sources.listed c.args.sources.now in
     let s = c.loop-k.invariant in
     let over : length sources ≤ c.loop-k.k = omega (arith, c.loop-k-test.false, c.count-count.ensures) in
-    run_ends es c.args.asked.now.options _ sources _ c.loop-k.k _ _ c.loop-k.some c.loop-k.faulty c.status_of.result (ap (nat_le 2) c.count-count.ensures) over s.so_far c.status_of.ensures
+    run_ends es c.args.request.now.options _ sources _ c.loop-k.k _ _ c.loop-k.some c.loop-k.faulty c.status_of.result (ap (nat_le 2) c.count-count.ensures) over s.so_far c.status_of.ensures

@@ -4,7 +4,7 @@ ghost use Rattle.std.specs.Option.{option_copied};
 ghost use Rattle.grep_core.specs.Output.{shown_number};
 ghost use Rattle.grep_core.specs.Row.{colon, hyphen, head, output_line};
 ghost use Rattle.grep_core.specs.Working.OneLine.{IsBare};
-ghost use Rattle.grep_core.specs.Working.Wanted.{name_shown};
+ghost use Rattle.grep_core.specs.Working.Requests.{name_shown};
 ghost use Rattle.grep_io.specs.Written.{Writes};
 
 use crate::options::{Form, Options};
@@ -14,7 +14,7 @@ use re_search::Span;
 
 /// What is asked of one file.
 #[derive(Clone, Copy)]
-pub struct Wanted<'a> {
+pub struct FileRequest<'a> {
     /// The options of the run.
     pub options: Options,
     /// Whether there are two files or more: rows and counts then begin with the file's name.
@@ -23,7 +23,7 @@ pub struct Wanted<'a> {
     pub name: &'a [u8],
 }
 
-impl Wanted<'_> {
+impl FileRequest<'_> {
     /// The name that rows and counts begin with.
     pub fn shown_name(&self) -> Option<&[u8]>
         ensures { option_copied result ≡ name_shown self.now.many self.now.name.now }
@@ -94,7 +94,7 @@ impl Wanted<'_> {
     }
 
     /// Writes an output line for a line that is not selected and is shown around one that is: what
-    /// [`Wanted::write_text`] writes, with hyphens for the colons.
+    /// [`FileRequest::write_text`] writes, with hyphens for the colons.
     ///
     /// Returns `WriteFault` if a write fails. It is not tried again.
     pub fn write_around<W: CountedWrite>(
@@ -111,7 +111,7 @@ impl Wanted<'_> {
         self.write_with(b'-', number, text, out, margin)
     }
 
-    /// Writes an output line for a part of a line of the file: what [`Wanted::write_text`] writes
+    /// Writes an output line for a part of a line of the file: what [`FileRequest::write_text`] writes
     /// for the part's text.
     ///
     /// Returns `WriteFault` if a write fails. It is not tried again.

@@ -6,7 +6,7 @@ use std::alloc::Global;
 
 /// What is asked of a search, besides its sources and its matchers.
 #[derive(Clone, Copy)]
-pub struct Asked<'a> {
+pub struct SearchRequest<'a> {
     /// Where memory comes from.
     pub alloc: Global,
     /// The options of the run. `-i` is for the matchers to heed.
@@ -17,9 +17,9 @@ pub struct Asked<'a> {
 
 /// What the search of each source is asked to do.
 #[derive(Clone, Copy)]
-pub struct Setting<'a> {
+pub struct SourceRequest<'a> {
     /// What is asked of the search.
-    pub asked: Asked<'a>,
+    pub request: SearchRequest<'a>,
     /// The source's place among all, counted from 0.
     pub place: usize,
     /// Whether there are two sources or more: rows and counts then begin with the source's name.
