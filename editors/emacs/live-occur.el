@@ -462,7 +462,7 @@ has the lines of the others where they were."
       (live-occur--lose source)
       (setf (live-occur--edits source)
             (list (list 0 (live-occur--lines source) (1+ (buffer-size))))))
-    (when-let ((edits (live-occur--edits source)))
+    (when-let* ((edits (live-occur--edits source)))
       (let ((shift (cl-loop for (_ was is) in edits sum (- is was))))
         (pcase-dolist (`(,at ,was ,is) (reverse edits))
           (cl-decf shift (- is was))
@@ -739,15 +739,25 @@ have moved."
   (forward-line row))
 
 (defun live-occur--row-at (position)
-  "The number of the row at POSITION, from 0."
-  (1- (line-number-at-pos position)))
+  "The number of the row at POSITION, from 0, even if the list is narrowed."
+  (save-restriction
+    (widen)
+    (1- (line-number-at-pos position))))
+
+(defmacro live-occur--at-row (row &rest body)
+  "Run BODY in the whole list at the row of number ROW, and stay here."
+  (declare (indent 1) (debug t))
+  `(save-excursion
+     (save-restriction
+       (widen)
+       (live-occur--go-to-row ,row)
+       ,@body)))
 
 (defun live-occur--replace-rows (row removed added)
   "Put ADDED rows that are not made in the place of REMOVED ones from ROW on."
   (unless (or live-occur--page (= removed added 0))
     (with-silent-modifications
-      (save-excursion
-        (live-occur--go-to-row row)
+      (live-occur--at-row row
         (delete-region (point) (line-beginning-position (1+ removed)))
         (insert-char ?\n added)))
     (when live-occur-edit-mode (setq buffer-undo-list nil))
@@ -775,8 +785,7 @@ function that moves it."
                   collect (list (window-start window) window
                                 (lambda (window start)
                                   (set-window-start window start t)))))))
-      (save-excursion
-        (live-occur--go-to-row row)
+      (live-occur--at-row row
         (cl-loop
          with start = (point) and end = (line-beginning-position (1+ count))
          for (position . how) in positions
@@ -793,8 +802,7 @@ function that moves it."
     (when (or (not window) (eq (window-buffer window) (current-buffer)))
       (live-occur--make-rows row 1)
       (funcall mover window
-               (save-excursion
-                 (live-occur--go-to-row row)
+               (live-occur--at-row row
                  (min (+ (point) column) (line-end-position)))))))
 
 (defun live-occur--make-rows (first count)
@@ -805,8 +813,7 @@ function that moves it."
 
 (defun live-occur--map-rows (function first count)
   "Call FUNCTION with each hit of COUNT rows from FIRST on, at its row."
-  (save-excursion
-    (live-occur--go-to-row first)
+  (live-occur--at-row first
     (live-occur--map-hits (lambda (hit)
                             (save-excursion (funcall function hit))
                             (forward-line 1))
@@ -889,8 +896,7 @@ It may be moved to its point then, so rows there are made, too."
 
 (defun live-occur--show-around (first count)
   "Show the lines around COUNT rows from FIRST on."
-  (save-excursion
-    (live-occur--go-to-row first)
+  (live-occur--at-row first
     (remove-overlays (point) (line-beginning-position (1+ count))
                      'live-occur-around t))
   (when (and live-occur-context (not live-occur--page))
@@ -940,7 +946,7 @@ ABOVE is nil before the first hit of the list, and BELOW after the last one."
 (defun live-occur-visit (&optional event)
   "Go to the line of the row at point, or of the one that EVENT clicked at.
 The list keeps its window."
-  (interactive (list last-nonmenu-event))
+  (interactive (list last-nonmenu-event) live-occur-mode)
   (when (mouse-event-p event)
     (posn-set-point (event-end event)))
   (let* ((hit (or (live-occur--hit (live-occur--row-at (point)))
@@ -966,27 +972,27 @@ The list keeps its window."
 
 (defun live-occur-display ()
   "Show the line of the row at point in another window, and stay here."
-  (interactive)
+  (interactive nil live-occur-mode)
   (save-selected-window (live-occur-visit)))
 
 (defun live-occur-next (&optional count)
   "Move COUNT rows on."
-  (interactive "p")
+  (interactive "p" live-occur-mode)
   (let ((row (+ (live-occur--row-at (point)) (or count 1))))
     (unless (< -1 row (live-occur--total))
       (user-error "There are no more rows"))
-    (live-occur--go-to-row row)))
+    (goto-char (live-occur--at-row row (point)))))
 
 (defun live-occur-previous (&optional count)
   "Move COUNT rows back."
-  (interactive "p")
+  (interactive "p" live-occur-mode)
   (live-occur-next (- (or count 1))))
 
 (defun live-occur--next-error (count reset)
   "Move COUNT rows on, or with RESET from the first row, and go to the line.
 This is the `next-error-function' of lists."
   (live-occur-next (if reset (- (live-occur--row-at (point))) count))
-  (when-let ((window (get-buffer-window nil 0)))
+  (when-let* ((window (get-buffer-window nil 0)))
     (set-window-point window (point)))
   (live-occur-visit))
 
@@ -1088,7 +1094,7 @@ Call REPORT with the reply.  Of several wishes the last one is kept."
 
 (defun live-occur--symbol-at-point (syntax)
   "The symbol at point as a pattern in SYNTAX that matches it, or nil."
-  (when-let ((symbol (thing-at-point 'symbol t)))
+  (when-let* ((symbol (thing-at-point 'symbol t)))
     (pcase syntax
       ('fixed symbol)
       ('basic (replace-regexp-in-string "[][\\.*^$]" "\\\\\\&" symbol))
@@ -1136,7 +1142,7 @@ They go between the patterns BEFORE and AFTER."
 
 (defun live-occur-add-pattern ()
   "Add a pattern: lines that any of the patterns matches are listed."
-  (interactive)
+  (interactive nil live-occur-mode)
   (live-occur--ask (current-buffer) "Add pattern: " nil live-occur--patterns))
 
 (defun live-occur--read-place (prompt)
@@ -1149,13 +1155,14 @@ They go between the patterns BEFORE and AFTER."
 
 (defun live-occur-drop-pattern (place)
   "Drop the pattern of number PLACE.  Without any, no line is listed."
-  (interactive (list (live-occur--read-place "Drop pattern: ")))
+  (interactive (list (live-occur--read-place "Drop pattern: ")) live-occur-mode)
   (live-occur--put (append (seq-take live-occur--patterns place)
                            (seq-drop live-occur--patterns (1+ place)))))
 
 (defun live-occur-change-pattern (place)
   "Change the pattern of number PLACE."
-  (interactive (list (live-occur--read-place "Change pattern: ")))
+  (interactive (list (live-occur--read-place "Change pattern: "))
+               live-occur-mode)
   (live-occur--ask (current-buffer) "Pattern: " (nth place live-occur--patterns)
                    (seq-take live-occur--patterns place)
                    (seq-drop live-occur--patterns (1+ place))))
@@ -1220,17 +1227,17 @@ They go between the patterns BEFORE and AFTER."
 
 (defun live-occur-basic ()
   "Read the patterns as basic regular expressions."
-  (interactive)
+  (interactive nil live-occur-mode)
   (live-occur--set 'live-occur-syntax 'basic "syntax basic"))
 
 (defun live-occur-extended ()
   "Read the patterns as extended regular expressions."
-  (interactive)
+  (interactive nil live-occur-mode)
   (live-occur--set 'live-occur-syntax 'extended "syntax extended"))
 
 (defun live-occur-fixed ()
   "Read the patterns as fixed strings."
-  (interactive)
+  (interactive nil live-occur-mode)
   (live-occur--set 'live-occur-syntax 'fixed "syntax fixed"))
 
 (defun live-occur--toggle (letter)
@@ -1243,17 +1250,17 @@ They go between the patterns BEFORE and AFTER."
 
 (defun live-occur-toggle-case ()
   "Match both cases of letters, or no longer: flag i."
-  (interactive)
+  (interactive nil live-occur-mode)
   (live-occur--toggle ?i))
 
 (defun live-occur-toggle-inverse ()
   "List the lines that are not matched, or no longer: flag v."
-  (interactive)
+  (interactive nil live-occur-mode)
   (live-occur--toggle ?v))
 
 (defun live-occur-toggle-whole-lines ()
   "Match whole lines alone, or no longer: flag x."
-  (interactive)
+  (interactive nil live-occur-mode)
   (live-occur--toggle ?x))
 
 (defun live-occur-set-context (before after)
@@ -1261,7 +1268,8 @@ They go between the patterns BEFORE and AFTER."
 Where both numbers are 0 no other lines are shown."
   (interactive
    (list (read-number "Lines before: " (or (car live-occur-context) 0))
-         (read-number "Lines after: " (or (cdr live-occur-context) 0))))
+         (read-number "Lines after: " (or (cdr live-occur-context) 0)))
+   live-occur-mode)
   (unless (and (natnump before) (natnump after))
     (user-error "A number of lines is 0 or more"))
   (setq live-occur-context (unless (= 0 before after) (cons before after)))
@@ -1298,13 +1306,13 @@ rows are edited, \\[live-occur-edit-mode] ends it")
 
 (defun live-occur-refresh (&rest _)
   "Bring the list up to date now."
-  (interactive)
+  (interactive nil live-occur-mode)
   (live-occur--check)
   (live-occur--update t))
 
 (defun live-occur-restart ()
   "Start the program again.  The list stays as it is until that has reported."
-  (interactive)
+  (interactive nil live-occur-mode)
   (live-occur--end)
   (setq live-occur--page (list (live-occur--total)))
   (dolist (source live-occur--sources)
@@ -1358,7 +1366,7 @@ rows are edited, \\[live-occur-edit-mode] ends it")
 
 (defun live-occur-add-buffer (buffer)
   "Search BUFFER as well."
-  (interactive "bSearch buffer: ")
+  (interactive "bSearch buffer: " live-occur-mode)
   (when (live-occur--source-of buffer)
     (user-error "%s is searched already" buffer))
   (live-occur--add-source (get-buffer buffer))
@@ -1369,8 +1377,9 @@ rows are edited, \\[live-occur-edit-mode] ends it")
   (interactive
    (list (completing-read
           "Leave out buffer: "
-          (mapcar #'live-occur--source-name live-occur--sources) nil t)))
-  (when-let ((source (live-occur--source-of buffer)))
+          (mapcar #'live-occur--source-name live-occur--sources) nil t))
+   live-occur-mode)
+  (when-let* ((source (live-occur--source-of buffer)))
     (live-occur--close source)
     (live-occur--update t)))
 
@@ -1425,6 +1434,7 @@ rows are edited, \\[live-occur-edit-mode] ends it")
 
 (define-derived-mode live-occur-mode special-mode "Live-Occur"
   "A list of the lines that match, kept right while buffers are edited."
+  :interactive nil
   (setq-local live-occur-syntax live-occur-syntax
               live-occur-context live-occur-context
               live-occur-flags (sort (copy-sequence live-occur-flags) #'<)
@@ -1462,6 +1472,7 @@ rows are edited, \\[live-occur-edit-mode] ends it")
   "Edit the rows of this list, and with each its line.
 Undo works in the list, and in the buffers."
   :lighter " Edit"
+  :interactive (live-occur-mode)
   :keymap `((,(kbd "C-c C-c") . live-occur-edit-mode)
             (,(kbd "C-c C-o") . live-occur-display))
   (let ((on live-occur-edit-mode))
@@ -1516,12 +1527,10 @@ All of it is where its buffer is read-only, or its text is shortened."
   "Make the change of a row, from START to END, in its line as well.
 Newlines in it become spaces."
   (save-match-data
-    (save-excursion
-      (subst-char-in-region start end ?\n ?\s)
-      (goto-char start)
-      (forward-line 0)
-      (when-let ((hit (live-occur--hit (live-occur--row-at (point))))
-                 (text (live-occur--row-text)))
+    (subst-char-in-region start end ?\n ?\s)
+    (live-occur--at-row (live-occur--row-at start)
+      (when-let* ((hit (live-occur--hit (live-occur--row-at (point))))
+                  (text (live-occur--row-text)))
         (condition-case problem
             (live-occur--change-line
              hit (get-text-property (point) 'live-occur-text) text)
@@ -1611,7 +1620,7 @@ whatever it is narrowed to."
             (live-occur--ask list "List lines that match: "))
           (setq done t))
       (unless done
-        (when-let ((window (get-buffer-window list t)))
+        (when-let* ((window (get-buffer-window list t)))
           (quit-restore-window window 'kill))
         (kill-buffer list)))
     (setq next-error-last-buffer list)

@@ -932,6 +932,92 @@ It is nil where the pattern is refused."
           (should (equal (live-occur-test--restart list)
                          "a:1:ones\na:2:two\nb:1:four\n")))))))
 
+(defmacro live-occur-test--killed-after (list function &rest body)
+  "Run BODY, and kill the program of LIST after the first call of FUNCTION.
+Where BODY reports that it was killed, that is as it has to be."
+  (declare (indent 2) (debug t))
+  `(let (killed)
+     (advice-add ,function :after (lambda (&rest _)
+                                    (unless killed
+                                      (setq killed t)
+                                      (live-occur-test--kill ,list)))
+                 '((name . live-occur-test)))
+     (unwind-protect
+         (condition-case problem
+             (progn ,@body)
+           (user-error (should (string-search "was killed" (cadr problem)))))
+       (advice-remove ,function 'live-occur-test))
+     (should killed)))
+
+(ert-deftest live-occur-outlives-its-program-in-the-midst-of-a-command ()
+  (live-occur-test--with '("one\ntwo\nthree\n" "four\n")
+    (live-occur-test--in-windows
+      (let ((list (live-occur "o" buffers))
+            (rows "a:1:one\na:2:two\nb:1:four\n"))
+        (live-occur-test--rows list)
+        (ert-info ("while a text is sent")
+          (goto-char (point-min))
+          (insert (apply #'concat (make-list 60000 "x\n")))
+          (with-current-buffer list
+            (live-occur-test--killed-after list #'live-occur--order
+              (live-occur--update)))
+          (delete-region 1 120001)
+          (should (equal (live-occur-test--restart list) rows)))
+        (ert-info ("while a list is opened")
+          (should-error (live-occur-test--killed-in-new-list) :type 'user-error))
+        (ert-info ("while a pattern waits for its reply")
+          (with-current-buffer list
+            (live-occur-test--killed-after list #'live-occur--patterns-command
+              (live-occur--put '("t")))
+            (should (equal live-occur--patterns '("o"))))
+          (should (equal (live-occur-test--restart list) rows)))
+        (ert-info ("while a page is on its way")
+          (with-selected-window (get-buffer-window list)
+            (live-occur-test--killed-after list #'live-occur--ask-for-page
+              (live-occur-test--type "C-c a t C-g"))
+            (should (equal live-occur--patterns '("o")))
+            (should (equal (live-occur-test--text-shown) rows)))
+          (should (equal (live-occur-test--restart list) rows)))
+        (ert-info ("while a page is shown, and the pattern is kept")
+          (with-selected-window (get-buffer-window list)
+            (live-occur-test--killed-after list #'live-occur--show-page
+              (live-occur-test--type "C-c a t RET C-g"))
+            (should (equal live-occur--patterns '("o")))
+            (should (equal (live-occur-test--text-shown) rows)))
+          (should (equal (live-occur-test--restart list) rows)))
+        (ert-info ("while a flag waits for its reply")
+          (with-current-buffer list
+            (live-occur-test--killed-after list #'live-occur--send
+              (live-occur-toggle-inverse))
+            (should-not live-occur-flags))
+          (should (equal (live-occur-test--restart list) rows)))
+        (ert-info ("while the rows to edit are on their way")
+          (insert "o\n")
+          (with-current-buffer list
+            (live-occur-test--killed-after list #'live-occur--ask-for-changes
+              (live-occur-edit-mode))
+            (should-not live-occur-edit-mode)
+            (should buffer-read-only))
+          (delete-char -2)
+          (should (equal (live-occur-test--restart list) rows)))
+        (ert-info ("while it starts again")
+          (with-current-buffer list
+            (live-occur-test--killed-after list #'live-occur--begin
+              (live-occur-restart)))
+          (should (equal (live-occur-test--restart list) rows)))))))
+
+(defun live-occur-test--killed-in-new-list ()
+  "Begin a list, and kill its program while its text is sent."
+  (let ((buffers (buffer-list)))
+    (cl-letf* ((open (symbol-function 'live-occur--add-source))
+               ((symbol-function 'live-occur--add-source)
+                (lambda (buffer)
+                  (funcall open buffer)
+                  (live-occur-test--kill (current-buffer)))))
+      (unwind-protect
+          (live-occur "o")
+        (should (equal (buffer-list) buffers))))))
+
 (defun live-occur-test--text-shown-in (list)
   "The text that LIST shows."
   (with-current-buffer list
@@ -1097,6 +1183,39 @@ It is nil where the pattern is refused."
           (live-occur-previous 1)
           (run-hooks 'post-command-hook))
         (should (= (line-number-at-pos (window-point (get-buffer-window a))) 2))))))
+
+(ert-deftest live-occur-stays-right-while-it-is-narrowed ()
+  (live-occur-test--with '("a1\nb\na2\na3\na4\n")
+    (live-occur-test--in-windows
+      (let ((list (live-occur "a")))
+        (live-occur-test--rows list)
+        (live-occur-test--at list 2)
+        (with-current-buffer list
+          (narrow-to-region (point) (line-beginning-position 3)))
+        (goto-char (point-min))
+        (insert "a0\n")
+        (live-occur-test--rows list)
+        (search-forward "a3")
+        (insert " a")
+        (live-occur-test--rows list)
+        (goto-char (point-max))
+        (insert "a5\n")
+        (should (string-prefix-p "a:4:a2\na:5:a3 a\n" (live-occur-test--rows list)))
+        (with-current-buffer list
+          (goto-char (point-min))
+          (should (looking-at "a:4:a2"))
+          (live-occur-next)
+          (should (looking-at "a:5:a3 a"))
+          (live-occur-edit-mode)
+          (goto-char (point-min))
+          (search-forward "a2")
+          (insert "!")
+          (live-occur-edit-mode -1))
+        (should (equal (buffer-string) "a0\na1\nb\na2!\na3 a\na4\na5\n"))
+        (with-current-buffer list
+          (widen))
+        (should (equal (live-occur-test--rows list)
+                       "a:1:a0\na:2:a1\na:4:a2!\na:5:a3 a\na:6:a4\na:7:a5\n"))))))
 
 (ert-deftest live-occur-stays-at-its-row ()
   (live-occur-test--with '("x1\nx2\nx3\nx4\n")
@@ -1582,6 +1701,12 @@ of the edits: of the command alone, and with the update."
     (forward-line 1)
     (should (eobp))))
 
+(ert-deftest live-occur-has-its-commands-in-lists-alone ()
+  (pcase-dolist (`(,_ ,command . ,_) live-occur--commands)
+    (unless (memq command '(quit-window next-error-follow-minor-mode))
+      (should (equal (command-modes command) '(live-occur-mode)))))
+  (should-not (commandp 'live-occur-mode)))
+
 (ert-deftest live-occur-has-a-menu ()
   (dolist (entry live-occur--commands)
     (should (where-is-internal (nth 1 entry) (list (list 'keymap live-occur-menu))))))
@@ -1612,6 +1737,27 @@ of the edits: of the command alone, and with the update."
       (checkdoc-current-buffer t)
       (kill-buffer))
     (should-not told)))
+
+(defvar package-directory-list)
+(declare-function package-lint-buffer "package-lint")
+(declare-function package-activate "package")
+(declare-function package-load-all-descriptors "package")
+
+(ert-deftest live-occur-passes-package-lint ()
+  "The project has no home page, and some releases know no Emacs 28."
+  (require 'package)
+  (add-to-list 'package-directory-list "/usr/share/emacs/site-lisp/elpa")
+  (package-load-all-descriptors)
+  (package-activate 'package-lint)
+  (skip-unless (require 'package-lint nil t))
+  (with-current-buffer (find-file-noselect (live-occur-test--file))
+    (unwind-protect
+        (should-not (cl-remove-if
+                     (lambda (text)
+                       (string-match-p "Homepage or URL header\\|in all released Emacs versions"
+                                       text))
+                     (mapcar (lambda (found) (nth 3 found)) (package-lint-buffer))))
+      (kill-buffer))))
 
 (provide 'live-occur-test)
 
