@@ -109,6 +109,8 @@ The whole line is searched."
 (defvar-local live-occur--patterns nil "The patterns, in their order.")
 (defvar-local live-occur--asked nil
   "Whether changes of hits are on their way; `again' to ask for more then.")
+(defvar-local live-occur--came nil
+  "Changes of hits that came, but for the last ones, and their sources.")
 (defvar-local live-occur--trying nil
   "Whether patterns wait for a reply, or what is wanted after that.")
 (defvar-local live-occur--previewing nil "Whether a pattern is being typed.")
@@ -248,7 +250,8 @@ Tell what helps, if the list was ever shown."
                              (list "--states" (format "%d" live-occur-states))))
            :filter #'live-occur--read :sentinel #'live-occur--ended)))
   (process-put live-occur--process 'list (current-buffer))
-  (setq live-occur--fault nil live-occur--asked nil live-occur--trying nil)
+  (setq live-occur--fault nil live-occur--asked nil live-occur--came nil
+        live-occur--trying nil)
   (live-occur--order "flag o on\n")
   (live-occur--order (format "syntax %s\n" live-occur-syntax))
   (dolist (letter live-occur-flags)
@@ -471,7 +474,11 @@ has the lines of the others where they were."
                  (removed (min was (- (live-occur--lines source) start)))
                  (added (- is (save-excursion (forward-line is)))))
             (live-occur--splice source file start removed added)
-            (cl-incf (live-occur--lines source) (- added removed)))))
+            (cl-incf (live-occur--lines source) (- added removed))
+            ;; Without this all lines between two edits would come again.
+            (unless (eq at (caar edits))
+              (live-occur--in (live-occur--list source)
+                (live-occur--ask-for-changes))))))
       (setf (live-occur--edits source) nil
             (live-occur--tick source) (buffer-chars-modified-tick))
       t)))
@@ -647,7 +654,7 @@ If nothing has changed ask for none, but with ALWAYS non-nil."
               (not (or (live-occur--flush-all) always)))
     (if live-occur--asked
         (setq live-occur--asked 'again)
-      (live-occur--ask-for-changes))))
+      (live-occur--ask-for-changes t))))
 
 (defun live-occur--flush-all ()
   "Send what has changed in all sources, and answer whether anything has.
@@ -666,35 +673,42 @@ To be broken off between, or begun again, would leave the program out of step."
     (mapc #'live-occur--close killed)
     killed))
 
-(defun live-occur--ask-for-changes ()
-  "Ask for what changed of the hits, and apply it when it comes."
+(defun live-occur--ask-for-changes (&optional last)
+  "Ask for what changed of the hits, and keep it when it comes.
+With LAST non-nil apply all that came then."
   (let ((moves (cl-loop for source in live-occur--sources
                         collect (cons source (live-occur--moves source)))))
-    (setq live-occur--asked t)
+    (when last (setq live-occur--asked t))
     (live-occur--send "changes\n"
                       (lambda (_ rows)
-                        (live-occur--apply-all rows moves)
-                        (when (eq 'again (cl-shiftf live-occur--asked nil))
-                          (live-occur--ask-for-changes))))))
+                        (push (cons rows moves) live-occur--came)
+                        (when last (live-occur--apply-all moves))))))
 
-(defun live-occur--apply-all (rows moves)
-  "Apply what has changed, which is in the bytes ROWS.
-MOVES has the sources, and how their lines had moved at the question."
-  (let ((at 0))
-    (while (< at (length rows))
-      (pcase-let* ((start (live-occur--after-rows rows at 1))
-                   (`(,_ ,file ,front ,removed ,added ,count)
-                    (mapcar #'string-to-number
-                            (split-string (substring rows at start) " ")))
-                   (`(,source . ,moved) (nth file moves)))
-        (when (memq source live-occur--sources)
-          (live-occur--apply source moved front removed added
-                             (live-occur--pieces-in rows start count)))
-        (setq at (live-occur--after-rows rows start count)))))
+(defun live-occur--apply-all (moves)
+  "Apply all that came, the first of it first.
+MOVES has the sources, and how their lines had moved at the last question."
+  (let (spots)
+    (pcase-dolist (`(,rows . ,asked)
+                   (nreverse (cl-shiftf live-occur--came nil)))
+      (let ((at 0))
+        (while (< at (length rows))
+          (pcase-let* ((start (live-occur--after-rows rows at 1))
+                       (`(,_ ,file ,front ,removed ,added ,count)
+                        (mapcar #'string-to-number
+                                (split-string (substring rows at start) " ")))
+                       (source (car (nth file asked)))
+                       (new (live-occur--pieces-in rows start count)))
+            (when (memq source live-occur--sources)
+              (cl-callf2 nconc
+                  (live-occur--apply source front removed added new) spots))
+            (setq at (live-occur--after-rows rows start count))))))
+    (live-occur--go-to-spots spots moves))
   (pcase-dolist (`(,source . ,before) moves)
     (setf (live-occur--moves source)
           (cl-ldiff (live-occur--moves source) before)))
   (when live-occur--page (live-occur--show-hits))
+  (when (eq 'again (cl-shiftf live-occur--asked nil))
+    (live-occur--update t))
   (force-mode-line-update))
 
 (defun live-occur--pieces-in (rows start count)
@@ -705,10 +719,10 @@ MOVES has the sources, and how their lines had moved at the question."
            collect (live-occur--piece-of (substring rows start end) some 0)
            do (setq start end)))
 
-(defun live-occur--apply (source moves front removed added new)
+(defun live-occur--apply (source front removed added new)
   "Put the hits NEW in the place of those among REMOVED lines of SOURCE.
-They are those among the ADDED lines from line FRONT on.  MOVES is how lines
-have moved."
+They are those among the ADDED lines from line FRONT on.
+The answer is the spots that were there."
   (pcase-let* ((`(,head . ,rest)
                 (live-occur--cut (live-occur--pieces source) front))
                (`(,gone . ,tail) (live-occur--cut rest (+ front removed)))
@@ -717,16 +731,11 @@ have moved."
                (less (live-occur--count gone))
                (more (live-occur--count new))
                (spots (unless live-occur--page (live-occur--spots row less))))
-    (dolist (spot spots)
-      (let* ((hit (live-occur--hit (car spot)))
-             (line (and hit
-                        (live-occur--moved (live-occur--hit-place hit) moves))))
-        (setcar spot (+ row (if hit (live-occur--count new line) more)))))
     (dolist (piece tail)
       (cl-incf (live-occur--piece-shift piece) (- added removed)))
     (setf (live-occur--pieces source) (nconc head new tail))
     (live-occur--replace-rows row less more)
-    (live-occur--go-to-spots spots)))
+    spots))
 
 ;;;; Rows
 
@@ -773,8 +782,8 @@ have moved."
 
 (defun live-occur--spots (row count)
   "List where point and the windows are in the COUNT rows from ROW on.
-An element is a list of the row and the column, the window or nil, and the
-function that moves it."
+An element is a list of the hit, or the row where there is none, the column,
+the window or nil, and the function that moves it."
   (unless (= count 0)
     (let ((positions
            (cons (list (point) nil (lambda (_ position) (goto-char position)))
@@ -793,17 +802,26 @@ function that moves it."
                   (= position end (point-max)))
          collect (progn
                    (goto-char position)
-                   `(,(live-occur--row-at position)
+                   `(,(or (live-occur--hit (live-occur--row-at position))
+                          (live-occur--row-at position))
                      ,(- position (line-beginning-position)) ,@how)))))))
 
-(defun live-occur--go-to-spots (spots)
-  "Go back to SPOTS, or to rows after them."
-  (pcase-dolist (`(,row ,column ,window ,mover) spots)
+(defun live-occur--go-to-spots (spots &optional moves)
+  "Go back to SPOTS, or to rows after them.
+MOVES has the sources, and how their lines have moved."
+  (pcase-dolist (`(,spot ,column ,window ,mover) spots)
     (when (or (not window) (eq (window-buffer window) (current-buffer)))
-      (live-occur--make-rows row 1)
-      (funcall mover window
-               (live-occur--at-row row
-                 (min (+ (point) column) (line-end-position)))))))
+      (let ((row (pcase spot
+                   ((cl-struct live-occur--hit source place)
+                    (+ (live-occur--row-of-source source)
+                       (live-occur--count
+                        (live-occur--pieces source)
+                        (live-occur--moved place (alist-get source moves)))))
+                   (_ spot))))
+        (live-occur--make-rows row 1)
+        (funcall mover window
+                 (live-occur--at-row row
+                   (min (+ (point) column) (line-end-position))))))))
 
 (defun live-occur--make-rows (first count)
   "Make COUNT rows from FIRST on, and bring their numbers up to date."

@@ -312,13 +312,44 @@ All buffers and processes that it makes are taken away after it."
         (live-occur-test--rows list))
       (should (equal (nreverse sent)
                      '("splice 0 1000 0 1\nx\n"
+                       "changes\n"
                        "splice 0 700 1 2\nlinx\ne\n"
+                       "changes\n"
                        "splice 0 600 1 0\n"
+                       "changes\n"
                        "splice 0 500 0 1\nx\n"
+                       "changes\n"
                        "splice 0 0 1 1\nxline\n"
                        "changes\n")))
       (should (equal (live-occur-test--rows list)
                      "a:1:xline\na:501:x\na:701:linx\na:1002:x\n")))))
+
+(ert-deftest live-occur-gets-only-rows-that-changed ()
+  "Rows between edits that are far apart don't come again, and point stays."
+  (live-occur-test--with (list (apply #'concat (make-list 1000 "a\n")))
+    (let ((list (live-occur "a")) (got 0))
+      (live-occur-test--rows list)
+      (live-occur-test--at list 800)
+      (cl-letf* ((pieces (symbol-function 'live-occur--pieces-in))
+                 ((symbol-function 'live-occur--pieces-in)
+                  (lambda (rows start count)
+                    (cl-incf got count)
+                    (funcall pieces rows start count))))
+        (goto-char (point-min))
+        (insert "a1\na2\n")
+        (forward-line 799)
+        (insert "b")
+        (goto-char (point-max))
+        (insert "a3\n")
+        (live-occur-test--rows list))
+      (should (= got 4))
+      (with-current-buffer list
+        (should (looking-at "a:802:ba$"))
+        (goto-char (point-min))
+        (should (looking-at "a:1:a1\na:2:a2\na:3:a\n"))
+        (goto-char (point-max))
+        (forward-line -2)
+        (should (looking-at "a:1002:a\na:1003:a3\n"))))))
 
 (ert-deftest live-occur-asks-for-one-report-at-a-time ()
   (live-occur-test--with '("a\n")
