@@ -101,6 +101,8 @@ The whole line is searched."
 
 (defvar live-occur-history nil "Patterns that were read from the minibuffer.")
 
+(defconst live-occur--mouse "mouse-2: go to this line" "The hint of rows.")
+
 ;;;; A list
 
 (defvar-local live-occur--process nil "The program of this list.")
@@ -203,8 +205,7 @@ here again: the reply is taken out of the buffer before."
                  (process-exit-status process) said))))))
 
 (defun live-occur--tell-fault (what)
-  "Report that this list is no longer kept right, since WHAT happened.
-Tell what helps, if the list was ever shown."
+  "Report that this list is no longer kept right, since WHAT happened."
   (setq live-occur--fault
         (concat what (when live-occur--patterns
                        (substitute-command-keys "; \\<live-occur-mode-map>\
@@ -214,16 +215,14 @@ Tell what helps, if the list was ever shown."
 
 (defun live-occur--check ()
   "Signal an error where this list is no longer kept right."
-  (when live-occur--fault
-    (user-error "%s" live-occur--fault)))
+  (when live-occur--fault (user-error "%s" live-occur--fault)))
 
 (defun live-occur--wait-for (done)
   "Wait until the function DONE answers what is not nil, and answer that."
-  (let (answer)
-    (while (not (setq answer (funcall done)))
-      (live-occur--check)
-      (accept-process-output live-occur--process 1))
-    answer))
+  (cl-loop for answer = (funcall done) until answer
+           do (live-occur--check)
+           (accept-process-output live-occur--process 1)
+           finally return answer))
 
 (defun live-occur--order (command)
   "Send COMMAND, which the program has to accept."
@@ -252,9 +251,8 @@ Tell what helps, if the list was ever shown."
   (process-put live-occur--process 'list (current-buffer))
   (setq live-occur--fault nil live-occur--asked nil live-occur--came nil
         live-occur--trying nil)
-  (live-occur--order "flag o on\n")
   (live-occur--order (format "syntax %s\n" live-occur-syntax))
-  (dolist (letter live-occur-flags)
+  (dolist (letter (cons ?o live-occur-flags))
     (live-occur--order (format "flag %c on\n" letter)))
   (when live-occur--patterns
     (live-occur--order (live-occur--patterns-command live-occur--patterns)))
@@ -581,8 +579,7 @@ longer, and few are in the pipe."
 
 (defun live-occur--row-of-source (source)
   "The number of the first row of SOURCE, or of all rows if it is nil."
-  (cl-loop for other in live-occur--sources
-           until (eq other source)
+  (cl-loop for other in live-occur--sources until (eq other source)
            sum (live-occur--count (live-occur--pieces other))))
 
 (defun live-occur--hit-in (source rows start shift)
@@ -615,9 +612,8 @@ longer, and few are in the pipe."
 (defun live-occur--hit (row)
   "The hit of the row of number ROW, or nil where there is none."
   (unless live-occur--page
-    (let (found)
-      (live-occur--map-hits (lambda (hit) (setq found hit)) row 1)
-      found)))
+    (catch 'hit
+      (live-occur--map-hits (lambda (hit) (throw 'hit hit)) row 1))))
 
 (defun live-occur--line-of (hit)
   "The line at which HIT is now."
@@ -641,8 +637,7 @@ longer, and few are in the pipe."
     (if live-occur-edit-mode
         (live-occur--follow-lines)
       (live-occur--update)
-      (when (< live-occur--made (min live-occur-idle-rows
-                                     (live-occur--total)))
+      (when (< live-occur--made (min live-occur-idle-rows (live-occur--total)))
         (live-occur--make-rows live-occur--made 200)
         (cl-incf live-occur--made 200)
         (live-occur--look-later list 0.02)))))
@@ -667,11 +662,9 @@ To be broken off between, or begun again, would leave the program out of step."
 
 (defun live-occur--close-killed ()
   "Close the sources of this list whose buffers were killed, and answer them."
-  (let ((killed (seq-remove (lambda (source)
-                              (buffer-live-p (live-occur--buffer source)))
-                            live-occur--sources)))
-    (mapc #'live-occur--close killed)
-    killed))
+  (mapc #'live-occur--close
+        (cl-remove-if #'buffer-live-p live-occur--sources
+                      :key #'live-occur--buffer)))
 
 (defun live-occur--ask-for-changes (&optional last)
   "Ask for what changed of the hits, and keep it when it comes.
@@ -704,8 +697,7 @@ MOVES has the sources, and how their lines had moved at the last question."
             (setq at (live-occur--after-rows rows start count))))))
     (live-occur--go-to-spots spots moves))
   (pcase-dolist (`(,source . ,before) moves)
-    (setf (live-occur--moves source)
-          (cl-ldiff (live-occur--moves source) before)))
+    (cl-callf cl-ldiff (live-occur--moves source) before))
   (when live-occur--page (live-occur--show-hits))
   (when (eq 'again (cl-shiftf live-occur--asked nil))
     (live-occur--update t))
@@ -721,8 +713,7 @@ MOVES has the sources, and how their lines had moved at the last question."
 
 (defun live-occur--apply (source front removed added new)
   "Put the hits NEW in the place of those among REMOVED lines of SOURCE.
-They are those among the ADDED lines from line FRONT on.
-The answer is the spots that were there."
+They are among the ADDED lines from FRONT on.  Answer the spots there."
   (pcase-let* ((`(,head . ,rest)
                 (live-occur--cut (live-occur--pieces source) front))
                (`(,gone . ,tail) (live-occur--cut rest (+ front removed)))
@@ -742,25 +733,19 @@ The answer is the spots that were there."
 ;; A row is a line of the list.  It is empty until it is made, which is when it
 ;; comes into view.  So the list has all rows, and a million cost little.
 
-(defun live-occur--go-to-row (row)
-  "Move to the row of number ROW, from 0."
-  (goto-char (point-min))
-  (forward-line row))
-
-(defun live-occur--row-at (position)
-  "The number of the row at POSITION, from 0, even if the list is narrowed."
-  (save-restriction
-    (widen)
-    (1- (line-number-at-pos position))))
-
 (defmacro live-occur--at-row (row &rest body)
-  "Run BODY in the whole list at the row of number ROW, and stay here."
+  "Run BODY at ROW, counted from 0, in the whole list, and stay here."
   (declare (indent 1) (debug t))
   `(save-excursion
      (save-restriction
        (widen)
-       (live-occur--go-to-row ,row)
+       (goto-char (point-min))
+       (forward-line ,row)
        ,@body)))
+
+(defun live-occur--row-at (position)
+  "The number of the row at POSITION, from 0."
+  (live-occur--at-row 0 (1- (line-number-at-pos position))))
 
 (defun live-occur--replace-rows (row removed added)
   "Put ADDED rows that are not made in the place of REMOVED ones from ROW on."
@@ -789,8 +774,7 @@ the window or nil, and the function that moves it."
            (cons (list (point) nil (lambda (_ position) (goto-char position)))
                  (cl-loop
                   for window in (get-buffer-window-list nil nil t)
-                  collect (list (window-point window) window
-                                #'set-window-point)
+                  collect (list (window-point window) window #'set-window-point)
                   collect (list (window-start window) window
                                 (lambda (window start)
                                   (set-window-start window start t)))))))
@@ -850,7 +834,8 @@ MOVES has the sources, and how their lines have moved."
   "The head of the row of HIT, which is at LINE."
   (let ((name (live-occur--source-name (live-occur--hit-source hit))))
     (propertize (live-occur--head name (1+ line) ":")
-                'mouse-face 'highlight 'live-occur-number (1+ line))))
+                'mouse-face 'highlight 'help-echo live-occur--mouse
+                'live-occur-number (1+ line))))
 
 (defun live-occur--source-name (source)
   "What rows call SOURCE."
@@ -877,7 +862,8 @@ MOVES has the sources, and how their lines have moved."
                                      bytes (live-occur--hit-parts hit)))
       (when (< start most)
         (put-text-property start (min end most) 'face 'live-occur-match text)))
-    (insert (propertize (substring text 0 most) 'mouse-face 'highlight))
+    (insert (propertize (substring text 0 most)
+                        'mouse-face 'highlight 'help-echo live-occur--mouse))
     (when (length> text most)
       (insert (propertize "…" 'face 'shadow)))))
 
@@ -965,8 +951,7 @@ ABOVE is nil before the first hit of the list, and BELOW after the last one."
   "Go to the line of the row at point, or of the one that EVENT clicked at.
 The list keeps its window."
   (interactive (list last-nonmenu-event) live-occur-mode)
-  (when (mouse-event-p event)
-    (posn-set-point (event-end event)))
+  (when (mouse-event-p event) (posn-set-point (event-end event)))
   (let* ((hit (or (live-occur--hit (live-occur--row-at (point)))
                   (user-error "There is no row here")))
          (part (car (live-occur--in-characters
@@ -974,8 +959,7 @@ The list keeps its window."
                      (seq-take (live-occur--hit-parts hit) 1))))
          (position (live-occur--at-line-of hit
                      (min (line-end-position) (+ (point) (or (car part) 0))))))
-    (unless position
-      (user-error "The buffer of this row is gone"))
+    (unless position (user-error "The buffer of this row is gone"))
     (setq next-error-last-buffer (current-buffer))
     (pop-to-buffer (live-occur--buffer (live-occur--hit-source hit))
                    (unless (eq (window-buffer) (current-buffer))
@@ -1045,8 +1029,7 @@ Call REPORT with the reply.  Of several wishes the last one is kept."
 (defun live-occur--got (patterns report reply &optional _)
   "Take REPLY to the wish for PATTERNS, and call REPORT with it."
   (when (and (equal reply "ok") (not (equal patterns live-occur--patterns)))
-    (dolist (_ live-occur--patterns)
-      (live-occur--order "drop 0\n"))
+    (dolist (_ live-occur--patterns) (live-occur--order "drop 0\n"))
     (setq live-occur--patterns patterns))
   (funcall report reply)
   (let ((wanted (cl-shiftf live-occur--trying nil)))
@@ -1070,9 +1053,8 @@ Call REPORT with the reply.  Of several wishes the last one is kept."
      (let* ((at (min (+ (minibuffer-prompt-end) place) (point-max)))
             (fault (make-overlay at (min (1+ at) (point-max))))
             (end (make-overlay (point-max) (point-max))))
-       (overlay-put fault 'live-occur-fault t)
+       (dolist (one (list fault end)) (overlay-put one 'live-occur-fault t))
        (overlay-put fault 'face 'live-occur-fault)
-       (overlay-put end 'live-occur-fault t)
        (overlay-put end 'after-string
                     (concat (when (= at (point-max))
                               (propertize " " 'face 'live-occur-fault))
@@ -1123,8 +1105,7 @@ Call REPORT with the reply.  Of several wishes the last one is kept."
 They go between the patterns BEFORE and AFTER."
   (let ((offered (live-occur--symbol-at-point
                   (buffer-local-value 'live-occur-syntax list)))
-        (old (buffer-local-value 'live-occur--patterns list))
-        fault done)
+        (old (buffer-local-value 'live-occur--patterns list)) fault done)
     (unwind-protect
         (while (not done)
           (minibuffer-with-setup-hook
@@ -1206,16 +1187,15 @@ They go between the patterns BEFORE and AFTER."
                   (live-occur--spots 0 (buffer-size)))))
   (with-silent-modifications
     (erase-buffer)
-    (cl-loop
-     for start = (live-occur--after-rows rows 0 1)
-     then (live-occur--after-rows rows start 1)
-     while (< start (length rows))
-     do (let* ((source (nth (live-occur--place-in rows start) sources))
+    (let ((start 0))
+      (while (< (setq start (live-occur--after-rows rows start 1))
+                (length rows))
+        (let* ((source (nth (live-occur--place-in rows start) sources))
                (place (string-search " " rows (+ start 2)))
                (hit (live-occur--hit-in source rows place 0)))
           (insert (live-occur--row-head hit (live-occur--hit-place hit)))
           (live-occur--insert-text hit)
-          (insert "\n"))))
+          (insert "\n")))))
   (goto-char (point-min))
   (dolist (window (get-buffer-window-list nil nil t))
     (set-window-point window (point-min)))
@@ -1260,8 +1240,7 @@ They go between the patterns BEFORE and AFTER."
 
 (defun live-occur--toggle (letter)
   "Turn the flag LETTER on or off."
-  (let ((flags (sort (cl-set-exclusive-or (list letter) live-occur-flags)
-                     #'<)))
+  (let ((flags (sort (cl-set-exclusive-or (list letter) live-occur-flags) #'<)))
     (live-occur--set 'live-occur-flags flags
                      (format "flag %c %s" letter
                              (if (memq letter flags) "on" "off")))))
@@ -1302,24 +1281,21 @@ Where both numbers are 0 no other lines are shown."
     (string-replace
      "%" "%%"
      (propertize
-      (format " %s%s%s  %s  %s%s"
-              live-occur-syntax
-              (if live-occur-flags (concat " -" live-occur-flags) "")
-              (pcase live-occur-context
-                (`(,before . ,after) (format " -B %d -A %d" before after))
-                (_ ""))
-              (if live-occur--patterns
-                  (mapconcat (lambda (pattern) (propertize pattern 'face 'bold))
-                             live-occur--patterns "  ")
-                "no pattern")
-              (if live-occur--fault
-                  (propertize live-occur--fault 'face 'error)
-                (format "%d row%s, %d buffer%s" rows (if (= rows 1) "" "s")
-                        buffers (if (= buffers 1) "" "s")))
-              (if live-occur-edit-mode
-                  (substitute-command-keys "  \\<live-occur-edit-mode-map>\
-rows are edited, \\[live-occur-edit-mode] ends it")
-                ""))
+      (concat
+       " " (symbol-name live-occur-syntax)
+       (and live-occur-flags (concat " -" live-occur-flags))
+       (pcase live-occur-context
+         (`(,before . ,after) (format " -B %d -A %d" before after)))
+       "  " (if live-occur--patterns
+                (propertize (string-join live-occur--patterns "  ") 'face 'bold)
+              "no pattern")
+       "  " (if live-occur--fault
+                (propertize live-occur--fault 'face 'error)
+              (format "%d row%s, %d buffer%s" rows (if (= rows 1) "" "s")
+                      buffers (if (= buffers 1) "" "s")))
+       (and live-occur-edit-mode
+            (substitute-command-keys "  \\<live-occur-edit-mode-map>\
+rows are edited, \\[live-occur-edit-mode] ends it")))
       'help-echo "In the list: C-h m describes the keys"))))
 
 (defun live-occur-refresh (&rest _)
@@ -1333,8 +1309,7 @@ rows are edited, \\[live-occur-edit-mode] ends it")
   (interactive nil live-occur-mode)
   (live-occur--end)
   (setq live-occur--page (list (live-occur--total)))
-  (dolist (source live-occur--sources)
-    (setf (live-occur--pieces source) nil))
+  (dolist (source live-occur--sources) (setf (live-occur--pieces source) nil))
   (live-occur--begin)
   (live-occur--update t))
 
@@ -1438,6 +1413,7 @@ rows are edited, \\[live-occur-edit-mode] ends it")
     (pcase-dolist (`(,key ,command . ,_) live-occur--commands)
       (define-key map (kbd key) command))
     (define-key map (kbd "C-o") #'live-occur-display)
+    (define-key map (kbd "o") #'live-occur-visit)
     (define-key map [mouse-2] #'live-occur-visit)
     (define-key map [follow-link] 'mouse-face)
     map)
@@ -1461,8 +1437,7 @@ rows are edited, \\[live-occur-edit-mode] ends it")
               next-error-find-buffer-function (lambda (&rest _)
                                                 (current-buffer))
               header-line-format '((:eval (live-occur--header)))
-              truncate-lines t
-              buffer-undo-list t
+              truncate-lines t buffer-undo-list t
               live-occur--idle-timer
               (run-with-idle-timer live-occur-delay t #'live-occur--look
                                    (current-buffer)))
@@ -1563,8 +1538,7 @@ Newlines in it become spaces."
 
 (defun live-occur--row-text ()
   "The text of the row at point."
-  (buffer-substring-no-properties (live-occur--after-head)
-                                  (line-end-position)))
+  (buffer-substring-no-properties (live-occur--after-head) (line-end-position)))
 
 (defun live-occur--change-line (hit old new)
   "Put the text NEW in the place of OLD in the line of HIT, or signal an error."
@@ -1589,8 +1563,7 @@ Rows that were edited alone stay as they are."
        (let ((inhibit-modification-hooks t)
              (inhibit-read-only t)
              (old (get-text-property (point) 'live-occur-text))
-             (new (live-occur--at-line-of hit
-                    (live-occur--text-after-point))))
+             (new (live-occur--at-line-of hit (live-occur--text-after-point))))
          (when (and new
                     (not (equal old new))
                     (equal old (live-occur--row-text)))

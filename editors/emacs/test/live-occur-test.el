@@ -124,10 +124,14 @@ All buffers and processes that it makes are taken away after it."
   (let ((inhibit-message nil))
     (apply #'message words)))
 
+(defun live-occur-test--go-to-row (row)
+  "Move to the row of number ROW, from 0."
+  (goto-char (live-occur--at-row row (point))))
+
 (defun live-occur-test--at (list row)
   "Move to ROW of LIST, from 1, there and in its windows."
   (with-current-buffer list
-    (live-occur--go-to-row (1- row))
+    (live-occur-test--go-to-row (1- row))
     (dolist (window (get-buffer-window-list nil nil t))
       (set-window-point window (point)))))
 
@@ -1135,7 +1139,7 @@ Where BODY reports that it was killed, that is as it has to be."
         (with-current-buffer list
           (live-occur-visit
            (list 'mouse-2 (list (display-buffer list)
-                                (progn (live-occur--go-to-row 2) (point))
+                                (progn (live-occur-test--go-to-row 2) (point))
                                 '(0 . 0) 0))))
         (should (eq (window-buffer) (nth 1 buffers)))))))
 
@@ -1168,6 +1172,11 @@ Where BODY reports that it was killed, that is as it has to be."
           (run-hook-with-args 'pre-redisplay-functions (get-buffer-window list))
           (should (equal (live-occur-test--text-shown)
                          "a:1:a1\na:5:a2\na:6:a3\nb:1:a4\n"))
+          (goto-char (point-min))
+          (while (not (eobp))
+            (should (eq (null (get-text-property (point) 'help-echo)) (eolp)))
+            (should (eq (null (get-text-property (point) 'mouse-face)) (eolp)))
+            (forward-char 1))
           (should-not (live-occur-test--busy-p)))))))
 
 (ert-deftest live-occur-visits-lines-that-have-moved ()
@@ -1417,7 +1426,7 @@ Where BODY reports that it was killed, that is as it has to be."
       (with-current-buffer list
         (live-occur-edit-mode)
         (dotimes (_ 300)
-          (live-occur--go-to-row (random (live-occur--total)))
+          (live-occur-test--go-to-row (random (live-occur--total)))
           (let* ((start (next-single-property-change (point) 'live-occur-number))
                  (place (+ start (random (1+ (- (line-end-position) start)))))
                  (end (min (line-end-position) (+ place (random 3)))))
