@@ -111,8 +111,7 @@ The whole line is searched."
 (defvar-local live-occur--patterns nil "The patterns, in their order.")
 (defvar-local live-occur--asked nil
   "Whether changes of hits are on their way; `again' to ask for more then.")
-(defvar-local live-occur--came nil
-  "Changes of hits that came, but for the last ones, and their sources.")
+(defvar-local live-occur--came nil "Changes of hits that are not applied yet.")
 (defvar-local live-occur--trying nil
   "Whether patterns wait for a reply, or what is wanted after that.")
 (defvar-local live-occur--previewing nil "Whether a pattern is being typed.")
@@ -423,8 +422,7 @@ WHOLE says whether they were whole lines."
                   (1- count) (1- now))
             (live-occur--moves source))
       ;; The numbers of rows in view are corrected when they are redrawn.
-      (live-occur--in (live-occur--list source)
-        (force-mode-line-update)))))
+      (live-occur--in (live-occur--list source) (force-mode-line-update)))))
 
 (defun live-occur--changed (edits start old new)
   "EDITS and the one that put NEW lines in the place of OLD ones at START.
@@ -511,12 +509,14 @@ longer, and few are in the pipe."
 ;; they come into view, so a million hits cost little.  Where lines before a
 ;; piece come or go, the number to add to the places in it changes, no byte.
 
-(cl-defstruct (live-occur--piece (:copier nil))
+(cl-defstruct (live-occur--piece
+               (:constructor live-occur--piece (rows count last shift))
+               (:copier nil))
   "Hits that follow one another."
   rows                                  ; bytes, one line for each hit
   count
   last                                  ; the place of the last in the bytes
-  (shift 0))                            ; what to add to each place
+  shift)                                ; what to add to each place
 
 (cl-defstruct (live-occur--hit (:copier nil))
   "A line that matches."
@@ -536,13 +536,6 @@ longer, and few are in the pipe."
     (setq start (1+ (string-search "\n" rows start))))
   start)
 
-(defun live-occur--piece-of (rows count shift)
-  "A piece of the COUNT rows in the bytes ROWS, with SHIFT."
-  (make-live-occur--piece
-   :rows rows :count count :shift shift
-   :last (live-occur--place-in rows
-                               (live-occur--after-rows rows 0 (1- count)))))
-
 (defun live-occur--count-below (piece line)
   "How many hits of PIECE have a place below LINE."
   (let ((rows (live-occur--piece-rows piece))
@@ -554,17 +547,20 @@ longer, and few are in the pipe."
 
 (defun live-occur--cut (pieces line)
   "PIECES with a place below LINE, and the others, as a pair of lists."
-  (let ((below 0) head)
+  (let ((some 0) head)
     (while (and pieces
-                (= (setq below (live-occur--count-below (car pieces) line))
+                (= (setq some (live-occur--count-below (car pieces) line))
                    (live-occur--piece-count (car pieces))))
       (push (pop pieces) head))
-    (when (and pieces (> below 0))
-      (pcase-let* (((cl-struct live-occur--piece rows count shift)
+    (when (and pieces (> some 0))
+      (pcase-let* (((cl-struct live-occur--piece rows count last shift)
                     (pop pieces))
-                   (cut (live-occur--after-rows rows 0 below)))
-        (push (live-occur--piece-of (substring rows 0 cut) below shift) head)
-        (push (live-occur--piece-of (substring rows cut) (- count below) shift)
+                   (before (live-occur--after-rows rows 0 (1- some)))
+                   (cut (live-occur--after-rows rows before 1)))
+        (push (live-occur--piece (substring rows 0 cut) some
+                                 (live-occur--place-in rows before) shift)
+              head)
+        (push (live-occur--piece (substring rows cut) (- count some) last shift)
               pieces)))
     (cons (nreverse head) pieces)))
 
@@ -691,10 +687,12 @@ MOVES has the sources, and how their lines had moved at the last question."
                                 (split-string (substring rows at start) " ")))
                        (source (car (nth file asked)))
                        (new (live-occur--pieces-in rows start count)))
+            (setq at start)
+            (dolist (piece new)
+              (cl-incf at (length (live-occur--piece-rows piece))))
             (when (memq source live-occur--sources)
               (cl-callf2 nconc
-                  (live-occur--apply source front removed added new) spots))
-            (setq at (live-occur--after-rows rows start count))))))
+                  (live-occur--apply source front removed added new) spots))))))
     (live-occur--go-to-spots spots moves))
   (pcase-dolist (`(,source . ,before) moves)
     (cl-callf cl-ldiff (live-occur--moves source) before))
@@ -707,8 +705,10 @@ MOVES has the sources, and how their lines had moved at the last question."
   "The COUNT hits in the bytes ROWS from START on, in pieces."
   (cl-loop for left downfrom count above 0 by 500
            for some = (min left 500)
-           for end = (live-occur--after-rows rows start some)
-           collect (live-occur--piece-of (substring rows start end) some 0)
+           for last = (live-occur--after-rows rows start (1- some))
+           for end = (live-occur--after-rows rows last 1)
+           collect (live-occur--piece (substring rows start end) some
+                                      (live-occur--place-in rows last) 0)
            do (setq start end)))
 
 (defun live-occur--apply (source front removed added new)

@@ -1676,8 +1676,9 @@ The answer is how many they are."
 (defun live-occur-test--times (lines every turns away)
   "Measure TURNS edits with their updates in a text of LINES lines.
 One line of EVERY matches.  Each edit is AWAY lines after the one before, or
-before it at the end.  The answer is the seconds to open the list, and those
-of the edits: of the command alone, and with the update."
+before it at the end.  The answer is the seconds to open the list, those of the
+edits: of the command alone, and with the update, and those of an update after
+two edits, at both ends of the text."
   (live-occur-test--with (list (live-occur-test--large lines every))
     (live-occur-test--in-windows
       (let* ((live-occur-idle-rows 0)
@@ -1694,19 +1695,28 @@ of the edits: of the command alone, and with the update."
           (let ((start (float-time)))
             (insert (format "%d new needle\n" turn))
             (push (- (float-time) start) edits)
-            (with-current-buffer list
-              (live-occur--update)
-              (while (live-occur-test--busy-p)
-                (accept-process-output
-                 live-occur--process 1)))
-            (push (- (float-time) start) updates)))
-        (with-current-buffer list
-          (should (= (live-occur--total) (+ turns (/ (+ lines every -1) every)))))
-        (list opened edits updates)))))
+            (push (+ (car edits) (live-occur-test--update-time list)) updates)))
+        (goto-char (point-min))
+        (insert "first needle\n")
+        (goto-char (point-max))
+        (insert "last needle\n")
+        (let ((both (live-occur-test--update-time list)))
+          (with-current-buffer list
+            (should (= (live-occur--total) (+ 2 turns (/ (+ lines every -1) every)))))
+          (list opened edits updates both))))))
+
+(defun live-occur-test--update-time (list)
+  "Bring LIST up to date, and answer the seconds that it took."
+  (let ((start (float-time)))
+    (with-current-buffer list
+      (live-occur--update)
+      (while (live-occur-test--busy-p)
+        (accept-process-output live-occur--process 1)))
+    (- (float-time) start)))
 
 (ert-deftest live-occur-is-quick-in-a-large-buffer ()
   "An edit of 200,000 lines and its update take less than a tenth of a second."
-  (pcase-let ((`(,opened ,_ ,updates) (live-occur-test--times 200000 10 30 10)))
+  (pcase-let ((`(,opened ,_ ,updates ,_) (live-occur-test--times 200000 10 30 10)))
     (live-occur-test--tell
      "200,000 lines: opened in %.2f s; an edit and its update: median %.1f ms, at most %.1f ms"
      opened (* 1000 (live-occur-test--median updates)) (* 1000 (apply #'max updates)))
@@ -1714,17 +1724,53 @@ of the edits: of the command alone, and with the update."
 
 (defun live-occur-test-times ()
   "Print a table of times."
-  (live-occur-test--tell "%10s %10s %10s %10s %10s %10s %10s" "lines" "hits" "lines away"
-                         "open, s" "edit, ms" "update, ms" "at most")
+  (live-occur-test--tell "%10s %10s %10s %10s %10s %10s %10s %14s" "lines" "hits" "lines away"
+                         "open, s" "edit, ms" "update, ms" "at most" "both ends, ms")
   (pcase-dolist (`(,lines ,every ,away)
                  '((100000 10 10) (1000000 1000 10) (1000000 10 10) (1000000 10 300000)
                    (1000000 1 10)))
-    (pcase-let ((`(,opened ,edits ,updates) (live-occur-test--times lines every 60 away)))
-      (live-occur-test--tell "%10d %10d %10d %10.2f %10.2f %10.2f %10.2f"
+    (pcase-let ((`(,opened ,edits ,updates ,both)
+                 (live-occur-test--times lines every 60 away)))
+      (live-occur-test--tell "%10d %10d %10d %10.2f %10.2f %10.2f %10.2f %14.2f"
                              lines (/ lines every) away opened
                              (* 1000 (live-occur-test--median edits))
                              (* 1000 (live-occur-test--median updates))
-                             (* 1000 (apply #'max updates))))))
+                             (* 1000 (apply #'max updates)) (* 1000 both)))))
+
+(defun live-occur-test--steps (list first done)
+  "Call FIRST in LIST, and let Emacs work until DONE answers non-nil there.
+The answer is the seconds until then, and those of the longest step."
+  (with-current-buffer list
+    (let ((began (float-time)) (longest 0))
+      (while (let ((start (float-time)))
+               (if first (funcall (cl-shiftf first nil)) (accept-process-output nil 0.001))
+               (setq longest (max longest (- (float-time) start)))
+               (not (funcall done))))
+      (list (- (float-time) began) longest))))
+
+(defun live-occur-test-typing-times ()
+  "Print a table of times while a pattern is typed, and after it is kept."
+  (live-occur-test--tell "%10s %10s %16s %16s %16s %16s" "lines" "hits" "first rows, s"
+                         "longest step, ms" "kept: rows, s" "longest step, ms")
+  (pcase-dolist (`(,lines ,pattern ,hits)
+                 '((100000 "lazy" 100000) (1000000 "needle" 100000) (1000000 "lazy" 1000000)))
+    (live-occur-test--with (list (live-occur-test--large lines 10))
+      (live-occur-test--in-windows
+        (let ((list (live-occur "^$")))
+          (with-current-buffer list
+            (live-occur-test--wait))
+          (garbage-collect)
+          (pcase-let ((`(,first ,typed)
+                       (live-occur-test--steps
+                        list (lambda () (live-occur--try list nil pattern nil nil))
+                        (lambda () live-occur--page)))
+                      (`(,all ,kept)
+                       (live-occur-test--steps
+                        list (lambda () (live-occur--end-preview live-occur--patterns))
+                        (lambda () (not (live-occur-test--busy-p))))))
+            (should (= hits (with-current-buffer list (live-occur--total))))
+            (live-occur-test--tell "%10d %10d %16.2f %16.1f %16.2f %16.1f" lines hits
+                                   first (* 1000 typed) all (* 1000 kept))))))))
 
 ;;;; Keys
 
