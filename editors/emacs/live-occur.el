@@ -18,13 +18,13 @@
 ;;
 ;; What matches is decided by the program `occur' of Gaxtrel, one process for
 ;; each list.  Each change of a buffer is sent as the lines that it touched, and
-;; the program answers what changed of the lines that match.
-;;
-;; Set `live-occur-program' where `occur' is not on your path.
+;; the program answers what changed of the lines that match.  Set
+;; `live-occur-program' where `occur' is not on your path.
 
 ;;; Code:
 
 (require 'cl-lib)
+(require 'seq)
 (require 'subr-x)
 
 (declare-function dired-get-marked-files "dired")

@@ -1803,6 +1803,28 @@ The answer is the seconds until then, and those of the longest step."
   "The file that is tested."
   (expand-file-name "../live-occur.el" (file-name-directory (symbol-file 'live-occur-test--file))))
 
+(ert-deftest live-occur-loads-what-it-needs ()
+  "In another Emacs, which has loaded nothing else."
+  (with-temp-buffer
+    (should (eql 0 (call-process
+                    (expand-file-name invocation-name invocation-directory) nil t nil
+                    "-Q" "--batch" "-l" (live-occur-test--file) "--eval"
+                    (format "%S" `(with-temp-buffer
+                                    (run-with-timer 20 nil #'kill-emacs 1)
+                                    (rename-buffer "a")
+                                    (insert "one\ntwo\n")
+                                    (setq live-occur-program ,live-occur-program)
+                                    (with-current-buffer (live-occur "o")
+                                      (while (= 0 (live-occur--total))
+                                        (accept-process-output nil 0.02))
+                                      (live-occur-drop-pattern 0)
+                                      (live-occur--put '("t"))
+                                      (while (/= 1 (live-occur--total))
+                                        (accept-process-output nil 0.02))
+                                      (live-occur--make-rows 0 1)
+                                      (princ (buffer-string))))))))
+    (should (equal (buffer-string) "a:2:two\n"))))
+
 (ert-deftest live-occur-compiles-without-a-warning ()
   (let* ((folder (make-temp-file "live-occur" t))
          (byte-compile-error-on-warn t)
