@@ -1410,11 +1410,11 @@ rows are edited, \\[live-occur-edit-mode] ends it")))
 
 (defvar live-occur-mode-map
   (let ((map (make-sparse-keymap)))
-    (pcase-dolist (`(,key ,command . ,_) live-occur--commands)
-      (define-key map (kbd key) command))
     (define-key map (kbd "C-o") #'live-occur-display)
     (define-key map (kbd "o") #'live-occur-visit)
     (define-key map [mouse-2] #'live-occur-visit)
+    (pcase-dolist (`(,key ,command . ,_) live-occur--commands)
+      (define-key map (kbd key) command))
     (define-key map [follow-link] 'mouse-face)
     map)
   "Keys in lists of `live-occur'.")

@@ -1783,7 +1783,7 @@ The answer is the seconds until then, and those of the longest step."
       (forward-line 1)
       (should (commandp command))
       (should (eq (lookup-key live-occur-mode-map (kbd key)) command))
-      (should (looking-at-p (concat "[^\t\n]+\t" (regexp-quote (substitute-command-keys label)) "$"))))
+      (should (looking-at-p (regexp-quote (concat key "\t" (substitute-command-keys label) "\n")))))
     (forward-line 1)
     (should (eobp))))
 
