@@ -1783,7 +1783,8 @@ The answer is the seconds until then, and those of the longest step."
       (forward-line 1)
       (should (commandp command))
       (should (eq (lookup-key live-occur-mode-map (kbd key)) command))
-      (should (looking-at-p (regexp-quote (concat key "\t" (substitute-command-keys label) "\n")))))
+      (should (looking-at-p (concat (regexp-quote key) "\t"
+                                   (regexp-quote (substitute-command-keys label)) "$"))))
     (forward-line 1)
     (should (eobp))))
 
