@@ -1659,7 +1659,7 @@ whatever it is narrowed to."
 ;;;###autoload
 (defun live-occur-in-dired ()
   "List the lines that match in the marked files of this Dired buffer."
-  (interactive)
+  (interactive nil dired-mode)
   (live-occur--in-buffers
    (mapcar #'find-file-noselect
            (seq-filter #'file-regular-p (dired-get-marked-files)))))
