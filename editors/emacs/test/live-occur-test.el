@@ -910,7 +910,8 @@ It is nil where the pattern is refused."
 (defun live-occur-test--kill (list)
   "Kill the program of LIST, and wait until that is known."
   (with-current-buffer list
-    (signal-process live-occur--process 'KILL)
+    (unless live-occur--fault
+      (signal-process live-occur--process 'KILL))
     (with-timeout (10 (error "The end of the program is not known"))
       (while (not live-occur--fault)
         (accept-process-output nil 0.01)))))
@@ -1022,6 +1023,7 @@ Where BODY reports that it was killed, that is as it has to be."
           (should (equal (live-occur-test--restart list) rows)))
         (ert-info ("while a flag waits for its reply")
           (with-current-buffer list
+            (signal-process live-occur--process 'STOP)
             (live-occur-test--killed-after list #'live-occur--send
               (live-occur-toggle-inverse))
             (should-not live-occur-flags))
@@ -1029,6 +1031,7 @@ Where BODY reports that it was killed, that is as it has to be."
         (ert-info ("while the rows to edit are on their way")
           (insert "o\n")
           (with-current-buffer list
+            (signal-process live-occur--process 'STOP)
             (live-occur-test--killed-after list #'live-occur--ask-for-changes
               (live-occur-edit-mode))
             (should-not live-occur-edit-mode)
