@@ -18,13 +18,13 @@
 ;;
 ;; What matches is decided by the program `occur' of Gaxtrel, one process for
 ;; each list.  Each change of a buffer is sent as the lines that it touched, and
-;; the program answers what changed of the lines that match.
-;;
-;; Set `live-occur-program' where `occur' is not on your path.
+;; the program answers what changed of the lines that match.  Set
+;; `live-occur-program' where `occur' is not on your path.
 
 ;;; Code:
 
 (require 'cl-lib)
+(require 'seq)
 (require 'subr-x)
 
 (declare-function dired-get-marked-files "dired")
@@ -101,6 +101,8 @@ The whole line is searched."
 
 (defvar live-occur-history nil "Patterns that were read from the minibuffer.")
 
+(defconst live-occur--mouse "mouse-2: go to this line" "The hint of rows.")
+
 ;;;; A list
 
 (defvar-local live-occur--process nil "The program of this list.")
@@ -109,6 +111,7 @@ The whole line is searched."
 (defvar-local live-occur--patterns nil "The patterns, in their order.")
 (defvar-local live-occur--asked nil
   "Whether changes of hits are on their way; `again' to ask for more then.")
+(defvar-local live-occur--came nil "Changes of hits that are not applied yet.")
 (defvar-local live-occur--trying nil
   "Whether patterns wait for a reply, or what is wanted after that.")
 (defvar-local live-occur--previewing nil "Whether a pattern is being typed.")
@@ -201,8 +204,7 @@ here again: the reply is taken out of the buffer before."
                  (process-exit-status process) said))))))
 
 (defun live-occur--tell-fault (what)
-  "Report that this list is no longer kept right, since WHAT happened.
-Tell what helps, if the list was ever shown."
+  "Report that this list is no longer kept right, since WHAT happened."
   (setq live-occur--fault
         (concat what (when live-occur--patterns
                        (substitute-command-keys "; \\<live-occur-mode-map>\
@@ -212,16 +214,14 @@ Tell what helps, if the list was ever shown."
 
 (defun live-occur--check ()
   "Signal an error where this list is no longer kept right."
-  (when live-occur--fault
-    (user-error "%s" live-occur--fault)))
+  (when live-occur--fault (user-error "%s" live-occur--fault)))
 
 (defun live-occur--wait-for (done)
   "Wait until the function DONE answers what is not nil, and answer that."
-  (let (answer)
-    (while (not (setq answer (funcall done)))
-      (live-occur--check)
-      (accept-process-output live-occur--process 1))
-    answer))
+  (cl-loop for answer = (funcall done) until answer
+           do (live-occur--check)
+           (accept-process-output live-occur--process 1)
+           finally return answer))
 
 (defun live-occur--order (command)
   "Send COMMAND, which the program has to accept."
@@ -248,10 +248,10 @@ Tell what helps, if the list was ever shown."
                              (list "--states" (format "%d" live-occur-states))))
            :filter #'live-occur--read :sentinel #'live-occur--ended)))
   (process-put live-occur--process 'list (current-buffer))
-  (setq live-occur--fault nil live-occur--asked nil live-occur--trying nil)
-  (live-occur--order "flag o on\n")
+  (setq live-occur--fault nil live-occur--asked nil live-occur--came nil
+        live-occur--trying nil)
   (live-occur--order (format "syntax %s\n" live-occur-syntax))
-  (dolist (letter live-occur-flags)
+  (dolist (letter (cons ?o live-occur-flags))
     (live-occur--order (format "flag %c on\n" letter)))
   (when live-occur--patterns
     (live-occur--order (live-occur--patterns-command live-occur--patterns)))
@@ -422,8 +422,7 @@ WHOLE says whether they were whole lines."
                   (1- count) (1- now))
             (live-occur--moves source))
       ;; The numbers of rows in view are corrected when they are redrawn.
-      (live-occur--in (live-occur--list source)
-        (force-mode-line-update)))))
+      (live-occur--in (live-occur--list source) (force-mode-line-update)))))
 
 (defun live-occur--changed (edits start old new)
   "EDITS and the one that put NEW lines in the place of OLD ones at START.
@@ -462,7 +461,7 @@ has the lines of the others where they were."
       (live-occur--lose source)
       (setf (live-occur--edits source)
             (list (list 0 (live-occur--lines source) (1+ (buffer-size))))))
-    (when-let ((edits (live-occur--edits source)))
+    (when-let* ((edits (live-occur--edits source)))
       (let ((shift (cl-loop for (_ was is) in edits sum (- is was))))
         (pcase-dolist (`(,at ,was ,is) (reverse edits))
           (cl-decf shift (- is was))
@@ -471,7 +470,11 @@ has the lines of the others where they were."
                  (removed (min was (- (live-occur--lines source) start)))
                  (added (- is (save-excursion (forward-line is)))))
             (live-occur--splice source file start removed added)
-            (cl-incf (live-occur--lines source) (- added removed)))))
+            (cl-incf (live-occur--lines source) (- added removed))
+            ;; Without this all lines between two edits would come again.
+            (unless (eq at (caar edits))
+              (live-occur--in (live-occur--list source)
+                (live-occur--ask-for-changes))))))
       (setf (live-occur--edits source) nil
             (live-occur--tick source) (buffer-chars-modified-tick))
       t)))
@@ -506,12 +509,14 @@ longer, and few are in the pipe."
 ;; they come into view, so a million hits cost little.  Where lines before a
 ;; piece come or go, the number to add to the places in it changes, no byte.
 
-(cl-defstruct (live-occur--piece (:copier nil))
+(cl-defstruct (live-occur--piece
+               (:constructor live-occur--piece (rows count last shift))
+               (:copier nil))
   "Hits that follow one another."
   rows                                  ; bytes, one line for each hit
   count
   last                                  ; the place of the last in the bytes
-  (shift 0))                            ; what to add to each place
+  shift)                                ; what to add to each place
 
 (cl-defstruct (live-occur--hit (:copier nil))
   "A line that matches."
@@ -531,13 +536,6 @@ longer, and few are in the pipe."
     (setq start (1+ (string-search "\n" rows start))))
   start)
 
-(defun live-occur--piece-of (rows count shift)
-  "A piece of the COUNT rows in the bytes ROWS, with SHIFT."
-  (make-live-occur--piece
-   :rows rows :count count :shift shift
-   :last (live-occur--place-in rows
-                               (live-occur--after-rows rows 0 (1- count)))))
-
 (defun live-occur--count-below (piece line)
   "How many hits of PIECE have a place below LINE."
   (let ((rows (live-occur--piece-rows piece))
@@ -549,17 +547,20 @@ longer, and few are in the pipe."
 
 (defun live-occur--cut (pieces line)
   "PIECES with a place below LINE, and the others, as a pair of lists."
-  (let ((below 0) head)
+  (let ((some 0) head)
     (while (and pieces
-                (= (setq below (live-occur--count-below (car pieces) line))
+                (= (setq some (live-occur--count-below (car pieces) line))
                    (live-occur--piece-count (car pieces))))
       (push (pop pieces) head))
-    (when (and pieces (> below 0))
-      (pcase-let* (((cl-struct live-occur--piece rows count shift)
+    (when (and pieces (> some 0))
+      (pcase-let* (((cl-struct live-occur--piece rows count last shift)
                     (pop pieces))
-                   (cut (live-occur--after-rows rows 0 below)))
-        (push (live-occur--piece-of (substring rows 0 cut) below shift) head)
-        (push (live-occur--piece-of (substring rows cut) (- count below) shift)
+                   (before (live-occur--after-rows rows 0 (1- some)))
+                   (cut (live-occur--after-rows rows before 1)))
+        (push (live-occur--piece (substring rows 0 cut) some
+                                 (live-occur--place-in rows before) shift)
+              head)
+        (push (live-occur--piece (substring rows cut) (- count some) last shift)
               pieces)))
     (cons (nreverse head) pieces)))
 
@@ -574,8 +575,7 @@ longer, and few are in the pipe."
 
 (defun live-occur--row-of-source (source)
   "The number of the first row of SOURCE, or of all rows if it is nil."
-  (cl-loop for other in live-occur--sources
-           until (eq other source)
+  (cl-loop for other in live-occur--sources until (eq other source)
            sum (live-occur--count (live-occur--pieces other))))
 
 (defun live-occur--hit-in (source rows start shift)
@@ -608,9 +608,8 @@ longer, and few are in the pipe."
 (defun live-occur--hit (row)
   "The hit of the row of number ROW, or nil where there is none."
   (unless live-occur--page
-    (let (found)
-      (live-occur--map-hits (lambda (hit) (setq found hit)) row 1)
-      found)))
+    (catch 'hit
+      (live-occur--map-hits (lambda (hit) (throw 'hit hit)) row 1))))
 
 (defun live-occur--line-of (hit)
   "The line at which HIT is now."
@@ -634,8 +633,7 @@ longer, and few are in the pipe."
     (if live-occur-edit-mode
         (live-occur--follow-lines)
       (live-occur--update)
-      (when (< live-occur--made (min live-occur-idle-rows
-                                     (live-occur--total)))
+      (when (< live-occur--made (min live-occur-idle-rows (live-occur--total)))
         (live-occur--make-rows live-occur--made 200)
         (cl-incf live-occur--made 200)
         (live-occur--look-later list 0.02)))))
@@ -647,7 +645,7 @@ If nothing has changed ask for none, but with ALWAYS non-nil."
               (not (or (live-occur--flush-all) always)))
     (if live-occur--asked
         (setq live-occur--asked 'again)
-      (live-occur--ask-for-changes))))
+      (live-occur--ask-for-changes t))))
 
 (defun live-occur--flush-all ()
   "Send what has changed in all sources, and answer whether anything has.
@@ -660,55 +658,62 @@ To be broken off between, or begun again, would leave the program out of step."
 
 (defun live-occur--close-killed ()
   "Close the sources of this list whose buffers were killed, and answer them."
-  (let ((killed (seq-remove (lambda (source)
-                              (buffer-live-p (live-occur--buffer source)))
-                            live-occur--sources)))
-    (mapc #'live-occur--close killed)
-    killed))
+  (mapc #'live-occur--close
+        (cl-remove-if #'buffer-live-p live-occur--sources
+                      :key #'live-occur--buffer)))
 
-(defun live-occur--ask-for-changes ()
-  "Ask for what changed of the hits, and apply it when it comes."
+(defun live-occur--ask-for-changes (&optional last)
+  "Ask for what changed of the hits, and keep it when it comes.
+With LAST non-nil apply all that came then."
   (let ((moves (cl-loop for source in live-occur--sources
                         collect (cons source (live-occur--moves source)))))
-    (setq live-occur--asked t)
+    (when last (setq live-occur--asked t))
     (live-occur--send "changes\n"
                       (lambda (_ rows)
-                        (live-occur--apply-all rows moves)
-                        (when (eq 'again (cl-shiftf live-occur--asked nil))
-                          (live-occur--ask-for-changes))))))
+                        (push (cons rows moves) live-occur--came)
+                        (when last (live-occur--apply-all moves))))))
 
-(defun live-occur--apply-all (rows moves)
-  "Apply what has changed, which is in the bytes ROWS.
-MOVES has the sources, and how their lines had moved at the question."
-  (let ((at 0))
-    (while (< at (length rows))
-      (pcase-let* ((start (live-occur--after-rows rows at 1))
-                   (`(,_ ,file ,front ,removed ,added ,count)
-                    (mapcar #'string-to-number
-                            (split-string (substring rows at start) " ")))
-                   (`(,source . ,moved) (nth file moves)))
-        (when (memq source live-occur--sources)
-          (live-occur--apply source moved front removed added
-                             (live-occur--pieces-in rows start count)))
-        (setq at (live-occur--after-rows rows start count)))))
+(defun live-occur--apply-all (moves)
+  "Apply all that came, the first of it first.
+MOVES has the sources, and how their lines had moved at the last question."
+  (let (spots)
+    (pcase-dolist (`(,rows . ,asked)
+                   (nreverse (cl-shiftf live-occur--came nil)))
+      (let ((at 0))
+        (while (< at (length rows))
+          (pcase-let* ((start (live-occur--after-rows rows at 1))
+                       (`(,_ ,file ,front ,removed ,added ,count)
+                        (mapcar #'string-to-number
+                                (split-string (substring rows at start) " ")))
+                       (source (car (nth file asked)))
+                       (new (live-occur--pieces-in rows start count)))
+            (setq at start)
+            (dolist (piece new)
+              (cl-incf at (length (live-occur--piece-rows piece))))
+            (when (memq source live-occur--sources)
+              (cl-callf2 nconc
+                  (live-occur--apply source front removed added new) spots))))))
+    (live-occur--go-to-spots spots moves))
   (pcase-dolist (`(,source . ,before) moves)
-    (setf (live-occur--moves source)
-          (cl-ldiff (live-occur--moves source) before)))
+    (cl-callf cl-ldiff (live-occur--moves source) before))
   (when live-occur--page (live-occur--show-hits))
+  (when (eq 'again (cl-shiftf live-occur--asked nil))
+    (live-occur--update t))
   (force-mode-line-update))
 
 (defun live-occur--pieces-in (rows start count)
   "The COUNT hits in the bytes ROWS from START on, in pieces."
   (cl-loop for left downfrom count above 0 by 500
            for some = (min left 500)
-           for end = (live-occur--after-rows rows start some)
-           collect (live-occur--piece-of (substring rows start end) some 0)
+           for last = (live-occur--after-rows rows start (1- some))
+           for end = (live-occur--after-rows rows last 1)
+           collect (live-occur--piece (substring rows start end) some
+                                      (live-occur--place-in rows last) 0)
            do (setq start end)))
 
-(defun live-occur--apply (source moves front removed added new)
+(defun live-occur--apply (source front removed added new)
   "Put the hits NEW in the place of those among REMOVED lines of SOURCE.
-They are those among the ADDED lines from line FRONT on.  MOVES is how lines
-have moved."
+They are among the ADDED lines from FRONT on.  Answer the spots there."
   (pcase-let* ((`(,head . ,rest)
                 (live-occur--cut (live-occur--pieces source) front))
                (`(,gone . ,tail) (live-occur--cut rest (+ front removed)))
@@ -717,37 +722,36 @@ have moved."
                (less (live-occur--count gone))
                (more (live-occur--count new))
                (spots (unless live-occur--page (live-occur--spots row less))))
-    (dolist (spot spots)
-      (let* ((hit (live-occur--hit (car spot)))
-             (line (and hit
-                        (live-occur--moved (live-occur--hit-place hit) moves))))
-        (setcar spot (+ row (if hit (live-occur--count new line) more)))))
     (dolist (piece tail)
       (cl-incf (live-occur--piece-shift piece) (- added removed)))
     (setf (live-occur--pieces source) (nconc head new tail))
     (live-occur--replace-rows row less more)
-    (live-occur--go-to-spots spots)))
+    spots))
 
 ;;;; Rows
 
 ;; A row is a line of the list.  It is empty until it is made, which is when it
 ;; comes into view.  So the list has all rows, and a million cost little.
 
-(defun live-occur--go-to-row (row)
-  "Move to the row of number ROW, from 0."
-  (goto-char (point-min))
-  (forward-line row))
+(defmacro live-occur--at-row (row &rest body)
+  "Run BODY at ROW, counted from 0, in the whole list, and stay here."
+  (declare (indent 1) (debug t))
+  `(save-excursion
+     (save-restriction
+       (widen)
+       (goto-char (point-min))
+       (forward-line ,row)
+       ,@body)))
 
 (defun live-occur--row-at (position)
   "The number of the row at POSITION, from 0."
-  (1- (line-number-at-pos position)))
+  (live-occur--at-row 0 (1- (line-number-at-pos position))))
 
 (defun live-occur--replace-rows (row removed added)
   "Put ADDED rows that are not made in the place of REMOVED ones from ROW on."
   (unless (or live-occur--page (= removed added 0))
     (with-silent-modifications
-      (save-excursion
-        (live-occur--go-to-row row)
+      (live-occur--at-row row
         (delete-region (point) (line-beginning-position (1+ removed)))
         (insert-char ?\n added)))
     (when live-occur-edit-mode (setq buffer-undo-list nil))
@@ -763,20 +767,18 @@ have moved."
 
 (defun live-occur--spots (row count)
   "List where point and the windows are in the COUNT rows from ROW on.
-An element is a list of the row and the column, the window or nil, and the
-function that moves it."
+An element is a list of the hit, or the row where there is none, the column,
+the window or nil, and the function that moves it."
   (unless (= count 0)
     (let ((positions
            (cons (list (point) nil (lambda (_ position) (goto-char position)))
                  (cl-loop
                   for window in (get-buffer-window-list nil nil t)
-                  collect (list (window-point window) window
-                                #'set-window-point)
+                  collect (list (window-point window) window #'set-window-point)
                   collect (list (window-start window) window
                                 (lambda (window start)
                                   (set-window-start window start t)))))))
-      (save-excursion
-        (live-occur--go-to-row row)
+      (live-occur--at-row row
         (cl-loop
          with start = (point) and end = (line-beginning-position (1+ count))
          for (position . how) in positions
@@ -784,18 +786,26 @@ function that moves it."
                   (= position end (point-max)))
          collect (progn
                    (goto-char position)
-                   `(,(live-occur--row-at position)
+                   `(,(or (live-occur--hit (live-occur--row-at position))
+                          (live-occur--row-at position))
                      ,(- position (line-beginning-position)) ,@how)))))))
 
-(defun live-occur--go-to-spots (spots)
-  "Go back to SPOTS, or to rows after them."
-  (pcase-dolist (`(,row ,column ,window ,mover) spots)
+(defun live-occur--go-to-spots (spots &optional moves)
+  "Go back to SPOTS, or to rows after them.
+MOVES has the sources, and how their lines have moved."
+  (pcase-dolist (`(,spot ,column ,window ,mover) spots)
     (when (or (not window) (eq (window-buffer window) (current-buffer)))
-      (live-occur--make-rows row 1)
-      (funcall mover window
-               (save-excursion
-                 (live-occur--go-to-row row)
-                 (min (+ (point) column) (line-end-position)))))))
+      (let ((row (pcase spot
+                   ((cl-struct live-occur--hit source place)
+                    (+ (live-occur--row-of-source source)
+                       (live-occur--count
+                        (live-occur--pieces source)
+                        (live-occur--moved place (alist-get source moves)))))
+                   (_ spot))))
+        (live-occur--make-rows row 1)
+        (funcall mover window
+                 (live-occur--at-row row
+                   (min (+ (point) column) (line-end-position))))))))
 
 (defun live-occur--make-rows (first count)
   "Make COUNT rows from FIRST on, and bring their numbers up to date."
@@ -805,8 +815,7 @@ function that moves it."
 
 (defun live-occur--map-rows (function first count)
   "Call FUNCTION with each hit of COUNT rows from FIRST on, at its row."
-  (save-excursion
-    (live-occur--go-to-row first)
+  (live-occur--at-row first
     (live-occur--map-hits (lambda (hit)
                             (save-excursion (funcall function hit))
                             (forward-line 1))
@@ -825,7 +834,8 @@ function that moves it."
   "The head of the row of HIT, which is at LINE."
   (let ((name (live-occur--source-name (live-occur--hit-source hit))))
     (propertize (live-occur--head name (1+ line) ":")
-                'mouse-face 'highlight 'live-occur-number (1+ line))))
+                'mouse-face 'highlight 'help-echo live-occur--mouse
+                'live-occur-number (1+ line))))
 
 (defun live-occur--source-name (source)
   "What rows call SOURCE."
@@ -852,7 +862,8 @@ function that moves it."
                                      bytes (live-occur--hit-parts hit)))
       (when (< start most)
         (put-text-property start (min end most) 'face 'live-occur-match text)))
-    (insert (propertize (substring text 0 most) 'mouse-face 'highlight))
+    (insert (propertize (substring text 0 most)
+                        'mouse-face 'highlight 'help-echo live-occur--mouse))
     (when (length> text most)
       (insert (propertize "…" 'face 'shadow)))))
 
@@ -889,8 +900,7 @@ It may be moved to its point then, so rows there are made, too."
 
 (defun live-occur--show-around (first count)
   "Show the lines around COUNT rows from FIRST on."
-  (save-excursion
-    (live-occur--go-to-row first)
+  (live-occur--at-row first
     (remove-overlays (point) (line-beginning-position (1+ count))
                      'live-occur-around t))
   (when (and live-occur-context (not live-occur--page))
@@ -940,9 +950,8 @@ ABOVE is nil before the first hit of the list, and BELOW after the last one."
 (defun live-occur-visit (&optional event)
   "Go to the line of the row at point, or of the one that EVENT clicked at.
 The list keeps its window."
-  (interactive (list last-nonmenu-event))
-  (when (mouse-event-p event)
-    (posn-set-point (event-end event)))
+  (interactive (list last-nonmenu-event) live-occur-mode)
+  (when (mouse-event-p event) (posn-set-point (event-end event)))
   (let* ((hit (or (live-occur--hit (live-occur--row-at (point)))
                   (user-error "There is no row here")))
          (part (car (live-occur--in-characters
@@ -950,8 +959,7 @@ The list keeps its window."
                      (seq-take (live-occur--hit-parts hit) 1))))
          (position (live-occur--at-line-of hit
                      (min (line-end-position) (+ (point) (or (car part) 0))))))
-    (unless position
-      (user-error "The buffer of this row is gone"))
+    (unless position (user-error "The buffer of this row is gone"))
     (setq next-error-last-buffer (current-buffer))
     (pop-to-buffer (live-occur--buffer (live-occur--hit-source hit))
                    (unless (eq (window-buffer) (current-buffer))
@@ -966,27 +974,27 @@ The list keeps its window."
 
 (defun live-occur-display ()
   "Show the line of the row at point in another window, and stay here."
-  (interactive)
+  (interactive nil live-occur-mode)
   (save-selected-window (live-occur-visit)))
 
 (defun live-occur-next (&optional count)
   "Move COUNT rows on."
-  (interactive "p")
+  (interactive "p" live-occur-mode)
   (let ((row (+ (live-occur--row-at (point)) (or count 1))))
     (unless (< -1 row (live-occur--total))
       (user-error "There are no more rows"))
-    (live-occur--go-to-row row)))
+    (goto-char (live-occur--at-row row (point)))))
 
 (defun live-occur-previous (&optional count)
   "Move COUNT rows back."
-  (interactive "p")
+  (interactive "p" live-occur-mode)
   (live-occur-next (- (or count 1))))
 
 (defun live-occur--next-error (count reset)
   "Move COUNT rows on, or with RESET from the first row, and go to the line.
 This is the `next-error-function' of lists."
   (live-occur-next (if reset (- (live-occur--row-at (point))) count))
-  (when-let ((window (get-buffer-window nil 0)))
+  (when-let* ((window (get-buffer-window nil 0)))
     (set-window-point window (point)))
   (live-occur-visit))
 
@@ -1021,8 +1029,7 @@ Call REPORT with the reply.  Of several wishes the last one is kept."
 (defun live-occur--got (patterns report reply &optional _)
   "Take REPLY to the wish for PATTERNS, and call REPORT with it."
   (when (and (equal reply "ok") (not (equal patterns live-occur--patterns)))
-    (dolist (_ live-occur--patterns)
-      (live-occur--order "drop 0\n"))
+    (dolist (_ live-occur--patterns) (live-occur--order "drop 0\n"))
     (setq live-occur--patterns patterns))
   (funcall report reply)
   (let ((wanted (cl-shiftf live-occur--trying nil)))
@@ -1046,9 +1053,8 @@ Call REPORT with the reply.  Of several wishes the last one is kept."
      (let* ((at (min (+ (minibuffer-prompt-end) place) (point-max)))
             (fault (make-overlay at (min (1+ at) (point-max))))
             (end (make-overlay (point-max) (point-max))))
-       (overlay-put fault 'live-occur-fault t)
+       (dolist (one (list fault end)) (overlay-put one 'live-occur-fault t))
        (overlay-put fault 'face 'live-occur-fault)
-       (overlay-put end 'live-occur-fault t)
        (overlay-put end 'after-string
                     (concat (when (= at (point-max))
                               (propertize " " 'face 'live-occur-fault))
@@ -1088,7 +1094,7 @@ Call REPORT with the reply.  Of several wishes the last one is kept."
 
 (defun live-occur--symbol-at-point (syntax)
   "The symbol at point as a pattern in SYNTAX that matches it, or nil."
-  (when-let ((symbol (thing-at-point 'symbol t)))
+  (when-let* ((symbol (thing-at-point 'symbol t)))
     (pcase syntax
       ('fixed symbol)
       ('basic (replace-regexp-in-string "[][\\.*^$]" "\\\\\\&" symbol))
@@ -1099,8 +1105,7 @@ Call REPORT with the reply.  Of several wishes the last one is kept."
 They go between the patterns BEFORE and AFTER."
   (let ((offered (live-occur--symbol-at-point
                   (buffer-local-value 'live-occur-syntax list)))
-        (old (buffer-local-value 'live-occur--patterns list))
-        fault done)
+        (old (buffer-local-value 'live-occur--patterns list)) fault done)
     (unwind-protect
         (while (not done)
           (minibuffer-with-setup-hook
@@ -1136,7 +1141,7 @@ They go between the patterns BEFORE and AFTER."
 
 (defun live-occur-add-pattern ()
   "Add a pattern: lines that any of the patterns matches are listed."
-  (interactive)
+  (interactive nil live-occur-mode)
   (live-occur--ask (current-buffer) "Add pattern: " nil live-occur--patterns))
 
 (defun live-occur--read-place (prompt)
@@ -1149,13 +1154,14 @@ They go between the patterns BEFORE and AFTER."
 
 (defun live-occur-drop-pattern (place)
   "Drop the pattern of number PLACE.  Without any, no line is listed."
-  (interactive (list (live-occur--read-place "Drop pattern: ")))
+  (interactive (list (live-occur--read-place "Drop pattern: ")) live-occur-mode)
   (live-occur--put (append (seq-take live-occur--patterns place)
                            (seq-drop live-occur--patterns (1+ place)))))
 
 (defun live-occur-change-pattern (place)
   "Change the pattern of number PLACE."
-  (interactive (list (live-occur--read-place "Change pattern: ")))
+  (interactive (list (live-occur--read-place "Change pattern: "))
+               live-occur-mode)
   (live-occur--ask (current-buffer) "Pattern: " (nth place live-occur--patterns)
                    (seq-take live-occur--patterns place)
                    (seq-drop live-occur--patterns (1+ place))))
@@ -1181,16 +1187,15 @@ They go between the patterns BEFORE and AFTER."
                   (live-occur--spots 0 (buffer-size)))))
   (with-silent-modifications
     (erase-buffer)
-    (cl-loop
-     for start = (live-occur--after-rows rows 0 1)
-     then (live-occur--after-rows rows start 1)
-     while (< start (length rows))
-     do (let* ((source (nth (live-occur--place-in rows start) sources))
+    (let ((start 0))
+      (while (< (setq start (live-occur--after-rows rows start 1))
+                (length rows))
+        (let* ((source (nth (live-occur--place-in rows start) sources))
                (place (string-search " " rows (+ start 2)))
                (hit (live-occur--hit-in source rows place 0)))
           (insert (live-occur--row-head hit (live-occur--hit-place hit)))
           (live-occur--insert-text hit)
-          (insert "\n"))))
+          (insert "\n")))))
   (goto-char (point-min))
   (dolist (window (get-buffer-window-list nil nil t))
     (set-window-point window (point-min)))
@@ -1220,40 +1225,39 @@ They go between the patterns BEFORE and AFTER."
 
 (defun live-occur-basic ()
   "Read the patterns as basic regular expressions."
-  (interactive)
+  (interactive nil live-occur-mode)
   (live-occur--set 'live-occur-syntax 'basic "syntax basic"))
 
 (defun live-occur-extended ()
   "Read the patterns as extended regular expressions."
-  (interactive)
+  (interactive nil live-occur-mode)
   (live-occur--set 'live-occur-syntax 'extended "syntax extended"))
 
 (defun live-occur-fixed ()
   "Read the patterns as fixed strings."
-  (interactive)
+  (interactive nil live-occur-mode)
   (live-occur--set 'live-occur-syntax 'fixed "syntax fixed"))
 
 (defun live-occur--toggle (letter)
   "Turn the flag LETTER on or off."
-  (let ((flags (sort (cl-set-exclusive-or (list letter) live-occur-flags)
-                     #'<)))
+  (let ((flags (sort (cl-set-exclusive-or (list letter) live-occur-flags) #'<)))
     (live-occur--set 'live-occur-flags flags
                      (format "flag %c %s" letter
                              (if (memq letter flags) "on" "off")))))
 
 (defun live-occur-toggle-case ()
   "Match both cases of letters, or no longer: flag i."
-  (interactive)
+  (interactive nil live-occur-mode)
   (live-occur--toggle ?i))
 
 (defun live-occur-toggle-inverse ()
   "List the lines that are not matched, or no longer: flag v."
-  (interactive)
+  (interactive nil live-occur-mode)
   (live-occur--toggle ?v))
 
 (defun live-occur-toggle-whole-lines ()
   "Match whole lines alone, or no longer: flag x."
-  (interactive)
+  (interactive nil live-occur-mode)
   (live-occur--toggle ?x))
 
 (defun live-occur-set-context (before after)
@@ -1261,7 +1265,8 @@ They go between the patterns BEFORE and AFTER."
 Where both numbers are 0 no other lines are shown."
   (interactive
    (list (read-number "Lines before: " (or (car live-occur-context) 0))
-         (read-number "Lines after: " (or (cdr live-occur-context) 0))))
+         (read-number "Lines after: " (or (cdr live-occur-context) 0)))
+   live-occur-mode)
   (unless (and (natnump before) (natnump after))
     (user-error "A number of lines is 0 or more"))
   (setq live-occur-context (unless (= 0 before after) (cons before after)))
@@ -1276,39 +1281,35 @@ Where both numbers are 0 no other lines are shown."
     (string-replace
      "%" "%%"
      (propertize
-      (format " %s%s%s  %s  %s%s"
-              live-occur-syntax
-              (if live-occur-flags (concat " -" live-occur-flags) "")
-              (pcase live-occur-context
-                (`(,before . ,after) (format " -B %d -A %d" before after))
-                (_ ""))
-              (if live-occur--patterns
-                  (mapconcat (lambda (pattern) (propertize pattern 'face 'bold))
-                             live-occur--patterns "  ")
-                "no pattern")
-              (if live-occur--fault
-                  (propertize live-occur--fault 'face 'error)
-                (format "%d row%s, %d buffer%s" rows (if (= rows 1) "" "s")
-                        buffers (if (= buffers 1) "" "s")))
-              (if live-occur-edit-mode
-                  (substitute-command-keys "  \\<live-occur-edit-mode-map>\
-rows are edited, \\[live-occur-edit-mode] ends it")
-                ""))
+      (concat
+       " " (symbol-name live-occur-syntax)
+       (and live-occur-flags (concat " -" live-occur-flags))
+       (pcase live-occur-context
+         (`(,before . ,after) (format " -B %d -A %d" before after)))
+       "  " (if live-occur--patterns
+                (propertize (string-join live-occur--patterns "  ") 'face 'bold)
+              "no pattern")
+       "  " (if live-occur--fault
+                (propertize live-occur--fault 'face 'error)
+              (format "%d row%s, %d buffer%s" rows (if (= rows 1) "" "s")
+                      buffers (if (= buffers 1) "" "s")))
+       (and live-occur-edit-mode
+            (substitute-command-keys "  \\<live-occur-edit-mode-map>\
+rows are edited, \\[live-occur-edit-mode] ends it")))
       'help-echo "In the list: C-h m describes the keys"))))
 
 (defun live-occur-refresh (&rest _)
   "Bring the list up to date now."
-  (interactive)
+  (interactive nil live-occur-mode)
   (live-occur--check)
   (live-occur--update t))
 
 (defun live-occur-restart ()
   "Start the program again.  The list stays as it is until that has reported."
-  (interactive)
+  (interactive nil live-occur-mode)
   (live-occur--end)
   (setq live-occur--page (list (live-occur--total)))
-  (dolist (source live-occur--sources)
-    (setf (live-occur--pieces source) nil))
+  (dolist (source live-occur--sources) (setf (live-occur--pieces source) nil))
   (live-occur--begin)
   (live-occur--update t))
 
@@ -1358,7 +1359,7 @@ rows are edited, \\[live-occur-edit-mode] ends it")
 
 (defun live-occur-add-buffer (buffer)
   "Search BUFFER as well."
-  (interactive "bSearch buffer: ")
+  (interactive "bSearch buffer: " live-occur-mode)
   (when (live-occur--source-of buffer)
     (user-error "%s is searched already" buffer))
   (live-occur--add-source (get-buffer buffer))
@@ -1369,8 +1370,9 @@ rows are edited, \\[live-occur-edit-mode] ends it")
   (interactive
    (list (completing-read
           "Leave out buffer: "
-          (mapcar #'live-occur--source-name live-occur--sources) nil t)))
-  (when-let ((source (live-occur--source-of buffer)))
+          (mapcar #'live-occur--source-name live-occur--sources) nil t))
+   live-occur-mode)
+  (when-let* ((source (live-occur--source-of buffer)))
     (live-occur--close source)
     (live-occur--update t)))
 
@@ -1408,10 +1410,11 @@ rows are edited, \\[live-occur-edit-mode] ends it")
 
 (defvar live-occur-mode-map
   (let ((map (make-sparse-keymap)))
+    (define-key map (kbd "C-o") #'live-occur-display)
+    (define-key map (kbd "o") #'live-occur-visit)
+    (define-key map [mouse-2] #'live-occur-visit)
     (pcase-dolist (`(,key ,command . ,_) live-occur--commands)
       (define-key map (kbd key) command))
-    (define-key map (kbd "C-o") #'live-occur-display)
-    (define-key map [mouse-2] #'live-occur-visit)
     (define-key map [follow-link] 'mouse-face)
     map)
   "Keys in lists of `live-occur'.")
@@ -1425,6 +1428,7 @@ rows are edited, \\[live-occur-edit-mode] ends it")
 
 (define-derived-mode live-occur-mode special-mode "Live-Occur"
   "A list of the lines that match, kept right while buffers are edited."
+  :interactive nil
   (setq-local live-occur-syntax live-occur-syntax
               live-occur-context live-occur-context
               live-occur-flags (sort (copy-sequence live-occur-flags) #'<)
@@ -1433,8 +1437,7 @@ rows are edited, \\[live-occur-edit-mode] ends it")
               next-error-find-buffer-function (lambda (&rest _)
                                                 (current-buffer))
               header-line-format '((:eval (live-occur--header)))
-              truncate-lines t
-              buffer-undo-list t
+              truncate-lines t buffer-undo-list t
               live-occur--idle-timer
               (run-with-idle-timer live-occur-delay t #'live-occur--look
                                    (current-buffer)))
@@ -1462,6 +1465,7 @@ rows are edited, \\[live-occur-edit-mode] ends it")
   "Edit the rows of this list, and with each its line.
 Undo works in the list, and in the buffers."
   :lighter " Edit"
+  :interactive (live-occur-mode)
   :keymap `((,(kbd "C-c C-c") . live-occur-edit-mode)
             (,(kbd "C-c C-o") . live-occur-display))
   (let ((on live-occur-edit-mode))
@@ -1516,12 +1520,10 @@ All of it is where its buffer is read-only, or its text is shortened."
   "Make the change of a row, from START to END, in its line as well.
 Newlines in it become spaces."
   (save-match-data
-    (save-excursion
-      (subst-char-in-region start end ?\n ?\s)
-      (goto-char start)
-      (forward-line 0)
-      (when-let ((hit (live-occur--hit (live-occur--row-at (point))))
-                 (text (live-occur--row-text)))
+    (subst-char-in-region start end ?\n ?\s)
+    (live-occur--at-row (live-occur--row-at start)
+      (when-let* ((hit (live-occur--hit (live-occur--row-at (point))))
+                  (text (live-occur--row-text)))
         (condition-case problem
             (live-occur--change-line
              hit (get-text-property (point) 'live-occur-text) text)
@@ -1536,8 +1538,7 @@ Newlines in it become spaces."
 
 (defun live-occur--row-text ()
   "The text of the row at point."
-  (buffer-substring-no-properties (live-occur--after-head)
-                                  (line-end-position)))
+  (buffer-substring-no-properties (live-occur--after-head) (line-end-position)))
 
 (defun live-occur--change-line (hit old new)
   "Put the text NEW in the place of OLD in the line of HIT, or signal an error."
@@ -1562,8 +1563,7 @@ Rows that were edited alone stay as they are."
        (let ((inhibit-modification-hooks t)
              (inhibit-read-only t)
              (old (get-text-property (point) 'live-occur-text))
-             (new (live-occur--at-line-of hit
-                    (live-occur--text-after-point))))
+             (new (live-occur--at-line-of hit (live-occur--text-after-point))))
          (when (and new
                     (not (equal old new))
                     (equal old (live-occur--row-text)))
@@ -1611,7 +1611,7 @@ whatever it is narrowed to."
             (live-occur--ask list "List lines that match: "))
           (setq done t))
       (unless done
-        (when-let ((window (get-buffer-window list t)))
+        (when-let* ((window (get-buffer-window list t)))
           (quit-restore-window window 'kill))
         (kill-buffer list)))
     (setq next-error-last-buffer list)
@@ -1659,7 +1659,7 @@ whatever it is narrowed to."
 ;;;###autoload
 (defun live-occur-in-dired ()
   "List the lines that match in the marked files of this Dired buffer."
-  (interactive)
+  (interactive nil dired-mode)
   (live-occur--in-buffers
    (mapcar #'find-file-noselect
            (seq-filter #'file-regular-p (dired-get-marked-files)))))

@@ -124,10 +124,14 @@ All buffers and processes that it makes are taken away after it."
   (let ((inhibit-message nil))
     (apply #'message words)))
 
+(defun live-occur-test--go-to-row (row)
+  "Move to the row of number ROW, from 0."
+  (goto-char (live-occur--at-row row (point))))
+
 (defun live-occur-test--at (list row)
   "Move to ROW of LIST, from 1, there and in its windows."
   (with-current-buffer list
-    (live-occur--go-to-row (1- row))
+    (live-occur-test--go-to-row (1- row))
     (dolist (window (get-buffer-window-list nil nil t))
       (set-window-point window (point)))))
 
@@ -312,13 +316,44 @@ All buffers and processes that it makes are taken away after it."
         (live-occur-test--rows list))
       (should (equal (nreverse sent)
                      '("splice 0 1000 0 1\nx\n"
+                       "changes\n"
                        "splice 0 700 1 2\nlinx\ne\n"
+                       "changes\n"
                        "splice 0 600 1 0\n"
+                       "changes\n"
                        "splice 0 500 0 1\nx\n"
+                       "changes\n"
                        "splice 0 0 1 1\nxline\n"
                        "changes\n")))
       (should (equal (live-occur-test--rows list)
                      "a:1:xline\na:501:x\na:701:linx\na:1002:x\n")))))
+
+(ert-deftest live-occur-gets-only-rows-that-changed ()
+  "Rows between edits that are far apart don't come again, and point stays."
+  (live-occur-test--with (list (apply #'concat (make-list 1000 "a\n")))
+    (let ((list (live-occur "a")) (got 0))
+      (live-occur-test--rows list)
+      (live-occur-test--at list 800)
+      (cl-letf* ((pieces (symbol-function 'live-occur--pieces-in))
+                 ((symbol-function 'live-occur--pieces-in)
+                  (lambda (rows start count)
+                    (cl-incf got count)
+                    (funcall pieces rows start count))))
+        (goto-char (point-min))
+        (insert "a1\na2\n")
+        (forward-line 799)
+        (insert "b")
+        (goto-char (point-max))
+        (insert "a3\n")
+        (live-occur-test--rows list))
+      (should (= got 4))
+      (with-current-buffer list
+        (should (looking-at "a:802:ba$"))
+        (goto-char (point-min))
+        (should (looking-at "a:1:a1\na:2:a2\na:3:a\n"))
+        (goto-char (point-max))
+        (forward-line -2)
+        (should (looking-at "a:1002:a\na:1003:a3\n"))))))
 
 (ert-deftest live-occur-asks-for-one-report-at-a-time ()
   (live-occur-test--with '("a\n")
@@ -875,7 +910,8 @@ It is nil where the pattern is refused."
 (defun live-occur-test--kill (list)
   "Kill the program of LIST, and wait until that is known."
   (with-current-buffer list
-    (signal-process live-occur--process 'KILL)
+    (unless live-occur--fault
+      (signal-process live-occur--process 'KILL))
     (with-timeout (10 (error "The end of the program is not known"))
       (while (not live-occur--fault)
         (accept-process-output nil 0.01)))))
@@ -931,6 +967,94 @@ It is nil where the pattern is refused."
             (live-occur-edit-mode -1))
           (should (equal (live-occur-test--restart list)
                          "a:1:ones\na:2:two\nb:1:four\n")))))))
+
+(defmacro live-occur-test--killed-after (list function &rest body)
+  "Run BODY, and kill the program of LIST after the first call of FUNCTION.
+Where BODY reports that it was killed, that is as it has to be."
+  (declare (indent 2) (debug t))
+  `(let (killed)
+     (advice-add ,function :after (lambda (&rest _)
+                                    (unless killed
+                                      (setq killed t)
+                                      (live-occur-test--kill ,list)))
+                 '((name . live-occur-test)))
+     (unwind-protect
+         (condition-case problem
+             (progn ,@body)
+           (user-error (should (string-search "was killed" (cadr problem)))))
+       (advice-remove ,function 'live-occur-test))
+     (should killed)))
+
+(ert-deftest live-occur-outlives-its-program-in-the-midst-of-a-command ()
+  (live-occur-test--with '("one\ntwo\nthree\n" "four\n")
+    (live-occur-test--in-windows
+      (let ((list (live-occur "o" buffers))
+            (rows "a:1:one\na:2:two\nb:1:four\n"))
+        (live-occur-test--rows list)
+        (ert-info ("while a text is sent")
+          (goto-char (point-min))
+          (insert (apply #'concat (make-list 60000 "x\n")))
+          (with-current-buffer list
+            (live-occur-test--killed-after list #'live-occur--order
+              (live-occur--update)))
+          (delete-region 1 120001)
+          (should (equal (live-occur-test--restart list) rows)))
+        (ert-info ("while a list is opened")
+          (should-error (live-occur-test--killed-in-new-list) :type 'user-error))
+        (ert-info ("while a pattern waits for its reply")
+          (with-current-buffer list
+            (live-occur-test--killed-after list #'live-occur--patterns-command
+              (live-occur--put '("t")))
+            (should (equal live-occur--patterns '("o"))))
+          (should (equal (live-occur-test--restart list) rows)))
+        (ert-info ("while a page is on its way")
+          (with-selected-window (get-buffer-window list)
+            (live-occur-test--killed-after list #'live-occur--ask-for-page
+              (live-occur-test--type "C-c a t C-g"))
+            (should (equal live-occur--patterns '("o")))
+            (should (equal (live-occur-test--text-shown) rows)))
+          (should (equal (live-occur-test--restart list) rows)))
+        (ert-info ("while a page is shown, and the pattern is kept")
+          (with-selected-window (get-buffer-window list)
+            (live-occur-test--killed-after list #'live-occur--show-page
+              (live-occur-test--type "C-c a t RET C-g"))
+            (should (equal live-occur--patterns '("o")))
+            (should (equal (live-occur-test--text-shown) rows)))
+          (should (equal (live-occur-test--restart list) rows)))
+        (ert-info ("while a flag waits for its reply")
+          (with-current-buffer list
+            (signal-process live-occur--process 'STOP)
+            (live-occur-test--killed-after list #'live-occur--send
+              (live-occur-toggle-inverse))
+            (should-not live-occur-flags))
+          (should (equal (live-occur-test--restart list) rows)))
+        (ert-info ("while the rows to edit are on their way")
+          (insert "o\n")
+          (with-current-buffer list
+            (signal-process live-occur--process 'STOP)
+            (live-occur-test--killed-after list #'live-occur--ask-for-changes
+              (live-occur-edit-mode))
+            (should-not live-occur-edit-mode)
+            (should buffer-read-only))
+          (delete-char -2)
+          (should (equal (live-occur-test--restart list) rows)))
+        (ert-info ("while it starts again")
+          (with-current-buffer list
+            (live-occur-test--killed-after list #'live-occur--begin
+              (live-occur-restart)))
+          (should (equal (live-occur-test--restart list) rows)))))))
+
+(defun live-occur-test--killed-in-new-list ()
+  "Begin a list, and kill its program while its text is sent."
+  (let ((buffers (buffer-list)))
+    (cl-letf* ((open (symbol-function 'live-occur--add-source))
+               ((symbol-function 'live-occur--add-source)
+                (lambda (buffer)
+                  (funcall open buffer)
+                  (live-occur-test--kill (current-buffer)))))
+      (unwind-protect
+          (live-occur "o")
+        (should (equal (buffer-list) buffers))))))
 
 (defun live-occur-test--text-shown-in (list)
   "The text that LIST shows."
@@ -1018,7 +1142,7 @@ It is nil where the pattern is refused."
         (with-current-buffer list
           (live-occur-visit
            (list 'mouse-2 (list (display-buffer list)
-                                (progn (live-occur--go-to-row 2) (point))
+                                (progn (live-occur-test--go-to-row 2) (point))
                                 '(0 . 0) 0))))
         (should (eq (window-buffer) (nth 1 buffers)))))))
 
@@ -1051,6 +1175,11 @@ It is nil where the pattern is refused."
           (run-hook-with-args 'pre-redisplay-functions (get-buffer-window list))
           (should (equal (live-occur-test--text-shown)
                          "a:1:a1\na:5:a2\na:6:a3\nb:1:a4\n"))
+          (goto-char (point-min))
+          (while (not (eobp))
+            (should (eq (null (get-text-property (point) 'help-echo)) (eolp)))
+            (should (eq (null (get-text-property (point) 'mouse-face)) (eolp)))
+            (forward-char 1))
           (should-not (live-occur-test--busy-p)))))))
 
 (ert-deftest live-occur-visits-lines-that-have-moved ()
@@ -1097,6 +1226,39 @@ It is nil where the pattern is refused."
           (live-occur-previous 1)
           (run-hooks 'post-command-hook))
         (should (= (line-number-at-pos (window-point (get-buffer-window a))) 2))))))
+
+(ert-deftest live-occur-stays-right-while-it-is-narrowed ()
+  (live-occur-test--with '("a1\nb\na2\na3\na4\n")
+    (live-occur-test--in-windows
+      (let ((list (live-occur "a")))
+        (live-occur-test--rows list)
+        (live-occur-test--at list 2)
+        (with-current-buffer list
+          (narrow-to-region (point) (line-beginning-position 3)))
+        (goto-char (point-min))
+        (insert "a0\n")
+        (live-occur-test--rows list)
+        (search-forward "a3")
+        (insert " a")
+        (live-occur-test--rows list)
+        (goto-char (point-max))
+        (insert "a5\n")
+        (should (string-prefix-p "a:4:a2\na:5:a3 a\n" (live-occur-test--rows list)))
+        (with-current-buffer list
+          (goto-char (point-min))
+          (should (looking-at "a:4:a2"))
+          (live-occur-next)
+          (should (looking-at "a:5:a3 a"))
+          (live-occur-edit-mode)
+          (goto-char (point-min))
+          (search-forward "a2")
+          (insert "!")
+          (live-occur-edit-mode -1))
+        (should (equal (buffer-string) "a0\na1\nb\na2!\na3 a\na4\na5\n"))
+        (with-current-buffer list
+          (widen))
+        (should (equal (live-occur-test--rows list)
+                       "a:1:a0\na:2:a1\na:4:a2!\na:5:a3 a\na:6:a4\na:7:a5\n"))))))
 
 (ert-deftest live-occur-stays-at-its-row ()
   (live-occur-test--with '("x1\nx2\nx3\nx4\n")
@@ -1267,7 +1429,7 @@ It is nil where the pattern is refused."
       (with-current-buffer list
         (live-occur-edit-mode)
         (dotimes (_ 300)
-          (live-occur--go-to-row (random (live-occur--total)))
+          (live-occur-test--go-to-row (random (live-occur--total)))
           (let* ((start (next-single-property-change (point) 'live-occur-number))
                  (place (+ start (random (1+ (- (line-end-position) start)))))
                  (end (min (line-end-position) (+ place (random 3)))))
@@ -1517,8 +1679,9 @@ The answer is how many they are."
 (defun live-occur-test--times (lines every turns away)
   "Measure TURNS edits with their updates in a text of LINES lines.
 One line of EVERY matches.  Each edit is AWAY lines after the one before, or
-before it at the end.  The answer is the seconds to open the list, and those
-of the edits: of the command alone, and with the update."
+before it at the end.  The answer is the seconds to open the list, those of the
+edits: of the command alone, and with the update, and those of an update after
+two edits, at both ends of the text."
   (live-occur-test--with (list (live-occur-test--large lines every))
     (live-occur-test--in-windows
       (let* ((live-occur-idle-rows 0)
@@ -1535,19 +1698,28 @@ of the edits: of the command alone, and with the update."
           (let ((start (float-time)))
             (insert (format "%d new needle\n" turn))
             (push (- (float-time) start) edits)
-            (with-current-buffer list
-              (live-occur--update)
-              (while (live-occur-test--busy-p)
-                (accept-process-output
-                 live-occur--process 1)))
-            (push (- (float-time) start) updates)))
-        (with-current-buffer list
-          (should (= (live-occur--total) (+ turns (/ (+ lines every -1) every)))))
-        (list opened edits updates)))))
+            (push (+ (car edits) (live-occur-test--update-time list)) updates)))
+        (goto-char (point-min))
+        (insert "first needle\n")
+        (goto-char (point-max))
+        (insert "last needle\n")
+        (let ((both (live-occur-test--update-time list)))
+          (with-current-buffer list
+            (should (= (live-occur--total) (+ 2 turns (/ (+ lines every -1) every)))))
+          (list opened edits updates both))))))
+
+(defun live-occur-test--update-time (list)
+  "Bring LIST up to date, and answer the seconds that it took."
+  (let ((start (float-time)))
+    (with-current-buffer list
+      (live-occur--update)
+      (while (live-occur-test--busy-p)
+        (accept-process-output live-occur--process 1)))
+    (- (float-time) start)))
 
 (ert-deftest live-occur-is-quick-in-a-large-buffer ()
   "An edit of 200,000 lines and its update take less than a tenth of a second."
-  (pcase-let ((`(,opened ,_ ,updates) (live-occur-test--times 200000 10 30 10)))
+  (pcase-let ((`(,opened ,_ ,updates ,_) (live-occur-test--times 200000 10 30 10)))
     (live-occur-test--tell
      "200,000 lines: opened in %.2f s; an edit and its update: median %.1f ms, at most %.1f ms"
      opened (* 1000 (live-occur-test--median updates)) (* 1000 (apply #'max updates)))
@@ -1555,17 +1727,53 @@ of the edits: of the command alone, and with the update."
 
 (defun live-occur-test-times ()
   "Print a table of times."
-  (live-occur-test--tell "%10s %10s %10s %10s %10s %10s %10s" "lines" "hits" "lines away"
-                         "open, s" "edit, ms" "update, ms" "at most")
+  (live-occur-test--tell "%10s %10s %10s %10s %10s %10s %10s %14s" "lines" "hits" "lines away"
+                         "open, s" "edit, ms" "update, ms" "at most" "both ends, ms")
   (pcase-dolist (`(,lines ,every ,away)
                  '((100000 10 10) (1000000 1000 10) (1000000 10 10) (1000000 10 300000)
                    (1000000 1 10)))
-    (pcase-let ((`(,opened ,edits ,updates) (live-occur-test--times lines every 60 away)))
-      (live-occur-test--tell "%10d %10d %10d %10.2f %10.2f %10.2f %10.2f"
+    (pcase-let ((`(,opened ,edits ,updates ,both)
+                 (live-occur-test--times lines every 60 away)))
+      (live-occur-test--tell "%10d %10d %10d %10.2f %10.2f %10.2f %10.2f %14.2f"
                              lines (/ lines every) away opened
                              (* 1000 (live-occur-test--median edits))
                              (* 1000 (live-occur-test--median updates))
-                             (* 1000 (apply #'max updates))))))
+                             (* 1000 (apply #'max updates)) (* 1000 both)))))
+
+(defun live-occur-test--steps (list first done)
+  "Call FIRST in LIST, and let Emacs work until DONE answers non-nil there.
+The answer is the seconds until then, and those of the longest step."
+  (with-current-buffer list
+    (let ((began (float-time)) (longest 0))
+      (while (let ((start (float-time)))
+               (if first (funcall (cl-shiftf first nil)) (accept-process-output nil 0.001))
+               (setq longest (max longest (- (float-time) start)))
+               (not (funcall done))))
+      (list (- (float-time) began) longest))))
+
+(defun live-occur-test-typing-times ()
+  "Print a table of times while a pattern is typed, and after it is kept."
+  (live-occur-test--tell "%10s %10s %16s %16s %16s %16s" "lines" "hits" "first rows, s"
+                         "longest step, ms" "kept: rows, s" "longest step, ms")
+  (pcase-dolist (`(,lines ,pattern ,hits)
+                 '((100000 "lazy" 100000) (1000000 "needle" 100000) (1000000 "lazy" 1000000)))
+    (live-occur-test--with (list (live-occur-test--large lines 10))
+      (live-occur-test--in-windows
+        (let ((list (live-occur "^$")))
+          (with-current-buffer list
+            (live-occur-test--wait))
+          (garbage-collect)
+          (pcase-let ((`(,first ,typed)
+                       (live-occur-test--steps
+                        list (lambda () (live-occur--try list nil pattern nil nil))
+                        (lambda () live-occur--page)))
+                      (`(,all ,kept)
+                       (live-occur-test--steps
+                        list (lambda () (live-occur--end-preview live-occur--patterns))
+                        (lambda () (not (live-occur-test--busy-p))))))
+            (should (= hits (with-current-buffer list (live-occur--total))))
+            (live-occur-test--tell "%10d %10d %16.2f %16.1f %16.2f %16.1f" lines hits
+                                   first (* 1000 typed) all (* 1000 kept))))))))
 
 ;;;; Keys
 
@@ -1578,9 +1786,16 @@ of the edits: of the command alone, and with the update."
       (forward-line 1)
       (should (commandp command))
       (should (eq (lookup-key live-occur-mode-map (kbd key)) command))
-      (should (looking-at-p (concat "[^\t\n]+\t" (regexp-quote (substitute-command-keys label)) "$"))))
+      (should (looking-at-p (concat (regexp-quote key) "\t"
+                                   (regexp-quote (substitute-command-keys label)) "$"))))
     (forward-line 1)
     (should (eobp))))
+
+(ert-deftest live-occur-has-its-commands-in-lists-alone ()
+  (pcase-dolist (`(,_ ,command . ,_) live-occur--commands)
+    (unless (memq command '(quit-window next-error-follow-minor-mode))
+      (should (equal (command-modes command) '(live-occur-mode)))))
+  (should-not (commandp 'live-occur-mode)))
 
 (ert-deftest live-occur-has-a-menu ()
   (dolist (entry live-occur--commands)
@@ -1591,6 +1806,28 @@ of the edits: of the command alone, and with the update."
 (defun live-occur-test--file ()
   "The file that is tested."
   (expand-file-name "../live-occur.el" (file-name-directory (symbol-file 'live-occur-test--file))))
+
+(ert-deftest live-occur-loads-what-it-needs ()
+  "In another Emacs, which has loaded nothing else."
+  (with-temp-buffer
+    (should (eql 0 (call-process
+                    (expand-file-name invocation-name invocation-directory) nil t nil
+                    "-Q" "--batch" "-l" (live-occur-test--file) "--eval"
+                    (format "%S" `(with-temp-buffer
+                                    (run-with-timer 20 nil #'kill-emacs 1)
+                                    (rename-buffer "a")
+                                    (insert "one\ntwo\n")
+                                    (setq live-occur-program ,live-occur-program)
+                                    (with-current-buffer (live-occur "o")
+                                      (while (= 0 (live-occur--total))
+                                        (accept-process-output nil 0.02))
+                                      (live-occur-drop-pattern 0)
+                                      (live-occur--put '("t"))
+                                      (while (/= 1 (live-occur--total))
+                                        (accept-process-output nil 0.02))
+                                      (live-occur--make-rows 0 1)
+                                      (princ (buffer-string))))))))
+    (should (equal (buffer-string) "a:2:two\n"))))
 
 (ert-deftest live-occur-compiles-without-a-warning ()
   (let* ((folder (make-temp-file "live-occur" t))
@@ -1612,6 +1849,27 @@ of the edits: of the command alone, and with the update."
       (checkdoc-current-buffer t)
       (kill-buffer))
     (should-not told)))
+
+(defvar package-directory-list)
+(declare-function package-lint-buffer "package-lint")
+(declare-function package-activate "package")
+(declare-function package-load-all-descriptors "package")
+
+(ert-deftest live-occur-passes-package-lint ()
+  "The project has no home page, and some releases know no Emacs 28."
+  (require 'package)
+  (add-to-list 'package-directory-list "/usr/share/emacs/site-lisp/elpa")
+  (package-load-all-descriptors)
+  (package-activate 'package-lint)
+  (skip-unless (require 'package-lint nil t))
+  (with-current-buffer (find-file-noselect (live-occur-test--file))
+    (unwind-protect
+        (should-not (cl-remove-if
+                     (lambda (text)
+                       (string-match-p "Homepage or URL header\\|in all released Emacs versions"
+                                       text))
+                     (mapcar (lambda (found) (nth 3 found)) (package-lint-buffer))))
+      (kill-buffer))))
 
 (provide 'live-occur-test)
 
