@@ -260,13 +260,13 @@ module _ {R : Type 0} (remaining : R → Option Text) (failures : R → ℕ) (es
 
           -- what is shown at it could not be written, or the line could not be kept
           pub followed_stops : IsOneLineAndFew now.lines.ahead → (new : Writer) (waits : LastLines) → waits.lines ≡ behind → (fault : SearchFault) → ShowStops options many name found count line p waits mid new fault
-              → (result : Result FileFound SearchFault) → IsErrAnd result (λ reported. reported ≡ fault)
+              → (result : Result FileFound SearchFault) → IsErrAnd result (λ final. final ≡ fault)
               → SearchGives es options many shown (open_source name (remaining reader)) (OneLeft (remaining now.lines.reader)) (failures reader) (failures now.lines.reader) old new began ended result
           followed_stops few_held new waits is fault shows (Ok f) kept = absurd kept
-          followed_stops few_held new waits is Write shows (Err reported) kept =
+          followed_stops few_held new waits is Write shows (Err final) kept =
               subst (λ f. SearchGives es options many shown (open_source name (remaining reader)) (OneLeft (remaining now.lines.reader)) (failures reader) (failures now.lines.reader) old new began ended (Err f)) (sym kept)
               (followed_breaks new (subst (λ ls. TakesFront mid new (rows_at options many name found (next_shown p found) ls count line)) is shows.wrote) shows.counted)
-          followed_stops few_held new waits is (Memory n) shows (Err reported) kept =
+          followed_stops few_held new waits is (Memory n) shows (Err final) kept =
               subst (λ f. SearchGives es options many shown (open_source name (remaining reader)) (OneLeft (remaining now.lines.reader)) (failures reader) (failures now.lines.reader) old new began ended (Err f)) (sym kept)
               (subst (λ m. StopsSource es options many shown (open_source name (remaining reader)) (OneLeft (remaining now.lines.reader)) m (failures reader) (failures now.lines.reader) old new began ended) shows.0
               (followed_refused few_held new (subst (λ ls. TakesAll mid new (rows_at options many name found (next_shown p found) ls count line)) is shows.1)))
