@@ -7,19 +7,15 @@ use Rattle.std.proofs.lemmas.List.{take-take}
 use Rattle.std.proofs.lemmas.List.Elements.{All-nil, All-cons, All-head, All-tail, All-append, All-set, All-weaker, All-take, All-drop, All-map, All-get_or}
 use Rattle.std.proofs.lemmas.List.Sums.{sum_by-append, sum_by-cons, sum_by-take-drop, sum_by-take-le, get_or-le-sum_by}
 use Rattle.re_syntax.specs.Bytes.{Text}
-use Rattle.re_syntax.specs.Lines.{list_of}
 use Rattle.re_syntax.specs.Expression.{Expression}
 use Rattle.re_syntax.specs.Parts.{ArePartsFrom, AreParts}
-use Rattle.re_syntax.specs.declared.syntax.Syntax.{Syntax}
 use Rattle.grep_core.specs.declared.options.Flag.{Flag}
 use Rattle.grep_core.specs.declared.options.Flag.TheVariants.{Count, IgnoreCase, FilesWithMatches, LineNumber, OnlyMatching, Quiet, NoMessages, InvertMatch, LineRegexp}
 use Rattle.grep_core.specs.declared.options.Options.{Options}
-use Rattle.grep_core.specs.Choose.{IfHolds}
 use Rattle.grep_core.specs.Files.{File, Inputs}
 use Rattle.grep_core.specs.Run.{file_at}
 use Rattle.grep_session.specs.declared.fault.EditFault.{EditFault}
-use Rattle.grep_session.specs.declared.fault.EditFault.TheVariants.{NoSuchFile, FileIsMissing, OutOfRange, LineHasNewline, NoSuchPattern, Pattern, TooManyPatterns, Memory}
-use Rattle.grep_session.specs.Edits.{Edit, AddFile, AddMissing, DropFile, Splice, AddPatterns, DropPattern, SetFlag, SetSyntax, SetContext, Applies, EditGives, Reads, with_files, with_patterns, with_option, with_context, spliced, whole_file, missing_file}
+use Rattle.grep_session.specs.Edits.{Edit, AddFile, AddMissing, DropFile, Splice, AddPatterns, DropPattern, SetFlag, SetSyntax, SetContext, Applies, EditGives, with_files, spliced, whole_file, missing_file}
 use Rattle.grep_session.specs.Listed.{ListedParts}
 use Rattle.grep_live.specs.declared.mark.Mark.{Mark}
 use Rattle.grep_live.specs.Lists.{AllThree}
@@ -27,6 +23,7 @@ use Rattle.grep_live.specs.Hits.{Hit, HitOf, HitsFrom}
 use Rattle.grep_live.specs.Marks.{Watched, whole_mark, new_mark, mark_at, touched, lost, marks_by_flag, MarksAfter, MarksGiven}
 use Rattle.grep_live.specs.Changes.{Change, IsChange}
 use Rattle.grep_live.specs.Writing.{all_known}
+use Rattle.grep_live.proofs.lemmas.CarryLemmas.{added_file, added_missing, added_patterns, context_set, dropped_pattern, file_dropped, option_set, refused_same, splice_accepted, syntax_set}
 use Rattle.grep_cmd.specs.Script.{does}
 use Rattle.grep_cmd.specs.Editor.{IsHeld, IsHeldPart, IsHeldHit, IsHeldChange, bytes_of}
 use Rattle.grep_cmd.proofs.lemmas.BroughtLaws.{brought}
@@ -60,25 +57,6 @@ module _ (n m : ℕ) (more : n ≤ m) where
   within_wider state w = record { few = omega (arith, more, w.few); files = files_wider state.inputs.files w.files; marks = marks_wider state.marks w.marks }
 
 -- ---- the files after an edit
-
-same_inputs : (a b : Inputs) → ◌≡◌ {A = Result Inputs EditFault} (Ok a) (Ok b) → a ≡ b
-same_inputs a b e = cc
-
-not_refused : (a : Inputs) (f : EditFault) → ◌≡◌ {A = Result Inputs EditFault} (Ok a) (Err f) → ⊥
-not_refused a f e = cc
-
--- an accepted edit that is refused where P does not hold, or where it does
-accepted_if : {P : Type 0} (a b : Inputs) (f : EditFault) → IfHolds P (◌≡◌ {A = Result Inputs EditFault} (Ok a) (Ok b)) (◌≡◌ {A = Result Inputs EditFault} (Ok a) (Err f)) → a ≡ b
-accepted_if a b f (inl (p, e)) = same_inputs a b e
-accepted_if a b f (inr (p, e)) = absurd (not_refused a f e)
-
-accepted_unless : {P Q : Type 0} (a : Inputs) (f : EditFault) → IfHolds P (◌≡◌ {A = Result Inputs EditFault} (Ok a) (Err f)) Q → (P → ⊥) × Q
-accepted_unless a f (inl (p, e)) = absurd (not_refused a f e)
-accepted_unless a f (inr (p, q)) = (p, q)
-
-accepted_read : (syntax : Syntax) (fold : Bool) (texts : List Text) (a b : Inputs) → Reads syntax fold texts b (Ok a) → a ≡ b
-accepted_read syntax fold texts a b (inl (readable, e)) = same_inputs a b e
-accepted_read syntax fold texts a b (inr (unreadable, (place, fault, first, e))) = absurd (not_refused a (Pattern place fault) e)
 
 abbrev FilesWithin : ℕ → List File → Type 0
 FilesWithin n files = (length files ≤ n) × All (FileWithin n) files
@@ -125,22 +103,15 @@ module _ (n : ℕ) (old new : Inputs) (within : FilesWithin n old.files) where
       subst (λ (i : Inputs). FilesWithin m i.files) (sym is) (omega (arith, within.0, length-set old.files k file), All-set (FileWithin m) old.files k file few wide)
 
   files_after : (edit : Edit) → Applies edit old (Ok new) → FilesWithin (n + brought (does edit)) new.files
-  files_after (AddFile name lines) a = files_added (whole_file name lines) (bytes_of lines) (omega arith) (accepted_if new (with_files (old.files ++ whole_file name lines ∷ []) old) LineHasNewline a)
-  files_after (AddMissing name) a = files_added (missing_file name) 0 (omega arith) (same_inputs new (with_files (old.files ++ missing_file name ∷ []) old) a)
-  files_after (DropFile k) a = files_dropped k (accepted_if new (with_files (remove old.files k) old) NoSuchFile a)
-  files_after (Splice k start count lines) a =
-      let file = accepted_unless new NoSuchFile a in
-      let opened = accepted_unless new FileIsMissing file.1 in
-      let place = accepted_unless new OutOfRange opened.1 in
-      files_spliced k start count lines (accepted_if new (with_files (spliced old.files k start count lines) old) LineHasNewline place.1)
-  files_after (AddPatterns list) a =
-      let few = accepted_unless new TooManyPatterns a in
-      files_same (ap (λ (i : Inputs). i.files) (accepted_read old.syntax old.options.ignore_case (list_of list) new (with_patterns (old.patterns ++ list_of list) old) few.1))
-  files_after (DropPattern p) a = files_same (ap (λ (i : Inputs). i.files) (accepted_if new (with_patterns (remove old.patterns p) old) NoSuchPattern a))
-  files_after (SetFlag flag on) a =
-      files_same (ap (λ (i : Inputs). i.files) (accepted_read old.syntax (with_option flag on old.options).ignore_case old.patterns new (record old { options = with_option flag on old.options }) a))
-  files_after (SetSyntax syntax) a = files_same (ap (λ (i : Inputs). i.files) (accepted_read syntax old.options.ignore_case old.patterns new (record old { syntax = syntax }) a))
-  files_after (SetContext context) a = files_same (ap (λ (i : Inputs). i.files) (same_inputs new (with_context context old) a))
+  files_after (AddFile name lines) a = files_added (whole_file name lines) (bytes_of lines) (omega arith) (added_file name lines old new a)
+  files_after (AddMissing name) a = files_added (missing_file name) 0 (omega arith) (added_missing name old new a)
+  files_after (DropFile k) a = files_dropped k (file_dropped k old new a)
+  files_after (Splice k start count lines) a = files_spliced k start count lines (splice_accepted k start count lines old new a).is
+  files_after (AddPatterns list) a = files_same (ap (λ (i : Inputs). i.files) (added_patterns list old new a))
+  files_after (DropPattern p) a = files_same (ap (λ (i : Inputs). i.files) (dropped_pattern p old new a))
+  files_after (SetFlag flag on) a = files_same (ap (λ (i : Inputs). i.files) (option_set flag on old new a))
+  files_after (SetSyntax syntax) a = files_same (ap (λ (i : Inputs). i.files) (syntax_set syntax old new a))
+  files_after (SetContext context) a = files_same (ap (λ (i : Inputs). i.files) (context_set context old new a))
 
 -- ---- the marks after an edit
 
@@ -191,23 +162,13 @@ module _ (n : ℕ) where
 
 -- ---- the state after an edit
 
-refused_same : (edit : Edit) (old new : Inputs) (fault : EditFault) → EditGives {T = Unit {0}} edit old new (Err fault) → new ≡ old
-refused_same edit old new NoSuchFile g = g.1
-refused_same edit old new FileIsMissing g = g.1
-refused_same edit old new OutOfRange g = g.1
-refused_same edit old new LineHasNewline g = g.1
-refused_same edit old new NoSuchPattern g = g.1
-refused_same edit old new (Pattern place fault) g = g.1
-refused_same edit old new TooManyPatterns g = g.1
-refused_same edit old new Memory g = g
-
 pub within_after : (n : ℕ) (edit : Edit) (old new : Watched) (answer : Result (Unit {0}) EditFault) → IsWithin n old → EditGives edit old.inputs new.inputs answer → MarksGiven edit old new.marks answer → IsWithin (n + brought (does edit)) new
 within_after n edit old new (Ok done) w g m =
     let files = files_after n old.inputs new.inputs (w.few, w.files) edit g in
     let marks = marks_after n edit old new.marks w.marks m in
     record { few = files.0; files = files.1; marks = marks_wider n (n + brought (does edit)) (omega arith) new.marks marks }
 within_after n edit old new (Err fault) w g m =
-    let same : new ≡ old = λ i. record { inputs = refused_same edit old.inputs new.inputs fault g i; marks = m i } in
+    let same : new ≡ old = λ i. record { inputs = refused_same (Unit {0}) edit old.inputs new.inputs fault g i; marks = m i } in
     within_wider n (n + brought (does edit)) (omega arith) new (subst (IsWithin n) (sym same) w)
 
 -- ---- the numbers of a change
